@@ -1,13 +1,14 @@
 #!/usr/bin/env python3
 """Runs `rt ci` and says what each part of it costs: the table of docs/GATE.md.
 
-    tools/gate.py [--write]
+    tools/gate.py [--anew] [--write]
 
 Run it at the top of the repository; .ci/run does. The output is that of `rt ci`, then the table, and then the closing line of `rt ci`
-once more; the status is that of `rt ci`. --write puts the table into docs/GATE.md too, for a run with nothing else at work on the
-machine. It looks twice a second at the checker's processes: what each has used of the processor counts for the proof, the tests or an
-edit of its crate. A crate's edits are tried in the order of their names: the first one pays for the crate's check from nothing too,
-and behind the last one the crate is checked once more as it is; these two are told apart as further checks.
+once more; the status is that of `rt ci`, which passes over what an earlier run on this machine passed: with --anew it proves and tries
+all. --write puts the table into docs/GATE.md too, for a run with nothing else at work on the machine. It looks twice a second at the
+checker's processes: what each has used of the processor counts for the proof, the tests or an edit of its crate. A crate's edits are
+tried in the order of their names: the first one pays for the crate's check from nothing too, and behind the last one the crate is
+checked once more as it is; these two are told apart as further checks.
 """
 import argparse
 import collections
@@ -100,10 +101,10 @@ def look_around(gate, known, seen):
             seen.append(known[number])
 
 
-def run_gate(log):
+def run_gate(log, words):
     """The status of `rt ci`, its processes, and its seconds by the clock and of the processor. Its output goes to a file too."""
     known, seen, began = {}, [], time.monotonic()
-    gate = subprocess.Popen(["bash", "-o", "pipefail", "-c", 'rt ci 2>&1 | tee "$0"', log], stdin=subprocess.DEVNULL)
+    gate = subprocess.Popen(["bash", "-o", "pipefail", "-c", 'rt ci "${@:1}" 2>&1 | tee "$0"', log, *words], stdin=subprocess.DEVNULL)
     while gate.poll() is None:
         look_around(str(gate.pid), known, seen)
         time.sleep(0.5)
@@ -154,10 +155,11 @@ def write_table(lines):
 
 def main():
     parser = argparse.ArgumentParser(description=__doc__, formatter_class=argparse.RawDescriptionHelpFormatter)
+    parser.add_argument("--anew", action="store_true")
     parser.add_argument("--write", action="store_true")
     asked = parser.parse_args()
     with tempfile.TemporaryDirectory(prefix="gate-") as room:
-        status, seen, wall, used = run_gate(f"{room}/log")
+        status, seen, wall, used = run_gate(f"{room}/log", ["--anew"] if asked.anew else [])
         closing = (text_of(f"{room}/log").rstrip("\n").splitlines() or ["0 passed, 1 failed"])[-1]
     lines = [*table(seen, wall, used, closing)]
     print("\n".join(["", *lines, "", closing]), flush=True)

@@ -1,9 +1,10 @@
 //! The calls of a store of message blocks and data blocks.
 ghost use Rattle.std.specs.Prelude.{◌≡◌, ◌≢◌, ◌==◌, ℕ, ◌<◌, ◌≤◌, [], ◌++◌, length, take, map, MatchResult, MatchOption};
-ghost use Rattle.strm_blocks.specs.Blocks.{StoreValue, IsStore, IsInHand, in_hand, list_at, held, dropped, changed, placed, empty_store, block_at, filled_block, with_block, put, put_back, trimmed_head, trimmed_tail, taken_by, extended, of_kind, banded, free_m, free_d};
+ghost use Rattle.strm_blocks.specs.Blocks.{StoreValue, IsStore, IsInHand, in_hand, list_at, held, dropped, changed, placed, empty_store, block_at, filled_block, with_block, put, put_back, trimmed_head, trimmed_tail, taken_by, extended, of_kind, banded, free_m, free_d, token};
 ghost use Rattle.strm_blocks.specs.Outcomes.{Allocated, Duplicated, Copied, NoneFree, NoneShared, Unlinked, UnlinkedLast, Popped, Unpopped, PeekedFirst, peek_of, summary_of, first_bytes, told, flushed};
 
 use crate::asked::{FlushWhat, NoBlocks, Peek, Summary};
+use crate::in_hand::InHand;
 use crate::visitor::Visitor;
 use strm_types::{Band, MsgKind};
 
@@ -14,14 +15,8 @@ use strm_types::{Band, MsgKind};
 ///
 /// Each call changes the one list or the message in hand that it is given, and nothing else. No call takes memory.
 pub trait Blocks {
-    /// The name of a message in hand. A message whose name is dropped stays in hand.
-    type Mp: Drop;
-
     /// The store as a value.
     ghost value: { Self → StoreValue };
-
-    /// The number that a name stands for.
-    ghost name: { Self.Mp → ℕ };
 
     /// Does nothing. Its contract is what holds of every store.
     fn audit(&self)
@@ -29,139 +24,139 @@ pub trait Blocks {
 
     /// Takes a message block and a data block with nothing written, as a message of that kind and of band 0:
     /// `allocb(9F)`. `NoBlocks` where none of either kind is free.
-    fn alloc(&mut self, kind: MsgKind) -> Result<Self::Mp, NoBlocks>
+    fn alloc(&mut self, kind: MsgKind) -> Result<InHand, NoBlocks>
         ensures { MatchResult result
-            (λ m. Allocated (value self.old) (value self.new) (name m) kind)
+            (λ m. Allocated (value self.old) (value self.new) (token m) kind)
             (λ _. NoneFree (value self.old) (value self.new)) };
 
     /// Takes a message block and a data block with these bytes written, as a message of that kind and band: `allocb(9F)`
     /// and a copy. `NoBlocks` where none of either kind is free.
-    fn alloc_with(&mut self, kind: MsgKind, band: Band, bytes: &[u8]) -> Result<Self::Mp, NoBlocks>
+    fn alloc_with(&mut self, kind: MsgKind, band: Band, bytes: &[u8]) -> Result<InHand, NoBlocks>
         requires { length bytes.now ≤ 256 }
         ensures { MatchResult result
-            (λ m. Copied (value self.old) (value self.new) (name m) (filled_block kind band.0 bytes.now))
+            (λ m. Copied (value self.old) (value self.new) (token m) (filled_block kind band.0 bytes.now))
             (λ _. NoneFree (value self.old) (value self.new)) };
 
     /// Takes a message block that names the same bytes of the same data block as block `at` of the message does:
     /// `dupb(9F)`. `NoBlocks` where no message block is free, or the data block has 255 references.
-    fn dup(&mut self, message: &Self::Mp, at: usize) -> Result<Self::Mp, NoBlocks>
-        requires in_hand { IsInHand (value self.old) (name message.now) }
-        requires within { at < length (in_hand (value self.old) (name message.now)) }
-        ensures { let b = block_at at (in_hand (value self.old) (name message.now)) in
+    fn dup(&mut self, message: &InHand, at: usize) -> Result<InHand, NoBlocks>
+        requires in_hand { IsInHand (value self.old) (token message.now) }
+        requires within { at < length (in_hand (value self.old) (token message.now)) }
+        ensures { let b = block_at at (in_hand (value self.old) (token message.now)) in
             MatchResult result
-            (λ m. Duplicated (value self.old) (value self.new) (name m) b)
+            (λ m. Duplicated (value self.old) (value self.new) (token m) b)
             (λ _. NoneShared (value self.old) (value self.new) b.number) };
 
     /// Takes a message block and a data block, and copies into it the bytes that block `at` of the message shows:
     /// `copyb(9F)`. `NoBlocks` where none of either kind is free.
-    fn copy(&mut self, message: &Self::Mp, at: usize) -> Result<Self::Mp, NoBlocks>
-        requires in_hand { IsInHand (value self.old) (name message.now) }
-        requires within { at < length (in_hand (value self.old) (name message.now)) }
-        ensures { let b = block_at at (in_hand (value self.old) (name message.now)) in
+    fn copy(&mut self, message: &InHand, at: usize) -> Result<InHand, NoBlocks>
+        requires in_hand { IsInHand (value self.old) (token message.now) }
+        requires within { at < length (in_hand (value self.old) (token message.now)) }
+        ensures { let b = block_at at (in_hand (value self.old) (token message.now)) in
             MatchResult result
-            (λ m. Copied (value self.old) (value self.new) (name m) b)
+            (λ m. Copied (value self.old) (value self.new) (token m) b)
             (λ _. NoneFree (value self.old) (value self.new)) };
 
     /// Gives back all message blocks of a message, and each data block that no other message block names: `freemsg(9F)`.
-    fn free(&mut self, message: Self::Mp)
-        requires { IsInHand (value self.old) (name message) }
-        ensures { value self.new ≡ dropped (value self.old) (name message) };
+    fn free(&mut self, message: InHand)
+        requires { IsInHand (value self.old) (token message) }
+        ensures { value self.new ≡ dropped (value self.old) (token message) };
 
     /// Hangs the second message behind the first: `linkb(9F)`.
-    fn link(&mut self, first: Self::Mp, second: Self::Mp) -> Self::Mp
-        requires first_in_hand { IsInHand (value self.old) (name first) }
-        requires second_in_hand { IsInHand (value self.old) (name second) }
-        requires apart { name first ≢ name second }
-        ensures kept_name { name result ≡ name first }
+    fn link(&mut self, first: InHand, second: InHand) -> InHand
+        requires first_in_hand { IsInHand (value self.old) (token first) }
+        requires second_in_hand { IsInHand (value self.old) (token second) }
+        requires apart { token first ≢ token second }
+        ensures kept_name { token result ≡ token first }
         ensures linked { let s = value self.old in
-            value self.new ≡ changed (dropped s (name second)) (name first)
-            (in_hand s (name first) ++ in_hand s (name second)) };
+            value self.new ≡ changed (dropped s (token second)) (token first)
+            (in_hand s (token first) ++ in_hand s (token second)) };
 
     /// Parts a message into its first block and the rest, if there is any: `unlinkb(9F)`.
-    fn unlink(&mut self, message: Self::Mp) -> (Self::Mp, Option<Self::Mp>)
-        requires { IsInHand (value self.old) (name message) }
+    fn unlink(&mut self, message: InHand) -> (InHand, Option<InHand>)
+        requires { IsInHand (value self.old) (token message) }
         ensures { let old = value self.old in let new = value self.new in
             MatchOption result.1
-            (UnlinkedLast old new (name message) (name result.0))
-            (λ rest. Unlinked old new (name message) (name result.0) (name rest)) };
+            (UnlinkedLast old new (token message) (token result.0))
+            (λ rest. Unlinked old new (token message) (token result.0) (token rest)) };
 
     /// Writes bytes behind the write place of the message's last block, as many as its data block has room for, and
     /// none where that data block is shared. Returns how many.
-    fn append(&mut self, message: &Self::Mp, bytes: &[u8]) -> usize
-        requires { IsInHand (value self.old) (name message.now) }
+    fn append(&mut self, message: &InHand, bytes: &[u8]) -> usize
+        requires { IsInHand (value self.old) (token message.now) }
         ensures count { let s = value self.old in
-            result ≡ taken_by s (in_hand s (name message.now)) (length bytes.now) }
+            result ≡ taken_by s (in_hand s (token message.now)) (length bytes.now) }
         ensures written { let s = value self.old in
-            value self.new ≡ changed s (name message.now)
-            (extended (take result bytes.now) (in_hand s (name message.now))) };
+            value self.new ≡ changed s (token message.now)
+            (extended (take result bytes.now) (in_hand s (token message.now))) };
 
     /// The bytes from the read place to the write place of block `at` of a message, at most 256.
-    fn bytes_at(&self, message: &Self::Mp, at: usize) -> &[u8]
-        requires in_hand { IsInHand (value self.now) (name message.now) }
-        requires within { at < length (in_hand (value self.now) (name message.now)) }
-        ensures bytes { result.now ≡ (block_at at (in_hand (value self.now) (name message.now))).bytes }
+    fn bytes_at(&self, message: &InHand, at: usize) -> &[u8]
+        requires in_hand { IsInHand (value self.now) (token message.now) }
+        requires within { at < length (in_hand (value self.now) (token message.now)) }
+        ensures bytes { result.now ≡ (block_at at (in_hand (value self.now) (token message.now))).bytes }
         ensures few { length result.now ≤ 256 };
 
     /// Moves the read place of block `at` of a message on by `n` bytes, or by all that it shows where those are fewer:
     /// `adjmsg(9F)` within one block.
-    fn trim_head(&mut self, message: &Self::Mp, at: usize, n: usize)
-        requires in_hand { IsInHand (value self.old) (name message.now) }
-        requires within { at < length (in_hand (value self.old) (name message.now)) }
-        ensures { let chain = in_hand (value self.old) (name message.now) in
-            value self.new ≡ changed (value self.old) (name message.now)
+    fn trim_head(&mut self, message: &InHand, at: usize, n: usize)
+        requires in_hand { IsInHand (value self.old) (token message.now) }
+        requires within { at < length (in_hand (value self.old) (token message.now)) }
+        ensures { let chain = in_hand (value self.old) (token message.now) in
+            value self.new ≡ changed (value self.old) (token message.now)
             (with_block at (trimmed_head n (block_at at chain)) chain) };
 
     /// Moves the write place of block `at` of a message back by `n` bytes, or by all that it shows where those are fewer:
     /// `adjmsg(9F)` within one block.
-    fn trim_tail(&mut self, message: &Self::Mp, at: usize, n: usize)
-        requires in_hand { IsInHand (value self.old) (name message.now) }
-        requires within { at < length (in_hand (value self.old) (name message.now)) }
-        ensures { let chain = in_hand (value self.old) (name message.now) in
-            value self.new ≡ changed (value self.old) (name message.now)
+    fn trim_tail(&mut self, message: &InHand, at: usize, n: usize)
+        requires in_hand { IsInHand (value self.old) (token message.now) }
+        requires within { at < length (in_hand (value self.old) (token message.now)) }
+        ensures { let chain = in_hand (value self.old) (token message.now) in
+            value self.new ≡ changed (value self.old) (token message.now)
             (with_block at (trimmed_tail n (block_at at chain)) chain) };
 
     /// How many blocks a message has, at least one.
-    fn blocks(&self, message: &Self::Mp) -> usize
-        requires { IsInHand (value self.now) (name message.now) }
-        ensures count { result ≡ length (in_hand (value self.now) (name message.now)) }
+    fn blocks(&self, message: &InHand) -> usize
+        requires { IsInHand (value self.now) (token message.now) }
+        ensures count { result ≡ length (in_hand (value self.now) (token message.now)) }
         ensures some { 0 < result };
 
     /// How many bytes block `at` of a message shows, at most 256.
-    fn block_len(&self, message: &Self::Mp, at: usize) -> usize
-        requires in_hand { IsInHand (value self.now) (name message.now) }
-        requires within { at < length (in_hand (value self.now) (name message.now)) }
-        ensures count { result ≡ length (block_at at (in_hand (value self.now) (name message.now))).bytes }
+    fn block_len(&self, message: &InHand, at: usize) -> usize
+        requires in_hand { IsInHand (value self.now) (token message.now) }
+        requires within { at < length (in_hand (value self.now) (token message.now)) }
+        ensures count { result ≡ length (block_at at (in_hand (value self.now) (token message.now))).bytes }
         ensures few { result ≤ 256 };
 
     /// The kind of block `at` of a message. The kind of the message is that of block 0.
-    fn kind(&self, message: &Self::Mp, at: usize) -> MsgKind
-        requires in_hand { IsInHand (value self.now) (name message.now) }
-        requires within { at < length (in_hand (value self.now) (name message.now)) }
-        ensures { result ≡ (block_at at (in_hand (value self.now) (name message.now))).kind };
+    fn kind(&self, message: &InHand, at: usize) -> MsgKind
+        requires in_hand { IsInHand (value self.now) (token message.now) }
+        requires within { at < length (in_hand (value self.now) (token message.now)) }
+        ensures { result ≡ (block_at at (in_hand (value self.now) (token message.now))).kind };
 
     /// Gives block `at` of a message another kind. Its band and its bytes stay.
-    fn set_kind(&mut self, message: &Self::Mp, at: usize, kind: MsgKind)
-        requires in_hand { IsInHand (value self.old) (name message.now) }
-        requires within { at < length (in_hand (value self.old) (name message.now)) }
-        ensures { let chain = in_hand (value self.old) (name message.now) in
-            value self.new ≡ changed (value self.old) (name message.now)
+    fn set_kind(&mut self, message: &InHand, at: usize, kind: MsgKind)
+        requires in_hand { IsInHand (value self.old) (token message.now) }
+        requires within { at < length (in_hand (value self.old) (token message.now)) }
+        ensures { let chain = in_hand (value self.old) (token message.now) in
+            value self.new ≡ changed (value self.old) (token message.now)
             (with_block at (of_kind kind (block_at at chain)) chain) };
 
     /// The band of a message, which is that of its first block.
-    fn band(&self, message: &Self::Mp) -> Band
-        requires { IsInHand (value self.now) (name message.now) }
-        ensures { result.0 ≡ (block_at 0 (in_hand (value self.now) (name message.now))).band };
+    fn band(&self, message: &InHand) -> Band
+        requires { IsInHand (value self.now) (token message.now) }
+        ensures { result.0 ≡ (block_at 0 (in_hand (value self.now) (token message.now))).band };
 
     /// The kind and the band of a message, and how many bytes it has, at once.
-    fn summary(&self, message: &Self::Mp) -> Summary
-        requires { IsInHand (value self.now) (name message.now) }
-        ensures { result ≡ summary_of (in_hand (value self.now) (name message.now)) };
+    fn summary(&self, message: &InHand) -> Summary
+        requires { IsInHand (value self.now) (token message.now) }
+        ensures { result ≡ summary_of (in_hand (value self.now) (token message.now)) };
 
     /// Gives a message another band.
-    fn set_band(&mut self, message: &Self::Mp, band: Band)
-        requires { IsInHand (value self.old) (name message.now) }
+    fn set_band(&mut self, message: &InHand, band: Band)
+        requires { IsInHand (value self.old) (token message.now) }
         ensures { let s = value self.old in
-            value self.new ≡ changed s (name message.now) (banded band.0 (in_hand s (name message.now))) };
+            value self.new ≡ changed s (token message.now) (banded band.0 (in_hand s (token message.now))) };
 
     /// Whether no message stands on a list.
     fn is_empty(&self, list: usize) -> bool
@@ -170,27 +165,27 @@ pub trait Blocks {
 
     /// Puts a message on a list, behind all of at least its rank: `putq(9F)`. It takes one step where the last message of
     /// the list has at least the new one's rank, and else a step for each message that is passed.
-    fn insert_back(&mut self, list: usize, message: Self::Mp)
+    fn insert_back(&mut self, list: usize, message: InHand)
         requires list { list < 8 }
-        requires in_hand { IsInHand (value self.old) (name message) }
+        requires in_hand { IsInHand (value self.old) (token message) }
         ensures { let s = value self.old in
-            value self.new ≡ placed (dropped s (name message)) list
-            (put (in_hand s (name message)) (list_at s list)) };
+            value self.new ≡ placed (dropped s (token message)) list
+            (put (in_hand s (token message)) (list_at s list)) };
 
     /// Puts a message on a list, in front of all of at most its rank: `putbq(9F)`.
-    fn insert_front(&mut self, list: usize, message: Self::Mp)
+    fn insert_front(&mut self, list: usize, message: InHand)
         requires list { list < 8 }
-        requires in_hand { IsInHand (value self.old) (name message) }
+        requires in_hand { IsInHand (value self.old) (token message) }
         ensures { let s = value self.old in
-            value self.new ≡ placed (dropped s (name message)) list
-            (put_back (in_hand s (name message)) (list_at s list)) };
+            value self.new ≡ placed (dropped s (token message)) list
+            (put_back (in_hand s (token message)) (list_at s list)) };
 
     /// Takes the first message of a list, if there is one: `getq(9F)`.
-    fn pop(&mut self, list: usize) -> Option<Self::Mp>
+    fn pop(&mut self, list: usize) -> Option<InHand>
         requires { list < 8 }
         ensures { MatchOption result
             (Unpopped (value self.old) (value self.new) list)
-            (λ m. Popped (value self.old) (value self.new) list (name m)) };
+            (λ m. Popped (value self.old) (value self.new) list (token m)) };
 
     /// What can be seen of the first message of a list, if there is one.
     fn peek(&self, list: usize) -> Option<Peek>

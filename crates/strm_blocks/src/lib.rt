@@ -4,6 +4,7 @@
 mod asked;
 mod blocks;
 mod data;
+mod in_hand;
 mod kinds;
 mod message;
 mod parts;
@@ -13,5 +14,6 @@ mod visitor;
 
 pub use asked::{FlushWhat, NoBlocks, Peek, Summary};
 pub use blocks::Blocks;
-pub use table::{InHand, TableStore};
+pub use in_hand::InHand;
+pub use table::TableStore;
 pub use visitor::Visitor;

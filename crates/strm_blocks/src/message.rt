@@ -20,7 +20,7 @@ pub(crate) struct MessageBlock {
 /// A message: a chain of blocks. It keeps its name for ever, also while it stands idle and has no block.
 #[derive(Drop)]
 pub(crate) struct Message {
-    pub(crate) name: usize,
+    pub(crate) name: u32,
     pub(crate) blocks: LinkedList<MessageBlock>,
 }
 
@@ -155,7 +155,7 @@ pub(crate) fn join_blocks(
 }
 
 /// The place of the message of a name in a list, or the list's length where there is none.
-pub(crate) fn place_of(list: &LinkedList<Message>, name: usize) -> usize
+pub(crate) fn place_of(list: &LinkedList<Message>, name: u32) -> usize
     ensures { result ≡ place_in name list.now }
 {
     let mut rest = list.iter();
@@ -170,7 +170,7 @@ pub(crate) fn place_of(list: &LinkedList<Message>, name: usize) -> usize
 }
 
 /// The message of a name, taken off a list.
-pub(crate) fn take_named(list: &mut LinkedList<Message>, name: usize) -> LinkedList<Message>
+pub(crate) fn take_named(list: &mut LinkedList<Message>, name: u32) -> LinkedList<Message>
     requires { place_in name list.old < length list.old }
     ensures rest { list.new ≡ without_at (place_in name list.old) list.old }
     ensures node { result ≡ message_at (place_in name list.old) list.old ∷ [] }
@@ -189,7 +189,7 @@ pub(crate) fn block_at(chain: &LinkedList<MessageBlock>, at: usize) -> MessageBl
 }
 
 /// The blocks of the message of a name.
-pub(crate) fn blocks_of(list: &LinkedList<Message>, name: usize) -> &LinkedList<MessageBlock>
+pub(crate) fn blocks_of(list: &LinkedList<Message>, name: u32) -> &LinkedList<MessageBlock>
     requires { place_in name list.now < length list.now }
     ensures { result.now ≡ (message_at (place_in name list.now) list.now).blocks }
 {
@@ -200,7 +200,7 @@ pub(crate) fn blocks_of(list: &LinkedList<Message>, name: usize) -> &LinkedList<
 }
 
 /// A block of the message of a name.
-pub(crate) fn block_in(list: &LinkedList<Message>, name: usize, at: usize) -> MessageBlock
+pub(crate) fn block_in(list: &LinkedList<Message>, name: u32, at: usize) -> MessageBlock
     requires there { place_in name list.now < length list.now }
     requires within { at < length (message_at (place_in name list.now) list.now).blocks }
     ensures { result ≡ row_at at (message_at (place_in name list.now) list.now).blocks }
@@ -228,7 +228,7 @@ pub(crate) fn hold(
     hand: &mut LinkedList<Message>,
     idle: &mut LinkedList<Message>,
     mut blocks: LinkedList<MessageBlock>,
-) -> usize
+) -> u32
     requires some { 0 < length idle.old }
     requires few { length hand.old + 1 < 2 ^ 63 }
     ensures name { result ≡ (message_at 0 idle.old).name }
@@ -249,7 +249,7 @@ pub(crate) fn hold_block(
     idle: &mut LinkedList<Message>,
     spare: &mut LinkedList<MessageBlock>,
     block: MessageBlock,
-) -> usize
+) -> u32
     requires some { 0 < length idle.old }
     requires spare { 0 < length spare.old }
     requires few { length hand.old + 1 < 2 ^ 63 }
@@ -263,7 +263,7 @@ pub(crate) fn hold_block(
 }
 
 /// The name of the first message of a list.
-pub(crate) fn name_of(list: &LinkedList<Message>) -> usize
+pub(crate) fn name_of(list: &LinkedList<Message>) -> u32
     requires { 0 < length list.now }
     ensures { result ≡ (message_at 0 list.now).name }
 {
@@ -273,7 +273,7 @@ pub(crate) fn name_of(list: &LinkedList<Message>) -> usize
 /// Puts a block of the message of a name in place of another one.
 pub(crate) fn replace_block(
     list: &mut LinkedList<Message>,
-    name: usize,
+    name: u32,
     at: usize,
     block: MessageBlock,
 )

@@ -6,6 +6,7 @@ ghost use Rattle.strm_blocks.specs.Pool.{Reserves, ReservesNone};
 use crate::asked::{FlushWhat, NoBlocks, Peek, Summary};
 use crate::blocks::Blocks;
 use crate::data::DataBlocks;
+use crate::in_hand::InHand;
 use crate::message::{
     Message, MessageBlock, block_at, block_in, blocks_of, first_block, gather, hold, hold_block,
     join_blocks, name_of, part_blocks, place_of, put_node, replace_block, take_named, take_node,
@@ -44,12 +45,6 @@ impl Model for TableStore {
     ghost invariant = { IsTableStore };
 }
 
-/// The name of a message in hand of a [`TableStore`].
-#[derive(Drop)]
-pub struct InHand {
-    name: usize,
-}
-
 impl TableStore {
     /// A store of so many message blocks and data blocks, from 1 to 65536 of each, with nothing in it. All memory is
     /// taken here, and `AllocError` says that it was refused.
@@ -65,7 +60,7 @@ impl TableStore {
         let mut spare = LinkedList::new(alloc);
         for name in 0..mblks {
             idle.push_back(Message {
-                name,
+                name: name as u32,
                 blocks: LinkedList::new(alloc),
             })?;
             spare.push_back(MessageBlock {
@@ -112,11 +107,7 @@ fn reserve(spare: &LinkedList<MessageBlock>, pool: &mut DataBlocks) -> Result<us
 }
 
 impl Blocks for TableStore {
-    type Mp = InHand;
-
     ghost value = { λ s. s };
-
-    ghost name = { λ m. m.name };
 
     fn audit(&self) {
         self.data.audit();

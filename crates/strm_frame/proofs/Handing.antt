@@ -3,7 +3,7 @@ use Rattle.std.proofs.Common.{ℕ, ◌≡◌, ◌≢◌, ◌≤◌, ◌<◌, ◌
 use Rattle.std.proofs.lemmas.Bool.{cases_eq}
 use Rattle.std.proofs.lemmas.Bool.Decides.{nat_tests}
 use Rattle.std.proofs.lemmas.List.Sums.{sum_by-cons}
-use Rattle.strm_blocks.specs.Blocks.{Block, Held, StoreValue, IsStore, IsInHand, in_hand, dropped, times_in, without, names_of}
+use Rattle.strm_blocks.specs.Blocks.{Block, Held, StoreValue, IsStore, IsInHand, in_hand, dropped, times_in, without, names_of, token}
 use Rattle.strm_blocks.proofs.Laws.{in_hand-dropped, total-dropped, used-is, free_m-is, free_d-more, references-is}
 use Rattle.strm_msg.proofs.Hands.{other-name}
 use Rattle.strm_types.specs.Message.{Message}
@@ -72,166 +72,165 @@ freed-spends s i keeps most st can =
       dblks = (let m = free_d-more s (dropped s i) refl (λ d. let t = total-dropped (names_of d) s i is in let u = references-is s d in let v = references-is (dropped s i) d in omega arith) in omega arith);
     }
 
-module _ {M : Type 0} (name : M → ℕ) where
-  -- what was sent stands for the same, where those messages stay
-  pub parcels-same : (s t : StoreValue) (sent : List (Sent M)) → ((i : ℕ) → 0 < times_sent name i sent → in_hand t i ≡ in_hand s i) → parcels_in name t sent ≡ parcels_in name s sent
-  unfolding parcels_in times_sent
-  parcels-same s t [] same = refl
-  parcels-same s t (x ∷ more) same =
-      let o = once-self (name x.message) in
-      let here = same (name x.message) (omega arith) in
-      let rest = parcels-same s t more (λ i some. same i (omega arith)) in
-      parcels-cons s t x more here rest
-    where
-      parcels-cons : (s t : StoreValue) (x : Sent M) (more : List (Sent M)) → in_hand t (name x.message) ≡ in_hand s (name x.message) → parcels_in name t more ≡ parcels_in name s more →
-          ◌≡◌ {A = List (Parcel ℕ)} (parcel_in name t x ∷ parcels_in name t more) (parcel_in name s x ∷ parcels_in name s more)
-      parcels-cons s t x more here rest = rw (here, rest) refl
+-- what was sent stands for the same, where those messages stay
+pub parcels-same : (s t : StoreValue) (sent : List Sent) → ((i : ℕ) → 0 < times_sent i sent → in_hand t i ≡ in_hand s i) → parcels_in t sent ≡ parcels_in s sent
+unfolding parcels_in times_sent
+parcels-same s t [] same = refl
+parcels-same s t (x ∷ more) same =
+    let o = once-self (token x.message) in
+    let here = same (token x.message) (omega arith) in
+    let rest = parcels-same s t more (λ i some. same i (omega arith)) in
+    parcels-cons s t x more here rest
+  where
+    parcels-cons : (s t : StoreValue) (x : Sent) (more : List Sent) → in_hand t (token x.message) ≡ in_hand s (token x.message) → parcels_in t more ≡ parcels_in s more →
+        ◌≡◌ {A = List (Parcel ℕ)} (parcel_in t x ∷ parcels_in t more) (parcel_in s x ∷ parcels_in s more)
+    parcels-cons s t x more here rest = rw (here, rest) refl
 
-  -- and are chains
-  pub chains-same : (s t : StoreValue) (sent : List (Sent M)) → ((i : ℕ) → 0 < times_sent name i sent → in_hand t i ≡ in_hand s i) → AreChains name s sent → AreChains name t sent
-  unfolding AreChains times_sent
-  chains-same s t [] same chains = tt
-  chains-same s t (x ∷ more) same chains =
-      let o = once-self (name x.message) in
-      let here = same (name x.message) (omega arith) in
-      (subst IsChain (sym here) chains.0, chains-same s t more (λ i some. same i (omega arith)) chains.1)
+-- and are chains
+pub chains-same : (s t : StoreValue) (sent : List Sent) → ((i : ℕ) → 0 < times_sent i sent → in_hand t i ≡ in_hand s i) → AreChains s sent → AreChains t sent
+unfolding AreChains times_sent
+chains-same s t [] same chains = tt
+chains-same s t (x ∷ more) same chains =
+    let o = once-self (token x.message) in
+    let here = same (token x.message) (omega arith) in
+    (subst IsChain (sym here) chains.0, chains-same s t more (λ i some. same i (omega arith)) chains.1)
 
-  -- What has gone has sent x and more, and x is carried on.
-  module _ (s0 s t : StoreValue) (gone kept keeps keeps' : ℕ → ℕ) (x : Sent M) (more all : List (Sent M))
-      (split : all ≡ x ∷ more) (st : IsStore s) (can : AreIn s0 gone kept) (put : Handles s0 s gone kept keeps (λ i. times_sent name i all)) where
-    times-split : (i : ℕ) → times_sent name i all ≡ once (name x.message) i + times_sent name i more
-    unfolding times_sent
-    times-split i = ap (times_sent name i) split
+-- What has gone has sent x and more, and x is carried on.
+module _ (s0 s t : StoreValue) (gone kept keeps keeps' : ℕ → ℕ) (x : Sent) (more all : List Sent)
+    (split : all ≡ x ∷ more) (st : IsStore s) (can : AreIn s0 gone kept) (put : Handles s0 s gone kept keeps (λ i. times_sent i all)) where
+  times-split : (i : ℕ) → times_sent i all ≡ once (token x.message) i + times_sent i more
+  unfolding times_sent
+  times-split i = ap (times_sent i) split
 
-    pub next-parts : parcels_in name s all ≡ parcel_in name s x ∷ parcels_in name s more
-    unfolding parcels_in
-    next-parts = ap (parcels_in name s) split
+  pub next-parts : parcels_in s all ≡ parcel_in s x ∷ parcels_in s more
+  unfolding parcels_in
+  next-parts = ap (parcels_in s) split
 
-    -- x may be put
-    pub next-can : CanPut s (name x.message) keeps
-    next-can = record { apart = λ i. let c = put.counts i in let a = can.apart i in let e = times-split i in omega arith }
+  -- x may be put
+  pub next-can : CanPut s (token x.message) keeps
+  next-can = record { apart = λ i. let c = put.counts i in let a = can.apart i in let e = times-split i in omega arith }
 
-    cost-split : (cost : Spot → Message ℕ → ℕ) → cost_of cost (parcels_in name s all) ≡ cost x.to (parcel_in name s x).message + cost_of cost (parcels_in name s more)
-    unfolding cost_of
-    cost-split cost = ap (cost_of cost) next-parts
+  cost-split : (cost : Spot → Message ℕ → ℕ) → cost_of cost (parcels_in s all) ≡ cost x.to (parcel_in s x).message + cost_of cost (parcels_in s more)
+  unfolding cost_of
+  cost-split cost = ap (cost_of cost) next-parts
 
-    -- x is a chain
-    pub next-chain : AreChains name s all → IsChain (in_hand s (name x.message))
-    unfolding AreChains
-    next-chain chains = (subst (AreChains name s) split chains).0
+  -- x is a chain
+  pub next-chain : AreChains s all → IsChain (in_hand s (token x.message))
+  unfolding AreChains
+  next-chain chains = (subst (AreChains s) split chains).0
 
-    -- x has less before it, and so has the rest
-    next-lowers : (height : Spot → Message ℕ → ℕ) (top : ℕ) → AreLower height top (parcels_in name s all) → AreLower height top (parcel_in name s x ∷ parcels_in name s more)
-    next-lowers height top lower = subst (AreLower height top) next-parts lower
+  -- x has less before it, and so has the rest
+  next-lowers : (height : Spot → Message ℕ → ℕ) (top : ℕ) → AreLower height top (parcels_in s all) → AreLower height top (parcel_in s x ∷ parcels_in s more)
+  next-lowers height top lower = subst (AreLower height top) next-parts lower
 
-    pub next-low : (height : Spot → Message ℕ → ℕ) (top : ℕ) → AreLower height top (parcels_in name s all) → height x.to (parcel_in name s x).message < top
-    next-low height top lower = (next-lowers height top lower).0
+  pub next-low : (height : Spot → Message ℕ → ℕ) (top : ℕ) → AreLower height top (parcels_in s all) → height x.to (parcel_in s x).message < top
+  next-low height top lower = (next-lowers height top lower).0
 
-    -- what x takes is there
-    pub next-room : (cost : Spot → Message ℕ → ℕ) (most was is : ℕ) → MayTake s0 was most → Takes s0 s was is most (cost_of cost (parcels_in name s all)) → MayTake s is (cost x.to (parcel_in name s x).message)
-    next-room cost most was is may takes =
-        let e = cost-split cost in
-        let room = may.room in
-        let spends = takes.blocks in
-        record { room = record { mblks = omega arith; dblks = omega arith }; spare = (let a = may.spare in let b = takes.spare in omega arith) }
-
-    module _ (carried : Hands s t (name x.message) keeps keeps' (λ _. 0)) where
-      -- and then the rest is as if it alone had been sent
-      pub next-hands : Handles s0 t gone kept keeps' (λ i. times_sent name i more)
-      next-hands = record {
-        counts = λ i. let c = put.counts i in let d = carried.counts i in let e = times-split i in omega arith;
-        others = λ i apart none some.
-            let c = put.counts i in let e = times-split i in let few = st.apart i in
-            carried.others i (omega arith) (omega arith) (omega arith) ∙ put.others i apart none some;
-      }
-
-      pub next-same : parcels_in name t more ≡ parcels_in name s more
-      next-same = parcels-same s t more (λ i some.
-          let c = put.counts i in let a = can.apart i in let e = times-split i in let few = st.apart i in
-          carried.others i (omega arith) (omega arith) (omega arith))
-
-      pub next-chains : AreChains name s all → AreChains name t more
-      unfolding AreChains
-      next-chains chains = chains-same s t more (λ i some.
-          let c = put.counts i in let a = can.apart i in let e = times-split i in let few = st.apart i in
-          carried.others i (omega arith) (omega arith) (omega arith)) (subst (AreChains name s) split chains).1
-
-      pub next-lower : (height : Spot → Message ℕ → ℕ) (top : ℕ) → AreLower height top (parcels_in name s all) → AreLower height top (parcels_in name t more)
-      next-lower height top lower = subst (AreLower height top) (sym next-same) (next-lowers height top lower).1
-
-      pub next-takes : (cost : Spot → Message ℕ → ℕ) (most was is left : ℕ) → Takes s0 s was is most (cost_of cost (parcels_in name s all))
-          → Takes s t is left (cost x.to (parcel_in name s x).message) 0 → Takes s0 t was left most (cost_of cost (parcels_in name t more))
-      next-takes cost most was is left takes then =
-          let e = cost-split cost in
-          let f = ap (cost_of cost) next-same in
-          let spends = takes.blocks in
-          let behind = then.blocks in
-          record { blocks = record { mblks = omega arith; dblks = omega arith }; spare = (let a = takes.spare in let b = then.spare in omega arith) }
-
-  pub no-cost : (s0 s : StoreValue) (cost : Spot → Message ℕ → ℕ) (most was is : ℕ) (all : List (Sent M)) → all ≡ [] → Takes s0 s was is most (cost_of cost (parcels_in name s all)) → Takes s0 s was is most 0
-  unfolding cost_of parcels_in
-  no-cost s0 s cost most was is all none takes =
-      let e = ap (λ xs. cost_of cost (parcels_in name s xs)) none in
+  -- what x takes is there
+  pub next-room : (cost : Spot → Message ℕ → ℕ) (most was is : ℕ) → MayTake s0 was most → Takes s0 s was is most (cost_of cost (parcels_in s all)) → MayTake s is (cost x.to (parcel_in s x).message)
+  next-room cost most was is may takes =
+      let e = cost-split cost in
+      let room = may.room in
       let spends = takes.blocks in
-      record { blocks = record { mblks = omega arith; dblks = omega arith }; spare = (let a = takes.spare in omega arith) }
+      record { room = record { mblks = omega arith; dblks = omega arith }; spare = (let a = may.spare in let b = takes.spare in omega arith) }
 
-  -- nothing is left that was sent
-  pub no-more : (s0 s : StoreValue) (gone kept keeps : ℕ → ℕ) (all : List (Sent M)) → all ≡ [] → Handles s0 s gone kept keeps (λ i. times_sent name i all) → Handles s0 s gone kept keeps (λ _. 0)
-  unfolding times_sent
-  no-more s0 s gone kept keeps all none put = record {
-    counts = λ i. let c = put.counts i in let e = ap (times_sent name i) none in omega arith;
-    others = put.others;
-  }
+  module _ (carried : Hands s t (token x.message) keeps keeps' (λ _. 0)) where
+    -- and then the rest is as if it alone had been sent
+    pub next-hands : Handles s0 t gone kept keeps' (λ i. times_sent i more)
+    next-hands = record {
+      counts = λ i. let c = put.counts i in let d = carried.counts i in let e = times-split i in omega arith;
+      others = λ i apart none some.
+          let c = put.counts i in let e = times-split i in let few = st.apart i in
+          carried.others i (omega arith) (omega arith) (omega arith) ∙ put.others i apart none some;
+    }
 
-  -- nothing was to be sent
-  pub still-sent : (s : StoreValue) (keeps : ℕ → ℕ) (all : List (Sent M)) → all ≡ [] → Handles s s (λ i. times_sent name i all) keeps keeps (λ _. 0)
-  unfolding times_sent
-  still-sent s keeps all none = record {
-    counts = λ i. let e = ap (times_sent name i) none in omega arith;
-    others = λ i gone kept some. refl;
-  }
+    pub next-same : parcels_in t more ≡ parcels_in s more
+    next-same = parcels-same s t more (λ i some.
+        let c = put.counts i in let a = can.apart i in let e = times-split i in let few = st.apart i in
+        carried.others i (omega arith) (omega arith) (omega arith))
 
-  pub no-parts : (s : StoreValue) (all : List (Sent M)) → all ≡ [] → parcels_in name s all ≡ []
-  unfolding parcels_in
-  no-parts s all none = ap (parcels_in name s) none
+    pub next-chains : AreChains s all → AreChains t more
+    unfolding AreChains
+    next-chains chains = chains-same s t more (λ i some.
+        let c = put.counts i in let a = can.apart i in let e = times-split i in let few = st.apart i in
+        carried.others i (omega arith) (omega arith) (omega arith)) (subst (AreChains s) split chains).1
 
-  -- nothing is sent
-  pub none-hands : (s0 s : StoreValue) (gone kept keeps : ℕ → ℕ) (all : List (Sent M)) → all ≡ [] → Handles s0 s gone kept keeps (λ _. 0) → Handles s0 s gone kept keeps (λ i. times_sent name i all)
-  unfolding times_sent
-  none-hands s0 s gone kept keeps all none put = record {
-    counts = λ i. let c = put.counts i in let e = ap (times_sent name i) none in omega arith;
-    others = put.others;
-  }
+    pub next-lower : (height : Spot → Message ℕ → ℕ) (top : ℕ) → AreLower height top (parcels_in s all) → AreLower height top (parcels_in t more)
+    next-lower height top lower = subst (AreLower height top) (sym next-same) (next-lowers height top lower).1
 
-  pub none-chains : (s : StoreValue) (all : List (Sent M)) → all ≡ [] → AreChains name s all
-  unfolding AreChains
-  none-chains s all none = subst (AreChains name s) (sym none) tt
+    pub next-takes : (cost : Spot → Message ℕ → ℕ) (most was is left : ℕ) → Takes s0 s was is most (cost_of cost (parcels_in s all))
+        → Takes s t is left (cost x.to (parcel_in s x).message) 0 → Takes s0 t was left most (cost_of cost (parcels_in t more))
+    next-takes cost most was is left takes then =
+        let e = cost-split cost in
+        let f = ap (cost_of cost) next-same in
+        let spends = takes.blocks in
+        let behind = then.blocks in
+        record { blocks = record { mblks = omega arith; dblks = omega arith }; spare = (let a = takes.spare in let b = then.spare in omega arith) }
 
-  pub none-lower : (s : StoreValue) (height : Spot → Message ℕ → ℕ) (top : ℕ) (all : List (Sent M)) → all ≡ [] → AreLower height top (parcels_in name s all)
-  none-lower s height top all none = subst (AreLower height top) (sym (no-parts s all none)) tt
+pub no-cost : (s0 s : StoreValue) (cost : Spot → Message ℕ → ℕ) (most was is : ℕ) (all : List Sent) → all ≡ [] → Takes s0 s was is most (cost_of cost (parcels_in s all)) → Takes s0 s was is most 0
+unfolding cost_of parcels_in
+no-cost s0 s cost most was is all none takes =
+    let e = ap (λ xs. cost_of cost (parcels_in s xs)) none in
+    let spends = takes.blocks in
+    record { blocks = record { mblks = omega arith; dblks = omega arith }; spare = (let a = takes.spare in omega arith) }
 
-  -- no call follows
-  pub no-room : (s : StoreValue) (cost : Spot → Message ℕ → ℕ) (next : ℕ) (all : List (Sent M)) → all ≡ [] → HasRoom s (later_cost cost false next (parcels_in name s all))
-  unfolding cost_of parcels_in
-  no-room s cost next all none =
-      let e = ap (λ xs. cost_of cost (parcels_in name s xs)) none in
-      record { mblks = omega arith; dblks = omega arith }
+-- nothing is left that was sent
+pub no-more : (s0 s : StoreValue) (gone kept keeps : ℕ → ℕ) (all : List Sent) → all ≡ [] → Handles s0 s gone kept keeps (λ i. times_sent i all) → Handles s0 s gone kept keeps (λ _. 0)
+unfolding times_sent
+no-more s0 s gone kept keeps all none put = record {
+  counts = λ i. let c = put.counts i in let e = ap (times_sent i) none in omega arith;
+  others = put.others;
+}
 
-  -- one message is sent on, and it is the one that was put
-  pub one-parts : (s : StoreValue) (x : Sent M) (all : List (Sent M)) → all ≡ x ∷ [] → parcels_in name s all ≡ parcel_in name s x ∷ []
-  unfolding parcels_in
-  one-parts s x all one = ap (parcels_in name s) one
+-- nothing was to be sent
+pub still-sent : (s : StoreValue) (keeps : ℕ → ℕ) (all : List Sent) → all ≡ [] → Handles s s (λ i. times_sent i all) keeps keeps (λ _. 0)
+unfolding times_sent
+still-sent s keeps all none = record {
+  counts = λ i. let e = ap (times_sent i) none in omega arith;
+  others = λ i gone kept some. refl;
+}
 
-  pub one-hands : (s : StoreValue) (x : Sent M) (keeps : ℕ → ℕ) (all : List (Sent M)) → all ≡ x ∷ [] → Hands s s (name x.message) keeps keeps (λ i. times_sent name i all)
-  unfolding times_sent
-  one-hands s x keeps all one = record {
-    counts = λ i. let e = ap (times_sent name i) one in omega arith;
-    others = λ i apart kept some. refl;
-  }
+pub no-parts : (s : StoreValue) (all : List Sent) → all ≡ [] → parcels_in s all ≡ []
+unfolding parcels_in
+no-parts s all none = ap (parcels_in s) none
 
-  pub one-chains : (s : StoreValue) (x : Sent M) (all : List (Sent M)) → all ≡ x ∷ [] → IsChain (in_hand s (name x.message)) → AreChains name s all
-  unfolding AreChains
-  one-chains s x all one chain = subst (AreChains name s) (sym one) (chain, tt)
+-- nothing is sent
+pub none-hands : (s0 s : StoreValue) (gone kept keeps : ℕ → ℕ) (all : List Sent) → all ≡ [] → Handles s0 s gone kept keeps (λ _. 0) → Handles s0 s gone kept keeps (λ i. times_sent i all)
+unfolding times_sent
+none-hands s0 s gone kept keeps all none put = record {
+  counts = λ i. let c = put.counts i in let e = ap (times_sent i) none in omega arith;
+  others = put.others;
+}
+
+pub none-chains : (s : StoreValue) (all : List Sent) → all ≡ [] → AreChains s all
+unfolding AreChains
+none-chains s all none = subst (AreChains s) (sym none) tt
+
+pub none-lower : (s : StoreValue) (height : Spot → Message ℕ → ℕ) (top : ℕ) (all : List Sent) → all ≡ [] → AreLower height top (parcels_in s all)
+none-lower s height top all none = subst (AreLower height top) (sym (no-parts s all none)) tt
+
+-- no call follows
+pub no-room : (s : StoreValue) (cost : Spot → Message ℕ → ℕ) (next : ℕ) (all : List Sent) → all ≡ [] → HasRoom s (later_cost cost false next (parcels_in s all))
+unfolding cost_of parcels_in
+no-room s cost next all none =
+    let e = ap (λ xs. cost_of cost (parcels_in s xs)) none in
+    record { mblks = omega arith; dblks = omega arith }
+
+-- one message is sent on, and it is the one that was put
+pub one-parts : (s : StoreValue) (x : Sent) (all : List Sent) → all ≡ x ∷ [] → parcels_in s all ≡ parcel_in s x ∷ []
+unfolding parcels_in
+one-parts s x all one = ap (parcels_in s) one
+
+pub one-hands : (s : StoreValue) (x : Sent) (keeps : ℕ → ℕ) (all : List Sent) → all ≡ x ∷ [] → Hands s s (token x.message) keeps keeps (λ i. times_sent i all)
+unfolding times_sent
+one-hands s x keeps all one = record {
+  counts = λ i. let e = ap (times_sent i) one in omega arith;
+  others = λ i apart kept some. refl;
+}
+
+pub one-chains : (s : StoreValue) (x : Sent) (all : List Sent) → all ≡ x ∷ [] → IsChain (in_hand s (token x.message)) → AreChains s all
+unfolding AreChains
+one-chains s x all one chain = subst (AreChains s) (sym one) (chain, tt)
 
 -- what is lower than something is lower than what is no less
 pub lower-more : (height : Spot → Message ℕ → ℕ) (top more : ℕ) (ps : List (Parcel ℕ)) → top ≤ more → AreLower height top ps → AreLower height more ps

@@ -4,7 +4,7 @@ use Rattle.std.specs.Option.{option_to_list}
 use Rattle.strm_types.specs.declared.spots.Spot.{Spot}
 use Rattle.strm_types.specs.Message.{Message}
 use Rattle.strm_types.specs.Deliver.{Parcel}
-use Rattle.strm_blocks.specs.Blocks.{StoreValue, in_hand}
+use Rattle.strm_blocks.specs.Blocks.{StoreValue, in_hand, token}
 use Rattle.strm_msg.specs.Messages.{message_of, IsChain}
 use Rattle.strm_frame.specs.declared.parcels.Sent.{Sent}
 use Rattle.strm_frame.specs.declared.parcels.Outbox.{Outbox}
@@ -15,23 +15,23 @@ abbrev pub message_in : StoreValue → ℕ → Message ℕ
 message_in s name = message_of (in_hand s name)
 
 -- the messages of an outbox, the first one first
-abbrev pub sent_of : {M : Type 0} → Outbox M → List (Sent M)
+abbrev pub sent_of : Outbox → List Sent
 sent_of o = option_to_list o.first ++ (option_to_list o.second ++ (option_to_list o.third ++ option_to_list o.fourth))
 
 -- how often a name is among them
-unfoldable pub times_sent : {M : Type 0} → (M → ℕ) → ℕ → List (Sent M) → ℕ
-times_sent name i [] = 0
-times_sent name i (sent ∷ more) = once (name sent.message) i + times_sent name i more
+unfoldable pub times_sent : ℕ → List Sent → ℕ
+times_sent i [] = 0
+times_sent i (sent ∷ more) = once (token sent.message) i + times_sent i more
 
 -- what a message on its way stands for
-abbrev pub parcel_in : {M : Type 0} → (M → ℕ) → StoreValue → Sent M → Parcel ℕ
-parcel_in name s sent = record { to = sent.to; message = message_in s (name sent.message) }
+abbrev pub parcel_in : StoreValue → Sent → Parcel ℕ
+parcel_in s sent = record { to = sent.to; message = message_in s (token sent.message) }
 
-unfoldable pub parcels_in : {M : Type 0} → (M → ℕ) → StoreValue → List (Sent M) → List (Parcel ℕ)
-parcels_in name s [] = []
-parcels_in name s (sent ∷ more) = parcel_in name s sent ∷ parcels_in name s more
+unfoldable pub parcels_in : StoreValue → List Sent → List (Parcel ℕ)
+parcels_in s [] = []
+parcels_in s (sent ∷ more) = parcel_in s sent ∷ parcels_in s more
 
 -- each is a chain that is a message
-unfoldable pub AreChains : {M : Type 0} → (M → ℕ) → StoreValue → List (Sent M) → Type 0
-AreChains name s [] = Unit {0}
-AreChains name s (sent ∷ more) = IsChain (in_hand s (name sent.message)) × AreChains name s more
+unfoldable pub AreChains : StoreValue → List Sent → Type 0
+AreChains s [] = Unit {0}
+AreChains s (sent ∷ more) = IsChain (in_hand s (token sent.message)) × AreChains s more

@@ -30,7 +30,7 @@ abbrev pub stop_at : Bool → ℕ → Option ℕ
 stop_at true bytes = Some bytes
 stop_at false bytes = None
 
-abbrev pub stop_of : {M : Type 0} → Served M → Option ℕ
+abbrev pub stop_of : Served → Option ℕ
 stop_of served = stop_at served.stopped served.bytes
 
 -- how many blocks of each kind are taken at most by what a call has sent, and by the next call of the turn, where one follows

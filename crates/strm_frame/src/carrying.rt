@@ -3,7 +3,7 @@
 
 ghost use Rattle.std.specs.Prelude.{ℕ, ◌≡◌, ◌<◌, ◌≤◌};
 ghost use Rattle.strm_types.specs.Deliver.{AreLower, carried, in_turn, tallied};
-ghost use Rattle.strm_blocks.specs.Blocks.{in_hand};
+ghost use Rattle.strm_blocks.specs.Blocks.{in_hand, token};
 ghost use Rattle.strm_msg.specs.Messages.{IsChain};
 ghost use Rattle.strm_types.specs.Costs.{cost_of};
 ghost use Rattle.strm_frame.specs.Outboxes.{AreChains, message_in, parcels_in, sent_of, times_sent};
@@ -11,7 +11,7 @@ ghost use Rattle.strm_frame.specs.Hands.{AreIn, CanPut, Handles, Hands, SamePool
 
 use crate::parcels::Outbox;
 use crate::places::Stations;
-use strm_blocks::Blocks;
+use strm_blocks::{Blocks, InHand};
 use strm_types::{Fates, Spot};
 
 /// Delivers a message to a spot, with all that it gives rise to: what is put there sends others on, and each is carried
@@ -24,26 +24,26 @@ pub fn deliver<B: Blocks, S: Stations<B>>(
     stations: &mut S,
     hops: usize,
     to: Spot,
-    message: B::Mp,
+    message: InHand,
     told: &mut Fates,
 )
     requires held { S.IsHeld (B.value store.old) stations.old }
-    requires can_put { CanPut (B.value store.old) (B.name message) (S.keeps stations.old) }
-    requires chain { IsChain (in_hand (B.value store.old) (B.name message)) }
-    requires low { S.height to (message_in (B.value store.old) (B.name message)) < hops }
+    requires can_put { CanPut (B.value store.old) (token message) (S.keeps stations.old) }
+    requires chain { IsChain (in_hand (B.value store.old) (token message)) }
+    requires low { S.height to (message_in (B.value store.old) (token message)) < hops }
     requires room { let s = B.value store.old in let p = S.plain s stations.old in
-        MayTake s (S.spare p) (S.cost p to (message_in s (B.name message))) }
+        MayTake s (S.spare p) (S.cost p to (message_in s (token message))) }
     ensures state { let s = B.value store.old in
         S.plain (B.value store.new) stations.new ≡ (carried S.puts hops
-        (record { to = to; message = message_in s (B.name message) }) (S.plain s stations.old)).state }
+        (record { to = to; message = message_in s (token message) }) (S.plain s stations.old)).state }
     ensures told { let s = B.value store.old in
-        told.new ≡ tallied (carried S.puts hops (record { to = to; message = message_in s (B.name message) })
+        told.new ≡ tallied (carried S.puts hops (record { to = to; message = message_in s (token message) })
         (S.plain s stations.old)).gone told.old }
     ensures held { S.IsHeld (B.value store.new) stations.new }
-    ensures hands { Hands (B.value store.old) (B.value store.new) (B.name message) (S.keeps stations.old)
+    ensures hands { Hands (B.value store.old) (B.value store.new) (token message) (S.keeps stations.old)
         (S.keeps stations.new) (λ _. 0) }
     ensures takes { let s = B.value store.old in let t = B.value store.new in let p = S.plain s stations.old in
-        Takes s t (S.spare p) (S.spare (S.plain t stations.new)) (S.cost p to (message_in s (B.name message))) 0 }
+        Takes s t (S.spare p) (S.spare (S.plain t stations.new)) (S.cost p to (message_in s (token message))) 0 }
     ensures pool { SamePool (B.value store.old) (B.value store.new) }
 {
     let sent = stations.put_at(store, to, message, told);
@@ -58,26 +58,26 @@ pub fn deliver_all<B: Blocks, S: Stations<B>>(
     store: &mut B,
     stations: &mut S,
     hops: usize,
-    sent: Outbox<B::Mp>,
+    sent: Outbox,
     told: &mut Fates,
 )
     requires held { S.IsHeld (B.value store.old) stations.old }
-    requires are_in { AreIn (B.value store.old) (λ i. times_sent B.name i (sent_of sent)) (S.keeps stations.old) }
-    requires chains { AreChains B.name (B.value store.old) (sent_of sent) }
-    requires low { AreLower S.height hops (parcels_in B.name (B.value store.old) (sent_of sent)) }
+    requires are_in { AreIn (B.value store.old) (λ i. times_sent i (sent_of sent)) (S.keeps stations.old) }
+    requires chains { AreChains (B.value store.old) (sent_of sent) }
+    requires low { AreLower S.height hops (parcels_in (B.value store.old) (sent_of sent)) }
     requires room { let s = B.value store.old in let p = S.plain s stations.old in
-        MayTake s (S.spare p) (cost_of (S.cost p) (parcels_in B.name s (sent_of sent))) }
+        MayTake s (S.spare p) (cost_of (S.cost p) (parcels_in s (sent_of sent))) }
     ensures state { let s = B.value store.old in
-        S.plain (B.value store.new) stations.new ≡ (in_turn (carried S.puts hops) (parcels_in B.name s (sent_of sent))
+        S.plain (B.value store.new) stations.new ≡ (in_turn (carried S.puts hops) (parcels_in s (sent_of sent))
         (S.plain s stations.old)).state }
     ensures told { let s = B.value store.old in
-        told.new ≡ tallied (in_turn (carried S.puts hops) (parcels_in B.name s (sent_of sent)) (S.plain s stations.old)).gone
+        told.new ≡ tallied (in_turn (carried S.puts hops) (parcels_in s (sent_of sent)) (S.plain s stations.old)).gone
         told.old }
     ensures held { S.IsHeld (B.value store.new) stations.new }
-    ensures hands { Handles (B.value store.old) (B.value store.new) (λ i. times_sent B.name i (sent_of sent))
+    ensures hands { Handles (B.value store.old) (B.value store.new) (λ i. times_sent i (sent_of sent))
         (S.keeps stations.old) (S.keeps stations.new) (λ _. 0) }
     ensures takes { let s = B.value store.old in let t = B.value store.new in let p = S.plain s stations.old in
-        Takes s t (S.spare p) (S.spare (S.plain t stations.new)) (cost_of (S.cost p) (parcels_in B.name s (sent_of sent))) 0 }
+        Takes s t (S.spare p) (S.spare (S.plain t stations.new)) (cost_of (S.cost p) (parcels_in s (sent_of sent))) 0 }
     ensures pool { SamePool (B.value store.old) (B.value store.new) }
 {
     let mut left = sent;

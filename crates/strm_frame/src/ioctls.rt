@@ -5,11 +5,11 @@ ghost use Rattle.strm_types.specs.Acks.{payload};
 ghost use Rattle.strm_types.specs.Commands.{is_ioctl, sets_termios};
 ghost use Rattle.strm_types.specs.Flush.{is_data_kind};
 ghost use Rattle.strm_types.specs.Ioctls.{read_ioc};
-ghost use Rattle.strm_blocks.specs.Blocks.{IsInHand, in_hand, block_at};
+ghost use Rattle.strm_blocks.specs.Blocks.{IsInHand, in_hand, block_at, token};
 ghost use Rattle.strm_frame.specs.Outboxes.{message_in};
 
 use arrayvec::ArrayVec;
-use strm_blocks::Blocks;
+use strm_blocks::{Blocks, InHand};
 use strm_msg::first_bytes;
 use strm_types::{Ioc, MsgKind, TCSETS, TCSETSF, TCSETSW};
 
@@ -34,10 +34,10 @@ pub fn sets_termios(command: u32) -> bool
 }
 
 /// The header of an ioctl message in hand, if it has one.
-pub fn header_of<B: Blocks>(store: &B, message: &B::Mp) -> Option<Ioc>
-    requires in_hand { IsInHand (B.value store.now) (B.name message.now) }
-    requires kind { is_data_kind (block_at 0 (in_hand (B.value store.now) (B.name message.now))).kind ≡ false }
-    ensures { result ≡ read_ioc (message_in (B.value store.now) (B.name message.now)).plain }
+pub fn header_of<B: Blocks>(store: &B, message: &InHand) -> Option<Ioc>
+    requires in_hand { IsInHand (B.value store.now) (token message.now) }
+    requires kind { is_data_kind (block_at 0 (in_hand (B.value store.now) (token message.now))).kind ≡ false }
+    ensures { result ≡ read_ioc (message_in (B.value store.now) (token message.now)).plain }
 {
     let mut bytes = [0; 16];
     let count = first_bytes(store, message, &mut bytes);
@@ -45,10 +45,10 @@ pub fn header_of<B: Blocks>(store: &B, message: &B::Mp) -> Option<Ioc>
 }
 
 /// The first 36 bytes of the payload of an ioctl message in hand, whichever blocks they stand in. A payload that a module takes has fewer.
-pub fn payload_of<B: Blocks>(store: &B, message: &B::Mp) -> ArrayVec<u8, PAYLOAD_READ>
-    requires in_hand { IsInHand (B.value store.now) (B.name message.now) }
-    requires kind { is_data_kind (block_at 0 (in_hand (B.value store.now) (B.name message.now))).kind ≡ false }
-    ensures { result.items ≡ take 36 (payload (message_in (B.value store.now) (B.name message.now)).plain) }
+pub fn payload_of<B: Blocks>(store: &B, message: &InHand) -> ArrayVec<u8, PAYLOAD_READ>
+    requires in_hand { IsInHand (B.value store.now) (token message.now) }
+    requires kind { is_data_kind (block_at 0 (in_hand (B.value store.now) (token message.now))).kind ≡ false }
+    ensures { result.items ≡ take 36 (payload (message_in (B.value store.now) (token message.now)).plain) }
 {
     let mut bytes = [0; 16 + PAYLOAD_READ];
     let count = first_bytes(store, message, &mut bytes);

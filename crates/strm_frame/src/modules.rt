@@ -18,7 +18,7 @@ ghost use Rattle.strm_types.specs.Deliver.{Acted, AreLower, tallied};
 ghost use Rattle.strm_types.specs.Refused.{has_no_data};
 ghost use Rattle.strm_types.specs.ModuleQueues.{has_queue, messages_at, full_at, waits, queue_changed};
 ghost use Rattle.strm_types.specs.Service.{Serving, turn_ended, end_relieves, has_more, cleared};
-ghost use Rattle.strm_blocks.specs.Blocks.{StoreValue, in_hand};
+ghost use Rattle.strm_blocks.specs.Blocks.{StoreValue, in_hand, token};
 ghost use Rattle.strm_msg.specs.Messages.{IsChain};
 ghost use Rattle.strm_frame.specs.Outboxes.{message_in, sent_of, times_sent, parcels_in, AreChains};
 ghost use Rattle.strm_queue.specs.Stored.{FreesBlocks};
@@ -28,15 +28,15 @@ ghost use Rattle.strm_frame.specs.Hands.{AreIn, CanPut, Handles, Hands, SamePool
 use crate::parcels::Outbox;
 use crate::service::{Served, TurnEnd};
 use arrayvec::ArrayVec;
-use strm_blocks::Blocks;
+use strm_blocks::{Blocks, InHand};
 use strm_types::{Asks, Band, Fates, ModuleName, Note, Rule, Side, Spot, Way};
 
 /// What a put at a module does, in this order: its queues come onto the enabled list, or those before them do, and messages
 /// are sent on.
 #[derive(Drop)]
-pub struct Acts<Mp> {
+pub struct Acts {
     pub notes: ArrayVec<Note, 4>,
-    pub sent: Outbox<Mp>,
+    pub sent: Outbox,
 }
 
 /// What comes of it that a module lets all go: which queues before its own have room again, and whether the M_IOCTL that is sought
@@ -61,7 +61,7 @@ impl LetGo {
 }
 
 /// A module: its own state, and lists of the store that nothing else touches (STREAMS Programming Guide, "Modules").
-pub trait Module<B: Blocks>: Drop {
+pub trait Module: Drop {
     /// Its plain state.
     ghost Plain: { Type 0 };
 
@@ -132,30 +132,30 @@ pub trait Module<B: Blocks>: Drop {
         ensures { (s : StoreValue) → result ≡ name_of (plain s self.now) };
 
     /// Puts a message in hand here, on its way up or down, and says what it does: `put(9E)`.
-    fn put(&mut self, store: &mut B, here: Spot, message: B::Mp, told: &mut Fates) -> Acts<B::Mp>
+    fn put<B: Blocks>(&mut self, store: &mut B, here: Spot, message: InHand, told: &mut Fates) -> Acts
         requires held { IsHeld (B.value store.old) self.old }
-        requires can_put { CanPut (B.value store.old) (B.name message) (keeps self.old) }
-        requires chain { IsChain (in_hand (B.value store.old) (B.name message)) }
-        requires room { let s = B.value store.old in HasRoom s (takes here (message_in s (B.name message)) (plain s self.old)) }
+        requires can_put { CanPut (B.value store.old) (token message) (keeps self.old) }
+        requires chain { IsChain (in_hand (B.value store.old) (token message)) }
+        requires room { let s = B.value store.old in HasRoom s (takes here (message_in s (token message)) (plain s self.old)) }
         requires inside { 0 < here.at }
         requires small { here.at ≤ MODULES }
         ensures state { let s = B.value store.old in
-            plain (B.value store.new) self.new ≡ (puts here (message_in s (B.name message)) (plain s self.old)).state }
+            plain (B.value store.new) self.new ≡ (puts here (message_in s (token message)) (plain s self.old)).state }
         ensures notes { let s = B.value store.old in
-            result.notes.items ≡ (puts here (message_in s (B.name message)) (plain s self.old)).notes }
+            result.notes.items ≡ (puts here (message_in s (token message)) (plain s self.old)).notes }
         ensures sent { let s = B.value store.old in
-            parcels_in B.name (B.value store.new) (sent_of result.sent) ≡
-            (puts here (message_in s (B.name message)) (plain s self.old)).sent }
+            parcels_in (B.value store.new) (sent_of result.sent) ≡
+            (puts here (message_in s (token message)) (plain s self.old)).sent }
         ensures told { let s = B.value store.old in
-            told.new ≡ tallied (puts here (message_in s (B.name message)) (plain s self.old)).gone told.old }
+            told.new ≡ tallied (puts here (message_in s (token message)) (plain s self.old)).gone told.old }
         ensures held { IsHeld (B.value store.new) self.new }
         ensures own { OnlyOwn (B.value store.old) (B.value store.new) (owns self.old) (owns self.new) }
-        ensures chains { AreChains B.name (B.value store.new) (sent_of result.sent) }
-        ensures falls { AreLower height (height here (message_in (B.value store.old) (B.name message)))
-            (parcels_in B.name (B.value store.new) (sent_of result.sent)) }
-        ensures hands { Hands (B.value store.old) (B.value store.new) (B.name message) (keeps self.old)
-            (keeps self.new) (λ i. times_sent B.name i (sent_of result.sent)) }
-        ensures spends { let s = B.value store.old in let m = message_in s (B.name message) in
+        ensures chains { AreChains (B.value store.new) (sent_of result.sent) }
+        ensures falls { AreLower height (height here (message_in (B.value store.old) (token message)))
+            (parcels_in (B.value store.new) (sent_of result.sent)) }
+        ensures hands { Hands (B.value store.old) (B.value store.new) (token message) (keeps self.old)
+            (keeps self.new) (λ i. times_sent i (sent_of result.sent)) }
+        ensures spends { let s = B.value store.old in let m = message_in s (token message) in
             Spends s (B.value store.new) (takes here m (plain s self.old)) (leaves here m (plain s self.old)) }
         ensures pool { SamePool (B.value store.old) (B.value store.new) };
 
@@ -164,31 +164,31 @@ pub trait Module<B: Blocks>: Drop {
         ensures { (s : StoreValue) → result ≡ has_queue queue_of way (plain s self.now) };
 
     /// Whether a band of its queue of a way is full. Without such a queue it isn't.
-    fn is_full(&self, store: &B, way: Way, band: Band) -> bool
+    fn is_full<B: Blocks>(&self, store: &B, way: Way, band: Band) -> bool
         requires held { IsHeld (B.value store.now) self.now }
         requires band { band.0 < BANDS }
         ensures { result ≡ full_at queue_of way band.0 (plain (B.value store.now) self.now) };
 
     /// How many bytes count in a band of its queue of a way; none without such a queue.
-    fn count(&self, store: &B, way: Way, band: Band) -> usize
+    fn count<B: Blocks>(&self, store: &B, way: Way, band: Band) -> usize
         requires held { IsHeld (B.value store.now) self.now }
         requires band { band.0 < BANDS }
         ensures { result ≡ count_of band.0 (messages_at queue_of way (plain (B.value store.now) self.now)) };
 
     /// How many messages stand on its queue of a way, and how many bytes they have; nothing without such a queue.
-    fn sizes(&self, store: &B, way: Way) -> (usize, usize)
+    fn sizes<B: Blocks>(&self, store: &B, way: Way) -> (usize, usize)
         requires held { IsHeld (B.value store.now) self.now }
         ensures messages { result.0 ≡ length (messages_at queue_of way (plain (B.value store.now) self.now)) }
         ensures bytes { result.1 ≡ bytes_of (messages_at queue_of way (plain (B.value store.now) self.now)) };
 
     /// How many bytes the first message on its queue of a way has; none where none stands there. It takes a step for each block of
     /// the message.
-    fn first_size(&self, store: &B, way: Way) -> usize
+    fn first_size<B: Blocks>(&self, store: &B, way: Way) -> usize
         requires { IsHeld (B.value store.now) self.now }
         ensures { result ≡ first_size (messages_at queue_of way (plain (B.value store.now) self.now)) };
 
     /// Whether no M_DATA or M_PROTO stands on its read queue; none does without one.
-    fn none_waits_up(&self, store: &B) -> bool
+    fn none_waits_up<B: Blocks>(&self, store: &B) -> bool
         requires { IsHeld (B.value store.now) self.now }
         ensures { result ≡ has_no_data (messages_at queue_of Up (plain (B.value store.now) self.now)) };
 
@@ -208,7 +208,7 @@ pub trait Module<B: Blocks>: Drop {
 
     /// What the first message of its queue of a way asks before it goes on. It has a queue that way. A message has no more
     /// bytes than all blocks of a store.
-    fn asks(&self, store: &B, way: Way) -> Asks
+    fn asks<B: Blocks>(&self, store: &B, way: Way) -> Asks
         requires held { IsHeld (B.value store.now) self.now }
         ensures asks { result ≡ asks way (plain (B.value store.now) self.now) }
         ensures band { IsBand result }
@@ -218,7 +218,7 @@ pub trait Module<B: Blocks>: Drop {
     /// is delivered that the last one sent. It is called so only where the last call asked for that, and for the first time in a
     /// turn only where nothing of a turn is under way. It may stop within the message only where fewer than `STOP_BLOCKS` blocks of
     /// some kind are left.
-    fn serve(&mut self, store: &mut B, here: Spot, again: bool, told: &mut Fates) -> Served<B::Mp>
+    fn serve<B: Blocks>(&mut self, store: &mut B, here: Spot, again: bool, told: &mut Fates) -> Served
         requires held { IsHeld (B.value store.old) self.old }
         requires turn { MayServe here.way again (plain (B.value store.old) self.old) }
         requires kept { AreIn (B.value store.old) (λ _. 0) (keeps self.old) }
@@ -230,7 +230,7 @@ pub trait Module<B: Blocks>: Drop {
         ensures notes { let s = B.value store.old in
             result.acts.notes.items ≡ (serves here again (stop_of result) (plain s self.old)).acted.notes }
         ensures sent { let s = B.value store.old in
-            parcels_in B.name (B.value store.new) (sent_of result.acts.sent) ≡
+            parcels_in (B.value store.new) (sent_of result.acts.sent) ≡
             (serves here again (stop_of result) (plain s self.old)).acted.sent }
         ensures told { let s = B.value store.old in
             told.new ≡ tallied (serves here again (stop_of result) (plain s self.old)).acted.gone told.old }
@@ -246,20 +246,20 @@ pub trait Module<B: Blocks>: Drop {
             made_of (serves here again (stop_of result) (plain s self.old)).acted.gone ≤ most_made result.bytes }
         ensures held { IsHeld (B.value store.new) self.new }
         ensures own { OnlyOwn (B.value store.old) (B.value store.new) (owns self.old) (owns self.new) }
-        ensures chains { AreChains B.name (B.value store.new) (sent_of result.acts.sent) }
+        ensures chains { AreChains (B.value store.new) (sent_of result.acts.sent) }
         ensures falls { AreLower height (turn_height here)
-            (parcels_in B.name (B.value store.new) (sent_of result.acts.sent)) }
+            (parcels_in (B.value store.new) (sent_of result.acts.sent)) }
         ensures hands { Handles (B.value store.old) (B.value store.new) (λ _. 0) (keeps self.old) (keeps self.new)
-            (λ i. times_sent B.name i (sent_of result.acts.sent)) }
+            (λ i. times_sent i (sent_of result.acts.sent)) }
         ensures room { HasRoom (B.value store.new) (later_cost cost result.again
             (turn_cost here true (plain (B.value store.new) self.new))
-            (parcels_in B.name (B.value store.new) (sent_of result.acts.sent))) }
+            (parcels_in (B.value store.new) (sent_of result.acts.sent))) }
         ensures pool { SamePool (B.value store.old) (B.value store.new) };
 
     /// Ends a turn of its queue of a way, when all is delivered that was sent: want-read is set where the queue is empty and
     /// cleared where it isn't. Where the turn took bytes, waiting writers are let go. A turn that treated nothing ends so
     /// too, as its queue is empty or its first message may not go on.
-    fn end_turn(&mut self, store: &B, way: Way, took: bool) -> TurnEnd
+    fn end_turn<B: Blocks>(&mut self, store: &B, way: Way, took: bool) -> TurnEnd
         requires held { IsHeld (B.value store.now) self.old }
         ensures state { let s = B.value store.now in
             plain s self.new ≡ queue_changed queue_of with_queue way (turn_ended took) (plain s self.old) }
@@ -272,7 +272,7 @@ pub trait Module<B: Blocks>: Drop {
     /// Lets all go that stands on its queues and in its line, before the module is taken off a side's stream. The bytes go by
     /// a rule. It tells which queues before its own have room again, and whether the M_IOCTL of a number stood on its write queue, where
     /// one is sought.
-    fn clear(
+    fn clear<B: Blocks>(
         &mut self,
         store: &mut B,
         side: Side,

@@ -3,25 +3,26 @@
 ghost use Rattle.std.specs.Prelude.{◌≡◌, ◌↔◌, [], ◌∷◌, IsTrue, MatchOption};
 ghost use Rattle.strm_frame.specs.Outboxes.{sent_of};
 
+use strm_blocks::InHand;
 use strm_types::Spot;
 
 /// A message on its way to a spot.
 #[derive(Drop)]
-pub struct Sent<Mp> {
+pub struct Sent {
     pub to: Spot,
-    pub message: Mp,
+    pub message: InHand,
 }
 
 /// At most four messages on their way, the first one first.
 #[derive(Drop)]
-pub struct Outbox<Mp> {
-    pub first: Option<Sent<Mp>>,
-    pub second: Option<Sent<Mp>>,
-    pub third: Option<Sent<Mp>>,
-    pub fourth: Option<Sent<Mp>>,
+pub struct Outbox {
+    pub first: Option<Sent>,
+    pub second: Option<Sent>,
+    pub third: Option<Sent>,
+    pub fourth: Option<Sent>,
 }
 
-impl<Mp: Drop> Outbox<Mp> {
+impl Outbox {
     /// Nothing.
     pub fn none() -> Self
         ensures { sent_of result ≡ [] }
@@ -35,7 +36,7 @@ impl<Mp: Drop> Outbox<Mp> {
     }
 
     /// One message.
-    pub fn one(first: Sent<Mp>) -> Self
+    pub fn one(first: Sent) -> Self
         ensures { sent_of result ≡ first ∷ [] }
     {
         Outbox {
@@ -47,7 +48,7 @@ impl<Mp: Drop> Outbox<Mp> {
     }
 
     /// Two messages.
-    pub fn two(first: Sent<Mp>, second: Sent<Mp>) -> Self
+    pub fn two(first: Sent, second: Sent) -> Self
         ensures { sent_of result ≡ first ∷ second ∷ [] }
     {
         Outbox {
@@ -69,7 +70,7 @@ impl<Mp: Drop> Outbox<Mp> {
     }
 
     /// The first message, taken out.
-    pub fn take_first(&mut self) -> Option<Sent<Mp>>
+    pub fn take_first(&mut self) -> Option<Sent>
         ensures { MatchOption result
             ((sent_of self.old ≡ []) × (sent_of self.new ≡ []))
             (λ sent. sent_of self.old ≡ sent ∷ sent_of self.new) }

@@ -19,7 +19,7 @@ use strm_types::{Fates, Rule, Side};
 
 // Lets all go that stands on the queues and in the line of one of several modules,
 // counted from 0.
-fn clear_among<B: Blocks, M: Module<B>>(
+fn clear_among<B: Blocks, M: Module>(
     store: &mut B,
     modules: &mut [M],
     at: usize,
@@ -51,7 +51,7 @@ fn clear_among<B: Blocks, M: Module<B>>(
     modules[at].clear(store, side, rule, seeking, told)
 }
 
-impl<M: Default + Drop> Stream<M> {
+impl<M: Module + Default> Stream<M> {
     /// Lets all go that stands on the queues and in the line of the module on top, before `pop` takes it off: its bytes go by
     /// a rule. It tells which queues before its own have room again, and whether the M_IOCTL of a number stood on its write queue, where
     /// one is sought. Nothing where no module stands.
@@ -63,8 +63,6 @@ impl<M: Default + Drop> Stream<M> {
         seeking: Option<u32>,
         told: &mut Fates,
     ) -> LetGo
-    where
-        M: Module<B>,
         requires held { AreHeld M.IsHeld M.owns (B.value store.old) self.old.modules.items }
         requires rests { (i : ℕ) → all_of M.keeps self.old.modules.items i ≡ 0 }
         ensures length { length self.new.modules.items ≡ length self.old.modules.items }

@@ -7,14 +7,14 @@ ghost use Rattle.strm_types.specs.Emptied.{of_all, cells_gone, emptied, queue_be
 ghost use Rattle.strm_types.specs.Rules.{told_more};
 ghost use Rattle.strm_types.specs.Service.{turn_ended, turn_relieves};
 ghost use Rattle.strm_types.specs.Queue.{is_none_left};
-ghost use Rattle.strm_blocks.specs.Blocks.{IsInHand, in_hand};
+ghost use Rattle.strm_blocks.specs.Blocks.{IsInHand, in_hand, token};
 ghost use Rattle.strm_msg.specs.Messages.{IsChain};
 ghost use Rattle.strm_queue.specs.Stored.{queue_in, messages_on, IsReady, Changes, FreesBlocks};
 ghost use Rattle.strm_frame.specs.Outboxes.{message_in};
 
 use crate::ioctls::{header_of, is_ioctl};
 use crate::service::TurnEnd;
-use strm_blocks::Blocks;
+use strm_blocks::{Blocks, InHand};
 use strm_queue::Queue;
 use strm_queue::emptying::{Chosen, empty, going};
 use strm_queue::standing::{dequeue, relieve, total};
@@ -50,10 +50,10 @@ pub struct Emptied {
 }
 
 // Whether a message in hand is the M_IOCTL of a number.
-fn is_ioctl_of<B: Blocks>(store: &B, message: &B::Mp, number: u32) -> bool
-    requires in_hand { IsInHand (B.value store.now) (B.name message.now) }
-    requires chain { IsChain (in_hand (B.value store.now) (B.name message.now)) }
-    ensures { result ≡ is_ioctl_of number (message_in (B.value store.now) (B.name message.now)) }
+fn is_ioctl_of<B: Blocks>(store: &B, message: &InHand, number: u32) -> bool
+    requires in_hand { IsInHand (B.value store.now) (token message.now) }
+    requires chain { IsChain (in_hand (B.value store.now) (token message.now)) }
+    ensures { result ≡ is_ioctl_of number (message_in (B.value store.now) (token message.now)) }
 {
     if !is_ioctl(store.kind(message, 0)) {
         return false;

@@ -18,7 +18,7 @@ use strm_blocks::Blocks;
 use strm_types::{Band, Way};
 
 // The nearest of these modules below a place that has a queue of a way.
-fn place_below<B: Blocks, M: Module<B>>(modules: &[M], way: Way, at: usize) -> Option<usize>
+fn place_below<M: Module>(modules: &[M], way: Way, at: usize) -> Option<usize>
     ensures place { (s : StoreValue) → result ≡ place_below M.queue_of way at (map (M.plain s) modules.now) }
     ensures inside { IsPlace (length modules.now) result }
 {
@@ -31,7 +31,7 @@ fn place_below<B: Blocks, M: Module<B>>(modules: &[M], way: Way, at: usize) -> O
 }
 
 // The nearest of these modules above a place that has a queue of a way.
-fn place_above<B: Blocks, M: Module<B>>(modules: &[M], way: Way, at: usize) -> Option<usize>
+fn place_above<M: Module>(modules: &[M], way: Way, at: usize) -> Option<usize>
     ensures place { (s : StoreValue) → result ≡ place_above M.queue_of way at (map (M.plain s) modules.now) }
     ensures inside { IsPlace (length modules.now) result }
 {
@@ -45,7 +45,7 @@ fn place_above<B: Blocks, M: Module<B>>(modules: &[M], way: Way, at: usize) -> O
 }
 
 // Whether a band of a queue is full, of one of several modules, counted from 0.
-fn is_full_among<B: Blocks, M: Module<B>>(
+fn is_full_among<B: Blocks, M: Module>(
     store: &B,
     modules: &[M],
     at: usize,
@@ -62,7 +62,7 @@ fn is_full_among<B: Blocks, M: Module<B>>(
 }
 
 // Whether a band of a queue has room at a place, where there is one.
-fn room_at<B: Blocks, M: Module<B>>(
+fn room_at<B: Blocks, M: Module>(
     store: &B,
     modules: &[M],
     place: Option<usize>,
@@ -81,7 +81,7 @@ fn room_at<B: Blocks, M: Module<B>>(
 }
 
 // Has a writer of a band wait at a queue of one of several modules, counted from 0.
-fn let_wait_among<B: Blocks, M: Module<B>>(modules: &mut [M], at: usize, way: Way, band: Band)
+fn let_wait_among<M: Module>(modules: &mut [M], at: usize, way: Way, band: Band)
     requires within { at < length modules.old }
     requires band { band.0 < BANDS }
     ensures length { length modules.new ≡ length modules.old }
@@ -95,7 +95,7 @@ fn let_wait_among<B: Blocks, M: Module<B>>(modules: &mut [M], at: usize, way: Wa
 }
 
 // The same at a place, where there is one.
-fn let_wait_at<B: Blocks, M: Module<B>>(
+fn let_wait_at<M: Module>(
     modules: &mut [M],
     place: Option<usize>,
     way: Way,
@@ -117,7 +117,7 @@ fn let_wait_at<B: Blocks, M: Module<B>>(
 }
 
 // How many bytes count in a band of a queue, of one of several modules, counted from 0.
-fn count_among<B: Blocks, M: Module<B>>(
+fn count_among<B: Blocks, M: Module>(
     store: &B,
     modules: &[M],
     at: usize,
@@ -134,7 +134,7 @@ fn count_among<B: Blocks, M: Module<B>>(
 }
 
 // How much stands on a queue of one of several modules, counted from 0.
-fn sizes_among<B: Blocks, M: Module<B>>(
+fn sizes_among<B: Blocks, M: Module>(
     store: &B,
     modules: &[M],
     at: usize,
@@ -151,7 +151,7 @@ fn sizes_among<B: Blocks, M: Module<B>>(
 }
 
 // How many bytes the first message on a queue of one of several modules has, counted from 0.
-fn first_size_among<B: Blocks, M: Module<B>>(store: &B, modules: &[M], at: usize, way: Way) -> usize
+fn first_size_among<B: Blocks, M: Module>(store: &B, modules: &[M], at: usize, way: Way) -> usize
     requires within { at < length modules.now }
     requires held { AreHeld M.IsHeld M.owns (B.value store.now) modules.now }
     ensures { result ≡ first_size (slice_index_or (map (messages_at M.queue_of way)
@@ -161,7 +161,7 @@ fn first_size_among<B: Blocks, M: Module<B>>(store: &B, modules: &[M], at: usize
 }
 
 // Whether no M_DATA or M_PROTO stands on the read queues of these modules.
-fn none_wait_up<B: Blocks, M: Module<B>>(store: &B, modules: &[M]) -> bool
+fn none_wait_up<B: Blocks, M: Module>(store: &B, modules: &[M]) -> bool
     requires { AllByRecursion (M.IsHeld (B.value store.now)) modules.now }
     ensures { result ≡ not (list_any (λ p. not (has_no_data (messages_at M.queue_of Up p)))
         (map (M.plain (B.value store.now)) modules.now)) }
@@ -172,12 +172,10 @@ fn none_wait_up<B: Blocks, M: Module<B>>(store: &B, modules: &[M]) -> bool
     first.none_waits_up(store) && none_wait_up(store, rest)
 }
 
-impl<M: Default + Drop> Stream<M> {
+impl<M: Module + Default> Stream<M> {
     /// The place of the nearest module past a place that has a queue, as messages of a way go; None where no module there
     /// has one, so that what stands behind the modules is next.
-    pub fn place_past<B: Blocks>(&self, way: Way, at: usize) -> Option<usize>
-    where
-        M: Module<B>,
+    pub fn place_past(&self, way: Way, at: usize) -> Option<usize>
         ensures place { (s : StoreValue) → result ≡
             place_past M.queue_of way at (map (M.plain s) self.now.modules.items) }
         ensures inside { IsPlace (length self.now.modules.items) result }
@@ -190,9 +188,7 @@ impl<M: Default + Drop> Stream<M> {
 
     /// The place of the nearest module before a place that has a queue, as messages of a way go: the queue that is
     /// enabled when there is room again at the place ("back-enabling"). None where no module there has one.
-    pub fn place_before<B: Blocks>(&self, way: Way, at: usize) -> Option<usize>
-    where
-        M: Module<B>,
+    pub fn place_before(&self, way: Way, at: usize) -> Option<usize>
         ensures place { (s : StoreValue) → result ≡
             place_before M.queue_of way at (map (M.plain s) self.now.modules.items) }
         ensures inside { IsPlace (length self.now.modules.items) result }
@@ -207,8 +203,6 @@ impl<M: Default + Drop> Stream<M> {
     /// nearest queue there (canputnext(9F), bcanput(9F)). None where no module there has a queue, so that what stands
     /// behind the modules is asked. Nobody waits for room by this.
     pub fn can_pass<B: Blocks>(&self, store: &B, way: Way, band: Band, at: usize) -> Option<bool>
-    where
-        M: Module<B>,
         requires held { AreHeld M.IsHeld M.owns (B.value store.now) self.now.modules.items }
         requires band { band.0 < BANDS }
         ensures { result ≡ can_pass M.queue_of way band.0 at
@@ -220,9 +214,7 @@ impl<M: Default + Drop> Stream<M> {
 
     /// Has a service procedure wait for room in a band of the nearest queue past a place, as messages of a way go:
     /// want-write is set there. Nothing where no module there has a queue.
-    pub fn let_wait_past<B: Blocks>(&mut self, way: Way, band: Band, at: usize)
-    where
-        M: Module<B>,
+    pub fn let_wait_past(&mut self, way: Way, band: Band, at: usize)
         requires { band.0 < BANDS }
         ensures length { length self.new.modules.items ≡ length self.old.modules.items }
         ensures state { (s : StoreValue) → map (M.plain s) self.new.modules.items ≡
@@ -238,8 +230,6 @@ impl<M: Default + Drop> Stream<M> {
 
     /// Whether no M_DATA or M_PROTO stands on the read queues of the modules.
     pub fn none_waits_up<B: Blocks>(&self, store: &B) -> bool
-    where
-        M: Module<B>,
         requires { AreHeld M.IsHeld M.owns (B.value store.now) self.now.modules.items }
         ensures { result ≡ not (list_any (λ p. not (has_no_data (messages_at M.queue_of Up p)))
             (map (M.plain (B.value store.now)) self.now.modules.items)) }
@@ -249,8 +239,6 @@ impl<M: Default + Drop> Stream<M> {
 
     /// How many messages stand on a queue of the module at a place, and how many bytes they have; nothing without one.
     pub fn sizes<B: Blocks>(&self, store: &B, place: usize, way: Way) -> (usize, usize)
-    where
-        M: Module<B>,
         requires inside { 0 < place }
         requires within { place ≤ length self.now.modules.items }
         requires held { AreHeld M.IsHeld M.owns (B.value store.now) self.now.modules.items }
@@ -264,8 +252,6 @@ impl<M: Default + Drop> Stream<M> {
 
     /// How many bytes the first message on a queue of the module at a place has; none where none stands there.
     pub fn first_size<B: Blocks>(&self, store: &B, place: usize, way: Way) -> usize
-    where
-        M: Module<B>,
         requires inside { 0 < place }
         requires within { place ≤ length self.now.modules.items }
         requires held { AreHeld M.IsHeld M.owns (B.value store.now) self.now.modules.items }
@@ -277,8 +263,6 @@ impl<M: Default + Drop> Stream<M> {
 
     /// How many bytes count in a band of a queue of the module at a place; none without one.
     pub fn count<B: Blocks>(&self, store: &B, place: usize, way: Way, band: Band) -> usize
-    where
-        M: Module<B>,
         requires inside { 0 < place }
         requires within { place ≤ length self.now.modules.items }
         requires held { AreHeld M.IsHeld M.owns (B.value store.now) self.now.modules.items }
@@ -291,8 +275,6 @@ impl<M: Default + Drop> Stream<M> {
 
     /// Whether a band of a queue of the module at a place is full; not without one.
     pub fn is_full<B: Blocks>(&self, store: &B, place: usize, way: Way, band: Band) -> bool
-    where
-        M: Module<B>,
         requires inside { 0 < place }
         requires within { place ≤ length self.now.modules.items }
         requires held { AreHeld M.IsHeld M.owns (B.value store.now) self.now.modules.items }

@@ -7,8 +7,8 @@ use crate::modules::Acts;
 /// the same turn, once what it sent is delivered. Where it stopped for want of blocks, the rest of the message is put back and
 /// the turn ends there.
 #[derive(Drop)]
-pub struct Served<Mp> {
-    pub acts: Acts<Mp>,
+pub struct Served {
+    pub acts: Acts,
     pub bytes: usize,
     pub stopped: bool,
     pub again: bool,

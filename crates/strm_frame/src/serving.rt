@@ -25,7 +25,7 @@ use strm_blocks::Blocks;
 use strm_types::{Asks, Fates, Spot, Way};
 
 // What the first message asks, of one of several modules, counted from 0.
-fn asks_among<B: Blocks, M: Module<B>>(store: &B, modules: &[M], at: usize, way: Way) -> Asks
+fn asks_among<B: Blocks, M: Module>(store: &B, modules: &[M], at: usize, way: Way) -> Asks
     requires within { at < length modules.now }
     requires held { AreHeld M.IsHeld M.owns (B.value store.now) modules.now }
     ensures asks { result ≡ slice_index_or (map (M.asks way) (map (M.plain (B.value store.now)) modules.now)) at Empty }
@@ -37,7 +37,7 @@ fn asks_among<B: Blocks, M: Module<B>>(store: &B, modules: &[M], at: usize, way:
 }
 
 // Ends a turn, of one of several modules, counted from 0.
-fn end_turn_among<B: Blocks, M: Module<B>>(
+fn end_turn_among<B: Blocks, M: Module>(
     store: &B,
     modules: &mut [M],
     at: usize,
@@ -61,14 +61,14 @@ fn end_turn_among<B: Blocks, M: Module<B>>(
 }
 
 // Treats the first message, of one of several modules, counted from 0.
-fn serve_among<B: Blocks, M: Module<B>>(
+fn serve_among<B: Blocks, M: Module>(
     store: &mut B,
     modules: &mut [M],
     at: usize,
     here: Spot,
     again: bool,
     told: &mut Fates,
-) -> Served<B::Mp>
+) -> Served
     requires within { at < length modules.old }
     requires held { AreHeld M.IsHeld M.owns (B.value store.old) modules.old }
     requires turn { HoldsAt (M.MayServe here.way again) (map (M.plain (B.value store.old)) modules.old) at }
@@ -82,7 +82,7 @@ fn serve_among<B: Blocks, M: Module<B>>(
         (act_among (λ p. (M.serves here again (stop_of result) p).acted) at (map (M.plain s) modules.old)).state }
     ensures notes { let s = B.value store.old in result.acts.notes.items ≡
         (act_among (λ p. (M.serves here again (stop_of result) p).acted) at (map (M.plain s) modules.old)).notes }
-    ensures sent { let s = B.value store.old in parcels_in B.name (B.value store.new) (sent_of result.acts.sent) ≡
+    ensures sent { let s = B.value store.old in parcels_in (B.value store.new) (sent_of result.acts.sent) ≡
         (act_among (λ p. (M.serves here again (stop_of result) p).acted) at (map (M.plain s) modules.old)).sent }
     ensures told { let s = B.value store.old in told.new ≡
         tallied (act_among (λ p. (M.serves here again (stop_of result) p).acted) at (map (M.plain s) modules.old)).gone
@@ -100,25 +100,23 @@ fn serve_among<B: Blocks, M: Module<B>>(
         ≤ most_made result.bytes }
     ensures held { AreHeld M.IsHeld M.owns (B.value store.new) modules.new }
     ensures own { OnlyOwn (B.value store.old) (B.value store.new) (all_of M.owns modules.old) (all_of M.owns modules.new) }
-    ensures chains { AreChains B.name (B.value store.new) (sent_of result.acts.sent) }
+    ensures chains { AreChains (B.value store.new) (sent_of result.acts.sent) }
     ensures falls { AreLower M.height (M.turn_height here)
-        (parcels_in B.name (B.value store.new) (sent_of result.acts.sent)) }
+        (parcels_in (B.value store.new) (sent_of result.acts.sent)) }
     ensures hands { Handles (B.value store.old) (B.value store.new) (λ _. 0) (all_of M.keeps modules.old)
-        (all_of M.keeps modules.new) (λ i. times_sent B.name i (sent_of result.acts.sent)) }
+        (all_of M.keeps modules.new) (λ i. times_sent i (sent_of result.acts.sent)) }
     ensures room { HasRoom (B.value store.new) (later_cost M.cost result.again
         (slice_index_or (map (M.turn_cost here true) (map (M.plain (B.value store.new)) modules.new)) at 0)
-        (parcels_in B.name (B.value store.new) (sent_of result.acts.sent))) }
+        (parcels_in (B.value store.new) (sent_of result.acts.sent))) }
     ensures pool { SamePool (B.value store.old) (B.value store.new) }
 {
     store.audit();
     modules[at].serve(store, here, again, told)
 }
 
-impl<M: Default + Drop> Stream<M> {
+impl<M: Module + Default> Stream<M> {
     /// What the first message asks of a module's queue of a way, at a place.
     pub fn asks<B: Blocks>(&self, store: &B, place: usize, way: Way) -> Asks
-    where
-        M: Module<B>,
         requires inside { 0 < place }
         requires within { place ≤ length self.now.modules.items }
         requires held { AreHeld M.IsHeld M.owns (B.value store.now) self.now.modules.items }
@@ -141,9 +139,7 @@ impl<M: Default + Drop> Stream<M> {
         here: Spot,
         again: bool,
         told: &mut Fates,
-    ) -> Served<B::Mp>
-    where
-        M: Module<B>,
+    ) -> Served
         requires inside { 0 < here.at }
         requires within { here.at ≤ length self.old.modules.items }
         requires held { AreHeld M.IsHeld M.owns (B.value store.old) self.old.modules.items }
@@ -159,7 +155,7 @@ impl<M: Default + Drop> Stream<M> {
         ensures notes { let s = B.value store.old in result.acts.notes.items ≡
             (act_among (λ p. (M.serves here again (stop_of result) p).acted) (here.at - 1)
             (map (M.plain s) self.old.modules.items)).notes }
-        ensures sent { let s = B.value store.old in parcels_in B.name (B.value store.new) (sent_of result.acts.sent) ≡
+        ensures sent { let s = B.value store.old in parcels_in (B.value store.new) (sent_of result.acts.sent) ≡
             (act_among (λ p. (M.serves here again (stop_of result) p).acted) (here.at - 1)
             (map (M.plain s) self.old.modules.items)).sent }
         ensures told { let s = B.value store.old in told.new ≡ tallied
@@ -181,15 +177,15 @@ impl<M: Default + Drop> Stream<M> {
         ensures held { AreHeld M.IsHeld M.owns (B.value store.new) self.new.modules.items }
         ensures own { OnlyOwn (B.value store.old) (B.value store.new) (all_of M.owns self.old.modules.items)
             (all_of M.owns self.new.modules.items) }
-        ensures chains { AreChains B.name (B.value store.new) (sent_of result.acts.sent) }
+        ensures chains { AreChains (B.value store.new) (sent_of result.acts.sent) }
         ensures falls { AreLower M.height (M.turn_height here)
-            (parcels_in B.name (B.value store.new) (sent_of result.acts.sent)) }
+            (parcels_in (B.value store.new) (sent_of result.acts.sent)) }
         ensures hands { Handles (B.value store.old) (B.value store.new) (λ _. 0)
             (all_of M.keeps self.old.modules.items) (all_of M.keeps self.new.modules.items)
-            (λ i. times_sent B.name i (sent_of result.acts.sent)) }
+            (λ i. times_sent i (sent_of result.acts.sent)) }
         ensures room { HasRoom (B.value store.new) (later_cost M.cost result.again
             (at_place (M.turn_cost here true) 0 here.at (map (M.plain (B.value store.new)) self.new.modules.items))
-            (parcels_in B.name (B.value store.new) (sent_of result.acts.sent))) }
+            (parcels_in (B.value store.new) (sent_of result.acts.sent))) }
         ensures pool { SamePool (B.value store.old) (B.value store.new) }
     {
         serve_among(
@@ -205,8 +201,6 @@ impl<M: Default + Drop> Stream<M> {
     /// Ends a turn of a module's queue of a way, at a place, when all is delivered that was sent. `took` says whether bytes
     /// were taken from it.
     pub fn end_turn<B: Blocks>(&mut self, store: &B, place: usize, way: Way, took: bool) -> TurnEnd
-    where
-        M: Module<B>,
         requires inside { 0 < place }
         requires within { place ≤ length self.old.modules.items }
         requires held { AreHeld M.IsHeld M.owns (B.value store.now) self.old.modules.items }

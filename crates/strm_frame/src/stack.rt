@@ -5,7 +5,7 @@ ghost use Rattle.strm_types.specs.declared.keys.TheConstants.{LINE_MAX};
 ghost use Rattle.strm_types.specs.declared.limits.TheConstants.{MODULES};
 ghost use Rattle.strm_types.specs.Deliver.{AreLower, tallied};
 ghost use Rattle.strm_types.specs.Modules.{put_among, may_push, stands, top_name};
-ghost use Rattle.strm_blocks.specs.Blocks.{StoreValue, in_hand};
+ghost use Rattle.strm_blocks.specs.Blocks.{StoreValue, in_hand, token};
 ghost use Rattle.strm_msg.specs.Messages.{IsChain};
 ghost use Rattle.strm_frame.specs.Stacks.{all_of, AreHeld};
 ghost use Rattle.strm_types.specs.ModuleQueues.{at_place};
@@ -14,7 +14,7 @@ ghost use Rattle.strm_frame.specs.Hands.{CanPut, Hands, OnlyOwn, SamePool, HasRo
 
 use crate::modules::{Acts, Module};
 use arrayvec::ArrayVec;
-use strm_blocks::Blocks;
+use strm_blocks::{Blocks, InHand};
 use strm_types::{Fates, MODULES, ModuleName, Spot};
 
 /// The modules of a stream, from the top down: at most three, each name once.
@@ -24,7 +24,7 @@ pub struct Stream<M> {
 }
 
 // Whether a module of a name stands among these.
-fn stands<B: Blocks, M: Module<B>>(modules: &[M], name: ModuleName) -> bool
+fn stands<M: Module>(modules: &[M], name: ModuleName) -> bool
     ensures { (s : StoreValue) → result ≡ stands M.name_of name (map (M.plain s) modules.now) }
 {
     let Some((first, rest)) = modules.split_first() else {
@@ -34,7 +34,7 @@ fn stands<B: Blocks, M: Module<B>>(modules: &[M], name: ModuleName) -> bool
 }
 
 // How many bytes stand in the unfinished lines of these modules.
-fn line_lens<B: Blocks, M: Module<B>>(modules: &[M]) -> usize
+fn line_lens<M: Module>(modules: &[M]) -> usize
     requires { length modules.now ≤ MODULES }
     ensures lines { (s : StoreValue) → result ≡ sum_by (λ p. length (M.line_of p)) (map (M.plain s) modules.now) }
     ensures few { result ≤ LINE_MAX * length modules.now }
@@ -46,43 +46,43 @@ fn line_lens<B: Blocks, M: Module<B>>(modules: &[M]) -> usize
 }
 
 // Puts a message at one of several modules, counted from 0.
-fn put_among<B: Blocks, M: Module<B>>(
+fn put_among<B: Blocks, M: Module>(
     store: &mut B,
     modules: &mut [M],
     at: usize,
     to: Spot,
-    message: B::Mp,
+    message: InHand,
     told: &mut Fates,
-) -> Acts<B::Mp>
+) -> Acts
     requires within { at < length modules.old }
     requires held { AreHeld M.IsHeld M.owns (B.value store.old) modules.old }
-    requires can_put { CanPut (B.value store.old) (B.name message) (all_of M.keeps modules.old) }
-    requires chain { IsChain (in_hand (B.value store.old) (B.name message)) }
+    requires can_put { CanPut (B.value store.old) (token message) (all_of M.keeps modules.old) }
+    requires chain { IsChain (in_hand (B.value store.old) (token message)) }
     requires room { let s = B.value store.old in
-        HasRoom s (slice_index_or (map (M.takes to (message_in s (B.name message))) (map (M.plain s) modules.old)) at 0) }
+        HasRoom s (slice_index_or (map (M.takes to (message_in s (token message))) (map (M.plain s) modules.old)) at 0) }
     requires inside { 0 < to.at }
     requires small { to.at ≤ MODULES }
     ensures length { length modules.new ≡ length modules.old }
     ensures state { let s = B.value store.old in
-        map (M.plain (B.value store.new)) modules.new ≡ (put_among M.puts at to (message_in s (B.name message))
+        map (M.plain (B.value store.new)) modules.new ≡ (put_among M.puts at to (message_in s (token message))
         (map (M.plain s) modules.old)).state }
     ensures notes { let s = B.value store.old in
-        result.notes.items ≡ (put_among M.puts at to (message_in s (B.name message))
+        result.notes.items ≡ (put_among M.puts at to (message_in s (token message))
         (map (M.plain s) modules.old)).notes }
     ensures sent { let s = B.value store.old in
-        parcels_in B.name (B.value store.new) (sent_of result.sent) ≡ (put_among M.puts at to
-        (message_in s (B.name message)) (map (M.plain s) modules.old)).sent }
+        parcels_in (B.value store.new) (sent_of result.sent) ≡ (put_among M.puts at to
+        (message_in s (token message)) (map (M.plain s) modules.old)).sent }
     ensures told { let s = B.value store.old in
-        told.new ≡ tallied (put_among M.puts at to (message_in s (B.name message)) (map (M.plain s) modules.old)).gone
+        told.new ≡ tallied (put_among M.puts at to (message_in s (token message)) (map (M.plain s) modules.old)).gone
         told.old }
     ensures held { AreHeld M.IsHeld M.owns (B.value store.new) modules.new }
     ensures own { OnlyOwn (B.value store.old) (B.value store.new) (all_of M.owns modules.old) (all_of M.owns modules.new) }
-    ensures chains { AreChains B.name (B.value store.new) (sent_of result.sent) }
-    ensures falls { AreLower M.height (M.height to (message_in (B.value store.old) (B.name message)))
-        (parcels_in B.name (B.value store.new) (sent_of result.sent)) }
-    ensures hands { Hands (B.value store.old) (B.value store.new) (B.name message) (all_of M.keeps modules.old)
-        (all_of M.keeps modules.new) (λ i. times_sent B.name i (sent_of result.sent)) }
-    ensures spends { let s = B.value store.old in let m = message_in s (B.name message) in
+    ensures chains { AreChains (B.value store.new) (sent_of result.sent) }
+    ensures falls { AreLower M.height (M.height to (message_in (B.value store.old) (token message)))
+        (parcels_in (B.value store.new) (sent_of result.sent)) }
+    ensures hands { Hands (B.value store.old) (B.value store.new) (token message) (all_of M.keeps modules.old)
+        (all_of M.keeps modules.new) (λ i. times_sent i (sent_of result.sent)) }
+    ensures spends { let s = B.value store.old in let m = message_in s (token message) in
         Spends s (B.value store.new) (slice_index_or (map (M.takes to m) (map (M.plain s) modules.old)) at 0)
         (slice_index_or (map (M.leaves to m) (map (M.plain s) modules.old)) at 0) }
     ensures pool { SamePool (B.value store.old) (B.value store.new) }
@@ -91,7 +91,7 @@ fn put_among<B: Blocks, M: Module<B>>(
     modules[at].put(store, to, message, told)
 }
 
-impl<M: Default + Drop> Stream<M> {
+impl<M: Module + Default> Stream<M> {
     /// No module.
     pub fn new() -> Stream<M>
         ensures { result.modules.items ≡ [] }
@@ -102,28 +102,22 @@ impl<M: Default + Drop> Stream<M> {
     }
 
     /// Whether a module of a name stands on the stream: `I_FIND` of streamio(7I).
-    pub fn has<B: Blocks>(&self, name: ModuleName) -> bool
-    where
-        M: Module<B>,
+    pub fn has(&self, name: ModuleName) -> bool
         ensures { (s : StoreValue) → result ≡ stands M.name_of name (map (M.plain s) self.now.modules.items) }
     {
         stands(self.modules.as_slice(), name)
     }
 
     /// How many bytes stand in the unfinished lines of the modules.
-    pub fn line_lens<B: Blocks>(&self) -> usize
-    where
-        M: Module<B>,
+    pub fn line_lens(&self) -> usize
         ensures lines { (s : StoreValue) → result ≡ sum_by (λ p. length (M.line_of p)) (map (M.plain s) self.now.modules.items) }
         ensures few { result ≤ LINE_MAX * MODULES }
     {
-        line_lens::<B, M>(self.modules.as_slice())
+        line_lens(self.modules.as_slice())
     }
 
     /// Pushes a module on top: `I_PUSH` of streamio(7I). It comes back where three stand, or one of its name.
-    pub fn push<B: Blocks>(&mut self, pushed: M) -> Result<(), M>
-    where
-        M: Module<B>,
+    pub fn push(&mut self, pushed: M) -> Result<(), M>
         ensures pushed { (s : StoreValue) → MatchResult result
             (λ _. (may_push M.name_of (M.plain s pushed) (map (M.plain s) self.old.modules.items) ≡ true) ×
             (self.new.modules.items ≡ pushed ∷ self.old.modules.items))
@@ -147,9 +141,7 @@ impl<M: Default + Drop> Stream<M> {
     }
 
     /// The name of the module on top, if there is one: `I_LOOK` of streamio(7I).
-    pub fn look<B: Blocks>(&self) -> Option<ModuleName>
-    where
-        M: Module<B>,
+    pub fn look(&self) -> Option<ModuleName>
         ensures { (s : StoreValue) → result ≡ top_name M.name_of (map (M.plain s) self.now.modules.items) }
     {
         let top = self.modules.as_slice().first()?;
@@ -161,43 +153,41 @@ impl<M: Default + Drop> Stream<M> {
         &mut self,
         store: &mut B,
         to: Spot,
-        message: B::Mp,
+        message: InHand,
         told: &mut Fates,
-    ) -> Acts<B::Mp>
-    where
-        M: Module<B>,
+    ) -> Acts
         requires inside { 0 < to.at }
         requires within { to.at ≤ length self.old.modules.items }
         requires held { AreHeld M.IsHeld M.owns (B.value store.old) self.old.modules.items }
-        requires can_put { CanPut (B.value store.old) (B.name message) (all_of M.keeps self.old.modules.items) }
-        requires chain { IsChain (in_hand (B.value store.old) (B.name message)) }
+        requires can_put { CanPut (B.value store.old) (token message) (all_of M.keeps self.old.modules.items) }
+        requires chain { IsChain (in_hand (B.value store.old) (token message)) }
         requires room { let s = B.value store.old in
-            HasRoom s (at_place (M.takes to (message_in s (B.name message))) 0 to.at (map (M.plain s) self.old.modules.items)) }
+            HasRoom s (at_place (M.takes to (message_in s (token message))) 0 to.at (map (M.plain s) self.old.modules.items)) }
         ensures length { length self.new.modules.items ≡ length self.old.modules.items }
         ensures state { let s = B.value store.old in
             map (M.plain (B.value store.new)) self.new.modules.items ≡
-            (put_among M.puts (to.at - 1) to (message_in s (B.name message))
+            (put_among M.puts (to.at - 1) to (message_in s (token message))
             (map (M.plain s) self.old.modules.items)).state }
         ensures notes { let s = B.value store.old in
-            result.notes.items ≡ (put_among M.puts (to.at - 1) to (message_in s (B.name message))
+            result.notes.items ≡ (put_among M.puts (to.at - 1) to (message_in s (token message))
             (map (M.plain s) self.old.modules.items)).notes }
         ensures sent { let s = B.value store.old in
-            parcels_in B.name (B.value store.new) (sent_of result.sent) ≡
-            (put_among M.puts (to.at - 1) to (message_in s (B.name message))
+            parcels_in (B.value store.new) (sent_of result.sent) ≡
+            (put_among M.puts (to.at - 1) to (message_in s (token message))
             (map (M.plain s) self.old.modules.items)).sent }
         ensures told { let s = B.value store.old in
-            told.new ≡ tallied (put_among M.puts (to.at - 1) to (message_in s (B.name message))
+            told.new ≡ tallied (put_among M.puts (to.at - 1) to (message_in s (token message))
             (map (M.plain s) self.old.modules.items)).gone told.old }
         ensures held { AreHeld M.IsHeld M.owns (B.value store.new) self.new.modules.items }
         ensures own { OnlyOwn (B.value store.old) (B.value store.new) (all_of M.owns self.old.modules.items)
             (all_of M.owns self.new.modules.items) }
-        ensures chains { AreChains B.name (B.value store.new) (sent_of result.sent) }
-        ensures falls { AreLower M.height (M.height to (message_in (B.value store.old) (B.name message)))
-            (parcels_in B.name (B.value store.new) (sent_of result.sent)) }
-        ensures hands { Hands (B.value store.old) (B.value store.new) (B.name message)
+        ensures chains { AreChains (B.value store.new) (sent_of result.sent) }
+        ensures falls { AreLower M.height (M.height to (message_in (B.value store.old) (token message)))
+            (parcels_in (B.value store.new) (sent_of result.sent)) }
+        ensures hands { Hands (B.value store.old) (B.value store.new) (token message)
             (all_of M.keeps self.old.modules.items) (all_of M.keeps self.new.modules.items)
-            (λ i. times_sent B.name i (sent_of result.sent)) }
-        ensures spends { let s = B.value store.old in let m = message_in s (B.name message) in
+            (λ i. times_sent i (sent_of result.sent)) }
+        ensures spends { let s = B.value store.old in let m = message_in s (token message) in
             Spends s (B.value store.new) (at_place (M.takes to m) 0 to.at (map (M.plain s) self.old.modules.items))
             (at_place (M.leaves to m) 0 to.at (map (M.plain s) self.old.modules.items)) }
         ensures pool { SamePool (B.value store.old) (B.value store.new) }

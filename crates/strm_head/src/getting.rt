@@ -5,7 +5,7 @@ ghost use Rattle.strm_types.specs.Flush.{is_data_kind};
 ghost use Rattle.strm_types.specs.Gets.{head_get, parts_of};
 ghost use Rattle.strm_types.specs.GetQueues.{gets_none, get_queue, get_lets_go, get_told};
 ghost use Rattle.strm_types.specs.Message.{Message, part};
-ghost use Rattle.strm_blocks.specs.Blocks.{IsInHand, in_hand, list_at, changed};
+ghost use Rattle.strm_blocks.specs.Blocks.{IsInHand, in_hand, list_at, changed, token};
 ghost use Rattle.strm_msg.specs.Bytes.{bytes_of, control_bytes, data_bytes, control_blocks, data_blocks, length_of_part};
 ghost use Rattle.strm_msg.specs.Emptied.{without_emptied};
 ghost use Rattle.strm_msg.specs.Messages.{message_of, IsChain};
@@ -20,7 +20,7 @@ ghost use Rattle.strm_head.specs.Parted.{cut_by};
 
 use crate::reading::grow;
 use crate::standing::get_refusal;
-use strm_blocks::Blocks;
+use strm_blocks::{Blocks, InHand};
 use strm_msg::{control_len, data_len, free_emptied, take_control, take_data};
 use strm_queue::Queue;
 use strm_queue::standing::relieve;
@@ -85,28 +85,28 @@ fn has_more(first: Piece, second: Piece) -> bool
 }
 
 // Takes the first so many bytes off a message's control part into an empty buffer.
-fn take_control_into<B: Blocks>(store: &mut B, message: &B::Mp, count: usize, out: &mut Content)
-    requires in_hand { IsInHand (B.value store.old) (B.name message.now) }
-    requires chain { IsChain (in_hand (B.value store.old) (B.name message.now)) }
-    requires has { count ≤ length (control_bytes (in_hand (B.value store.old) (B.name message.now))) }
+fn take_control_into<B: Blocks>(store: &mut B, message: &InHand, count: usize, out: &mut Content)
+    requires in_hand { IsInHand (B.value store.old) (token message.now) }
+    requires chain { IsChain (in_hand (B.value store.old) (token message.now)) }
+    requires has { count ≤ length (control_bytes (in_hand (B.value store.old) (token message.now))) }
     requires room { count ≤ 4096 }
     requires fresh { out.old.items ≡ [] }
-    ensures given { out.new.items ≡ take count (control_bytes (in_hand (B.value store.old) (B.name message.now))) }
-    ensures trimmed { let chain = in_hand (B.value store.old) (B.name message.now) in
-        B.value store.new ≡ changed (B.value store.old) (B.name message.now) (without_control count chain) }
+    ensures given { out.new.items ≡ take count (control_bytes (in_hand (B.value store.old) (token message.now))) }
+    ensures trimmed { let chain = in_hand (B.value store.old) (token message.now) in
+        B.value store.new ≡ changed (B.value store.old) (token message.now) (without_control count chain) }
 {
     grow(out, count);
     take_control(store, message, out.as_mut_slice());
 }
 
 // Takes the first so many bytes off a message's data part, behind what a buffer has.
-fn take_data_into<B: Blocks>(store: &mut B, message: &B::Mp, count: usize, out: &mut Content)
-    requires in_hand { IsInHand (B.value store.old) (B.name message.now) }
-    requires has { count ≤ length (data_bytes (in_hand (B.value store.old) (B.name message.now))) }
+fn take_data_into<B: Blocks>(store: &mut B, message: &InHand, count: usize, out: &mut Content)
+    requires in_hand { IsInHand (B.value store.old) (token message.now) }
+    requires has { count ≤ length (data_bytes (in_hand (B.value store.old) (token message.now))) }
     requires room { length out.old.items + count ≤ 8192 }
-    ensures given { out.new.items ≡ out.old.items ++ take count (data_bytes (in_hand (B.value store.old) (B.name message.now))) }
-    ensures trimmed { let chain = in_hand (B.value store.old) (B.name message.now) in
-        B.value store.new ≡ changed (B.value store.old) (B.name message.now) (without_data count chain) }
+    ensures given { out.new.items ≡ out.old.items ++ take count (data_bytes (in_hand (B.value store.old) (token message.now))) }
+    ensures trimmed { let chain = in_hand (B.value store.old) (token message.now) in
+        B.value store.new ≡ changed (B.value store.old) (token message.now) (without_data count chain) }
 {
     let from = out.len();
     grow(out, count);
@@ -116,31 +116,31 @@ fn take_data_into<B: Blocks>(store: &mut B, message: &B::Mp, count: usize, out: 
 // Takes so many bytes off the parts of a message into an empty buffer, those of the control part first.
 fn take_parts<B: Blocks>(
     store: &mut B,
-    message: &B::Mp,
+    message: &InHand,
     count: usize,
     data_count: usize,
     out: &mut Content,
 )
-    requires in_hand { IsInHand (B.value store.old) (B.name message.now) }
-    requires chain { IsChain (in_hand (B.value store.old) (B.name message.now)) }
-    requires has_control { count ≤ length (control_bytes (in_hand (B.value store.old) (B.name message.now))) }
-    requires has_data { data_count ≤ length (data_bytes (in_hand (B.value store.old) (B.name message.now))) }
+    requires in_hand { IsInHand (B.value store.old) (token message.now) }
+    requires chain { IsChain (in_hand (B.value store.old) (token message.now)) }
+    requires has_control { count ≤ length (control_bytes (in_hand (B.value store.old) (token message.now))) }
+    requires has_data { data_count ≤ length (data_bytes (in_hand (B.value store.old) (token message.now))) }
     requires room { count ≤ 4096 }
     requires data_room { data_count ≤ 4096 }
     requires fresh { out.old.items ≡ [] }
-    ensures given { let chain = in_hand (B.value store.old) (B.name message.now) in
+    ensures given { let chain = in_hand (B.value store.old) (token message.now) in
         out.new.items ≡ take count (control_bytes chain) ++ take data_count (data_bytes chain) }
-    ensures cut { let chain = in_hand (B.value store.old) (B.name message.now) in
-        B.value store.new ≡ changed (B.value store.old) (B.name message.now) (cut_by count data_count chain) }
+    ensures cut { let chain = in_hand (B.value store.old) (token message.now) in
+        B.value store.new ≡ changed (B.value store.old) (token message.now) (cut_by count data_count chain) }
 {
     take_control_into(store, message, count, out);
     take_data_into(store, message, data_count, out);
 }
 
 // The priority of a message in hand.
-fn prio_of<B: Blocks>(store: &B, message: &B::Mp) -> Prio
-    requires { IsInHand (B.value store.now) (B.name message.now) }
-    ensures { result ≡ prio_at (message_of (in_hand (B.value store.now) (B.name message.now))) }
+fn prio_of<B: Blocks>(store: &B, message: &InHand) -> Prio
+    requires { IsInHand (B.value store.now) (token message.now) }
+    ensures { result ≡ prio_at (message_of (in_hand (B.value store.now) (token message.now))) }
 {
     store.audit();
     if store.kind(message, 0).is_high_priority() {
@@ -152,13 +152,13 @@ fn prio_of<B: Blocks>(store: &B, message: &B::Mp) -> Prio
 
 // Puts back what is left of a message whose bytes were taken, where bytes of its control part or of its data part are left, and
 // frees it where none are. Blocks without bytes are freed.
-fn put_rest<B: Blocks>(store: &mut B, queue: &mut Queue, message: B::Mp, left: bool)
+fn put_rest<B: Blocks>(store: &mut B, queue: &mut Queue, message: InHand, left: bool)
     requires counted { AreCounted queue.old.flows (list_at (B.value store.old) queue.old.list) }
-    requires in_hand { IsInHand (B.value store.old) (B.name message) }
-    requires some { left ≡ true → 0 < length (bytes_of (in_hand (B.value store.old) (B.name message))) }
-    requires band { left ≡ true → band_of (without_emptied (in_hand (B.value store.old) (B.name message))) < BANDS }
-    ensures left { B.value store.new ≡ put_rest left (B.value store.old) (B.name message) queue.old.list
-        (without_emptied (in_hand (B.value store.old) (B.name message))) }
+    requires in_hand { IsInHand (B.value store.old) (token message) }
+    requires some { left ≡ true → 0 < length (bytes_of (in_hand (B.value store.old) (token message))) }
+    requires band { left ≡ true → band_of (without_emptied (in_hand (B.value store.old) (token message))) < BANDS }
+    ensures left { B.value store.new ≡ put_rest left (B.value store.old) (token message) queue.old.list
+        (without_emptied (in_hand (B.value store.old) (token message))) }
     ensures counted { AreCounted queue.new.flows (list_at (B.value store.new) queue.new.list) }
     ensures flows { plain_flows queue.new.flows ≡ plain_flows queue.old.flows }
     ensures others { OnlyCounts queue.old queue.new }

@@ -8,14 +8,14 @@ ghost use Rattle.strm_types.specs.Journal.{answer_len, reply_in};
 ghost use Rattle.strm_types.specs.Message.{Message};
 ghost use Rattle.strm_types.specs.Slots as slots;
 ghost use Rattle.strm_types.specs.Slots.{ack_body, is_free, slot_answered, slot_behind, told_of, with_answer};
-ghost use Rattle.strm_blocks.specs.Blocks.{StoreValue, free_m, free_d};
+ghost use Rattle.strm_blocks.specs.Blocks.{StoreValue, free_m, free_d, token};
 ghost use Rattle.strm_head.specs.Heads.{head_in, plain_slot};
 ghost use Rattle.strm_head.specs.Sending.{ioctl_blocks, Sends};
 
 use crate::head::Head;
 use crate::sending::make;
 use arrayvec::ArrayVec;
-use strm_blocks::Blocks;
+use strm_blocks::{Blocks, InHand};
 use strm_types::{
     Answer, Band, Content, IOCTL_MAX, Ioc, MsgKind, Refusal, Slot, TCSETS, TCSETSF, TCSETSW,
     TIOCSIGNAL, TIOCSWINSZ,
@@ -130,11 +130,11 @@ fn leave(slot: &mut Slot<IoctlBytes>)
 
 /// Makes the M_IOCTL that an ioctl(2) sends down a stream: a block for its header, and an M_DATA block for its bytes where there
 /// are some.
-pub fn make_ioctl<B: Blocks>(store: &mut B, ioc: Ioc, body: &[u8]) -> B::Mp
+pub fn make_ioctl<B: Blocks>(store: &mut B, ioc: Ioc, body: &[u8]) -> InHand
     requires few { length body.now ≤ IOCTL_MAX }
     requires room_m { ioctl_blocks body.now ≤ free_m (B.value store.old) }
     requires room_d { ioctl_blocks body.now ≤ free_d (B.value store.old) }
-    ensures { Sends (B.value store.old) (B.value store.new) (B.name result) (ioctl_message ioc body.now) (ioctl_blocks body.now) }
+    ensures { Sends (B.value store.old) (B.value store.new) (token result) (ioctl_message ioc body.now) (ioctl_blocks body.now) }
 {
     let header = make(store, MsgKind::Ioctl, Band(0), &ioc.bytes());
     if body.is_empty() {

@@ -12,7 +12,7 @@ ghost use Rattle.strm_types.specs.Flush.{is_data_kind};
 ghost use Rattle.strm_types.specs.Signals.{signal_in, with_signal};
 ghost use Rattle.strm_types.specs.Slots.{slot_answered};
 ghost use Rattle.strm_types.specs.Heads as state;
-ghost use Rattle.strm_blocks.specs.Blocks.{Block, StoreValue, IsInHand, in_hand, dropped, list_at, block_at};
+ghost use Rattle.strm_blocks.specs.Blocks.{Block, StoreValue, IsInHand, in_hand, dropped, list_at, block_at, token};
 ghost use Rattle.strm_msg.specs.Bytes.{bytes_of};
 ghost use Rattle.strm_msg.specs.Messages.{message_of, IsChain};
 ghost use Rattle.strm_queue.specs.Kept.{AreCounted};
@@ -22,7 +22,7 @@ ghost use Rattle.strm_head.specs.Heads.{head_in, notes_of, plain_slot, sent_down
 
 use crate::head::Head;
 use crate::ioctls::HEADER;
-use strm_blocks::{Blocks, Peek, Visitor};
+use strm_blocks::{Blocks, InHand, Peek, Visitor};
 use strm_msg::{booked_size, first_bytes};
 use strm_queue::Queue;
 use strm_queue::emptying::{Chosen, empty, going};
@@ -86,9 +86,9 @@ fn has_pcproto<B: Blocks>(store: &B, queue: &Queue) -> bool
 }
 
 // What an M_FLUSH asks for.
-fn asked<B: Blocks>(store: &B, message: &B::Mp) -> FlushAsked
-    requires { IsInHand (B.value store.now) (B.name message.now) }
-    ensures asked { result ≡ asked_by (bytes_of (in_hand (B.value store.now) (B.name message.now))) }
+fn asked<B: Blocks>(store: &B, message: &InHand) -> FlushAsked
+    requires { IsInHand (B.value store.now) (token message.now) }
+    ensures asked { result ≡ asked_by (bytes_of (in_hand (B.value store.now) (token message.now))) }
     ensures band { is_a_band result.band ≡ true }
 {
     let mut bytes = [0u8; 2];
@@ -104,10 +104,10 @@ fn is_flush(kind: MsgKind) -> bool
 }
 
 // The header of an M_IOCTL that wants an answer: its number isn't 0.
-fn nak_of<B: Blocks>(store: &B, message: &B::Mp) -> Option<Down>
-    requires { IsInHand (B.value store.now) (B.name message.now) }
+fn nak_of<B: Blocks>(store: &B, message: &InHand) -> Option<Down>
+    requires { IsInHand (B.value store.now) (token message.now) }
     ensures { (here : Spot) → sent_down here result
-        ≡ nak_down here (read_ioc (bytes_of (in_hand (B.value store.now) (B.name message.now)))) }
+        ≡ nak_down here (read_ioc (bytes_of (in_hand (B.value store.now) (token message.now)))) }
 {
     let mut bytes = [0u8; HEADER];
     let count = first_bytes(store, message, &mut bytes);
@@ -120,17 +120,17 @@ fn nak_of<B: Blocks>(store: &B, message: &B::Mp) -> Option<Down>
 
 impl Head {
     // An M_DATA, M_PROTO or M_PCPROTO waits for the readers; a second M_PCPROTO goes.
-    fn take_in<B: Blocks>(&mut self, store: &mut B, here: Spot, message: B::Mp, told: &mut Fates)
+    fn take_in<B: Blocks>(&mut self, store: &mut B, here: Spot, message: InHand, told: &mut Fates)
         requires ready { IsHeadQueue (B.value store.old) self.old.queue }
-        requires in_hand { IsInHand (B.value store.old) (B.name message) }
-        requires chain { IsChain (in_hand (B.value store.old) (B.name message)) }
-        requires data { is_data_kind (block_at 0 (in_hand (B.value store.old) (B.name message))).kind ≡ true }
+        requires in_hand { IsInHand (B.value store.old) (token message) }
+        requires chain { IsChain (in_hand (B.value store.old) (token message)) }
+        requires data { is_data_kind (block_at 0 (in_hand (B.value store.old) (token message))).kind ≡ true }
         ensures state { let s = B.value store.old in
             head_in (B.value store.new) self.new
-            ≡ (waits_for_readers here (message_of (in_hand s (B.name message))) (head_in s self.old)).state }
+            ≡ (waits_for_readers here (message_of (in_hand s (token message))) (head_in s self.old)).state }
         ensures told { let s = B.value store.old in
-            told.new ≡ tallied (waits_for_readers here (message_of (in_hand s (B.name message))) (head_in s self.old)).gone told.old }
-        ensures changes { Changes (dropped (B.value store.old) (B.name message)) (B.value store.new) self.old.queue self.new.queue }
+            told.new ≡ tallied (waits_for_readers here (message_of (in_hand s (token message))) (head_in s self.old)).gone told.old }
+        ensures changes { Changes (dropped (B.value store.old) (token message)) (B.value store.new) self.old.queue self.new.queue }
         ensures readable { HoldsReadable (list_at (B.value store.new) self.new.queue.list) }
         ensures frees { FreesBlocks (B.value store.old) (B.value store.new) }
     {
@@ -218,9 +218,9 @@ impl Head {
     }
 
     // M_SIG and M_PCSIG: a signal waits, if the message names one. One byte names it, and a second one says that it doesn't.
-    fn take_signal<B: Blocks>(&mut self, store: &B, message: &B::Mp)
-        requires { IsInHand (B.value store.now) (B.name message.now) }
-        ensures { let bytes = bytes_of (in_hand (B.value store.now) (B.name message.now)) in
+    fn take_signal<B: Blocks>(&mut self, store: &B, message: &InHand)
+        requires { IsInHand (B.value store.now) (token message.now) }
+        ensures { let bytes = bytes_of (in_hand (B.value store.now) (token message.now)) in
             self.new ≡ record self.old { signals = with_signal (signal_in bytes) self.old.signals } }
     {
         let mut bytes = [0u8; 2];
@@ -243,9 +243,9 @@ impl Head {
 
     // M_SETOPTS: the read mode and the marks, each where it is given. The longer form has nine bytes, and a tenth one says that it
     // isn't that.
-    fn set_options<B: Blocks>(&mut self, store: &B, message: &B::Mp)
-        requires { IsInHand (B.value store.now) (B.name message.now) }
-        ensures state { let bytes = bytes_of (in_hand (B.value store.now) (B.name message.now)) in
+    fn set_options<B: Blocks>(&mut self, store: &B, message: &InHand)
+        requires { IsInHand (B.value store.now) (token message.now) }
+        ensures state { let bytes = bytes_of (in_hand (B.value store.now) (token message.now)) in
             (s : StoreValue) → IsReady s self.old.queue → head_in s self.new ≡ with_options (options_in bytes) (head_in s self.old) }
         ensures counted { (q : List (List Block)) → AreCounted self.old.queue.flows q → AreCounted self.new.queue.flows q }
         ensures others { OnlyCounts self.old.queue self.new.queue }
@@ -258,9 +258,9 @@ impl Head {
     }
 
     // M_IOCACK and M_IOCNAK: the answer of the ioctl under way, if it is that.
-    fn take_ioctl_answer<B: Blocks>(&mut self, store: &B, message: &B::Mp, is_ack: bool)
-        requires { IsInHand (B.value store.now) (B.name message.now) }
-        ensures state { let bytes = bytes_of (in_hand (B.value store.now) (B.name message.now)) in
+    fn take_ioctl_answer<B: Blocks>(&mut self, store: &B, message: &InHand, is_ack: bool)
+        requires { IsInHand (B.value store.now) (token message.now) }
+        ensures state { let bytes = bytes_of (in_hand (B.value store.now) (token message.now)) in
             (s : StoreValue) → head_in s self.new ≡ record (head_in s self.old) { ioctl = slot_answered is_ack bytes (plain_slot self.old.ioctl) } }
         ensures queue { self.new.queue ≡ self.old.queue }
     {
@@ -270,13 +270,13 @@ impl Head {
     }
 
     // Does what a message says that has no parts and isn't an M_FLUSH, by its kind. Says what goes down.
-    fn heed<B: Blocks>(&mut self, store: &B, kind: MsgKind, message: &B::Mp) -> Option<Down>
-        requires in_hand { IsInHand (B.value store.now) (B.name message.now) }
+    fn heed<B: Blocks>(&mut self, store: &B, kind: MsgKind, message: &InHand) -> Option<Down>
+        requires in_hand { IsInHand (B.value store.now) (token message.now) }
         requires kind { is_flush kind ≡ false }
-        ensures state { let bytes = bytes_of (in_hand (B.value store.now) (B.name message.now)) in
+        ensures state { let bytes = bytes_of (in_hand (B.value store.now) (token message.now)) in
             (s : StoreValue) → (here : Spot) → IsReady s self.old.queue →
             head_in s self.new ≡ (obeyed here kind bytes (head_in s self.old)).state }
-        ensures sent { let bytes = bytes_of (in_hand (B.value store.now) (B.name message.now)) in
+        ensures sent { let bytes = bytes_of (in_hand (B.value store.now) (token message.now)) in
             (h : state.Head ℕ) → (here : Spot) → sent_down here result ≡ (obeyed here kind bytes h).sent }
         ensures counted { (q : List (List Block)) → AreCounted self.old.queue.flows q → AreCounted self.new.queue.flows q }
         ensures others { OnlyCounts self.old.queue self.new.queue }
@@ -302,22 +302,22 @@ impl Head {
         &mut self,
         store: &mut B,
         here: Spot,
-        message: B::Mp,
+        message: InHand,
         told: &mut Fates,
     ) -> Came
         requires ready { IsHeadQueue (B.value store.old) self.old.queue }
-        requires in_hand { IsInHand (B.value store.old) (B.name message) }
-        requires chain { IsChain (in_hand (B.value store.old) (B.name message)) }
+        requires in_hand { IsInHand (B.value store.old) (token message) }
+        requires chain { IsChain (in_hand (B.value store.old) (token message)) }
         ensures state { let s = B.value store.old in
             head_in (B.value store.new) self.new
-            ≡ (head_put here (message_of (in_hand s (B.name message))) (head_in s self.old)).state }
+            ≡ (head_put here (message_of (in_hand s (token message))) (head_in s self.old)).state }
         ensures notes { let s = B.value store.old in
-            notes_of result.lets_go ≡ (head_put here (message_of (in_hand s (B.name message))) (head_in s self.old)).notes }
+            notes_of result.lets_go ≡ (head_put here (message_of (in_hand s (token message))) (head_in s self.old)).notes }
         ensures sent { let s = B.value store.old in
-            sent_down here result.down ≡ (head_put here (message_of (in_hand s (B.name message))) (head_in s self.old)).sent }
+            sent_down here result.down ≡ (head_put here (message_of (in_hand s (token message))) (head_in s self.old)).sent }
         ensures told { let s = B.value store.old in
-            told.new ≡ tallied (head_put here (message_of (in_hand s (B.name message))) (head_in s self.old)).gone told.old }
-        ensures changes { Changes (dropped (B.value store.old) (B.name message)) (B.value store.new) self.old.queue self.new.queue }
+            told.new ≡ tallied (head_put here (message_of (in_hand s (token message))) (head_in s self.old)).gone told.old }
+        ensures changes { Changes (dropped (B.value store.old) (token message)) (B.value store.new) self.old.queue self.new.queue }
         ensures readable { HoldsReadable (list_at (B.value store.new) self.new.queue.list) }
         ensures frees { FreesBlocks (B.value store.old) (B.value store.new) }
     {

@@ -5,7 +5,7 @@ ghost use Rattle.std.specs.Bool.{OnTrue, OnFalse};
 ghost use Rattle.strm_types.specs.Deliver.{tallied};
 ghost use Rattle.strm_types.specs.Queue as plain;
 ghost use Rattle.strm_types.specs.Reads.{Drawn, wanted_after, head_draw, none_went, read_queue, read_lets_go, read_fates, read_told};
-ghost use Rattle.strm_blocks.specs.Blocks.{IsInHand, in_hand, list_at};
+ghost use Rattle.strm_blocks.specs.Blocks.{IsInHand, in_hand, list_at, token};
 ghost use Rattle.strm_msg.specs.Bytes.{bytes_of};
 ghost use Rattle.strm_queue.specs.Stored.{queue_in, messages_on, SameFlags, IsReady, IsHeadQueue, Keeps};
 ghost use Rattle.strm_head.specs.Leaving.{Frees, Leaves, StepLeaves, Taken};
@@ -13,7 +13,7 @@ ghost use Rattle.strm_head.specs.Drawing.{drawn_on, Stepped, discards, drops_con
 
 use crate::parts::{leave_rest, show};
 use crate::standing::{drops_control, first_passed, takes_none, takes_one};
-use strm_blocks::Blocks;
+use strm_blocks::{Blocks, InHand};
 use strm_msg::message_size;
 use strm_queue::Queue;
 use strm_queue::standing::{relieve, total};
@@ -45,11 +45,11 @@ pub(crate) fn grow(out: &mut Content, count: usize)
 }
 
 // Adds the first so many bytes of a message, which keeps them, to what a read gives.
-fn copy_into<B: Blocks>(store: &B, message: &B::Mp, count: usize, out: &mut Content)
-    requires in_hand { IsInHand (B.value store.now) (B.name message.now) }
-    requires has { count ≤ length (bytes_of (in_hand (B.value store.now) (B.name message.now))) }
+fn copy_into<B: Blocks>(store: &B, message: &InHand, count: usize, out: &mut Content)
+    requires in_hand { IsInHand (B.value store.now) (token message.now) }
+    requires has { count ≤ length (bytes_of (in_hand (B.value store.now) (token message.now))) }
     requires room { length out.old.items + count ≤ 4096 }
-    ensures { let chain = in_hand (B.value store.now) (B.name message.now) in
+    ensures { let chain = in_hand (B.value store.now) (token message.now) in
         out.new.items ≡ out.old.items ++ take count (bytes_of chain) }
 {
     store.audit();

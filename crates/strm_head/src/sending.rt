@@ -4,11 +4,11 @@ ghost use Rattle.std.specs.Prelude.{◌≡◌, ◌≤◌, ◌<◌, true, false, 
 ghost use Rattle.strm_types.specs.Flushing.{flush_bytes, flush_message};
 ghost use Rattle.strm_types.specs.Message.{data_message, part};
 ghost use Rattle.strm_types.specs.PutMsg as puts;
-ghost use Rattle.strm_blocks.specs.Blocks.{filled_block, free_m, free_d};
+ghost use Rattle.strm_blocks.specs.Blocks.{filled_block, free_m, free_d, token};
 ghost use Rattle.strm_blocks.specs.Outcomes.{Copied};
 ghost use Rattle.strm_head.specs.Sending.{control_kind, lent, Sends};
 
-use strm_blocks::Blocks;
+use strm_blocks::{Blocks, InHand};
 use strm_types::{BANDS, Band, CONTROL_MAX, DATA_MAX, FlushAsked, MsgKind, Prio, Refusal};
 
 // Whether no message can have this priority: one of high priority has a control part, and bands are those that queues have.
@@ -66,11 +66,11 @@ fn control_kind(prio: Prio) -> MsgKind
 }
 
 // Makes a message of one block.
-pub(crate) fn make<B: Blocks>(store: &mut B, kind: MsgKind, band: Band, bytes: &[u8]) -> B::Mp
+pub(crate) fn make<B: Blocks>(store: &mut B, kind: MsgKind, band: Band, bytes: &[u8]) -> InHand
     requires few { length bytes.now ≤ 256 }
     requires room_m { 0 < free_m (B.value store.old) }
     requires room_d { 0 < free_d (B.value store.old) }
-    ensures { Copied (B.value store.old) (B.value store.new) (B.name result) (filled_block kind band.0 bytes.now) }
+    ensures { Copied (B.value store.old) (B.value store.new) (token result) (filled_block kind band.0 bytes.now) }
 {
     let Ok(message) = store.alloc_with(kind, band, bytes) else {
         unreachable!()
@@ -85,13 +85,13 @@ pub fn make_message<B: Blocks>(
     prio: Prio,
     control: Option<&[u8]>,
     body: Option<&[u8]>,
-) -> Option<B::Mp>
+) -> Option<InHand>
     requires allowed { puts.put_refusal prio (lent control) (lent body) ≡ None }
     requires room_m { puts.put_blocks (lent control) (lent body) ≤ free_m (B.value store.old) }
     requires room_d { puts.put_blocks (lent control) (lent body) ≤ free_d (B.value store.old) }
     ensures made { let c = lent control.entry in let b = lent body.entry in
         MatchOption result (B.value store.new ≡ B.value store.old)
-        (λ m. Sends (B.value store.old) (B.value store.new) (B.name m) (puts.put_message prio c b) (puts.put_blocks c b)) }
+        (λ m. Sends (B.value store.old) (B.value store.new) (token m) (puts.put_message prio c b) (puts.put_blocks c b)) }
     ensures none { let c = lent control.entry in let b = lent body.entry in
         MatchOption result (puts.no_parts c b ≡ true) (λ _. puts.no_parts c b ≡ false) }
 {
@@ -112,20 +112,20 @@ pub fn make_message<B: Blocks>(
 
 /// Makes one chunk of a write(2), at most 256 bytes: an M_DATA message of band 0, in one block of each kind. Whether the queue below has
 /// room for it (canput(9F)) is asked before.
-pub fn write<B: Blocks>(store: &mut B, chunk: &[u8]) -> B::Mp
+pub fn write<B: Blocks>(store: &mut B, chunk: &[u8]) -> InHand
     requires few { length chunk.now ≤ DATA_MAX }
     requires room_m { 0 < free_m (B.value store.old) }
     requires room_d { 0 < free_d (B.value store.old) }
-    ensures { Sends (B.value store.old) (B.value store.new) (B.name result) (data_message chunk.now) 1 }
+    ensures { Sends (B.value store.old) (B.value store.new) (token result) (data_message chunk.now) 1 }
 {
     make(store, MsgKind::Data, Band(0), chunk)
 }
 
 /// Makes the M_FLUSH that I_FLUSH and I_FLUSHBAND send down (streamio(7I)), in one block of each kind.
-pub fn make_flush<B: Blocks>(store: &mut B, asked: FlushAsked) -> B::Mp
+pub fn make_flush<B: Blocks>(store: &mut B, asked: FlushAsked) -> InHand
     requires room_m { 0 < free_m (B.value store.old) }
     requires room_d { 0 < free_d (B.value store.old) }
-    ensures { Sends (B.value store.old) (B.value store.new) (B.name result) (flush_message (flush_bytes asked)) 1 }
+    ensures { Sends (B.value store.old) (B.value store.new) (token result) (flush_message (flush_bytes asked)) 1 }
 {
     let bytes = asked.bytes();
     make(store, MsgKind::Flush, Band(0), bytes.as_slice())

@@ -10,8 +10,9 @@ use Rattle.strm_types.specs.Message.{Message}
 use Rattle.strm_types.specs.ModuleQueues.{messages_at}
 use Rattle.strm_types.specs.Queue.{first_size}
 use Rattle.strm_blocks.specs.declared.asked.Peek.{Peek}
-use Rattle.strm_blocks.specs.Blocks.{StoreValue, IsStore, in_hand}
+use Rattle.strm_blocks.specs.Blocks.{StoreValue, IsStore, in_hand, token}
 use Rattle.strm_blocks.specs.Outcomes.{PeekedFirst}
+use Rattle.strm_blocks.specs.declared.in_hand.InHand.{InHand}
 use Rattle.strm_msg.specs.Messages.{message_of}
 use Rattle.strm_msg.proofs.Chains.{kind-is, band-is}
 use Rattle.strm_queue.specs.Stored.{messages_on}
@@ -36,25 +37,25 @@ pub asked-more : (way : Way) (stopped : Bool) (ms : List (Message ℕ)) (o : Opt
 asked-more way stopped ms None asks more is = sym is ∙ ap (asked_first way stopped) (sym (append-nil ms))
 asked-more way stopped ms (Some m) asks more is = sym is ∙ sym (more m)
 
-module _ {M : Type 0} (name : M → ℕ) (s : StoreValue) where
+module _ (s : StoreValue) where
   -- unless it stands alone
-  pub asked-echo : (stopped : Bool) (ms : List (Message ℕ)) (o : Option M) → ms ≡ [] → is_some o ≡ true → IfSome o (λ m. IsOrdinary s (name m)) → asked_by Down stopped Data 0 ≡ asked_first Down stopped (ms ++ option_to_list (kept_in name s o))
+  pub asked-echo : (stopped : Bool) (ms : List (Message ℕ)) (o : Option InHand) → ms ≡ [] → is_some o ≡ true → IfSome o (λ m. IsOrdinary s (token m)) → asked_by Down stopped Data 0 ≡ asked_first Down stopped (ms ++ option_to_list (kept_in s o))
   asked-echo stopped ms None none some is = absurd (cc)
   asked-echo stopped ms (Some m) none some is =
-      let chain = in_hand s (name m) in
+      let chain = in_hand s (token m) in
       ap (λ b. asked_by Down stopped Data b) (sym is.band ∙ sym (band-is chain))
       ∙ ap (λ (kind : MsgKind). asked_by Down stopped kind (message_of chain).band) (sym is.are.kind ∙ sym (kind-is chain))
       ∙ ap (λ l. asked_first Down stopped (l ++ message_of chain ∷ [])) (sym none)
 
-  pub asked-none : (stopped : Bool) (ms : List (Message ℕ)) (o : Option M) → ms ≡ [] → (is_some o ≡ true → ⊥) → asked.Empty ≡ asked_first Down stopped (ms ++ option_to_list (kept_in name s o))
+  pub asked-none : (stopped : Bool) (ms : List (Message ℕ)) (o : Option InHand) → ms ≡ [] → (is_some o ≡ true → ⊥) → asked.Empty ≡ asked_first Down stopped (ms ++ option_to_list (kept_in s o))
   asked-none stopped ms None none some = ap (λ l. asked_first Down stopped (l ++ [])) (sym none)
   asked-none stopped ms (Some m) none some = absurd (some refl)
 
 -- the first message of a queue has few bytes, the turn's echo among those that stand there
-pub asked-few : {M : Type 0} (name : M → ℕ) (s : StoreValue) (x : Ldterm M) (way : Way) → IsStore s → IsHeld name s x → first_size (messages_at queue_of way (ldterm_in name s x)) ≤ 16777216
-asked-few name s x Up st held = first-few s x.read_queue st held.read
-asked-few name s x Down st held =
+pub asked-few : (s : StoreValue) (x : Ldterm) (way : Way) → IsStore s → IsHeld s x → first_size (messages_at queue_of way (ldterm_in s x)) ≤ 16777216
+asked-few s x Up st held = first-few s x.read_queue st held.read
+asked-few s x Down st held =
     let listed = messages_on s x.write_queue.list in
-    let last = option_to_list (kept_in name s x.echo) in
-    let few = bytes-few name s x.write_queue.list x.write_queue x.echo st held.write refl held.echoes in
+    let last = option_to_list (kept_in s x.echo) in
+    let few = bytes-few s x.write_queue.list x.write_queue x.echo st held.write refl held.echoes in
     omega (arith, few, bytes-last listed last, first-within (listed ++ last))

@@ -11,11 +11,12 @@ use Rattle.strm_types.specs.Queue.{is_none_left, bytes_of, relieved, relieves}
 use Rattle.strm_types.specs.declared.kinds.Band.{Band}
 use Rattle.strm_types.specs.declared.kinds.MsgKind.{MsgKind}
 use Rattle.strm_types.specs.Flush.{is_data_kind, counted_band}
-use Rattle.strm_blocks.specs.Blocks.{StoreValue}
+use Rattle.strm_blocks.specs.Blocks.{StoreValue, token}
 use Rattle.strm_frame.specs.Outboxes.{message_in}
 use Rattle.strm_ldterm.specs.Relieved.{AddsBytes}
 use Rattle.strm_ldterm.specs.Stands.{with_last, kept_in, IsOrdinary}
 use Rattle.strm_ldterm.proofs.Last.{bytes-last, band-zero, count-zero, count-other}
+use Rattle.strm_blocks.specs.declared.in_hand.InHand.{InHand}
 
 module _ (q : plain.Queue ℕ) (m : Message ℕ) (chosen : Choice) (none : chosen m.kind m.band ≡ false) where
   stayed-last : stayed chosen (q.messages ++ m ∷ []) ≡ stayed chosen q.messages ++ m ∷ []
@@ -82,19 +83,19 @@ none-chosen k n band zero above =
     never false = refl
 
 -- what is said of any such message is said of the echo
-module _ {M : Type 0} (name : M → ℕ) (s : StoreValue) where
-  pub of-echo : (P : Option (Message ℕ) → Type 0) (more : ℕ) (o : Option M) → is_some o ≡ true → IfSome o (λ m. IsOrdinary s (name m)) → more ≡ bytes_of (option_to_list (kept_in name s o))
-      → ((m : Message ℕ) → m.band ≡ 0 → AddsBytes more (m ∷ []) → P (Some m)) → P (kept_in name s o)
+module _ (s : StoreValue) where
+  pub of-echo : (P : Option (Message ℕ) → Type 0) (more : ℕ) (o : Option InHand) → is_some o ≡ true → IfSome o (λ m. IsOrdinary s (token m)) → more ≡ bytes_of (option_to_list (kept_in s o))
+      → ((m : Message ℕ) → m.band ≡ 0 → AddsBytes more (m ∷ []) → P (Some m)) → P (kept_in s o)
   of-echo P more None some is bytes said = absurd (cc)
   of-echo P more (Some e) some is bytes said =
-      said (message_in s (name e)) (band-zero s (name e) is)
-      (record { first = count-zero name s (Some e) is ∙ sym bytes; others = λ k above. count-other name s k (Some e) above is })
+      said (message_in s (token e)) (band-zero s (token e) is)
+      (record { first = count-zero s (Some e) is ∙ sym bytes; others = λ k above. count-other s k (Some e) above is })
 
   -- the echo's bytes count in band 0, and in no other one
-  pub echo-adds : (more : ℕ) (o : Option M) → IfSome o (λ m. IsOrdinary s (name m)) → more ≡ bytes_of (option_to_list (kept_in name s o)) → AddsBytes more (option_to_list (kept_in name s o))
-  echo-adds more o is bytes = record { first = count-zero name s o is ∙ sym bytes; others = λ k above. count-other name s k o above is }
+  pub echo-adds : (more : ℕ) (o : Option InHand) → IfSome o (λ m. IsOrdinary s (token m)) → more ≡ bytes_of (option_to_list (kept_in s o)) → AddsBytes more (option_to_list (kept_in s o))
+  echo-adds more o is bytes = record { first = count-zero s o is ∙ sym bytes; others = λ k above. count-other s k o above is }
 
-  pub echo-there : (o : Option M) → is_none_left (option_to_list (kept_in name s o)) ≡ not (is_some o)
+  pub echo-there : (o : Option InHand) → is_none_left (option_to_list (kept_in s o)) ≡ not (is_some o)
   echo-there None = refl
   echo-there (Some e) = refl
 

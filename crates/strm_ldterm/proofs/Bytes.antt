@@ -25,6 +25,7 @@ use Rattle.strm_ldterm.proofs.FreeBefore.{each-more, free-next}
 use Rattle.strm_ldterm.proofs.Joining.{parcels-none, proceeds-joined}
 use Rattle.strm_ldterm.proofs.Treated.{none-under-way}
 use Rattle.strm_ldterm.proofs.Turning.{Acts, ahead-more}
+use Rattle.strm_blocks.specs.declared.in_hand.InHand.{InHand}
 
 -- how far a byte is
 pub done-few : (stage : ldterms.Stage ℕ) → stages_done stage ≤ 2
@@ -70,9 +71,9 @@ lower a b is = grind (arith, nat_tests)
 pub are-many : (s : StoreValue) → nat_lt (least_free s) STOP_BLOCKS ≡ false → HasRoom s STOP_BLOCKS
 are-many s is = record { mblks = grind (arith, nat_tests); dblks = grind (arith, nat_tests) }
 
-pub kept-some : {M : Type 0} (name : M → ℕ) (s : StoreValue) (o : Option M) → is_some (kept_in name s o) ≡ is_some o
-kept-some name s None = refl
-kept-some name s (Some m) = refl
+pub kept-some : (s : StoreValue) (o : Option InHand) → is_some (kept_in s o) ≡ is_some o
+kept-some s None = refl
+kept-some s (Some m) = refl
 
 pub left-none : (stage : ldterms.Stage ℕ) → stages_done stage ≡ 0 → stages_left stage ≡ 0
 left-none Between e = refl
@@ -146,142 +147,141 @@ module _ (here : Spot) where
   pub work-after : (n : ℕ) (p : ldterms.Ldterm ℕ) → n + stages_done p.stage ≤ 3 * to_treat p → is_some (ahead here n p).state.in_work ≡ is_some p.in_work
   work-after n p room = (ahead-reaches here n p room).counts.work
 
-module _ {M : Type 0} (name : M → ℕ) where
-  -- all that is free may be said to be taken
-  pub takes-any : (s0 s : StoreValue) (x0 x : Ldterm M) (k : ℕ) (notes : List Note) (sent : List (Sent M)) (t0 t : Fates) (is : Acts) → Proceeds name s0 s x0 x k notes sent t0 t is → Proceeds name s0 s x0 x (all_free s0) notes sent t0 t is
-  takes-any s0 s x0 x k notes sent t0 t is a = record {
-    state = a.state;
-    noted = a.noted;
-    parcels = a.parcels;
-    told = a.told;
-    held = a.held;
-    own = a.own;
-    chains = a.chains;
-    hands = a.hands;
-    mblks = omega arith;
-    dblks = omega arith;
-    pool = a.pool;
+-- all that is free may be said to be taken
+pub takes-any : (s0 s : StoreValue) (x0 x : Ldterm) (k : ℕ) (notes : List Note) (sent : List Sent) (t0 t : Fates) (is : Acts) → Proceeds s0 s x0 x k notes sent t0 t is → Proceeds s0 s x0 x (all_free s0) notes sent t0 t is
+takes-any s0 s x0 x k notes sent t0 t is a = record {
+  state = a.state;
+  noted = a.noted;
+  parcels = a.parcels;
+  told = a.told;
+  held = a.held;
+  own = a.own;
+  chains = a.chains;
+  hands = a.hands;
+  mblks = omega arith;
+  dblks = omega arith;
+  pool = a.pool;
+}
+
+-- Of so many bytes some were treated, and nothing was sent.
+pub record Ran (s0 s : StoreValue) (here : Spot) (x0 x : Ldterm) (bytes left : ℕ) (notes : List Note) (t0 t : Fates) : Type 0 where
+  pub fewer : left ≤ bytes
+  pub does : Proceeds s0 s x0 x (all_free s0) notes [] t0 t (ahead here (3 * (bytes - left)) (ldterm_in s0 x0))
+  pub begun : (byte : ℕ) → byte < bytes - left → IsFreeBefore s0 x0 t0 (bytes_on here) (ldterm_in s0 x0) byte
+  pub room : HasRoom s 1
+
+-- none was treated yet
+pub ran-none : (s0 : StoreValue) (here : Spot) (x0 : Ldterm) (bytes : ℕ) (t0 : Fates) → Proceeds s0 s0 x0 x0 0 [] [] t0 t0 (ldterms.sends [] (ldterm_in s0 x0)) → HasRoom s0 1 → Ran s0 s0 here x0 x0 bytes bytes [] t0 t0
+ran-none s0 here x0 bytes t0 still room = record {
+  room = room;
+  fewer = omega arith;
+  begun = λ byte less. absurd (omega arith);
+  does = (let zero : 0 ≡ 3 * (bytes - bytes) = omega arith in takes-any s0 s0 x0 x0 0 [] [] t0 t0 (ahead here (3 * (bytes - bytes)) (ldterm_in s0 x0)) (subst (λ n. Proceeds s0 s0 x0 x0 0 [] [] t0 t0 (ahead here n (ldterm_in s0 x0))) zero still));
+}
+
+module _ (s0 s : StoreValue) (x0 x : Ldterm) (here : Spot) (bytes left : ℕ) (notes : List Note) (t0 t : Fates) (stage : stages_left (stage_in x0.stage) ≡ 0)
+    (size : bytes ≡ length (cells_left (ldterm_in s0 x0))) (r : Ran s0 s here x0 x bytes left notes t0 t) where
+  abbrev p0 : ldterms.Ldterm ℕ
+  p0 = ldterm_in s0 x0
+
+  abbrev p : ldterms.Ldterm ℕ
+  p = ldterm_in s x
+
+  abbrev n : ℕ
+  n = bytes - left
+
+  none : is_none_left (ahead here (3 * n) p0).sent ≡ true
+  none = sym (ap is_none_left r.does.parcels) ∙ parcels-none s []
+
+  within : n ≤ length (cells_left p0)
+  within = let z = size in omega arith
+
+  pub ran-stage : stages_left (stage_in x.stage) ≡ 0
+  ran-stage = ap (λ (q : ldterms.Ldterm ℕ). stages_left q.stage) r.does.state ∙ (between-after here p0 n stage within none).0
+
+  pub ran-left : length (cells_left p) ≡ left
+  ran-left =
+      let same = ap (λ (q : ldterms.Ldterm ℕ). length (cells_left q)) r.does.state in
+      let after = (between-after here p0 n stage within none).1 in
+      let z = size in
+      let f = r.fewer in
+      omega arith
+
+  -- before the byte that is so many behind
+  free-before : (more : ℕ) → HasRoom s (STOP_BLOCKS + blocks_grown p (bytes_on here more p).state) → IsFreeBefore s0 x0 t0 (bytes_on here) p0 (n + more)
+  free-before more free = record {
+    before = n;
+    more = more;
+    is = refl;
+    store = s;
+    there = x;
+    notes = notes;
+    told = t;
+    reached = (let same : 3 * n ≡ stages_left p0.stage + 3 * n = omega arith in subst (λ k. Proceeds s0 s x0 x (all_free s0) notes [] t0 t (ahead here k p0)) same r.does);
+    free = free;
   }
 
-  -- Of so many bytes some were treated, and nothing was sent.
-  pub record Ran (s0 s : StoreValue) (here : Spot) (x0 x : Ldterm M) (bytes left : ℕ) (notes : List Note) (t0 t : Fates) : Type 0 where
-    pub fewer : left ≤ bytes
-    pub does : Proceeds name s0 s x0 x (all_free s0) notes [] t0 t (ahead here (3 * (bytes - left)) (ldterm_in name s0 x0))
-    pub begun : (byte : ℕ) → byte < bytes - left → IsFreeBefore name s0 x0 t0 (bytes_on here) (ldterm_in name s0 x0) byte
-    pub room : HasRoom s 1
+  pub begun-on : (k : ℕ) → ((byte : ℕ) → byte < k → HasRoom s (STOP_BLOCKS + blocks_grown p (bytes_on here byte p).state)) → (byte : ℕ) → byte < n + k → IsFreeBefore s0 x0 t0 (bytes_on here) p0 byte
+  begun-on k more = each-more (IsFreeBefore s0 x0 t0 (bytes_on here) p0) n k r.begun (λ byte within. free-before byte (more byte within))
 
-  -- none was treated yet
-  pub ran-none : (s0 : StoreValue) (here : Spot) (x0 : Ldterm M) (bytes : ℕ) (t0 : Fates) → Proceeds name s0 s0 x0 x0 0 [] [] t0 t0 (ldterms.sends [] (ldterm_in name s0 x0)) → HasRoom s0 1 → Ran s0 s0 here x0 x0 bytes bytes [] t0 t0
-  ran-none s0 here x0 bytes t0 still room = record {
-    room = room;
-    fewer = omega arith;
-    begun = λ byte less. absurd (omega arith);
-    does = (let zero : 0 ≡ 3 * (bytes - bytes) = omega arith in takes-any s0 s0 x0 x0 0 [] [] t0 t0 (ahead here (3 * (bytes - bytes)) (ldterm_in name s0 x0)) (subst (λ n. Proceeds name s0 s0 x0 x0 0 [] [] t0 t0 (ahead here n (ldterm_in name s0 x0))) zero still));
+  -- one more, where so many blocks are free
+  pub begun-one : HasRoom s STOP_BLOCKS → (byte : ℕ) → byte < 1 → HasRoom s (STOP_BLOCKS + blocks_grown p (bytes_on here byte p).state)
+  begun-one many = free-next here s p ran-stage many
+
+  short : length notes ≤ 2
+  short = let f = fits here p0 n stage within in let a = ahead-short here (3 * n) p0 f in let e = ap length r.does.noted in omega arith
+
+  -- and so many more, in blocks of which so many are taken
+  module _ (s' : StoreValue) (x' : Ldterm) (k j : ℕ) (notes' : List Note) (sent' : List Sent) (t' : Fates) (most : j ≤ left) (b : Proceeds s s' x x' k notes' sent' t t' (ahead here (3 * j) p)) where
+    more : 3 * j + stages_done p.stage ≤ 3 * to_treat p
+    more = let z = none-done p.stage ran-stage in let a = all-left p ran-stage in let l = ran-left in omega arith
+
+    pub notes-fit : length notes + length notes' ≤ 4
+    notes-fit = let a = short in let c = ahead-short here (3 * j) p more in let e = ap length b.noted in omega arith
+
+    room-behind : HasRoom s STOP_BLOCKS → k < STOP_BLOCKS → HasRoom s' 1
+    room-behind many less = record { mblks = (let m = many.mblks in let b' = b.mblks in omega (arith, m, b', less)); dblks = (let m = many.dblks in let b' = b.dblks in omega (arith, m, b', less)) }
+
+    module _ (st : IsStore s) where
+      joined : Proceeds s0 s' x0 x' (all_free s0) (notes ++ notes') sent' t0 t' (ahead here (3 * n + 3 * j) p0)
+      joined =
+          takes-any s0 s' x0 x' (all_free s0 + k) (notes ++ notes') sent' t0 t' (ahead here (3 * n + 3 * j) p0)
+          (subst (Proceeds s0 s' x0 x' (all_free s0 + k) (notes ++ notes') sent' t0 t') (sym (ahead-more here (3 * n) (3 * j) p0))
+          (proceeds-joined s0 s x0 x (all_free s0) notes t0 t (ahead here (3 * n) p0) st r.does s' x' k notes' sent' t' (ahead here (3 * j)) b))
+
+      pub ran-next : sent' ≡ [] → HasRoom s STOP_BLOCKS → k < STOP_BLOCKS → ((byte : ℕ) → byte < j → HasRoom s (STOP_BLOCKS + blocks_grown p (bytes_on here byte p).state))
+          → Ran s0 s' here x0 x' bytes (left - j) (notes ++ notes') t0 t'
+      ran-next quiet many less begins = record {
+        begun = λ byte within. begun-on j begins byte (let f = r.fewer in omega arith);
+        room = room-behind many less;
+        fewer = (let f = r.fewer in omega arith);
+        does =
+            (let f = r.fewer in let e : 3 * n + 3 * j ≡ 3 * (bytes - (left - j)) = omega arith in
+            subst (λ i. Proceeds s0 s' x0 x' (all_free s0) (notes ++ notes') [] t0 t' (ahead here i p0)) e
+            (subst (λ out. Proceeds s0 s' x0 x' (all_free s0) (notes ++ notes') out t0 t' (ahead here (3 * n + 3 * j) p0)) quiet joined));
+      }
+
+  -- a run of so many, and all that is noted
+  pub ran-run : (s' : StoreValue) (x' : Ldterm) (j : ℕ) (notes' all : List Note) (t' : Fates) → IsStore s → j ≤ length (cells_left p) → all ≡ notes ++ notes' → Proceeds s s' x x' 2 notes' [] t t' (ahead here (3 * j) p)
+      → HasRoom s STOP_BLOCKS → ((byte : ℕ) → byte < j → HasRoom s (STOP_BLOCKS + blocks_grown p (bytes_on here byte p).state)) → Ran s0 s' here x0 x' bytes (left - j) all t0 t'
+  ran-run s' x' j notes' all t' st within joined b many begins =
+      subst (λ ns. Ran s0 s' here x0 x' bytes (left - j) ns t0 t') (sym joined) (ran-next s' x' 2 j notes' [] t' (let l = ran-left in omega arith) b st refl many (omega arith) begins)
+
+  -- or one that has sent something
+  pub runs-into : (s' : StoreValue) (x' : Ldterm) (notes' : List Note) (sent' : List Sent) (t' : Fates) → 0 < left → HasRoom s STOP_BLOCKS → Proceeds s s' x x' 27 notes' sent' t t' (ahead here 3 p) → IsStore s
+      → is_none_left sent' ≡ false → HasRoom s' (leaves (stage_in x'.stage)) × (0 < stages_left (stage_in x'.stage)) → RunsInto s0 s' here x0 x' bytes left (notes ++ notes') sent' t0 t'
+  runs-into s' x' notes' sent' t' some many b st sent behind = record {
+    begun = λ byte within. begun-on 1 (begun-one many) byte (omega arith);
+    fewer = r.fewer;
+    some = some;
+    sends = sent;
+    does = joined s' x' 27 1 notes' sent' t' some b st;
+    under_way = behind.1;
+    room = behind.0;
+    treat =
+        (let q = (ahead here 3 p).state in
+        let out : is_none_left (ahead here 3 p).sent ≡ false = sym (ap is_none_left b.parcels) ∙ parcels-none s' sent' ∙ sent in
+        let under : 0 < stages_left q.stage = (let e = ap (λ (v : ldterms.Ldterm ℕ). stages_left v.stage) b.state in let u = behind.1 in omega arith) in
+        let l = ran-left in
+        ap to_treat b.state ∙ treat-after here p ran-stage (omega arith) out under ∙ l);
   }
-
-  module _ (s0 s : StoreValue) (x0 x : Ldterm M) (here : Spot) (bytes left : ℕ) (notes : List Note) (t0 t : Fates) (stage : stages_left (stage_in x0.stage) ≡ 0)
-      (size : bytes ≡ length (cells_left (ldterm_in name s0 x0))) (r : Ran s0 s here x0 x bytes left notes t0 t) where
-    abbrev p0 : ldterms.Ldterm ℕ
-    p0 = ldterm_in name s0 x0
-
-    abbrev p : ldterms.Ldterm ℕ
-    p = ldterm_in name s x
-
-    abbrev n : ℕ
-    n = bytes - left
-
-    none : is_none_left (ahead here (3 * n) p0).sent ≡ true
-    none = sym (ap is_none_left r.does.parcels) ∙ parcels-none name s []
-
-    within : n ≤ length (cells_left p0)
-    within = let z = size in omega arith
-
-    pub ran-stage : stages_left (stage_in x.stage) ≡ 0
-    ran-stage = ap (λ (q : ldterms.Ldterm ℕ). stages_left q.stage) r.does.state ∙ (between-after here p0 n stage within none).0
-
-    pub ran-left : length (cells_left p) ≡ left
-    ran-left =
-        let same = ap (λ (q : ldterms.Ldterm ℕ). length (cells_left q)) r.does.state in
-        let after = (between-after here p0 n stage within none).1 in
-        let z = size in
-        let f = r.fewer in
-        omega arith
-
-    -- before the byte that is so many behind
-    free-before : (more : ℕ) → HasRoom s (STOP_BLOCKS + blocks_grown p (bytes_on here more p).state) → IsFreeBefore name s0 x0 t0 (bytes_on here) p0 (n + more)
-    free-before more free = record {
-      before = n;
-      more = more;
-      is = refl;
-      store = s;
-      there = x;
-      notes = notes;
-      told = t;
-      reached = (let same : 3 * n ≡ stages_left p0.stage + 3 * n = omega arith in subst (λ k. Proceeds name s0 s x0 x (all_free s0) notes [] t0 t (ahead here k p0)) same r.does);
-      free = free;
-    }
-
-    pub begun-on : (k : ℕ) → ((byte : ℕ) → byte < k → HasRoom s (STOP_BLOCKS + blocks_grown p (bytes_on here byte p).state)) → (byte : ℕ) → byte < n + k → IsFreeBefore name s0 x0 t0 (bytes_on here) p0 byte
-    begun-on k more = each-more (IsFreeBefore name s0 x0 t0 (bytes_on here) p0) n k r.begun (λ byte within. free-before byte (more byte within))
-
-    -- one more, where so many blocks are free
-    pub begun-one : HasRoom s STOP_BLOCKS → (byte : ℕ) → byte < 1 → HasRoom s (STOP_BLOCKS + blocks_grown p (bytes_on here byte p).state)
-    begun-one many = free-next here s p ran-stage many
-
-    short : length notes ≤ 2
-    short = let f = fits here p0 n stage within in let a = ahead-short here (3 * n) p0 f in let e = ap length r.does.noted in omega arith
-
-    -- and so many more, in blocks of which so many are taken
-    module _ (s' : StoreValue) (x' : Ldterm M) (k j : ℕ) (notes' : List Note) (sent' : List (Sent M)) (t' : Fates) (most : j ≤ left) (b : Proceeds name s s' x x' k notes' sent' t t' (ahead here (3 * j) p)) where
-      more : 3 * j + stages_done p.stage ≤ 3 * to_treat p
-      more = let z = none-done p.stage ran-stage in let a = all-left p ran-stage in let l = ran-left in omega arith
-
-      pub notes-fit : length notes + length notes' ≤ 4
-      notes-fit = let a = short in let c = ahead-short here (3 * j) p more in let e = ap length b.noted in omega arith
-
-      room-behind : HasRoom s STOP_BLOCKS → k < STOP_BLOCKS → HasRoom s' 1
-      room-behind many less = record { mblks = (let m = many.mblks in let b' = b.mblks in omega (arith, m, b', less)); dblks = (let m = many.dblks in let b' = b.dblks in omega (arith, m, b', less)) }
-
-      module _ (st : IsStore s) where
-        joined : Proceeds name s0 s' x0 x' (all_free s0) (notes ++ notes') sent' t0 t' (ahead here (3 * n + 3 * j) p0)
-        joined =
-            takes-any s0 s' x0 x' (all_free s0 + k) (notes ++ notes') sent' t0 t' (ahead here (3 * n + 3 * j) p0)
-            (subst (Proceeds name s0 s' x0 x' (all_free s0 + k) (notes ++ notes') sent' t0 t') (sym (ahead-more here (3 * n) (3 * j) p0))
-            (proceeds-joined name s0 s x0 x (all_free s0) notes t0 t (ahead here (3 * n) p0) st r.does s' x' k notes' sent' t' (ahead here (3 * j)) b))
-
-        pub ran-next : sent' ≡ [] → HasRoom s STOP_BLOCKS → k < STOP_BLOCKS → ((byte : ℕ) → byte < j → HasRoom s (STOP_BLOCKS + blocks_grown p (bytes_on here byte p).state))
-            → Ran s0 s' here x0 x' bytes (left - j) (notes ++ notes') t0 t'
-        ran-next quiet many less begins = record {
-          begun = λ byte within. begun-on j begins byte (let f = r.fewer in omega arith);
-          room = room-behind many less;
-          fewer = (let f = r.fewer in omega arith);
-          does =
-              (let f = r.fewer in let e : 3 * n + 3 * j ≡ 3 * (bytes - (left - j)) = omega arith in
-              subst (λ i. Proceeds name s0 s' x0 x' (all_free s0) (notes ++ notes') [] t0 t' (ahead here i p0)) e
-              (subst (λ out. Proceeds name s0 s' x0 x' (all_free s0) (notes ++ notes') out t0 t' (ahead here (3 * n + 3 * j) p0)) quiet joined));
-        }
-
-    -- a run of so many, and all that is noted
-    pub ran-run : (s' : StoreValue) (x' : Ldterm M) (j : ℕ) (notes' all : List Note) (t' : Fates) → IsStore s → j ≤ length (cells_left p) → all ≡ notes ++ notes' → Proceeds name s s' x x' 2 notes' [] t t' (ahead here (3 * j) p)
-        → HasRoom s STOP_BLOCKS → ((byte : ℕ) → byte < j → HasRoom s (STOP_BLOCKS + blocks_grown p (bytes_on here byte p).state)) → Ran s0 s' here x0 x' bytes (left - j) all t0 t'
-    ran-run s' x' j notes' all t' st within joined b many begins =
-        subst (λ ns. Ran s0 s' here x0 x' bytes (left - j) ns t0 t') (sym joined) (ran-next s' x' 2 j notes' [] t' (let l = ran-left in omega arith) b st refl many (omega arith) begins)
-
-    -- or one that has sent something
-    pub runs-into : (s' : StoreValue) (x' : Ldterm M) (notes' : List Note) (sent' : List (Sent M)) (t' : Fates) → 0 < left → HasRoom s STOP_BLOCKS → Proceeds name s s' x x' 27 notes' sent' t t' (ahead here 3 p) → IsStore s
-        → is_none_left sent' ≡ false → HasRoom s' (leaves (stage_in x'.stage)) × (0 < stages_left (stage_in x'.stage)) → RunsInto name s0 s' here x0 x' bytes left (notes ++ notes') sent' t0 t'
-    runs-into s' x' notes' sent' t' some many b st sent behind = record {
-      begun = λ byte within. begun-on 1 (begun-one many) byte (omega arith);
-      fewer = r.fewer;
-      some = some;
-      sends = sent;
-      does = joined s' x' 27 1 notes' sent' t' some b st;
-      under_way = behind.1;
-      room = behind.0;
-      treat =
-          (let q = (ahead here 3 p).state in
-          let out : is_none_left (ahead here 3 p).sent ≡ false = sym (ap is_none_left b.parcels) ∙ parcels-none name s' sent' ∙ sent in
-          let under : 0 < stages_left q.stage = (let e = ap (λ (v : ldterms.Ldterm ℕ). stages_left v.stage) b.state in let u = behind.1 in omega arith) in
-          let l = ran-left in
-          ap to_treat b.state ∙ treat-after here p ran-stage (omega arith) out under ∙ l);
-    }

@@ -60,15 +60,15 @@ module _ (here : Spot) (p : ldterms.Ldterm ℕ) where
       ∙ ap (λ v. record { acted = one_after t (finished plain here); bytes = cond v (to_treat p - to_treat (one_after t (finished plain here)).state) bytes; again = v })
       (ap (λ v. is_some (cond {A = Acts} v (let u = finished plain here t.state in record { state = u.state; notes = t.notes ++ u.notes; sent = u.sent; gone = t.gone ++ u.gone }) t).state.in_work) none)
 
-module _ {M : Type 0} (name : M → ℕ) (s s' : StoreValue) (here : Spot) (x x' : Ldterm M) (t t' : Fates) where
+module _ (s s' : StoreValue) (here : Spot) (x x' : Ldterm) (t t' : Fates) where
   -- what a call did, where the definition comes to this
-  treats-as : (served : Served M) (v : Serving ℕ (ldterms.Ldterm ℕ)) → treated_by name s s' here x x' (stop_of served) ≡ v
-      → Proceeds name s s' x x' (all_free s) served.acts.notes.items (sent_of served.acts.sent) t t' v.acted → served.bytes ≡ v.bytes → served.again ≡ v.again → (served.stopped ≡ true → (least_free s' < STOP_BLOCKS) × (served.again ≡ false))
-      → ((byte : ℕ) → byte < begun_in served.bytes served.again (under_way (stage_in x.stage)) → IsFreeBefore name s x t (bytes_on here) (ldterm_in name s x) byte)
-      → (served.stopped ≡ true → EndsAt name s s' here x x' served.bytes) → to_treat (ldterm_in name s' x') ≤ to_treat (ldterm_in name s x) → HasRoom s' (leaves (stage_in x'.stage)) → TreatsAs name s s' here x x' served t t'
+  treats-as : (served : Served) (v : Serving ℕ (ldterms.Ldterm ℕ)) → treated_by s s' here x x' (stop_of served) ≡ v
+      → Proceeds s s' x x' (all_free s) served.acts.notes.items (sent_of served.acts.sent) t t' v.acted → served.bytes ≡ v.bytes → served.again ≡ v.again → (served.stopped ≡ true → (least_free s' < STOP_BLOCKS) × (served.again ≡ false))
+      → ((byte : ℕ) → byte < begun_in served.bytes served.again (under_way (stage_in x.stage)) → IsFreeBefore s x t (bytes_on here) (ldterm_in s x) byte)
+      → (served.stopped ≡ true → EndsAt s s' here x x' served.bytes) → to_treat (ldterm_in s' x') ≤ to_treat (ldterm_in s x) → HasRoom s' (leaves (stage_in x'.stage)) → TreatsAs s s' here x x' served t t'
   treats-as served v is does bytes again stops begun ends less room = record {
     begun = begun;
-    does = subst (λ (w : Serving ℕ (ldterms.Ldterm ℕ)). Proceeds name s s' x x' (all_free s) served.acts.notes.items (sent_of served.acts.sent) t t' w.acted) (sym is) does;
+    does = subst (λ (w : Serving ℕ (ldterms.Ldterm ℕ)). Proceeds s s' x x' (all_free s) served.acts.notes.items (sent_of served.acts.sent) t t' w.acted) (sym is) does;
     bytes = bytes ∙ sym (ap (λ (w : Serving ℕ (ldterms.Ldterm ℕ)). w.bytes) is);
     again = again ∙ sym (ap (λ (w : Serving ℕ (ldterms.Ldterm ℕ)). w.again) is);
     stops = stops;
@@ -78,18 +78,18 @@ module _ {M : Type 0} (name : M → ℕ) (s s' : StoreValue) (here : Spot) (x x'
   }
 
   abbrev from : ldterms.Ldterm ℕ
-  from = ldterm_in name s x
+  from = ldterm_in s x
 
   -- from between two bytes on, where one has sent something
-  pub into-treats : (bytes left : ℕ) (acts : frame.Acts M) → stages_left (stage_in x.stage) ≡ 0 → bytes ≡ length (cells_left from) → is_some from.in_work ≡ true
-      → RunsInto name s s' here x x' bytes left acts.notes.items (sent_of acts.sent) t t' → TreatsAs name s s' here x x' (record { acts = acts; bytes = bytes - left; stopped = false; again = true }) t t'
+  pub into-treats : (bytes left : ℕ) (acts : frame.Acts) → stages_left (stage_in x.stage) ≡ 0 → bytes ≡ length (cells_left from) → is_some from.in_work ≡ true
+      → RunsInto s s' here x x' bytes left acts.notes.items (sent_of acts.sent) t t' → TreatsAs s s' here x x' (record { acts = acts; bytes = bytes - left; stopped = false; again = true }) t t'
   into-treats bytes left acts between size work r =
       let n = 3 * (bytes - left) + 3 in
       let z = none-done from.stage between in
       let a = all-left from between in
       let f = r.fewer in
       let o = r.some in
-      let out : is_none_left (ahead here n from).sent ≡ false = sym (ap is_none_left r.does.parcels) ∙ parcels-none name s' (sent_of acts.sent) ∙ r.sends in
+      let out : is_none_left (ahead here n from).sent ≡ false = sym (ap is_none_left r.does.parcels) ∙ parcels-none s' (sent_of acts.sent) ∙ r.sends in
       let after = r.treat in
       let same = ap to_treat r.does.state in
       treats-as (record { acts = acts; bytes = bytes - left; stopped = false; again = true }) _
@@ -97,26 +97,26 @@ module _ {M : Type 0} (name : M → ℕ) (s s' : StoreValue) (here : Spot) (x x'
       r.does (omega arith) refl (λ e. absurd (false≢true e)) (λ byte within. r.begun byte (let u = none-begun (stage_in x.stage) between in omega arith)) (λ e. absurd (false≢true e)) (omega arith) r.room
 
   -- and where nothing was sent, to the end of the call
-  pub out-treats : (bytes left : ℕ) (notes : ArrayVec Note) (sent : Outbox M) (s1 : StoreValue) (x1 : Ldterm M) (t1 : Fates) → IsStore s1 → stages_left (stage_in x.stage) ≡ 0 → bytes ≡ length (cells_left from)
-      → RunsOut name s s1 here x x1 bytes left notes.items t t1 → Proceeds name s1 s' x1 x' 0 [] (sent_of sent) t1 t' (finished plain here (ldterm_in name s1 x1))
-      → (0 < length (cells_left (ldterm_in name s1 x1)) → FreesNone s1 s')
-      → TreatsAs name s s' here x x' (record { acts = record { notes = notes; sent = sent }; bytes = bytes - left; stopped = nat_lt 0 left; again = false }) t t'
+  pub out-treats : (bytes left : ℕ) (notes : ArrayVec Note) (sent : Outbox) (s1 : StoreValue) (x1 : Ldterm) (t1 : Fates) → IsStore s1 → stages_left (stage_in x.stage) ≡ 0 → bytes ≡ length (cells_left from)
+      → RunsOut s s1 here x x1 bytes left notes.items t t1 → Proceeds s1 s' x1 x' 0 [] (sent_of sent) t1 t' (finished plain here (ldterm_in s1 x1))
+      → (0 < length (cells_left (ldterm_in s1 x1)) → FreesNone s1 s')
+      → TreatsAs s s' here x x' (record { acts = record { notes = notes; sent = sent }; bytes = bytes - left; stopped = nat_lt 0 left; again = false }) t t'
   out-treats bytes left notes sent s1 x1 t1 st between size r e frees =
       let n = 3 * (bytes - left) in
       let z = none-done from.stage between in
       let a = all-left from between in
       let f = r.fewer in
-      let none = nothing-sent name s s1 x x1 (all_free s) notes.items t t1 (ahead here n from) st r.does in
+      let none = nothing-sent s s1 x x1 (all_free s) notes.items t t1 (ahead here n from) st r.does in
       let stop : unwrap_or (stop_at (nat_lt 0 left) (bytes - left)) (to_treat from) ≡ bytes - left = at (nat_lt 0 left) refl (r.fewer, (let z = none-done from.stage between in let a = all-left from between in omega arith)) in
-      let all = takes-any name s s' x x' (all_free s + 0) (notes.items ++ []) (sent_of sent) t t' _ (proceeds-joined name s s1 x x1 (all_free s) notes.items t t1 (ahead here n from) st r.does s' x' 0 [] (sent_of sent) t' (finished plain here) e) in
-      let over : to_treat (ldterm_in name s' x') ≡ 0 = ap to_treat e.state in
+      let all = takes-any s s' x x' (all_free s + 0) (notes.items ++ []) (sent_of sent) t t' _ (proceeds-joined s s1 x x1 (all_free s) notes.items t t1 (ahead here n from) st r.does s' x' 0 [] (sent_of sent) t' (finished plain here) e) in
+      let over : to_treat (ldterm_in s' x') ≡ 0 = ap to_treat e.state in
       let stage : leaves (stage_in x'.stage) ≡ 1 = ap (λ (q : ldterms.Ldterm ℕ). leaves q.stage) e.state in
       let after = (between-after here from (bytes - left) between (omega arith) none).1 in
       let same = ap (λ (q : ldterms.Ldterm ℕ). length (cells_left q)) r.does.state in
       let few : 0 < left → least_free s' < STOP_BLOCKS = λ some. stays-few s1 s' STOP_BLOCKS (frees (omega arith)) (r.stops some) in
       treats-as (record { acts = record { notes = notes; sent = sent }; bytes = bytes - left; stopped = nat_lt 0 left; again = false }) _
       (ap (λ k. treats plain here k 0 from) stop ∙ treats-ended here from n (bytes - left) (omega arith) none)
-      (subst (λ ns. Proceeds name s s' x x' (all_free s) ns (sent_of sent) t t' (one_after (ahead here n from) (finished plain here))) (append-nil notes.items) all)
+      (subst (λ ns. Proceeds s s' x x' (all_free s) ns (sent_of sent) t t' (one_after (ahead here n from) (finished plain here))) (append-nil notes.items) all)
       refl refl (λ v. (few (lower 0 left v), refl)) (λ byte within. r.begun byte (let u = none-begun (stage_in x.stage) between in omega arith)) (λ v. record { treat = omega arith; done = omega arith }) (omega arith)
       (record { mblks = (let r' = r.room.mblks in let e' = e.mblks in omega (arith, stage, r', e')); dblks = (let r' = r.room.dblks in let e' = e.dblks in omega (arith, stage, r', e')) })
     where
@@ -125,7 +125,7 @@ module _ {M : Type 0} (name : M → ℕ) (s s' : StoreValue) (here : Spot) (x x'
       at false is both = let zero : left ≡ 0 = grind (arith, nat_tests) in let e = both.1 in omega arith
 
   -- neither notes more than twice
-  pub into-short : (bytes left : ℕ) (notes : List Note) (sent : List (Sent M)) → stages_left (stage_in x.stage) ≡ 0 → bytes ≡ length (cells_left from) → RunsInto name s s' here x x' bytes left notes sent t t' → length notes ≤ 2
+  pub into-short : (bytes left : ℕ) (notes : List Note) (sent : List Sent) → stages_left (stage_in x.stage) ≡ 0 → bytes ≡ length (cells_left from) → RunsInto s s' here x x' bytes left notes sent t t' → length notes ≤ 2
   into-short bytes left notes sent between size r =
       let z = none-done from.stage between in
       let a = all-left from between in
@@ -135,7 +135,7 @@ module _ {M : Type 0} (name : M → ℕ) (s s' : StoreValue) (here : Spot) (x x'
       let two = ahead-short here (3 * (bytes - left) + 3) from (omega arith) in
       omega arith
 
-  pub out-short : (bytes left : ℕ) (notes : List Note) → stages_left (stage_in x.stage) ≡ 0 → bytes ≡ length (cells_left from) → RunsOut name s s' here x x' bytes left notes t t' → length notes ≤ 2
+  pub out-short : (bytes left : ℕ) (notes : List Note) → stages_left (stage_in x.stage) ≡ 0 → bytes ≡ length (cells_left from) → RunsOut s s' here x x' bytes left notes t t' → length notes ≤ 2
   out-short bytes left notes between size r =
       let z = none-done from.stage between in
       let a = all-left from between in
@@ -145,7 +145,7 @@ module _ {M : Type 0} (name : M → ℕ) (s s' : StoreValue) (here : Spot) (x x'
       omega arith
 
   -- from within a byte on, up to its end or to what it has sent
-  module _ (under : 0 < stages_left (stage_in x.stage)) (notes : List Note) (sent : List (Sent M)) (a : Proceeds name s s' x x' 26 notes sent t t' (ahead here (stages_left (stage_in x.stage)) from)) where
+  module _ (under : 0 < stages_left (stage_in x.stage)) (notes : List Note) (sent : List Sent) (a : Proceeds s s' x x' 26 notes sent t t' (ahead here (stages_left (stage_in x.stage)) from)) where
     enough : stages_left from.stage + stages_done from.stage ≤ 3 * to_treat from
     enough = let d = some-done from.stage under in let much = one-more-left from under in omega arith
 
@@ -153,13 +153,13 @@ module _ {M : Type 0} (name : M → ℕ) (s s' : StoreValue) (here : Spot) (x x'
     resumed-short = let e = ap length a.noted in let two = ahead-short here (stages_left from.stage) from enough in omega arith
 
     pub resumed-work : is_some x.in_work ≡ true → is_some x'.in_work ≡ true
-    resumed-work work = sym (kept-some name s' x'.in_work) ∙ ap (λ (q : ldterms.Ldterm ℕ). is_some q.in_work) a.state ∙ work-after here (stages_left from.stage) from enough ∙ kept-some name s x.in_work ∙ work
+    resumed-work work = sym (kept-some s' x'.in_work) ∙ ap (λ (q : ldterms.Ldterm ℕ). is_some q.in_work) a.state ∙ work-after here (stages_left from.stage) from enough ∙ kept-some s x.in_work ∙ work
 
     pub resumed-between : sent ≡ [] → stages_left (stage_in x'.stage) ≡ 0
     resumed-between quiet =
         let q = (ahead here (stages_left from.stage) from).state in
         let reach = ahead-reaches here (stages_left from.stage) from enough in
-        let none : is_none_left (ahead here (stages_left from.stage) from).sent ≡ true = sym (ap is_none_left a.parcels) ∙ parcels-none name s' sent ∙ ap is_none_left quiet in
+        let none : is_none_left (ahead here (stages_left from.stage) from).sent ≡ true = sym (ap is_none_left a.parcels) ∙ parcels-none s' sent ∙ ap is_none_left quiet in
         let whole = reach.all none in
         let e = reach.counts.left in
         let d = some-done from.stage under in
@@ -168,9 +168,9 @@ module _ {M : Type 0} (name : M → ℕ) (s s' : StoreValue) (here : Spot) (x x'
         ap (λ (v : ldterms.Ldterm ℕ). stages_left v.stage) a.state ∙ left-none q.stage zero
 
   -- from within a byte on, which has sent something
-  pub resumed-sends : (acts : frame.Acts M) → 0 < stages_left (stage_in x.stage) → is_some from.in_work ≡ true → is_none_left (sent_of acts.sent) ≡ false
-      → Proceeds name s s' x x' 26 acts.notes.items (sent_of acts.sent) t t' (ahead here (stages_left from.stage) from) → HasRoom s' 26 × (stages_left (stage_in x'.stage) ≡ 1)
-      → TreatsAs name s s' here x x' (record { acts = acts; bytes = 0; stopped = false; again = true }) t t'
+  pub resumed-sends : (acts : frame.Acts) → 0 < stages_left (stage_in x.stage) → is_some from.in_work ≡ true → is_none_left (sent_of acts.sent) ≡ false
+      → Proceeds s s' x x' 26 acts.notes.items (sent_of acts.sent) t t' (ahead here (stages_left from.stage) from) → HasRoom s' 26 × (stages_left (stage_in x'.stage) ≡ 1)
+      → TreatsAs s s' here x x' (record { acts = acts; bytes = 0; stopped = false; again = true }) t t'
   resumed-sends acts under work sent a behind =
       let n = stages_left from.stage in
       let d = some-done from.stage under in
@@ -178,7 +178,7 @@ module _ {M : Type 0} (name : M → ℕ) (s s' : StoreValue) (here : Spot) (x x'
       let room : n + stages_done from.stage ≤ 3 * to_treat from = omega arith in
       let reach = ahead-reaches here n from room in
       let q = (ahead here n from).state in
-      let out : is_none_left (ahead here n from).sent ≡ false = sym (ap is_none_left a.parcels) ∙ parcels-none name s' (sent_of acts.sent) ∙ sent in
+      let out : is_none_left (ahead here n from).sent ≡ false = sym (ap is_none_left a.parcels) ∙ parcels-none s' (sent_of acts.sent) ∙ sent in
       let e = reach.counts.left in
       let w = reach.within in
       let o = reach.some out in
@@ -192,17 +192,17 @@ module _ {M : Type 0} (name : M → ℕ) (s s' : StoreValue) (here : Spot) (x x'
       let rd = behind.0.dblks in
       treats-as (record { acts = acts; bytes = 0; stopped = false; again = true }) _
       (treats-sent here from n (3 * (to_treat from - 1)) (to_treat from) (omega arith) out room work)
-      (takes-any name s s' x x' 26 acts.notes.items (sent_of acts.sent) t t' (ahead here n from) a) (omega arith) refl (λ v. absurd (false≢true v)) (λ byte within. absurd (let u = one-begun (stage_in x.stage) under in omega arith)) (λ v. absurd (false≢true v)) (omega arith) (record { mblks = omega arith; dblks = omega arith })
+      (takes-any s s' x x' 26 acts.notes.items (sent_of acts.sent) t t' (ahead here n from) a) (omega arith) refl (λ v. absurd (false≢true v)) (λ byte within. absurd (let u = one-begun (stage_in x.stage) under in omega arith)) (λ v. absurd (false≢true v)) (omega arith) (record { mblks = omega arith; dblks = omega arith })
 
-module _ {M : Type 0} (name : M → ℕ) (s s1 s' : StoreValue) (here : Spot) (x x1 x' : Ldterm M) (t t1 t' : Fates) where
+module _ (s s1 s' : StoreValue) (here : Spot) (x x1 x' : Ldterm) (t t1 t' : Fates) where
   -- before a byte that comes behind what was left of one
-  begun-behind : (notes : List Note) (byte : ℕ) → IsStore s1 → Proceeds name s s1 x x1 26 notes [] t t1 (ahead here (stages_left (stage_in x.stage)) (ldterm_in name s x)) → stages_left (stage_in x1.stage) ≡ 0
-      → IsFreeBefore name s1 x1 t1 (bytes_on here) (ldterm_in name s1 x1) byte → IsFreeBefore name s x t (bytes_on here) (ldterm_in name s x) byte
+  begun-behind : (notes : List Note) (byte : ℕ) → IsStore s1 → Proceeds s s1 x x1 26 notes [] t t1 (ahead here (stages_left (stage_in x.stage)) (ldterm_in s x)) → stages_left (stage_in x1.stage) ≡ 0
+      → IsFreeBefore s1 x1 t1 (bytes_on here) (ldterm_in s1 x1) byte → IsFreeBefore s x t (bytes_on here) (ldterm_in s x) byte
   begun-behind notes byte st a between f =
-      let p = ldterm_in name s x in
+      let p = ldterm_in s x in
       let n = stages_left p.stage in
       let same : stages_left (stage_in x1.stage) + 3 * f.before ≡ 3 * f.before = omega arith in
-      let on = subst (λ k. Proceeds name s1 f.store x1 f.there (all_free s1) f.notes [] t1 f.told (ahead here k (ldterm_in name s1 x1))) same f.reached in
+      let on = subst (λ k. Proceeds s1 f.store x1 f.there (all_free s1) f.notes [] t1 f.told (ahead here k (ldterm_in s1 x1))) same f.reached in
       record {
         before = f.before;
         more = f.more;
@@ -212,25 +212,25 @@ module _ {M : Type 0} (name : M → ℕ) (s s1 s' : StoreValue) (here : Spot) (x
         notes = notes ++ f.notes;
         told = f.told;
         reached =
-            takes-any name s f.store x f.there (26 + all_free s1) (notes ++ f.notes) [] t f.told (bytes_on here f.before p)
-            (subst (Proceeds name s f.store x f.there (26 + all_free s1) (notes ++ f.notes) [] t f.told) (sym (ahead-more here n (3 * f.before) p))
-            (proceeds-joined name s s1 x x1 26 notes t t1 (ahead here n p) st a f.store f.there (all_free s1) f.notes [] f.told (ahead here (3 * f.before)) on));
+            takes-any s f.store x f.there (26 + all_free s1) (notes ++ f.notes) [] t f.told (bytes_on here f.before p)
+            (subst (Proceeds s f.store x f.there (26 + all_free s1) (notes ++ f.notes) [] t f.told) (sym (ahead-more here n (3 * f.before) p))
+            (proceeds-joined s s1 x x1 26 notes t t1 (ahead here n p) st a f.store f.there (all_free s1) f.notes [] f.told (ahead here (3 * f.before)) on));
         free = f.free;
       }
 
   -- from within a byte on that has sent nothing, and then on
-  pub resumed-goes-on : (notes : List Note) (served : Served M) (all : ArrayVec Note) → IsStore s1 → 0 < stages_left (stage_in x.stage) → all.items ≡ notes ++ served.acts.notes.items
-      → Proceeds name s s1 x x1 26 notes [] t t1 (ahead here (stages_left (stage_in x.stage)) (ldterm_in name s x)) → TreatsAs name s1 s' here x1 x' served t1 t'
-      → TreatsAs name s s' here x x' (record { acts = record { notes = all; sent = served.acts.sent }; bytes = served.bytes + 1; stopped = served.stopped; again = served.again }) t t'
+  pub resumed-goes-on : (notes : List Note) (served : Served) (all : ArrayVec Note) → IsStore s1 → 0 < stages_left (stage_in x.stage) → all.items ≡ notes ++ served.acts.notes.items
+      → Proceeds s s1 x x1 26 notes [] t t1 (ahead here (stages_left (stage_in x.stage)) (ldterm_in s x)) → TreatsAs s1 s' here x1 x' served t1 t'
+      → TreatsAs s s' here x x' (record { acts = record { notes = all; sent = served.acts.sent }; bytes = served.bytes + 1; stopped = served.stopped; again = served.again }) t t'
   resumed-goes-on notes served all st under noted a b =
-      let p = ldterm_in name s x in
-      let p1 = ldterm_in name s1 x1 in
+      let p = ldterm_in s x in
+      let p1 = ldterm_in s1 x1 in
       let n = stages_left p.stage in
       let d = some-done p.stage under in
       let much = one-more-left p under in
       let room : n + stages_done p.stage ≤ 3 * to_treat p = omega arith in
       let reach = ahead-reaches here n p room in
-      let none = nothing-sent name s s1 x x1 26 notes t t1 (ahead here n p) st a in
+      let none = nothing-sent s s1 x x1 26 notes t t1 (ahead here n p) st a in
       let whole = reach.all none in
       let e = reach.counts.left in
       let two = done-few (ahead here n p).state.stage in
@@ -241,23 +241,23 @@ module _ {M : Type 0} (name : M → ℕ) (s s1 s' : StoreValue) (here : Spot) (x
       let k = unwrap_or (stop_of served) (to_treat p1) in
       let more : unwrap_or (stop_at served.stopped (served.bytes + 1)) (to_treat p) ≡ k + 1 = at served.stopped served.bytes one in
       let u = ends here (3 * k) p1 in
-      let rest-is : treated_by name s1 s' here x1 x' (stop_of served) ≡ served_with here p1 k u = ap (λ j. served_with here p1 k (ends here j p1)) (let h : 3 * k - stages_done p1.stage ≡ 3 * k = omega arith in h) in
+      let rest-is : treated_by s1 s' here x1 x' (stop_of served) ≡ served_with here p1 k u = ap (λ j. served_with here p1 k (ends here j p1)) (let h : 3 * k - stages_done p1.stage ≡ 3 * k = omega arith in h) in
       let next : Acts → Acts = λ v. record { state = v.state; notes = (ahead here n p).notes ++ v.notes; sent = v.sent; gone = (ahead here n p).gone ++ v.gone } in
       let going : ends here (3 * (k + 1) - stages_done p.stage) p ≡ next u =
       ap (λ j. ends here j p) (let h : 3 * (k + 1) - stages_done p.stage ≡ n + 3 * k = omega arith in h)
       ∙ ends-more here n (3 * k) p
       ∙ ap (λ v. cond {A = Acts} v (next (ends here (3 * k) (ahead here n p).state)) (ahead here n p)) none
       ∙ ap (λ (q : ldterms.Ldterm ℕ). next (ends here (3 * k) q)) (sym a.state) in
-      let does = subst (λ (v : Serving ℕ (ldterms.Ldterm ℕ)). Proceeds name s1 s' x1 x' (all_free s1) served.acts.notes.items (sent_of served.acts.sent) t1 t' v.acted) rest-is b.does in
+      let does = subst (λ (v : Serving ℕ (ldterms.Ldterm ℕ)). Proceeds s1 s' x1 x' (all_free s1) served.acts.notes.items (sent_of served.acts.sent) t1 t' v.acted) rest-is b.does in
       let behind = ap to_treat does.state in
       let less = b.less in
       let count : served.bytes ≡ cond (is_some u.state.in_work) (to_treat p1 - to_treat u.state) k = b.bytes ∙ ap (λ (v : Serving ℕ (ldterms.Ldterm ℕ)). v.bytes) rest-is in
       let again : served.again ≡ is_some u.state.in_work = b.again ∙ ap (λ (v : Serving ℕ (ldterms.Ldterm ℕ)). v.again) rest-is in
-      let joined = takes-any name s s' x x' (26 + all_free s1) (notes ++ served.acts.notes.items) (sent_of served.acts.sent) t t' _ (proceeds-joined name s s1 x x1 26 notes t t1 (ahead here n p) st a s' x' (all_free s1) served.acts.notes.items (sent_of served.acts.sent) t' (ends here (3 * k)) does) in
-      treats-as name s s' here x x' t t' (record { acts = record { notes = all; sent = served.acts.sent }; bytes = served.bytes + 1; stopped = served.stopped; again = served.again }) (served_with here p (k + 1) (next u))
+      let joined = takes-any s s' x x' (26 + all_free s1) (notes ++ served.acts.notes.items) (sent_of served.acts.sent) t t' _ (proceeds-joined s s1 x x1 26 notes t t1 (ahead here n p) st a s' x' (all_free s1) served.acts.notes.items (sent_of served.acts.sent) t' (ends here (3 * k)) does) in
+      treats-as s s' here x x' t t' (record { acts = record { notes = all; sent = served.acts.sent }; bytes = served.bytes + 1; stopped = served.stopped; again = served.again }) (served_with here p (k + 1) (next u))
       (ap (λ j. treats plain here j 0 p) more ∙ ap (served_with here p (k + 1)) going)
-      (subst (λ ns. Proceeds name s s' x x' (all_free s) ns (sent_of served.acts.sent) t t' (next u)) (sym noted)
-      (subst (Proceeds name s s' x x' (all_free s) (notes ++ served.acts.notes.items) (sent_of served.acts.sent) t t')
+      (subst (λ ns. Proceeds s s' x x' (all_free s) ns (sent_of served.acts.sent) t t' (next u)) (sym noted)
+      (subst (Proceeds s s' x x' (all_free s) (notes ++ served.acts.notes.items) (sent_of served.acts.sent) t t')
       (ap (λ v. cond {A = Acts} v (next (ends here (3 * k) (ahead here n p).state)) (ahead here n p)) none ∙ ap (λ (q : ldterms.Ldterm ℕ). next (ends here (3 * k) q)) (sym a.state)) joined))
       (ap (λ j. j + 1) count ∙ plus (is_some u.state.in_work) (to_treat u.state) (to_treat p1) (to_treat p) k (omega arith) one)
       again b.stops
@@ -267,7 +267,7 @@ module _ {M : Type 0} (name : M → ℕ) (s s1 s' : StoreValue) (here : Spot) (x
       begun-behind notes byte st a (left-none p1.stage zero) (b.begun byte (omega arith)))
       (λ v. let less = (b.ends v).treat in record { treat = omega arith; done = omega arith }) (omega arith) b.room
     where
-      at : (v : Bool) (m : ℕ) → to_treat (ldterm_in name s x) ≡ to_treat (ldterm_in name s1 x1) + 1 → unwrap_or (stop_at v (m + 1)) (to_treat (ldterm_in name s x)) ≡ unwrap_or (stop_at v m) (to_treat (ldterm_in name s1 x1)) + 1
+      at : (v : Bool) (m : ℕ) → to_treat (ldterm_in s x) ≡ to_treat (ldterm_in s1 x1) + 1 → unwrap_or (stop_at v (m + 1)) (to_treat (ldterm_in s x)) ≡ unwrap_or (stop_at v m) (to_treat (ldterm_in s1 x1)) + 1
       at true m one = refl
       at false m one = one
 

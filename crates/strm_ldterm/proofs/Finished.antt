@@ -12,7 +12,8 @@ use Rattle.strm_types.specs.Message.{Message, cells_of, data_message}
 use Rattle.strm_types.specs.Queue as plain
 use Rattle.strm_types.specs.Queue.{is_none_left}
 use Rattle.strm_types.specs.Typing.{gathered_up}
-use Rattle.strm_blocks.specs.Blocks.{StoreValue, in_hand}
+use Rattle.strm_blocks.specs.Blocks.{StoreValue, in_hand, token}
+use Rattle.strm_blocks.specs.declared.in_hand.InHand.{InHand}
 use Rattle.strm_msg.specs.Bytes.{data_bytes}
 use Rattle.strm_msg.proofs.Chains.{data_in, data-shown, data_in-cells}
 use Rattle.strm_frame.specs.declared.parcels.Sent.{Sent}
@@ -59,26 +60,26 @@ pub up-some : (here : Spot) (l : List ℕ) → (length l ≡ 0 → ⊥) → gath
 up-some here [] some = absurd (some refl)
 up-some here (b ∷ l) some = refl
 
-module _ {M : Type 0} (name : M → ℕ) (s : StoreValue) (x : Ldterm M) (m : M) where
+module _ (s : StoreValue) (x : Ldterm) (m : InHand) where
   -- the message in work
   module _ (there : x.in_work ≡ Some m) where
-    pub work-splits : (j : ℕ) → keeps name x j ≡ once (name m) j + keeps name (record x { in_work = None }) j
+    pub work-splits : (j : ℕ) → keeps x j ≡ once (token m) j + keeps (record x { in_work = None }) j
     unfolding times_kept
-    work-splits j = let e = ap (λ o. times_kept name o j) there in omega arith
+    work-splits j = let e = ap (λ o. times_kept o j) there in omega arith
 
-    pub work-shown : kept_in name s x.in_work ≡ Some (message_in s (name m))
-    work-shown = ap (kept_in name s) there
+    pub work-shown : kept_in s x.in_work ≡ Some (message_in s (token m))
+    work-shown = ap (kept_in s) there
 
-    pub work-cells : cells_left (ldterm_in name s x) ≡ cells_of (message_in s (name m))
-    work-cells = ap (λ (o : Option (Message ℕ)). cells_left (record (ldterm_in name s x) { in_work = o })) work-shown
+    pub work-cells : cells_left (ldterm_in s x) ≡ cells_of (message_in s (token m))
+    work-cells = ap (λ (o : Option (Message ℕ)). cells_left (record (ldterm_in s x) { in_work = o })) work-shown
 
-    pub work-is : IsHeld name s x → IsData s (name m)
-    work-is held = subst (λ o. IfSome o (λ y. IsData s (name y))) there held.work
+    pub work-is : IsHeld s x → IsData s (token m)
+    work-is held = subst (λ o. IfSome o (λ y. IsData s (token y))) there held.work
 
-    pub work-can : AreIn s (λ _. 0) (keeps name x) → CanPut s (name m) (keeps name (record x { in_work = None }))
+    pub work-can : AreIn s (λ _. 0) (keeps x) → CanPut s (token m) (keeps (record x { in_work = None }))
     work-can kept = record { apart = λ j. let a = kept.apart j in let e = work-splits j in omega arith }
 
-    pub work-held : IsHeld name s x → IsHeld name s (record x { in_work = None })
+    pub work-held : IsHeld s x → IsHeld s (record x { in_work = None })
     work-held held = record {
       read = held.read;
       write = held.write;
@@ -91,17 +92,17 @@ module _ {M : Type 0} (name : M → ℕ) (s : StoreValue) (x : Ldterm M) (m : M)
 
   -- what is gathered
   module _ (there : x.gathered ≡ Some m) where
-    pub gathered-splits : (j : ℕ) → keeps name x j ≡ once (name m) j + keeps name (record x { gathered = None }) j
+    pub gathered-splits : (j : ℕ) → keeps x j ≡ once (token m) j + keeps (record x { gathered = None }) j
     unfolding times_kept
-    gathered-splits j = let e = ap (λ o. times_kept name o j) there in omega arith
+    gathered-splits j = let e = ap (λ o. times_kept o j) there in omega arith
 
-    pub gathered-shown : cells_kept (kept_in name s x.gathered) ≡ cells_of (message_in s (name m))
-    gathered-shown = ap (λ o. cells_kept (kept_in name s o)) there
+    pub gathered-shown : cells_kept (kept_in s x.gathered) ≡ cells_of (message_in s (token m))
+    gathered-shown = ap (λ o. cells_kept (kept_in s o)) there
 
-    pub gathered-is : IsHeld name s x → IsGathered s (name m)
-    gathered-is held = subst (λ o. IfSome o (λ y. IsGathered s (name y))) there held.gathers
+    pub gathered-is : IsHeld s x → IsGathered s (token m)
+    gathered-is held = subst (λ o. IfSome o (λ y. IsGathered s (token y))) there held.gathers
 
-    pub gathered-held : IsHeld name s x → IsHeld name s (record x { gathered = None })
+    pub gathered-held : IsHeld s x → IsHeld s (record x { gathered = None })
     gathered-held held = record {
       read = held.read;
       write = held.write;
@@ -113,41 +114,41 @@ module _ {M : Type 0} (name : M → ℕ) (s : StoreValue) (x : Ldterm M) (m : M)
     }
 
     -- it goes up
-    pub gathered-sent : (here to : Spot) (f : Fates) → IsHeld name s x → to ≡ toward Up here
-        → Proceeds name s s x (record x { gathered = None }) 0 [] (record { to = to; message = m } ∷ []) f f (sends (gathered_up cells.plain here (cells_kept (kept_in name s x.gathered))) (record (ldterm_in name s x) { gathered = [] }))
+    pub gathered-sent : (here to : Spot) (f : Fates) → IsHeld s x → to ≡ toward Up here
+        → Proceeds s s x (record x { gathered = None }) 0 [] (record { to = to; message = m } ∷ []) f f (sends (gathered_up cells.plain here (cells_kept (kept_in s x.gathered))) (record (ldterm_in s x) { gathered = [] }))
     unfolding times_sent
     gathered-sent here to f held place =
-        let z : Sent M = record { to = to; message = m } in
+        let z : Sent = record { to = to; message = m } in
         let is = (gathered-is held).are in
         let some = (gathered-is held).some in
         record {
           state = refl;
           noted = refl;
           parcels =
-              one-parts name s z (z ∷ []) refl
-              ∙ ap (λ (spot : Spot). record { to = spot; message = message_in s (name m) } ∷ []) place
-              ∙ ap (λ (w : Message ℕ). onward Up here w ∷ []) (ordinary-shown s (name m) is)
-              ∙ sym (ap (gathered_up cells.plain here) gathered-shown ∙ up-some here (cells_of (message_in s (name m))) (λ none. omega arith));
+              one-parts s z (z ∷ []) refl
+              ∙ ap (λ (spot : Spot). record { to = spot; message = message_in s (token m) } ∷ []) place
+              ∙ ap (λ (w : Message ℕ). onward Up here w ∷ []) (ordinary-shown s (token m) is)
+              ∙ sym (ap (gathered_up cells.plain here) gathered-shown ∙ up-some here (cells_of (message_in s (token m))) (λ none. omega arith));
           told = refl;
           held = gathered-held held;
           own = record { lists = λ k none. refl; owns_same = λ k. refl };
-          chains = one-chains name s z (z ∷ []) refl is.are.chain;
+          chains = one-chains s z (z ∷ []) refl is.are.chain;
           hands = record { counts = λ j. let e = gathered-splits j in omega arith; others = λ j gone kept some. refl };
           mblks = omega arith;
           dblks = omega arith;
           pool = record { mblks = refl; dblks = refl };
         }
 
-module _ {M : Type 0} (name : M → ℕ) (s : StoreValue) (x : Ldterm M) (here : Spot) (f : Fates) where
-  quiet : (t : StoreValue) (y : Ldterm M) → Alters name s t x y → ldterm_in name t y ≡ record (ldterm_in name s x) { gathered = [] } → length (cells_kept (kept_in name s x.gathered)) ≡ 0
-      → Proceeds name s t x y 0 [] [] f f (sends (gathered_up cells.plain here (cells_kept (kept_in name s x.gathered))) (record (ldterm_in name s x) { gathered = [] }))
+module _ (s : StoreValue) (x : Ldterm) (here : Spot) (f : Fates) where
+  quiet : (t : StoreValue) (y : Ldterm) → Alters s t x y → ldterm_in t y ≡ record (ldterm_in s x) { gathered = [] } → length (cells_kept (kept_in s x.gathered)) ≡ 0
+      → Proceeds s t x y 0 [] [] f f (sends (gathered_up cells.plain here (cells_kept (kept_in s x.gathered))) (record (ldterm_in s x) { gathered = [] }))
   quiet t y alters is none =
-      subst (λ ps. Proceeds name s t x y 0 [] [] f f (sends ps (record (ldterm_in name s x) { gathered = [] }))) (sym (up-none here (cells_kept (kept_in name s x.gathered)) none))
-      (proceeds-alters name s t x y f (record (ldterm_in name s x) { gathered = [] }) alters is)
+      subst (λ ps. Proceeds s t x y 0 [] [] f f (sends ps (record (ldterm_in s x) { gathered = [] }))) (sym (up-none here (cells_kept (kept_in s x.gathered)) none))
+      (proceeds-alters s t x y f (record (ldterm_in s x) { gathered = [] }) alters is)
 
   -- nothing was gathered
-  pub gathered-none : x.gathered ≡ None → IsHeld name s x
-      → Proceeds name s s x (record x { gathered = None }) 0 [] [] f f (sends (gathered_up cells.plain here (cells_kept (kept_in name s x.gathered))) (record (ldterm_in name s x) { gathered = [] }))
+  pub gathered-none : x.gathered ≡ None → IsHeld s x
+      → Proceeds s s x (record x { gathered = None }) 0 [] [] f f (sends (gathered_up cells.plain here (cells_kept (kept_in s x.gathered))) (record (ldterm_in s x) { gathered = [] }))
   gathered-none there held =
-      quiet s (record x { gathered = None }) (subst (λ o. Alters name s s x (record x { gathered = o })) there (alters-none name s x held)) refl
-      (ap (λ o. length (cells_kept (kept_in name s o))) there)
+      quiet s (record x { gathered = None }) (subst (λ o. Alters s s x (record x { gathered = o })) there (alters-none s x held)) refl
+      (ap (λ o. length (cells_kept (kept_in s o))) there)

@@ -34,116 +34,113 @@ none-is : {A : Type 0} (o : Option A) → is_some o ≡ false → o ≡ None
 none-is None is = refl
 none-is (Some x) is = absurd (cc)
 
-module _ {M : Type 0} (name : M → ℕ) where
-  pub alters-none : (s : StoreValue) (x : Ldterm M) → IsHeld name s x → Alters name s s x x
-  alters-none s x held = record {
-    held = held;
-    own = record { lists = λ k none. refl; owns_same = λ k. refl };
-    fewer = λ i. omega arith;
-    hands = record { counts = λ i. refl; others = λ i gone kept some. refl };
-    frees = record { mblks = omega arith; dblks = omega arith };
-    pool = record { mblks = refl; dblks = refl };
+pub alters-none : (s : StoreValue) (x : Ldterm) → IsHeld s x → Alters s s x x
+alters-none s x held = record {
+  held = held;
+  own = record { lists = λ k none. refl; owns_same = λ k. refl };
+  fewer = λ i. omega arith;
+  hands = record { counts = λ i. refl; others = λ i gone kept some. refl };
+  frees = record { mblks = omega arith; dblks = omega arith };
+  pool = record { mblks = refl; dblks = refl };
+}
+
+pub alters-both : (s t u : StoreValue) (x y z : Ldterm) → Alters s t x y → Alters t u y z → Alters s u x z
+alters-both s t u x y z first second = record {
+  held = second.held;
+  own = record {
+    lists = λ k none. second.own.lists k (first.own.owns_same k ∙ none) ∙ first.own.lists k none;
+    owns_same = λ k. second.own.owns_same k ∙ first.own.owns_same k;
+  };
+  fewer = λ i. let a = first.fewer i in let b = second.fewer i in omega arith;
+  hands = record {
+    counts = λ i. let a = first.hands.counts i in let b = second.hands.counts i in omega arith;
+    others = λ i gone kept some.
+        let a = first.hands.counts i in let few = first.fewer i in
+        second.hands.others i refl (omega arith) (omega arith) ∙ first.hands.others i refl kept some;
+  };
+  frees = record { mblks = (let a = first.frees.mblks in let b = second.frees.mblks in omega arith); dblks = (let a = first.frees.dblks in let b = second.frees.dblks in omega arith) };
+  pool = record { mblks = second.pool.mblks ∙ first.pool.mblks; dblks = second.pool.dblks ∙ first.pool.dblks };
+}
+
+-- nothing goes
+pub flushes-none : (s : StoreValue) (x : Ldterm) (notes : List Note) (f : Fates) → IsHeld s x → notes ≡ [] → Flushes s s x x notes f f (sends [] (ldterm_in s x))
+flushes-none s x notes f held none = record { state = refl; noted = none; told = refl; alters = alters-none s x held }
+
+-- one after the other
+pub flushes-both : (s t u : StoreValue) (x y z : Ldterm) (ns ms notes : List Note) (f f1 f2 : Fates) (a : Acted ℕ (ldterms.Ldterm ℕ)) (next : ldterms.Ldterm ℕ → Acted ℕ (ldterms.Ldterm ℕ))
+    → Flushes s t x y ns f f1 a → Flushes t u y z ms f1 f2 (next (ldterm_in t y)) → notes ≡ ns ++ ms → Flushes s u x z notes f f2 (both a next)
+flushes-both s t u x y z ns ms notes f f1 f2 a next first second joined = record {
+  state = second.state ∙ ap (λ p. (next p).state) first.state;
+  noted = joined ∙ ap (λ l. l ++ ms) first.noted ∙ ap (λ l. a.notes ++ l) second.noted ∙ ap (λ p. a.notes ++ (next p).notes) first.state;
+  told =
+      second.told ∙ ap (λ g. tallied (next (ldterm_in t y)).gone g) first.told ∙ ap (λ p. tallied (next p).gone (tallied a.gone f)) first.state
+      ∙ sym (tallied-append a.gone (next a.state).gone f);
+  alters = alters-both s t u x y z first.alters second.alters;
+}
+
+module _ (s t : StoreValue) (x : Ldterm) (q' : Queue) (here : Spot) (band : Option Band) (room : Bool) (notes : List Note) (f f' : Fates) (held : IsHeld s x) (frees : FreesBlocks s t) where
+  pub flushes-up : Changes s t x.read_queue q' → queue_in t q' ≡ queue_behind (of_data band) (queue_in s x.read_queue) → room ≡ writer_goes (of_data band) (queue_in s x.read_queue)
+      → f' ≡ counted_with (Goes (direction_at Up here.side) Flushed (cells_gone (of_data band) (messages_on s x.read_queue.list))) f → notes ≡ cond room (Room Up ∷ []) []
+      → Flushes s t x (record x { read_queue = q' }) notes f f' (queue_flushed Up here band (ldterm_in s x))
+  flushes-up changes is went told noted = record {
+    state = read-plain s t x q' held changes ∙ ap (λ (q : plain.Queue ℕ). record (ldterm_in s x) { read_queue = q }) is;
+    noted = noted ∙ ap (λ v. cond {A = List Note} v (Room Up ∷ []) []) went;
+    told = told;
+    alters = read-alters s t x q' held changes frees;
   }
 
-  pub alters-both : (s t u : StoreValue) (x y z : Ldterm M) → Alters name s t x y → Alters name t u y z → Alters name s u x z
-  alters-both s t u x y z first second = record {
-    held = second.held;
-    own = record {
-      lists = λ k none. second.own.lists k (first.own.owns_same k ∙ none) ∙ first.own.lists k none;
-      owns_same = λ k. second.own.owns_same k ∙ first.own.owns_same k;
-    };
-    fewer = λ i. let a = first.fewer i in let b = second.fewer i in omega arith;
-    hands = record {
-      counts = λ i. let a = first.hands.counts i in let b = second.hands.counts i in omega arith;
-      others = λ i gone kept some.
-          let a = first.hands.counts i in let few = first.fewer i in
-          second.hands.others i refl (omega arith) (omega arith) ∙ first.hands.others i refl kept some;
-    };
-    frees = record { mblks = (let a = first.frees.mblks in let b = second.frees.mblks in omega arith); dblks = (let a = first.frees.dblks in let b = second.frees.dblks in omega arith) };
-    pool = record { mblks = second.pool.mblks ∙ first.pool.mblks; dblks = second.pool.dblks ∙ first.pool.dblks };
+  -- with the echo, where there is one
+  pub flushes-down : Changes s t x.write_queue q' → with_last (kept_in s x.echo) (queue_in t q') ≡ queue_behind (of_data band) (with_last (kept_in s x.echo) (queue_in s x.write_queue))
+      → room ≡ writer_goes (of_data band) (with_last (kept_in s x.echo) (queue_in s x.write_queue))
+      → f' ≡ counted_with (Goes (direction_at Down here.side) Flushed (cells_gone (of_data band) (with_last (kept_in s x.echo) (queue_in s x.write_queue)).messages)) f → notes ≡ cond room (Room Down ∷ []) []
+      → Flushes s t x (record x { write_queue = q' }) notes f f' (queue_flushed Down here band (ldterm_in s x))
+  flushes-down changes is went told noted = record {
+    state = write-plain s t x q' held changes ∙ ap (λ (q : plain.Queue ℕ). record (ldterm_in s x) { write_queue = q }) is;
+    noted = noted ∙ ap (λ v. cond {A = List Note} v (Room Down ∷ []) []) went;
+    told = told;
+    alters = write-alters s t x q' held changes frees;
   }
 
-  -- nothing goes
-  pub flushes-none : (s : StoreValue) (x : Ldterm M) (notes : List Note) (f : Fates) → IsHeld name s x → notes ≡ [] → Flushes name s s x x notes f f (sends [] (ldterm_in name s x))
-  flushes-none s x notes f held none = record { state = refl; noted = none; told = refl; alters = alters-none s x held }
-
-  -- one after the other
-  pub flushes-both : (s t u : StoreValue) (x y z : Ldterm M) (ns ms notes : List Note) (f f1 f2 : Fates) (a : Acted ℕ (ldterms.Ldterm ℕ)) (next : ldterms.Ldterm ℕ → Acted ℕ (ldterms.Ldterm ℕ))
-      → Flushes name s t x y ns f f1 a → Flushes name t u y z ms f1 f2 (next (ldterm_in name t y)) → notes ≡ ns ++ ms → Flushes name s u x z notes f f2 (both a next)
-  flushes-both s t u x y z ns ms notes f f1 f2 a next first second joined = record {
-    state = second.state ∙ ap (λ p. (next p).state) first.state;
-    noted = joined ∙ ap (λ l. l ++ ms) first.noted ∙ ap (λ l. a.notes ++ l) second.noted ∙ ap (λ p. a.notes ++ (next p).notes) first.state;
-    told =
-        second.told ∙ ap (λ g. tallied (next (ldterm_in name t y)).gone g) first.told ∙ ap (λ p. tallied (next p).gone (tallied a.gone f)) first.state
-        ∙ sym (tallied-append a.gone (next a.state).gone f);
-    alters = alters-both s t u x y z first.alters second.alters;
-  }
-
-  module _ (s t : StoreValue) (x : Ldterm M) (q' : Queue) (here : Spot) (band : Option Band) (room : Bool) (notes : List Note) (f f' : Fates) (held : IsHeld name s x) (frees : FreesBlocks s t) where
-    pub flushes-up : Changes s t x.read_queue q' → queue_in t q' ≡ queue_behind (of_data band) (queue_in s x.read_queue) → room ≡ writer_goes (of_data band) (queue_in s x.read_queue)
-        → f' ≡ counted_with (Goes (direction_at Up here.side) Flushed (cells_gone (of_data band) (messages_on s x.read_queue.list))) f → notes ≡ cond room (Room Up ∷ []) []
-        → Flushes name s t x (record x { read_queue = q' }) notes f f' (queue_flushed Up here band (ldterm_in name s x))
-    flushes-up changes is went told noted = record {
-      state = read-plain name s t x q' held changes ∙ ap (λ (q : plain.Queue ℕ). record (ldterm_in name s x) { read_queue = q }) is;
-      noted = noted ∙ ap (λ v. cond {A = List Note} v (Room Up ∷ []) []) went;
-      told = told;
-      alters = read-alters name s t x q' held changes frees;
-    }
-
-    -- with the echo, where there is one
-    pub flushes-down : Changes s t x.write_queue q' → with_last (kept_in name s x.echo) (queue_in t q') ≡ queue_behind (of_data band) (with_last (kept_in name s x.echo) (queue_in s x.write_queue))
-        → room ≡ writer_goes (of_data band) (with_last (kept_in name s x.echo) (queue_in s x.write_queue))
-        → f' ≡ counted_with (Goes (direction_at Down here.side) Flushed (cells_gone (of_data band) (with_last (kept_in name s x.echo) (queue_in s x.write_queue)).messages)) f → notes ≡ cond room (Room Down ∷ []) []
-        → Flushes name s t x (record x { write_queue = q' }) notes f f' (queue_flushed Down here band (ldterm_in name s x))
-    flushes-down changes is went told noted = record {
-      state = write-plain name s t x q' held changes ∙ ap (λ (q : plain.Queue ℕ). record (ldterm_in name s x) { write_queue = q }) is;
-      noted = noted ∙ ap (λ v. cond {A = List Note} v (Room Down ∷ []) []) went;
-      told = told;
-      alters = write-alters name s t x q' held changes frees;
-    }
-
-    -- where there is none
-    pub flushes-alone : is_some x.echo ≡ false → Changes s t x.write_queue q' → queue_in t q' ≡ queue_behind (of_data band) (queue_in s x.write_queue) → room ≡ writer_goes (of_data band) (queue_in s x.write_queue)
-        → f' ≡ counted_with (Goes (direction_at Down here.side) Flushed (cells_gone (of_data band) (messages_on s x.write_queue.list))) f → notes ≡ cond room (Room Down ∷ []) []
-        → Flushes name s t x (record x { write_queue = q' }) notes f f' (queue_flushed Down here band (ldterm_in name s x))
-    flushes-alone none changes is went told noted =
-        let w = queue_in s x.write_queue in
-        let last : (q : plain.Queue ℕ) → with_last (kept_in name s x.echo) q ≡ q = λ q. ap (λ o. with_last (kept_in name s o) q) (none-is x.echo none) ∙ ap (λ (ms : List (Message ℕ)). record q { messages = ms }) (append-nil q.messages) in
-        flushes-down changes (last (queue_in t q') ∙ is ∙ ap (λ (q : plain.Queue ℕ). queue_behind (of_data band) q) (sym (last w))) (went ∙ ap (λ (q : plain.Queue ℕ). writer_goes (of_data band) q) (sym (last w)))
-        (told ∙ ap (λ (q : plain.Queue ℕ). counted_with (Goes (direction_at Down here.side) Flushed (cells_gone (of_data band) q.messages)) f) (sym (last w))) noted
+  -- where there is none
+  pub flushes-alone : is_some x.echo ≡ false → Changes s t x.write_queue q' → queue_in t q' ≡ queue_behind (of_data band) (queue_in s x.write_queue) → room ≡ writer_goes (of_data band) (queue_in s x.write_queue)
+      → f' ≡ counted_with (Goes (direction_at Down here.side) Flushed (cells_gone (of_data band) (messages_on s x.write_queue.list))) f → notes ≡ cond room (Room Down ∷ []) []
+      → Flushes s t x (record x { write_queue = q' }) notes f f' (queue_flushed Down here band (ldterm_in s x))
+  flushes-alone none changes is went told noted =
+      let w = queue_in s x.write_queue in
+      let last : (q : plain.Queue ℕ) → with_last (kept_in s x.echo) q ≡ q = λ q. ap (λ o. with_last (kept_in s o) q) (none-is x.echo none) ∙ ap (λ (ms : List (Message ℕ)). record q { messages = ms }) (append-nil q.messages) in
+      flushes-down changes (last (queue_in t q') ∙ is ∙ ap (λ (q : plain.Queue ℕ). queue_behind (of_data band) q) (sym (last w))) (went ∙ ap (λ (q : plain.Queue ℕ). writer_goes (of_data band) q) (sym (last w)))
+      (told ∙ ap (λ (q : plain.Queue ℕ). counted_with (Goes (direction_at Down here.side) Flushed (cells_gone (of_data band) q.messages)) f) (sym (last w))) noted
 
 -- the line goes after the queue
-module _ {M : Type 0} (name : M → ℕ) where
-  pub line-after : (s t : StoreValue) (x y z : Ldterm M) (here : Spot) (asked : FlushAsked) (notes : List Note) (f f1 f2 : Fates) → asked.for_read ≡ true
-      → Flushes name s t x y notes f f1 (queue_flushed Up here asked.band (ldterm_in name s x)) → Flushes name t t y z [] f1 f2 (line_flushed here asked.band (ldterm_in name t y))
-      → Flushes name s t x z notes f f2 (read_flushed here asked (ldterm_in name s x))
-  line-after s t x y z here asked notes f f1 f2 reads first second =
-      let p = ldterm_in name s x in
-      let done = both (queue_flushed Up here asked.band p) (line_flushed here asked.band) in
-      subst (λ v. Flushes name s t x z notes f f2 (cond v done (sends [] p))) (sym reads)
-      (flushes-both name s t t x y z notes [] notes f f1 f2 (queue_flushed Up here asked.band p) (line_flushed here asked.band) first second (sym (append-nil notes)))
+pub line-after : (s t : StoreValue) (x y z : Ldterm) (here : Spot) (asked : FlushAsked) (notes : List Note) (f f1 f2 : Fates) → asked.for_read ≡ true
+    → Flushes s t x y notes f f1 (queue_flushed Up here asked.band (ldterm_in s x)) → Flushes t t y z [] f1 f2 (line_flushed here asked.band (ldterm_in t y))
+    → Flushes s t x z notes f f2 (read_flushed here asked (ldterm_in s x))
+line-after s t x y z here asked notes f f1 f2 reads first second =
+    let p = ldterm_in s x in
+    let done = both (queue_flushed Up here asked.band p) (line_flushed here asked.band) in
+    subst (λ v. Flushes s t x z notes f f2 (cond v done (sends [] p))) (sym reads)
+    (flushes-both s t t x y z notes [] notes f f1 f2 (queue_flushed Up here asked.band p) (line_flushed here asked.band) first second (sym (append-nil notes)))
 
 -- FLUSHW, where the echo stays in hand or doesn't
-module _ {M : Type 0} (name : M → ℕ) where
-  pub write-after : (s t : StoreValue) (x z : Ldterm M) (here : Spot) (asked : FlushAsked) (notes : List Note) (f f2 : Fates) (v : Bool) → v ≡ (is_some x.echo && not (takes_band_0 asked.band)) → asked.for_write ≡ true
-      → Flushes name s t x z notes f f2 (queue_flushed Down here asked.band (record (ldterm_in name s x) { echoing = v })) → Flushes name s t x z notes f f2 (write_flushed here asked (ldterm_in name s x))
-  write-after s t x z here asked notes f f2 v is writes done =
-      let p = ldterm_in name s x in
-      subst (λ w. Flushes name s t x z notes f f2 (cond w (queue_flushed Down here asked.band (record p { echoing = is_some x.echo && not (takes_band_0 asked.band) })) (sends [] p))) (sym writes)
-      (subst (λ w. Flushes name s t x z notes f f2 (queue_flushed Down here asked.band (record p { echoing = w }))) is done)
+pub write-after : (s t : StoreValue) (x z : Ldterm) (here : Spot) (asked : FlushAsked) (notes : List Note) (f f2 : Fates) (v : Bool) → v ≡ (is_some x.echo && not (takes_band_0 asked.band)) → asked.for_write ≡ true
+    → Flushes s t x z notes f f2 (queue_flushed Down here asked.band (record (ldterm_in s x) { echoing = v })) → Flushes s t x z notes f f2 (write_flushed here asked (ldterm_in s x))
+write-after s t x z here asked notes f f2 v is writes done =
+    let p = ldterm_in s x in
+    subst (λ w. Flushes s t x z notes f f2 (cond w (queue_flushed Down here asked.band (record p { echoing = is_some x.echo && not (takes_band_0 asked.band) })) (sends [] p))) (sym writes)
+    (subst (λ w. Flushes s t x z notes f f2 (queue_flushed Down here asked.band (record p { echoing = w }))) is done)
 
-  pub write-none : (s : StoreValue) (x : Ldterm M) (here : Spot) (asked : FlushAsked) (f : Fates) → IsHeld name s x → asked.for_write ≡ false → Flushes name s s x x [] f f (write_flushed here asked (ldterm_in name s x))
-  write-none s x here asked f held writes =
-      let p = ldterm_in name s x in
-      subst (λ w. Flushes name s s x x [] f f (cond w (queue_flushed Down here asked.band (record p { echoing = is_some x.echo && not (takes_band_0 asked.band) })) (sends [] p))) (sym writes)
-      (flushes-none name s x [] f held refl)
+pub write-none : (s : StoreValue) (x : Ldterm) (here : Spot) (asked : FlushAsked) (f : Fates) → IsHeld s x → asked.for_write ≡ false → Flushes s s x x [] f f (write_flushed here asked (ldterm_in s x))
+write-none s x here asked f held writes =
+    let p = ldterm_in s x in
+    subst (λ w. Flushes s s x x [] f f (cond w (queue_flushed Down here asked.band (record p { echoing = is_some x.echo && not (takes_band_0 asked.band) })) (sends [] p))) (sym writes)
+    (flushes-none s x [] f held refl)
 
-  pub settled-flushes : (s u t : StoreValue) (x y z : Ldterm M) (here : Spot) (band : Option Band) (notes : List Note) (f f2 : Fates) (p : ldterms.Ldterm ℕ) → Alters name s u x y → ldterm_in name u y ≡ p
-      → Flushes name u t y z notes f f2 (queue_flushed Down here band (ldterm_in name u y)) → Flushes name s t x z notes f f2 (queue_flushed Down here band p)
-  settled-flushes s u t x y z here band notes f f2 p alters is done =
-      let d = subst (λ (q : ldterms.Ldterm ℕ). Flushes name u t y z notes f f2 (queue_flushed Down here band q)) is done in
-      record { state = d.state; noted = d.noted; told = d.told; alters = alters-both name s u t x y z alters d.alters }
+pub settled-flushes : (s u t : StoreValue) (x y z : Ldterm) (here : Spot) (band : Option Band) (notes : List Note) (f f2 : Fates) (p : ldterms.Ldterm ℕ) → Alters s u x y → ldterm_in u y ≡ p
+    → Flushes u t y z notes f f2 (queue_flushed Down here band (ldterm_in u y)) → Flushes s t x z notes f f2 (queue_flushed Down here band p)
+settled-flushes s u t x y z here band notes f f2 p alters is done =
+    let d = subst (λ (q : ldterms.Ldterm ℕ). Flushes u t y z notes f f2 (queue_flushed Down here band q)) is done in
+    record { state = d.state; noted = d.noted; told = d.told; alters = alters-both s u t x y z alters d.alters }
 
-  -- what it keeps is in hand still
-  pub kept-still : (s u : StoreValue) (x y : Ldterm M) → Alters name s u x y → AreIn s (λ _. 0) (keeps name x) → AreIn u (λ _. 0) (keeps name y)
-  kept-still s u x y alters are = record { apart = λ j. let a = are.apart j in let c = alters.hands.counts j in omega arith }
+-- what it keeps is in hand still
+pub kept-still : (s u : StoreValue) (x y : Ldterm) → Alters s u x y → AreIn s (λ _. 0) (keeps x) → AreIn u (λ _. 0) (keeps y)
+kept-still s u x y alters are = record { apart = λ j. let a = are.apart j in let c = alters.hands.counts j in omega arith }

@@ -19,7 +19,8 @@ use Rattle.strm_types.specs.Ldterms.{waits_there}
 use Rattle.strm_types.specs.Queue as plain
 use Rattle.strm_types.specs.Ranked as ranked
 use Rattle.strm_types.proofs.Ranked.{put-last}
-use Rattle.strm_blocks.specs.Blocks.{StoreValue, IsStore, in_hand, list_at, block_at}
+use Rattle.strm_blocks.specs.Blocks.{StoreValue, IsStore, in_hand, list_at, block_at, token}
+use Rattle.strm_blocks.specs.declared.in_hand.InHand.{InHand}
 use Rattle.strm_msg.proofs.Chains.{kind-is, band-is, size-shown}
 use Rattle.strm_queue.specs.declared.queue.Queue.{Queue}
 use Rattle.strm_queue.specs.Stored.{messages_on, IsReady}
@@ -84,51 +85,51 @@ count-within band (m ∷ ms) = omega (arith, one (band_of m == band), count-with
     one true = omega arith
     one false = omega arith
 
-module _ {M : Type 0} (name : M → ℕ) (s : StoreValue) where
+module _ (s : StoreValue) where
   -- in band 0 its bytes, and none in another band
-  pub count-zero : (o : Option M) → IfSome o (λ m. IsOrdinary s (name m)) → plain.count_of 0 (option_to_list (kept_in name s o)) ≡ plain.bytes_of (option_to_list (kept_in name s o))
+  pub count-zero : (o : Option InHand) → IfSome o (λ m. IsOrdinary s (token m)) → plain.count_of 0 (option_to_list (kept_in s o)) ≡ plain.bytes_of (option_to_list (kept_in s o))
   count-zero None is = refl
-  count-zero (Some m) is = zero-one (message_in s (name m)) (last-band s (name m) is)
+  count-zero (Some m) is = zero-one (message_in s (token m)) (last-band s (token m) is)
     where
       zero-one : (x : Message ℕ) → band_of x ≡ 0 → plain.count_of 0 (x ∷ []) ≡ plain.bytes_of (x ∷ [])
       zero-one x none = rw none refl
 
-  pub count-other : (band : ℕ) (o : Option M) → 0 < band → IfSome o (λ m. IsOrdinary s (name m)) → plain.count_of band (option_to_list (kept_in name s o)) ≡ 0
+  pub count-other : (band : ℕ) (o : Option InHand) → 0 < band → IfSome o (λ m. IsOrdinary s (token m)) → plain.count_of band (option_to_list (kept_in s o)) ≡ 0
   count-other band None some is = refl
-  count-other band (Some m) some is = other-one (message_in s (name m)) (last-band s (name m) is)
+  count-other band (Some m) some is = other-one (message_in s (token m)) (last-band s (token m) is)
     where
       other-one : (x : Message ℕ) → band_of x ≡ 0 → plain.count_of band (x ∷ []) ≡ 0
       other-one x none = rw none (let no : (0 == band) ≡ false = grind (arith, nat_tests) in rw no refl)
 
   -- all bytes are few
-  pub bytes-few : (k : ℕ) (q : Queue) (o : Option M) → IsStore s → IsReady s q → q.list ≡ k → IfSome o (λ m. IsOrdinary s (name m))
-      → plain.bytes_of (messages_on s k) + plain.bytes_of (option_to_list (kept_in name s o)) ≤ 16777216
+  pub bytes-few : (k : ℕ) (q : Queue) (o : Option InHand) → IsStore s → IsReady s q → q.list ≡ k → IfSome o (λ m. IsOrdinary s (token m))
+      → plain.bytes_of (messages_on s k) + plain.bytes_of (option_to_list (kept_in s o)) ≤ 16777216
   bytes-few k q None st ready same is =
       let few = few-bytes s st q.list 0 in let e = bytes-same (list_at s q.list) ready.messages.chains in let f = ap (λ j. plain.bytes_of (messages_on s j)) same in omega arith
   bytes-few k q (Some m) st ready same is =
-      let few = few-bytes s st q.list (name m) in
+      let few = few-bytes s st q.list (token m) in
       let e = bytes-same (list_at s q.list) ready.messages.chains in
       let f = ap (λ j. plain.bytes_of (messages_on s j)) same in
-      let z = size-shown (in_hand s (name m)) is.are.chain in
-      let one = sum_by-cons size_of (message_in s (name m)) [] in
+      let z = size-shown (in_hand s (token m)) is.are.chain in
+      let one = sum_by-cons size_of (message_in s (token m)) [] in
       omega arith
 
 -- a message that is put before it, or where there is none
-module _ {M : Type 0} (name : M → ℕ) (s : StoreValue) where
-  pub put-beside : (o : Option M) (m : Message ℕ) (ms : List (Message ℕ)) → IfSome o (λ e. IsOrdinary s (name e)) → rank_of m ≡ m.band → (is_some o && not (nat_lt 0 m.band)) ≡ false
-      → plain.put m ms ++ option_to_list (kept_in name s o) ≡ plain.put m (ms ++ option_to_list (kept_in name s o))
+module _ (s : StoreValue) where
+  pub put-beside : (o : Option InHand) (m : Message ℕ) (ms : List (Message ℕ)) → IfSome o (λ e. IsOrdinary s (token e)) → rank_of m ≡ m.band → (is_some o && not (nat_lt 0 m.band)) ≡ false
+      → plain.put m ms ++ option_to_list (kept_in s o) ≡ plain.put m (ms ++ option_to_list (kept_in s o))
   put-beside None m ms is rank before = append-nil (plain.put m ms) ∙ ap (plain.put m) (sym (append-nil ms))
   put-beside (Some e) m ms is rank before =
-      let none = last-rank s (name e) is in
+      let none = last-rank s (token e) is in
       let above : nat_lt 0 m.band ≡ true = not-false (nat_lt 0 m.band) before in
       let more : 0 < m.band = grind (arith, nat_tests) in
-      sym (put-before rank_of m (message_in s (name e)) ms (omega arith))
+      sym (put-before rank_of m (message_in s (token e)) ms (omega arith))
     where
       not-false : (v : Bool) → not v ≡ false → v ≡ true
       not-false true is = refl
       not-false false is = absurd (cc)
 
-  pub stays-beside : (o : Option M) (m : Message ℕ) → (is_some o && not (nat_lt 0 m.band)) ≡ false → is_some o ≡ (is_some o && nat_lt 0 m.band)
+  pub stays-beside : (o : Option InHand) (m : Message ℕ) → (is_some o && not (nat_lt 0 m.band)) ≡ false → is_some o ≡ (is_some o && nat_lt 0 m.band)
   stays-beside None m before = refl
   stays-beside (Some e) m before = at (nat_lt 0 m.band) before
     where

@@ -98,15 +98,15 @@ module _ (here : Spot) (p : ldterms.Ldterm ℕ) (m : Message ℕ) (rest : List (
       ∙ ap (λ told. ended n None [] (with_given (p.gathered ++ t.given) (data_of band [])) t.column told n) (sym (append-nil t.told))
 
 -- A call in which bytes went out.
-module _ {M : Type 0} (name : M → ℕ) (s s1 s2 s3 : StoreValue) (here : Spot) (x x1 x2 x3 : Ldterm M) (bytes left band : ℕ) (notes : ArrayVec Note) (sent : Outbox M) (t t' : Fates) (way : here.way ≡ Down)
-    (between : stages_left (stage_in x.stage) ≡ 0) (b : BeganOutput name s s1 here x x1 bytes band) (pours : PoursAs name s1 s2 here x1 x2 bytes left t t')
-    (go : Proceeds name s2 s3 x2 x3 0 [] (sent_of sent) t' t' (let_go here band (ldterm_in name s2 x2))) (frees : 0 < length (cells_left (ldterm_in name s2 x2)) → FreesNone s2 s3)
+module _ (s s1 s2 s3 : StoreValue) (here : Spot) (x x1 x2 x3 : Ldterm) (bytes left band : ℕ) (notes : ArrayVec Note) (sent : Outbox) (t t' : Fates) (way : here.way ≡ Down)
+    (between : stages_left (stage_in x.stage) ≡ 0) (b : BeganOutput s s1 here x x1 bytes band) (pours : PoursAs s1 s2 here x1 x2 bytes left t t')
+    (go : Proceeds s2 s3 x2 x3 0 [] (sent_of sent) t' t' (let_go here band (ldterm_in s2 x2))) (frees : 0 < length (cells_left (ldterm_in s2 x2)) → FreesNone s2 s3)
     (st1 : IsStore s1) (st2 : IsStore s2) (quiet : notes.items ≡ []) where
   abbrev p : ldterms.Ldterm ℕ
-  p = ldterm_in name s x
+  p = ldterm_in s x
 
   abbrev p1 : ldterms.Ldterm ℕ
-  p1 = ldterm_in name s1 x1
+  p1 = ldterm_in s1 x1
 
   abbrev n : ℕ
   n = bytes - left
@@ -117,7 +117,7 @@ module _ {M : Type 0} (name : M → ℕ) (s s1 s2 s3 : StoreValue) (here : Spot)
   in-work : p1 ≡ begun here p b.message b.rest band b.first b.is b.output (let z = b.some in let y = b.size in omega arith) b.idle b.none
   in-work = (b.works t).state
 
-  pub out-left : length (cells_left (ldterm_in name s2 x2)) ≡ left
+  pub out-left : length (cells_left (ldterm_in s2 x2)) ≡ left
   out-left =
       let few = pours.fewer in
       let size = b.size in
@@ -127,7 +127,7 @@ module _ {M : Type 0} (name : M → ℕ) (s s1 s2 s3 : StoreValue) (here : Spot)
       ∙ length-drop n cells
       ∙ omega arith
 
-  abbrev served : Served M
+  abbrev served : Served
   served = record { acts = record { notes = notes; sent = sent }; bytes = n; stopped = nat_lt 0 left; again = false }
 
   stops-at : unwrap_or (stop_of served) (length cells) ≡ n
@@ -140,28 +140,28 @@ module _ {M : Type 0} (name : M → ℕ) (s s1 s2 s3 : StoreValue) (here : Spot)
   some-there : 0 < length cells
   some-there = let z = b.some in let y = b.size in omega arith
 
-  pub out-serves : (again : Bool) → ServesAs name s s3 here x x3 again served t t'
+  pub out-serves : (again : Bool) → ServesAs s s3 here x x3 again served t t'
   out-serves again =
       let few = pours.fewer in
       let size = b.size in
       let start = begun here p b.message b.rest band b.first b.is b.output some-there b.idle b.none in
-      let one = proceeds-joined name s s1 x x1 0 [] t t (sends [] start) st1 (b.works t) s2 x2 (all_free s1) [] [] t' (poured here n) pours.does in
-      let all = proceeds-joined name s s2 x x2 (0 + all_free s1) [] t t' (poured here n start) st2 one s3 x3 0 [] (sent_of sent) t' (let_go here band) go in
+      let one = proceeds-joined s s1 x x1 0 [] t t (sends [] start) st1 (b.works t) s2 x2 (all_free s1) [] [] t' (poured here n) pours.does in
+      let all = proceeds-joined s s2 x x2 (0 + all_free s1) [] t t' (poured here n start) st2 one s3 x3 0 [] (sent_of sent) t' (let_go here band) go in
       let whole = down-serves here again (stop_of served) p way ∙ out-is here p b.message b.rest band b.first b.is b.output some-there b.idle b.none (stop_of served) n stops-at (omega arith) in
       let low : 0 < left → least_free s3 < STOP_BLOCKS = λ more. let l = out-left in stays-few s2 s3 STOP_BLOCKS (frees (omega arith)) (pours.stops more) in
       record {
         does =
-            subst (λ (v : Serving ℕ (ldterms.Ldterm ℕ)). Proceeds name s s3 x x3 (all_free s) notes.items (sent_of sent) t t' v.acted) (sym whole)
-            (subst (λ ns. Proceeds name s s3 x x3 (all_free s) ns (sent_of sent) t t' (one_after (poured here n start) (let_go here band))) (sym quiet) (takes-any name s s3 x x3 (0 + all_free s1 + 0) [] (sent_of sent) t t' _ all));
+            subst (λ (v : Serving ℕ (ldterms.Ldterm ℕ)). Proceeds s s3 x x3 (all_free s) notes.items (sent_of sent) t t' v.acted) (sym whole)
+            (subst (λ ns. Proceeds s s3 x x3 (all_free s) ns (sent_of sent) t t' (one_after (poured here n start) (let_go here band))) (sym quiet) (takes-any s s3 x x3 (0 + all_free s1 + 0) [] (sent_of sent) t t' _ all));
         bytes = sym (ap (λ (v : Serving ℕ (ldterms.Ldterm ℕ)). v.bytes) whole);
         again_is = sym (ap (λ (v : Serving ℕ (ldterms.Ldterm ℕ)). v.again) whole);
         begun = λ goes byte within.
             let none = none-begun (stage_in x.stage) between in
             let begins : at_work Down again p ≡ start = ap (λ ms. at_work Down again (record p { write_queue = record p.write_queue { messages = ms } })) b.first in
             let same : at_work here.way again p ≡ start = ap (λ w. at_work w again p) way ∙ begins in
-            subst (λ m. IsFreeBefore name s x t m (at_work here.way again p) byte) (sym (ap (bytes_of_way here) way))
-            (subst (λ (q : ldterms.Ldterm ℕ). IsFreeBefore name s x t (poured here) q byte) (sym same)
-            (begun-later name s s1 x x1 t (poured here) start byte st1 (b.works t) (pours.begun byte (omega (arith, within, none)))));
+            subst (λ m. IsFreeBefore s x t m (at_work here.way again p) byte) (sym (ap (bytes_of_way here) way))
+            (subst (λ (q : ldterms.Ldterm ℕ). IsFreeBefore s x t (poured here) q byte) (sym same)
+            (begun-later s s1 x x1 t (poured here) start byte st1 (b.works t) (pours.begun byte (omega (arith, within, none)))));
         stops = λ v. (low (lower 0 left v), refl);
         ends = λ v.
             let most : bytes_left here.way again p ≡ size_of b.message = ap (λ w. bytes_left w again p) way ∙ ap first_size b.first in

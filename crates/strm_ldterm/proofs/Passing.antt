@@ -55,14 +55,14 @@ unfolding is_data_kind
 flush-plain kinds.Flush is = refl
 flush-plain _ is = absurd (cc)
 
-module _ {M : Type 0} (name : M → ℕ) (s u : StoreValue) (x z : Ldterm M) (i : ℕ) (st : IsStore s) (can : CanPut s i (keeps name x)) where
+module _ (s u : StoreValue) (x z : Ldterm) (i : ℕ) (st : IsStore s) (can : CanPut s i (keeps x)) where
   -- the message goes on behind what was done
-  pub passes-after : (here : Spot) (notes : List Note) (acts : Acts M) (f f2 : Fates) (a : Acted ℕ (ldterms.Ldterm ℕ)) → Flushes name s u x z notes f f2 a → a.sent ≡ []
-      → Does name u u z z i acts f2 f2 (record (sends (onward here.way here (message_in u i) ∷ []) (ldterm_in name u z)) { notes = notes })
-      → Does name s u x z i acts f f2 (both a (sends (onward here.way here (message_in s i) ∷ [])))
+  pub passes-after : (here : Spot) (notes : List Note) (acts : Acts) (f f2 : Fates) (a : Acted ℕ (ldterms.Ldterm ℕ)) → Flushes s u x z notes f f2 a → a.sent ≡ []
+      → Does u u z z i acts f2 f2 (record (sends (onward here.way here (message_in u i) ∷ []) (ldterm_in u z)) { notes = notes })
+      → Does s u x z i acts f f2 (both a (sends (onward here.way here (message_in s i) ∷ [])))
   passes-after here notes acts f f2 a done none does =
-      let same = still-chain name s u x z i st can done.alters in
-      let d = alters-does name s u x z i st can done.alters u z acts f2 f2 _ _ does refl in
+      let same = still-chain s u x z i st can done.alters in
+      let d = alters-does s u x z i st can done.alters u z acts f2 f2 _ _ does refl in
       record {
         state = done.state;
         notes = does.notes ∙ done.noted ∙ sym (append-nil a.notes);

@@ -29,204 +29,203 @@ use Rattle.strm_ldterm.proofs.Joining.{proceeds-joined, stays-so}
 use Rattle.strm_ldterm.proofs.Pouring.{byte-out, pours-both, pours-left, pours-work, run-out}
 use Rattle.strm_ldterm.proofs.RunsDone.{left-whole}
 
-module _ {M : Type 0} (name : M → ℕ) where
-  -- the column behind a stage is another one, and more has gone
-  turned : (s t : StoreValue) (x y : Ldterm M) (n column : ℕ) (f f' : Fates) (gone : List (Fate ℕ)) (is : Acted ℕ (ldterms.Ldterm ℕ)) → Proceeds name s t x y n [] [] f f is → f' ≡ tallied gone f
-      → Proceeds name s t x (record y { column = column }) n [] [] f f' (record is { state = record is.state { column = column }; gone = gone })
-  turned s t x y n column f f' gone is did counts = record {
-    state = ap (λ (p : ldterms.Ldterm ℕ). record p { column = column }) did.state;
-    noted = did.noted;
-    parcels = did.parcels;
-    told = counts;
-    held = record {
-      read = did.held.read;
-      write = did.held.write;
-      apart = did.held.apart;
-      work = did.held.work;
-      gathers = did.held.gathers;
-      echoes = did.held.echoes;
-      once_each = did.held.once_each;
-    };
-    own = record { lists = did.own.lists; owns_same = did.own.owns_same };
-    chains = did.chains;
-    hands = record { counts = did.hands.counts; others = did.hands.others };
-    mblks = did.mblks;
-    dblks = did.dblks;
-    pool = did.pool;
-  }
+-- the column behind a stage is another one, and more has gone
+turned : (s t : StoreValue) (x y : Ldterm) (n column : ℕ) (f f' : Fates) (gone : List (Fate ℕ)) (is : Acted ℕ (ldterms.Ldterm ℕ)) → Proceeds s t x y n [] [] f f is → f' ≡ tallied gone f
+    → Proceeds s t x (record y { column = column }) n [] [] f f' (record is { state = record is.state { column = column }; gone = gone })
+turned s t x y n column f f' gone is did counts = record {
+  state = ap (λ (p : ldterms.Ldterm ℕ). record p { column = column }) did.state;
+  noted = did.noted;
+  parcels = did.parcels;
+  told = counts;
+  held = record {
+    read = did.held.read;
+    write = did.held.write;
+    apart = did.held.apart;
+    work = did.held.work;
+    gathers = did.held.gathers;
+    echoes = did.held.echoes;
+    once_each = did.held.once_each;
+  };
+  own = record { lists = did.own.lists; owns_same = did.own.owns_same };
+  chains = did.chains;
+  hands = record { counts = did.hands.counts; others = did.hands.others };
+  mblks = did.mblks;
+  dblks = did.dblks;
+  pool = did.pool;
+}
 
-  -- so many bytes are taken off the front, what they give is gathered, and the carriage moves
-  module _ (here : Spot) (s s1 s2 : StoreValue) (x x1 x2 : Ldterm M) (n : ℕ) (u : Output ℕ) (f f' : Fates) (st : IsStore s1) where
-    abbrev p : ldterms.Ldterm ℕ
-    p = ldterm_in name s x
+-- so many bytes are taken off the front, what they give is gathered, and the carriage moves
+module _ (here : Spot) (s s1 s2 : StoreValue) (x x1 x2 : Ldterm) (n : ℕ) (u : Output ℕ) (f f' : Fates) (st : IsStore s1) where
+  abbrev p : ldterms.Ldterm ℕ
+  p = ldterm_in s x
 
-    abbrev rest : ldterms.Ldterm ℕ
-    rest = with_left (drop n (cells_left p)) p
+  abbrev rest : ldterms.Ldterm ℕ
+  rest = with_left (drop n (cells_left p)) p
 
-    pub pours-so : Proceeds name s s1 x x1 0 [] [] f f (sends [] rest)
-        → Proceeds name s1 s2 x1 x2 1 [] [] f f (sends [] (record (ldterm_in name s1 x1) { gathered = (ldterm_in name s1 x1).gathered ++ u.given }))
-        → posts plain (output_dir plain here) 0 p.termios p.column (take n (cells_left p)) ≡ u → f' ≡ tallied u.told f
-        → Proceeds name s s2 x (record x2 { column = u.column }) 1 [] [] f f' (poured here n p)
-    pours-so front gathers is counts =
-        let next : ldterms.Ldterm ℕ → Acted ℕ (ldterms.Ldterm ℕ) = λ q. sends [] (record q { gathered = q.gathered ++ u.given }) in
-        let did = proceeds-joined name s s1 x x1 0 [] f f (sends [] rest) st front s2 x2 1 [] [] f next gathers in
-        subst (λ (w : Output ℕ). Proceeds name s s2 x (record x2 { column = u.column }) 1 [] [] f f'
-        (record { state = record rest { gathered = p.gathered ++ w.given; column = w.column }; notes = []; sent = []; gone = w.told })) (sym is)
-        (turned s s2 x x2 1 u.column f f' u.told (one_after (sends [] rest) next) did counts)
+  pub pours-so : Proceeds s s1 x x1 0 [] [] f f (sends [] rest)
+      → Proceeds s1 s2 x1 x2 1 [] [] f f (sends [] (record (ldterm_in s1 x1) { gathered = (ldterm_in s1 x1).gathered ++ u.given }))
+      → posts plain (output_dir plain here) 0 p.termios p.column (take n (cells_left p)) ≡ u → f' ≡ tallied u.told f
+      → Proceeds s s2 x (record x2 { column = u.column }) 1 [] [] f f' (poured here n p)
+  pours-so front gathers is counts =
+      let next : ldterms.Ldterm ℕ → Acted ℕ (ldterms.Ldterm ℕ) = λ q. sends [] (record q { gathered = q.gathered ++ u.given }) in
+      let did = proceeds-joined s s1 x x1 0 [] f f (sends [] rest) st front s2 x2 1 [] [] f next gathers in
+      subst (λ (w : Output ℕ). Proceeds s s2 x (record x2 { column = u.column }) 1 [] [] f f'
+      (record { state = record rest { gathered = p.gathered ++ w.given; column = w.column }; notes = []; sent = []; gone = w.told })) (sym is)
+      (turned s s2 x x2 1 u.column f f' u.told (one_after (sends [] rest) next) did counts)
 
-  -- nothing was taken
-  pub pours-zero : (here : Spot) (s s1 : StoreValue) (x x1 : Ldterm M) (f : Fates) (run : List ℕ) → run ≡ []
-      → (let p = ldterm_in name s x in Proceeds name s s1 x x1 0 [] [] f f (sends [] (with_left (drop (length run) (cells_left p)) p))) → Proceeds name s s1 x x1 1 [] [] f f (poured here 0 (ldterm_in name s x))
-  pours-zero here s s1 x x1 f run none front =
-      let p = ldterm_in name s x in
-      let did = subst (λ l. Proceeds name s s1 x x1 0 [] [] f f (sends [] (with_left (drop (length l) (cells_left p)) p))) none front in
+-- nothing was taken
+pub pours-zero : (here : Spot) (s s1 : StoreValue) (x x1 : Ldterm) (f : Fates) (run : List ℕ) → run ≡ []
+    → (let p = ldterm_in s x in Proceeds s s1 x x1 0 [] [] f f (sends [] (with_left (drop (length run) (cells_left p)) p))) → Proceeds s s1 x x1 1 [] [] f f (poured here 0 (ldterm_in s x))
+pours-zero here s s1 x x1 f run none front =
+    let p = ldterm_in s x in
+    let did = subst (λ l. Proceeds s s1 x x1 0 [] [] f f (sends [] (with_left (drop (length l) (cells_left p)) p))) none front in
+    record {
+      state = did.state ∙ ap (λ g. record (with_left (drop 0 (cells_left p)) p) { gathered = g }) (sym (append-nil p.gathered));
+      noted = did.noted;
+      parcels = did.parcels;
+      told = did.told;
+      held = did.held;
+      own = did.own;
+      chains = did.chains;
+      hands = did.hands;
+      mblks = (let a = did.mblks in omega arith);
+      dblks = (let a = did.dblks in omega arith);
+      pool = did.pool;
+    }
+
+module _ (here : Spot) (s s1 s2 : StoreValue) (x x1 x2 : Ldterm) (f f' : Fates) (st : IsStore s1) where
+  -- what is to go out
+  abbrev cells : List ℕ
+  cells = cells_left (ldterm_in s x)
+
+  -- the first so many bytes were taken, and these bytes were gathered
+  abbrev Takes : ℕ → Type 0
+  Takes n = Proceeds s s1 x x1 0 [] [] f f (sends [] (with_left (drop n cells) (ldterm_in s x)))
+
+  abbrev Gathers : List ℕ → Type 0
+  Gathers bytes = Proceeds s1 s2 x1 x2 1 [] [] f f (sends [] (record (ldterm_in s1 x1) { gathered = (ldterm_in s1 x1).gathered ++ bytes }))
+
+  -- a byte
+  pub pours-byte : (byte : ℕ) (given : Posted) → cells ≡ byte ∷ drop 1 cells → Takes 1 → given ≡ post x1.termios x1.column byte → Gathers (bytes_given given.given)
+      → f' ≡ tallied (told_for plain (output_dir plain here) given.given 0 byte) f → Proceeds s s2 x (record x2 { column = given.column }) 1 [] [] f f' (poured here 1 (ldterm_in s x))
+  pours-byte byte given is front so gathers counts =
+      let dir = output_dir plain here in
+      let termios : x1.termios ≡ x.termios = ap (λ (q : ldterms.Ldterm ℕ). q.termios) front.state in
+      let column : x1.column ≡ x.column = ap (λ (q : ldterms.Ldterm ℕ). q.column) front.state in
+      let here-so : given ≡ post x.termios x.column byte = so ∙ ap (λ t. post t x1.column byte) termios ∙ ap (λ k. post x.termios k byte) column in
+      let of : Posted → Output ℕ = λ g. record { given = bytes_given g.given; column = g.column; told = told_for plain dir g.given 0 byte } in
+      pours-so here s s1 s2 x x1 x2 1 (of given) f f' st front gathers
+      (ap (λ xs. posts plain dir 0 x.termios x.column (take 1 xs)) is ∙ byte-out dir x.termios x.column byte ∙ ap of (sym here-so)) counts
+
+  -- printed bytes
+  pub pours-run : (run : List ℕ) (column : ℕ) → cells ≡ run ++ drop (length run) cells → Takes (length run) → Gathers run → column ≡ wrapped (x.column + length run)
+      → x.column ≤ COLUMN_MAX → length run ≤ 256 → AllByRecursion (λ b. is_printed x.termios b ≡ true) run
+      → Proceeds s s2 x (record x2 { column = column }) 1 [] [] f f (poured here (length run) (ldterm_in s x))
+  pours-run run column is front gathers moved low few all =
+      let dir = output_dir plain here in
+      let of : ℕ → Output ℕ = λ k. record { given = run; column = k; told = [] } in
+      let taken : take (length run) cells ≡ run = ap (take (length run)) is ∙ take-append_seam run (drop (length run) cells) in
+      pours-so here s s1 s2 x x1 x2 (length run) (of column) f f st front gathers
+      (ap (λ xs. posts plain dir 0 x.termios x.column xs) taken ∙ run-out dir x.termios x.column run low few all ∙ ap of (sym moved)) refl
+
+-- what is gathered is longer by what so many bytes give, and the echo is the same
+pours-grown : (here : Spot) (p : ldterms.Ldterm ℕ) (n k : ℕ) → length (poured here n p).state.gathered ≡ length p.gathered + k → k ≤ 256 → blocks_grown p (poured here n p).state ≤ 2
+pours-grown here p n k long few = grown-two p (poured here n p).state (omega arith) (omega arith)
+
+-- each of these printed bytes begins with blocks enough
+pub run-begins : (here : Spot) (s : StoreValue) (x : Ldterm) (run : List ℕ) → (let cells = cells_left (ldterm_in s x) in cells ≡ run ++ drop (length run) cells) → x.column ≤ COLUMN_MAX → length run ≤ 256
+    → AllByRecursion (λ b. is_printed x.termios b ≡ true) run → HasRoom s (STOP_BLOCKS + 2) → (byte : ℕ) → byte < length run → HasRoom s (STOP_BLOCKS + blocks_grown (ldterm_in s x) (poured here byte (ldterm_in s x)).state)
+run-begins here s x run is low few all room byte within =
+    let p = ldterm_in s x in
+    let cells = cells_left p in
+    let front = take byte run in
+    let long : length front ≡ byte = omega (arith, length-take byte run, within) in
+    let taken : take byte cells ≡ front = ap (take byte) is ∙ take-front byte run (drop (length run) cells) (omega arith) in
+    let given = ap (λ xs. (posts plain (output_dir plain here) 0 x.termios x.column xs).given) taken
+    ∙ ap (λ (o : Output ℕ). o.given) (run-out (output_dir plain here) x.termios x.column front low (omega (arith, long, few, within)) (all-front (λ b. is_printed x.termios b ≡ true) byte run all)) in
+    let grown = ap (λ xs. length (p.gathered ++ xs)) given ∙ length-append p.gathered front in
+    room-for s (blocks_grown p (poured here byte p).state) room (pours-grown here p byte (length front) grown (omega (arith, long, few, within)))
+
+-- so does the next one, where so many blocks are free
+pub byte-begins : (here : Spot) (s : StoreValue) (x : Ldterm) → HasRoom s STOP_BLOCKS → (byte : ℕ) → byte < 1 → HasRoom s (STOP_BLOCKS + blocks_grown (ldterm_in s x) (poured here byte (ldterm_in s x)).state)
+byte-begins here s x room zero first =
+    let p = ldterm_in s x in
+    let l = ap length (append-nil p.gathered) in
+    room-none s (blocks_grown p (poured here 0 p).state) room (omega (arith, l))
+byte-begins here s x room (suc n) first = absurd (omega arith)
+
+-- of so many bytes all went out but those that are left
+pub record Pours (s t : StoreValue) (here : Spot) (x y : Ldterm) (bytes left : ℕ) (f f' : Fates) : Type 0 where
+  pub fewer : left ≤ bytes
+  pub does : Proceeds s t x y (all_free s) [] [] f f' (poured here (bytes - left) (ldterm_in s x))
+  pub begun : (byte : ℕ) → byte < bytes - left → IsFreeBefore s x f (poured here) (ldterm_in s x) byte
+
+pub pours-none : (s : StoreValue) (here : Spot) (x : Ldterm) (bytes : ℕ) (f : Fates) → IsHeld s x → Pours s s here x x bytes bytes f f
+pours-none s here x bytes f held = record {
+  begun = λ byte less. absurd (omega arith);
+  fewer = omega arith;
+  does =
+      let p = ldterm_in s x in
+      let none : bytes - bytes ≡ 0 = omega arith in
+      let so = stays-so s x f held in
+      let whole : with_left (cells_left p) p ≡ p = left-whole s x held in
+      subst (λ n. Proceeds s s x x (all_free s) [] [] f f (poured here n p)) (sym none)
+      (record {
+        state = sym (ap (λ (q : ldterms.Ldterm ℕ). record q { gathered = p.gathered ++ [] }) whole ∙ ap (λ g. record p { gathered = g }) (append-nil p.gathered));
+        noted = refl;
+        parcels = so.parcels;
+        told = refl;
+        held = held;
+        own = so.own;
+        chains = so.chains;
+        hands = so.hands;
+        mblks = omega arith;
+        dblks = omega arith;
+        pool = so.pool;
+      });
+}
+
+module _ (s t : StoreValue) (here : Spot) (x y : Ldterm) (bytes left : ℕ) (f f1 : Fates) (some : is_some x.in_work ≡ true) (is : bytes ≡ length (cells_left (ldterm_in s x))) (so : Pours s t here x y bytes left f f1) where
+  work-there : is_some (ldterm_in s x).in_work ≡ true
+  work-there = kept-some s x.in_work ∙ some
+
+  pub pours-some : is_some y.in_work ≡ true
+  pours-some = sym (kept-some t y.in_work) ∙ ap (λ (q : ldterms.Ldterm ℕ). is_some q.in_work) so.does.state ∙ pours-work here (bytes - left) (ldterm_in s x) work-there
+
+  pub pours-termios : y.termios ≡ x.termios
+  pours-termios = ap (λ (q : ldterms.Ldterm ℕ). q.termios) so.does.state
+
+  pub pours-are : length (cells_left (ldterm_in t y)) ≡ left
+  pours-are =
+      let few = so.fewer in
+      ap (λ (q : ldterms.Ldterm ℕ). length (cells_left q)) so.does.state
+      ∙ ap length (pours-left here (bytes - left) (ldterm_in s x) work-there)
+      ∙ length-drop (bytes - left) (cells_left (ldterm_in s x))
+      ∙ omega arith
+
+  -- and more of them
+  pub pours-more : (u : StoreValue) (z : Ldterm) (n k : ℕ) (f2 : Fates) → IsStore t → n ≤ left → Proceeds t u y z k [] [] f1 f2 (poured here n (ldterm_in t y))
+      → ((byte : ℕ) → byte < n → HasRoom t (STOP_BLOCKS + blocks_grown (ldterm_in t y) (poured here byte (ldterm_in t y)).state)) → Pours s u here x z bytes (left - n) f f2
+  pours-more u z n k f2 st few more begins =
+      let p = ldterm_in s x in
+      let did = proceeds-joined s t x y (all_free s) [] f f1 (poured here (bytes - left) p) st so.does u z k [] [] f2 (poured here n) more in
+      let count : bytes - left + n ≡ bytes - (left - n) = (let low = so.fewer in omega arith) in
+      let same = pours-both here (bytes - left) n p work-there ∙ ap (λ m. poured here m p) count in
       record {
-        state = did.state ∙ ap (λ g. record (with_left (drop 0 (cells_left p)) p) { gathered = g }) (sym (append-nil p.gathered));
-        noted = did.noted;
-        parcels = did.parcels;
-        told = did.told;
-        held = did.held;
-        own = did.own;
-        chains = did.chains;
-        hands = did.hands;
-        mblks = (let a = did.mblks in omega arith);
-        dblks = (let a = did.dblks in omega arith);
-        pool = did.pool;
-      }
-
-  module _ (here : Spot) (s s1 s2 : StoreValue) (x x1 x2 : Ldterm M) (f f' : Fates) (st : IsStore s1) where
-    -- what is to go out
-    abbrev cells : List ℕ
-    cells = cells_left (ldterm_in name s x)
-
-    -- the first so many bytes were taken, and these bytes were gathered
-    abbrev Takes : ℕ → Type 0
-    Takes n = Proceeds name s s1 x x1 0 [] [] f f (sends [] (with_left (drop n cells) (ldterm_in name s x)))
-
-    abbrev Gathers : List ℕ → Type 0
-    Gathers bytes = Proceeds name s1 s2 x1 x2 1 [] [] f f (sends [] (record (ldterm_in name s1 x1) { gathered = (ldterm_in name s1 x1).gathered ++ bytes }))
-
-    -- a byte
-    pub pours-byte : (byte : ℕ) (given : Posted) → cells ≡ byte ∷ drop 1 cells → Takes 1 → given ≡ post x1.termios x1.column byte → Gathers (bytes_given given.given)
-        → f' ≡ tallied (told_for plain (output_dir plain here) given.given 0 byte) f → Proceeds name s s2 x (record x2 { column = given.column }) 1 [] [] f f' (poured here 1 (ldterm_in name s x))
-    pours-byte byte given is front so gathers counts =
-        let dir = output_dir plain here in
-        let termios : x1.termios ≡ x.termios = ap (λ (q : ldterms.Ldterm ℕ). q.termios) front.state in
-        let column : x1.column ≡ x.column = ap (λ (q : ldterms.Ldterm ℕ). q.column) front.state in
-        let here-so : given ≡ post x.termios x.column byte = so ∙ ap (λ t. post t x1.column byte) termios ∙ ap (λ k. post x.termios k byte) column in
-        let of : Posted → Output ℕ = λ g. record { given = bytes_given g.given; column = g.column; told = told_for plain dir g.given 0 byte } in
-        pours-so here s s1 s2 x x1 x2 1 (of given) f f' st front gathers
-        (ap (λ xs. posts plain dir 0 x.termios x.column (take 1 xs)) is ∙ byte-out dir x.termios x.column byte ∙ ap of (sym here-so)) counts
-
-    -- printed bytes
-    pub pours-run : (run : List ℕ) (column : ℕ) → cells ≡ run ++ drop (length run) cells → Takes (length run) → Gathers run → column ≡ wrapped (x.column + length run)
-        → x.column ≤ COLUMN_MAX → length run ≤ 256 → AllByRecursion (λ b. is_printed x.termios b ≡ true) run
-        → Proceeds name s s2 x (record x2 { column = column }) 1 [] [] f f (poured here (length run) (ldterm_in name s x))
-    pours-run run column is front gathers moved low few all =
-        let dir = output_dir plain here in
-        let of : ℕ → Output ℕ = λ k. record { given = run; column = k; told = [] } in
-        let taken : take (length run) cells ≡ run = ap (take (length run)) is ∙ take-append_seam run (drop (length run) cells) in
-        pours-so here s s1 s2 x x1 x2 (length run) (of column) f f st front gathers
-        (ap (λ xs. posts plain dir 0 x.termios x.column xs) taken ∙ run-out dir x.termios x.column run low few all ∙ ap of (sym moved)) refl
-
-  -- what is gathered is longer by what so many bytes give, and the echo is the same
-  pours-grown : (here : Spot) (p : ldterms.Ldterm ℕ) (n k : ℕ) → length (poured here n p).state.gathered ≡ length p.gathered + k → k ≤ 256 → blocks_grown p (poured here n p).state ≤ 2
-  pours-grown here p n k long few = grown-two p (poured here n p).state (omega arith) (omega arith)
-
-  -- each of these printed bytes begins with blocks enough
-  pub run-begins : (here : Spot) (s : StoreValue) (x : Ldterm M) (run : List ℕ) → (let cells = cells_left (ldterm_in name s x) in cells ≡ run ++ drop (length run) cells) → x.column ≤ COLUMN_MAX → length run ≤ 256
-      → AllByRecursion (λ b. is_printed x.termios b ≡ true) run → HasRoom s (STOP_BLOCKS + 2) → (byte : ℕ) → byte < length run → HasRoom s (STOP_BLOCKS + blocks_grown (ldterm_in name s x) (poured here byte (ldterm_in name s x)).state)
-  run-begins here s x run is low few all room byte within =
-      let p = ldterm_in name s x in
-      let cells = cells_left p in
-      let front = take byte run in
-      let long : length front ≡ byte = omega (arith, length-take byte run, within) in
-      let taken : take byte cells ≡ front = ap (take byte) is ∙ take-front byte run (drop (length run) cells) (omega arith) in
-      let given = ap (λ xs. (posts plain (output_dir plain here) 0 x.termios x.column xs).given) taken
-      ∙ ap (λ (o : Output ℕ). o.given) (run-out (output_dir plain here) x.termios x.column front low (omega (arith, long, few, within)) (all-front (λ b. is_printed x.termios b ≡ true) byte run all)) in
-      let grown = ap (λ xs. length (p.gathered ++ xs)) given ∙ length-append p.gathered front in
-      room-for s (blocks_grown p (poured here byte p).state) room (pours-grown here p byte (length front) grown (omega (arith, long, few, within)))
-
-  -- so does the next one, where so many blocks are free
-  pub byte-begins : (here : Spot) (s : StoreValue) (x : Ldterm M) → HasRoom s STOP_BLOCKS → (byte : ℕ) → byte < 1 → HasRoom s (STOP_BLOCKS + blocks_grown (ldterm_in name s x) (poured here byte (ldterm_in name s x)).state)
-  byte-begins here s x room zero first =
-      let p = ldterm_in name s x in
-      let l = ap length (append-nil p.gathered) in
-      room-none s (blocks_grown p (poured here 0 p).state) room (omega (arith, l))
-  byte-begins here s x room (suc n) first = absurd (omega arith)
-
-  -- of so many bytes all went out but those that are left
-  pub record Pours (s t : StoreValue) (here : Spot) (x y : Ldterm M) (bytes left : ℕ) (f f' : Fates) : Type 0 where
-    pub fewer : left ≤ bytes
-    pub does : Proceeds name s t x y (all_free s) [] [] f f' (poured here (bytes - left) (ldterm_in name s x))
-    pub begun : (byte : ℕ) → byte < bytes - left → IsFreeBefore name s x f (poured here) (ldterm_in name s x) byte
-
-  pub pours-none : (s : StoreValue) (here : Spot) (x : Ldterm M) (bytes : ℕ) (f : Fates) → IsHeld name s x → Pours s s here x x bytes bytes f f
-  pours-none s here x bytes f held = record {
-    begun = λ byte less. absurd (omega arith);
-    fewer = omega arith;
-    does =
-        let p = ldterm_in name s x in
-        let none : bytes - bytes ≡ 0 = omega arith in
-        let so = stays-so name s x f held in
-        let whole : with_left (cells_left p) p ≡ p = left-whole name s x held in
-        subst (λ n. Proceeds name s s x x (all_free s) [] [] f f (poured here n p)) (sym none)
-        (record {
-          state = sym (ap (λ (q : ldterms.Ldterm ℕ). record q { gathered = p.gathered ++ [] }) whole ∙ ap (λ g. record p { gathered = g }) (append-nil p.gathered));
-          noted = refl;
-          parcels = so.parcels;
-          told = refl;
-          held = held;
-          own = so.own;
-          chains = so.chains;
-          hands = so.hands;
+        fewer = (let low = so.fewer in omega arith);
+        begun = λ byte within. each-more (IsFreeBefore s x f (poured here) p) (bytes - left) n so.begun
+            (λ i less. record { before = bytes - left; more = i; is = refl; store = t; there = y; notes = []; told = f1; reached = so.does; free = begins i less }) byte (let low = so.fewer in omega arith);
+        does = subst (λ (a : Acted ℕ (ldterms.Ldterm ℕ)). Proceeds s u x z (all_free s) [] [] f f2 a) same (record {
+          state = did.state;
+          noted = did.noted;
+          parcels = did.parcels;
+          told = did.told;
+          held = did.held;
+          own = did.own;
+          chains = did.chains;
+          hands = did.hands;
           mblks = omega arith;
           dblks = omega arith;
-          pool = so.pool;
+          pool = did.pool;
         });
-  }
-
-  module _ (s t : StoreValue) (here : Spot) (x y : Ldterm M) (bytes left : ℕ) (f f1 : Fates) (some : is_some x.in_work ≡ true) (is : bytes ≡ length (cells_left (ldterm_in name s x))) (so : Pours s t here x y bytes left f f1) where
-    work-there : is_some (ldterm_in name s x).in_work ≡ true
-    work-there = kept-some name s x.in_work ∙ some
-
-    pub pours-some : is_some y.in_work ≡ true
-    pours-some = sym (kept-some name t y.in_work) ∙ ap (λ (q : ldterms.Ldterm ℕ). is_some q.in_work) so.does.state ∙ pours-work here (bytes - left) (ldterm_in name s x) work-there
-
-    pub pours-termios : y.termios ≡ x.termios
-    pours-termios = ap (λ (q : ldterms.Ldterm ℕ). q.termios) so.does.state
-
-    pub pours-are : length (cells_left (ldterm_in name t y)) ≡ left
-    pours-are =
-        let few = so.fewer in
-        ap (λ (q : ldterms.Ldterm ℕ). length (cells_left q)) so.does.state
-        ∙ ap length (pours-left here (bytes - left) (ldterm_in name s x) work-there)
-        ∙ length-drop (bytes - left) (cells_left (ldterm_in name s x))
-        ∙ omega arith
-
-    -- and more of them
-    pub pours-more : (u : StoreValue) (z : Ldterm M) (n k : ℕ) (f2 : Fates) → IsStore t → n ≤ left → Proceeds name t u y z k [] [] f1 f2 (poured here n (ldterm_in name t y))
-        → ((byte : ℕ) → byte < n → HasRoom t (STOP_BLOCKS + blocks_grown (ldterm_in name t y) (poured here byte (ldterm_in name t y)).state)) → Pours s u here x z bytes (left - n) f f2
-    pours-more u z n k f2 st few more begins =
-        let p = ldterm_in name s x in
-        let did = proceeds-joined name s t x y (all_free s) [] f f1 (poured here (bytes - left) p) st so.does u z k [] [] f2 (poured here n) more in
-        let count : bytes - left + n ≡ bytes - (left - n) = (let low = so.fewer in omega arith) in
-        let same = pours-both here (bytes - left) n p work-there ∙ ap (λ m. poured here m p) count in
-        record {
-          fewer = (let low = so.fewer in omega arith);
-          begun = λ byte within. each-more (IsFreeBefore name s x f (poured here) p) (bytes - left) n so.begun
-              (λ i less. record { before = bytes - left; more = i; is = refl; store = t; there = y; notes = []; told = f1; reached = so.does; free = begins i less }) byte (let low = so.fewer in omega arith);
-          does = subst (λ (a : Acted ℕ (ldterms.Ldterm ℕ)). Proceeds name s u x z (all_free s) [] [] f f2 a) same (record {
-            state = did.state;
-            noted = did.noted;
-            parcels = did.parcels;
-            told = did.told;
-            held = did.held;
-            own = did.own;
-            chains = did.chains;
-            hands = did.hands;
-            mblks = omega arith;
-            dblks = omega arith;
-            pool = did.pool;
-          });
-        }
+      }

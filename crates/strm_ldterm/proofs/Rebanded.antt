@@ -12,8 +12,9 @@ use Rattle.strm_types.specs.Deliver.{toward}
 use Rattle.strm_types.specs.Ldterms.{onward, sends}
 use Rattle.strm_types.specs.Message.{Message, cells_of, is_high_priority}
 use Rattle.strm_types.specs.OutputTurns.{with_given}
-use Rattle.strm_blocks.specs.Blocks.{Block, StoreValue, IsInHand, in_hand, list_at, block_at, changed, banded, names_of}
+use Rattle.strm_blocks.specs.Blocks.{Block, StoreValue, IsInHand, in_hand, list_at, block_at, changed, banded, names_of, token}
 use Rattle.strm_blocks.proofs.Laws.{total-changed, used-is, references-is, free_m-is, free_d-more, in_hand-changed, in_hand-changed_other}
+use Rattle.strm_blocks.specs.declared.in_hand.InHand.{InHand}
 use Rattle.strm_msg.specs.Bytes.{bytes_of}
 use Rattle.strm_msg.specs.Messages.{message_of, IsChain}
 use Rattle.strm_msg.proofs.Chains.{data_in-cells, data-control}
@@ -113,51 +114,51 @@ pub given-none : (l : List ℕ) (m : Message ℕ) → length l ≡ 0 → with_gi
 given-none [] m none = refl
 given-none (b ∷ l) m none = absurd (omega arith)
 
-pub gathered-can : {M : Type 0} (name : M → ℕ) (s : StoreValue) (x : Ldterm M) (m : M) → x.gathered ≡ Some m → AreIn s (λ _. 0) (keeps name x) → CanPut s (name m) (keeps name (record x { gathered = None }))
-gathered-can name s x m there kept = record { apart = λ j. let a = kept.apart j in let e = gathered-splits name s x m there j in omega arith }
+pub gathered-can : (s : StoreValue) (x : Ldterm) (m : InHand) → x.gathered ≡ Some m → AreIn s (λ _. 0) (keeps x) → CanPut s (token m) (keeps (record x { gathered = None }))
+gathered-can s x m there kept = record { apart = λ j. let a = kept.apart j in let e = gathered-splits s x m there j in omega arith }
 
 -- nothing was gathered
-pub nothing-down : {M : Type 0} (name : M → ℕ) (s : StoreValue) (x : Ldterm M) (here : Spot) (band : ℕ) (f : Fates) (sent : List (Sent M)) → sent ≡ [] → x.gathered ≡ None → IsHeld name s x
-    → (let p = ldterm_in name s x in Proceeds name s s x (record x { gathered = None }) 0 [] sent f f (sends (map (onward Down here) (with_given p.gathered (data_of band []))) (record p { gathered = [] })))
-nothing-down name s x here band f sent none there held =
-    let p = ldterm_in name s x in
-    let empty : p.gathered ≡ [] = ap (λ o. cells_kept (kept_in name s o)) there in
-    subst (λ o. Proceeds name s s x (record x { gathered = o }) 0 [] sent f f (sends (map (onward Down here) (with_given p.gathered (data_of band []))) (record p { gathered = [] }))) there
-    (subst (λ (l : List ℕ). Proceeds name s s x x 0 [] sent f f (sends (map (onward Down here) (with_given l (data_of band []))) (record p { gathered = [] }))) (sym empty)
-    (subst (λ (l : List ℕ). Proceeds name s s x x 0 [] sent f f (sends [] (record p { gathered = l }))) empty (stays name s x sent f held none)))
+pub nothing-down : (s : StoreValue) (x : Ldterm) (here : Spot) (band : ℕ) (f : Fates) (sent : List Sent) → sent ≡ [] → x.gathered ≡ None → IsHeld s x
+    → (let p = ldterm_in s x in Proceeds s s x (record x { gathered = None }) 0 [] sent f f (sends (map (onward Down here) (with_given p.gathered (data_of band []))) (record p { gathered = [] })))
+nothing-down s x here band f sent none there held =
+    let p = ldterm_in s x in
+    let empty : p.gathered ≡ [] = ap (λ o. cells_kept (kept_in s o)) there in
+    subst (λ o. Proceeds s s x (record x { gathered = o }) 0 [] sent f f (sends (map (onward Down here) (with_given p.gathered (data_of band []))) (record p { gathered = [] }))) there
+    (subst (λ (l : List ℕ). Proceeds s s x x 0 [] sent f f (sends (map (onward Down here) (with_given l (data_of band []))) (record p { gathered = [] }))) (sym empty)
+    (subst (λ (l : List ℕ). Proceeds s s x x 0 [] sent f f (sends [] (record p { gathered = l }))) empty (stays s x sent f held none)))
 
 -- what was gathered, under another band
-module _ {M : Type 0} (name : M → ℕ) (s t : StoreValue) (x : Ldterm M) (m : M) (there : x.gathered ≡ Some m) (held : IsHeld name s x) (kept : AreIn s (λ _. 0) (keeps name x)) (new : Message ℕ) (b : Becomes s t (name m) (name m) new) where
-  abbrev y : Ldterm M
+module _ (s t : StoreValue) (x : Ldterm) (m : InHand) (there : x.gathered ≡ Some m) (held : IsHeld s x) (kept : AreIn s (λ _. 0) (keeps x)) (new : Message ℕ) (b : Becomes s t (token m) (token m) new) where
+  abbrev y : Ldterm
   y = record x { gathered = None }
 
-  apart : (j : ℕ) → 0 < keeps name y j → once (name m) j ≡ 0
-  apart j some = let few = held.once_each j in let e = gathered-splits name s x m there j in omega arith
+  apart : (j : ℕ) → 0 < keeps y j → once (token m) j ≡ 0
+  apart j some = let few = held.once_each j in let e = gathered-splits s x m there j in omega arith
 
-  framed : (ldterm_in name t y ≡ ldterm_in name s y) × IsHeld name t y
-  framed = ldterm-frame name s t y (record {
+  framed : (ldterm_in t y ≡ ldterm_in s y) × IsHeld t y
+  framed = ldterm-frame s t y (record {
     lists = λ k some. ap (λ ls. list_at (record t { lists = ls }) k) b.lists;
     mblks = b.hands.pool.mblks;
     dblks = b.hands.pool.dblks;
-    kept = λ j some. let e = gathered-splits name s x m there j in let a = kept.apart j in b.hands.others j (apart j some) (omega arith);
-  }) (gathered-held name s x m there held)
+    kept = λ j some. let e = gathered-splits s x m there j in let a = kept.apart j in b.hands.others j (apart j some) (omega arith);
+  }) (gathered-held s x m there held)
 
-  pub goes-down : (here to : Spot) (f : Fates) (sent : List (Sent M)) → sent ≡ record { to = to; message = m } ∷ [] → to ≡ toward Down here
-      → Proceeds name s t x y 0 [] sent f f (sends (onward Down here new ∷ []) (record (ldterm_in name s x) { gathered = [] }))
+  pub goes-down : (here to : Spot) (f : Fates) (sent : List Sent) → sent ≡ record { to = to; message = m } ∷ [] → to ≡ toward Down here
+      → Proceeds s t x y 0 [] sent f f (sends (onward Down here new ∷ []) (record (ldterm_in s x) { gathered = [] }))
   unfolding times_sent
   goes-down here to f sent one place =
-      let z : Sent M = record { to = to; message = m } in
+      let z : Sent = record { to = to; message = m } in
       record {
         state = framed.0;
         noted = refl;
-        parcels = one-parts name t z sent one ∙ ap (λ (spot : Spot). record { to = spot; message = message_in t (name m) } ∷ []) place ∙ ap (λ (w : Message ℕ). onward Down here w ∷ []) b.shows;
+        parcels = one-parts t z sent one ∙ ap (λ (spot : Spot). record { to = spot; message = message_in t (token m) } ∷ []) place ∙ ap (λ (w : Message ℕ). onward Down here w ∷ []) b.shows;
         told = refl;
         held = framed.1;
         own = record { lists = λ k none. ap (λ ls. list_at (record t { lists = ls }) k) b.lists; owns_same = λ k. refl };
-        chains = one-chains name t z sent one b.is.chain;
+        chains = one-chains t z sent one b.is.chain;
         hands = record {
-          counts = λ j. let c = b.hands.counts j in let e = gathered-splits name s x m there j in let w = ap (times_sent name j) one in omega arith;
-          others = λ j gone none some. let e = gathered-splits name s x m there j in b.hands.others j (omega arith) some;
+          counts = λ j. let c = b.hands.counts j in let e = gathered-splits s x m there j in let w = ap (times_sent j) one in omega arith;
+          others = λ j gone none some. let e = gathered-splits s x m there j in b.hands.others j (omega arith) some;
         };
         mblks = (let a = b.hands.mblks in omega arith);
         dblks = (let a = b.hands.dblks in omega arith);

@@ -8,8 +8,9 @@ use Rattle.strm_types.specs.Queue as plain
 use Rattle.strm_types.specs.Ldterms as ldterms
 use Rattle.strm_types.specs.Input.{back_on}
 use Rattle.strm_types.proofs.Ranked.{sum-put_back}
-use Rattle.strm_blocks.specs.Blocks.{Block, StoreValue, IsStore, IsInHand, list_at, in_hand, placed, dropped, put_back, rank_of, names_of, total}
+use Rattle.strm_blocks.specs.Blocks.{Block, StoreValue, IsStore, IsInHand, list_at, in_hand, placed, dropped, put_back, rank_of, names_of, total, token}
 use Rattle.strm_blocks.proofs.Laws.{total-placed, total-dropped, used-is, references-is, free_m-is, free_d-more}
+use Rattle.strm_blocks.specs.declared.in_hand.InHand.{InHand}
 use Rattle.strm_msg.specs.Messages.{message_of, IsChain, AreMessages}
 use Rattle.strm_msg.proofs.Chains.{put_back-chains}
 use Rattle.strm_queue.specs.declared.queue.Queue.{Queue}
@@ -76,8 +77,8 @@ none-there None is = refl
 none-there (Some x) is = absurd (false≢true (sym is))
 
 -- where no echo stands, the messages of the write queue are those of its list
-pub alone : {M : Type 0} (name : M → ℕ) (s : StoreValue) (x : Ldterm M) → x.echo ≡ None → (ldterm_in name s x).write_queue.messages ≡ messages_on s x.write_queue.list
-alone name s x quiet = ap (λ o. messages_on s x.write_queue.list ++ option_to_list (kept_in name s o)) quiet ∙ append-nil (messages_on s x.write_queue.list)
+pub alone : (s : StoreValue) (x : Ldterm) → x.echo ≡ None → (ldterm_in s x).write_queue.messages ≡ messages_on s x.write_queue.list
+alone s x quiet = ap (λ o. messages_on s x.write_queue.list ++ option_to_list (kept_in s o)) quiet ∙ append-nil (messages_on s x.write_queue.list)
 
 -- a message of which nothing is left is freed
 pub freed-changes : (s : StoreValue) (q : Queue) (i : ℕ) → IsReady s q → Changes (dropped s i) (dropped s i) q q
@@ -97,30 +98,30 @@ freed-frees s i is_in = record {
 }
 
 -- The message in work leaves the hand, and what is left of it goes back.
-module _ {M : Type 0} (name : M → ℕ) (s : StoreValue) (x : Ldterm M) (m : M) (there : x.in_work ≡ Some m) (st : IsStore s) (held : IsHeld name s x) (kept : AreIn s (λ _. 0) (keeps name x)) where
-  abbrev idle : Ldterm M
+module _ (s : StoreValue) (x : Ldterm) (m : InHand) (there : x.in_work ≡ Some m) (st : IsStore s) (held : IsHeld s x) (kept : AreIn s (λ _. 0) (keeps x)) where
+  abbrev idle : Ldterm
   idle = record x { in_work = None }
 
   abbrev rest : StoreValue
-  rest = dropped s (name m)
+  rest = dropped s (token m)
 
-  can : CanPut s (name m) (keeps name idle)
-  can = work-can name s x m there kept
+  can : CanPut s (token m) (keeps idle)
+  can = work-can s x m there kept
 
-  framed : (ldterm_in name rest idle ≡ ldterm_in name s idle) × IsHeld name rest idle
-  framed = ldterm-frame name s rest idle (without-same name s idle (name m) st can) (work-held name s x m there held)
+  framed : (ldterm_in rest idle ≡ ldterm_in s idle) × IsHeld rest idle
+  framed = ldterm-frame s rest idle (without-same s idle (token m) st can) (work-held s x m there held)
 
-  returned-alters : (t : StoreValue) (q q' : Queue) (y : Ldterm M) → Changes rest t q q' → FreesBlocks s t → ((j : ℕ) → keeps name y j ≡ keeps name idle j) → IsHeld name t y → OnlyOwn rest t (owns idle) (owns y)
-      → Alters name s t x y
+  returned-alters : (t : StoreValue) (q q' : Queue) (y : Ldterm) → Changes rest t q q' → FreesBlocks s t → ((j : ℕ) → keeps y j ≡ keeps idle j) → IsHeld t y → OnlyOwn rest t (owns idle) (owns y)
+      → Alters s t x y
   returned-alters t q q' y changes frees same is own =
-      let h = shifts-joined s t (name m) q q' st (record { apart = λ j. let a = can.apart j in omega arith }) changes frees in
+      let h = shifts-joined s t (token m) q q' st (record { apart = λ j. let a = can.apart j in omega arith }) changes frees in
       record {
         held = is;
         own = record { lists = own.lists; owns_same = own.owns_same };
-        fewer = λ j. let e = work-splits name s x m there j in let k = same j in omega arith;
+        fewer = λ j. let e = work-splits s x m there j in let k = same j in omega arith;
         hands = record {
-          counts = λ j. let c = h.counts j in let e = work-splits name s x m there j in let k = same j in omega arith;
-          others = λ j gone kept some. let e = work-splits name s x m there j in let k = same j in h.others j (omega arith) some;
+          counts = λ j. let c = h.counts j in let e = work-splits s x m there j in let k = same j in omega arith;
+          others = λ j gone kept some. let e = work-splits s x m there j in let k = same j in h.others j (omega arith) some;
         };
         frees = frees;
         pool = h.pool;
@@ -128,33 +129,33 @@ module _ {M : Type 0} (name : M → ℕ) (s : StoreValue) (x : Ldterm M) (m : M)
 
   -- to the read queue
   module _ (t : StoreValue) (q' : Queue) (changes : Changes rest t x.read_queue q') where
-    pub read-returned : queue_in t q' ≡ back_on (Some (message_in s (name m))) (queue_in s x.read_queue)
-        → ldterm_in name t (record idle { read_queue = q' }) ≡ (let p = ldterm_in name s x in record p { in_work = None; read_queue = back_on p.in_work p.read_queue })
+    pub read-returned : queue_in t q' ≡ back_on (Some (message_in s (token m))) (queue_in s x.read_queue)
+        → ldterm_in t (record idle { read_queue = q' }) ≡ (let p = ldterm_in s x in record p { in_work = None; read_queue = back_on p.in_work p.read_queue })
     read-returned is =
-        let p = ldterm_in name s x in
-        read-plain name rest t idle q' framed.1 changes
+        let p = ldterm_in s x in
+        read-plain rest t idle q' framed.1 changes
         ∙ ap (λ (r : ldterms.Ldterm ℕ). record r { read_queue = queue_in t q' }) framed.0
         ∙ ap (λ (r : plain.Queue ℕ). record p { in_work = None; read_queue = r }) is
-        ∙ ap (λ o. record p { in_work = None; read_queue = back_on o p.read_queue }) (sym (work-shown name s x m there))
+        ∙ ap (λ o. record p { in_work = None; read_queue = back_on o p.read_queue }) (sym (work-shown s x m there))
 
-    pub read-returned-alters : FreesBlocks s t → Alters name s t x (record idle { read_queue = q' })
+    pub read-returned-alters : FreesBlocks s t → Alters s t x (record idle { read_queue = q' })
     read-returned-alters frees =
-        returned-alters t x.read_queue q' (record idle { read_queue = q' }) changes frees (λ j. refl) (read-held name rest t idle q' framed.1 changes) (read-own name rest t idle q' framed.1 changes)
+        returned-alters t x.read_queue q' (record idle { read_queue = q' }) changes frees (λ j. refl) (read-held rest t idle q' framed.1 changes) (read-own rest t idle q' framed.1 changes)
 
   -- to the write queue, where no echo stands
   module _ (t : StoreValue) (q' : Queue) (changes : Changes rest t x.write_queue q') where
-    pub write-returned : x.echo ≡ None → queue_in t q' ≡ back_on (Some (message_in s (name m))) (queue_in s x.write_queue)
-        → ldterm_in name t (record idle { write_queue = q' }) ≡ (let p = ldterm_in name s x in record p { in_work = None; write_queue = back_on p.in_work p.write_queue })
+    pub write-returned : x.echo ≡ None → queue_in t q' ≡ back_on (Some (message_in s (token m))) (queue_in s x.write_queue)
+        → ldterm_in t (record idle { write_queue = q' }) ≡ (let p = ldterm_in s x in record p { in_work = None; write_queue = back_on p.in_work p.write_queue })
     write-returned quiet is =
-        let p = ldterm_in name s x in
-        let last : with_last (kept_in name rest x.echo) (queue_in t q') ≡ queue_in t q' =
-        ap (λ o. with_last (kept_in name rest o) (queue_in t q')) quiet ∙ ap (λ (ms : List (Message ℕ)). record (queue_in t q') { messages = ms }) (append-nil (queue_in t q').messages) in
-        write-plain name rest t idle q' framed.1 changes
-        ∙ ap (λ (r : ldterms.Ldterm ℕ). record r { write_queue = with_last (kept_in name rest x.echo) (queue_in t q') }) framed.0
+        let p = ldterm_in s x in
+        let last : with_last (kept_in rest x.echo) (queue_in t q') ≡ queue_in t q' =
+        ap (λ o. with_last (kept_in rest o) (queue_in t q')) quiet ∙ ap (λ (ms : List (Message ℕ)). record (queue_in t q') { messages = ms }) (append-nil (queue_in t q').messages) in
+        write-plain rest t idle q' framed.1 changes
+        ∙ ap (λ (r : ldterms.Ldterm ℕ). record r { write_queue = with_last (kept_in rest x.echo) (queue_in t q') }) framed.0
         ∙ ap (λ (r : plain.Queue ℕ). record p { in_work = None; write_queue = r }) (last ∙ is)
-        ∙ ap (λ o. record p { in_work = None; write_queue = back_on o (queue_in s x.write_queue) }) (sym (work-shown name s x m there))
-        ∙ ap (λ (ms : List (Message ℕ)). record p { in_work = None; write_queue = back_on p.in_work (record (queue_in s x.write_queue) { messages = ms }) }) (sym (alone name s x quiet))
+        ∙ ap (λ o. record p { in_work = None; write_queue = back_on o (queue_in s x.write_queue) }) (sym (work-shown s x m there))
+        ∙ ap (λ (ms : List (Message ℕ)). record p { in_work = None; write_queue = back_on p.in_work (record (queue_in s x.write_queue) { messages = ms }) }) (sym (alone s x quiet))
 
-    pub write-returned-alters : FreesBlocks s t → Alters name s t x (record idle { write_queue = q' })
+    pub write-returned-alters : FreesBlocks s t → Alters s t x (record idle { write_queue = q' })
     write-returned-alters frees =
-        returned-alters t x.write_queue q' (record idle { write_queue = q' }) changes frees (λ j. refl) (write-held name rest t idle q' framed.1 changes) (write-own name rest t idle q' framed.1 changes)
+        returned-alters t x.write_queue q' (record idle { write_queue = q' }) changes frees (λ j. refl) (write-held rest t idle q' framed.1 changes) (write-own rest t idle q' framed.1 changes)

@@ -17,7 +17,7 @@ use Rattle.strm_types.specs.Message.{Message, cells_of}
 use Rattle.strm_types.specs.Termios.{echo, icanon}
 use Rattle.strm_types.specs.Typing.{echo_grows, echo_stands}
 use Rattle.strm_types.specs.Cells.{plain}
-use Rattle.strm_blocks.specs.Blocks.{StoreValue, IsStore}
+use Rattle.strm_blocks.specs.Blocks.{StoreValue, IsStore, token}
 use Rattle.strm_frame.specs.Hands.{HasRoom}
 use Rattle.strm_frame.specs.Outboxes.{message_in}
 use Rattle.strm_queue.specs.Stored.{queue_in}
@@ -33,6 +33,7 @@ use Rattle.strm_ldterm.proofs.Grows.{ordinary-is}
 use Rattle.strm_ldterm.proofs.Joining.{proceeds-joined, takes-more}
 use Rattle.strm_ldterm.proofs.PlainRuns.{EndsPlain, Runs, done-as, run-blocks, runs-done}
 use Rattle.strm_ldterm.proofs.Treated.{none-under-way}
+use Rattle.strm_blocks.specs.declared.in_hand.InHand.{InHand}
 
 -- bytes that aren't marked are plain
 pub all-plain : (t : Termios) (odd : List Bool) (run : List ℕ) → ((b : ℕ) → slice_index_or odd b true ≡ false → is_plain t b ≡ true) → AllByRecursion (λ b. slice_index_or odd b true ≡ false) run
@@ -68,100 +69,99 @@ module _ (here : Spot) (p : ldterms.Ldterm ℕ) (run : List ℕ) where
   pub echoed-so : echo p.termios ≡ true → run_echoed here run p ≡ cond p.echoing (echo_grows plain here run p) (echo_stands plain here run p)
   echoed-so loud = rw loud refl
 
-module _ {M : Type 0} (name : M → ℕ) where
-  -- what a turn echoes stands last as an ordinary message
-  echo-last : (s : StoreValue) (x : Ldterm M) → IsHeld name s x → is_some x.echo ≡ true → EndsPlain (ldterm_in name s x).write_queue.messages
-  echo-last s x held some = at x.echo held.echoes some
-    where
-      at : (o : Option M) → IfSome o (λ m. IsOrdinary s (name m)) → is_some o ≡ true → EndsPlain ((queue_in s x.write_queue).messages ++ option_to_list (kept_in name s o))
-      at None is some = absurd (false≢true some)
-      at (Some m) is some = record {
-        before = (queue_in s x.write_queue).messages;
-        cells = cells_of (message_in s (name m));
-        is = ap (λ (w : Message ℕ). (queue_in s x.write_queue).messages ++ w ∷ []) (ordinary-is s (name m) is);
+-- what a turn echoes stands last as an ordinary message
+echo-last : (s : StoreValue) (x : Ldterm) → IsHeld s x → is_some x.echo ≡ true → EndsPlain (ldterm_in s x).write_queue.messages
+echo-last s x held some = at x.echo held.echoes some
+  where
+    at : (o : Option InHand) → IfSome o (λ m. IsOrdinary s (token m)) → is_some o ≡ true → EndsPlain ((queue_in s x.write_queue).messages ++ option_to_list (kept_in s o))
+    at None is some = absurd (false≢true some)
+    at (Some m) is some = record {
+      before = (queue_in s x.write_queue).messages;
+      cells = cells_of (message_in s (token m));
+      is = ap (λ (w : Message ℕ). (queue_in s x.write_queue).messages ++ w ∷ []) (ordinary-is s (token m) is);
+    }
+
+-- where no byte is taken, all is left
+pub left-whole : (s : StoreValue) (x : Ldterm) → IsHeld s x → with_left (cells_left (ldterm_in s x)) (ldterm_in s x) ≡ ldterm_in s x
+left-whole s x held = at x.in_work refl
+  where
+    at : (o : Option InHand) → x.in_work ≡ o → with_left (cells_left (ldterm_in s x)) (ldterm_in s x) ≡ ldterm_in s x
+    at None there = idle-left s x there (cells_left (ldterm_in s x))
+    at (Some m) there = busy-all s x m there held
+
+-- bytes that may be treated at once
+module _ (s : StoreValue) (x : Ldterm) (run : List ℕ) (most : ℕ) (held : IsHeld s x) (stage : stages_left (stage_in x.stage) ≡ 0) (few : length run ≤ most)
+    (is : cells_left (ldterm_in s x) ≡ run ++ drop (length run) (cells_left (ldterm_in s x))) (all : AllByRecursion (λ b. is_plain x.termios b ≡ true) run) (may : MayRun most (ldterm_in s x)) where
+  abbrev from : ldterms.Ldterm ℕ
+  from = ldterm_in s x
+
+  runs-from : Runs (icanon from.termios) (echo from.termios) run (drop (length run) (cells_left from)) from
+  runs-from =
+      let fits = may-fewer from most (length run) few may in
+      record {
+        canonical = refl;
+        under = refl;
+        between = none-under-way from.stage stage;
+        running = fits.running;
+        free = fits.free;
+        front = is;
+        all = all;
+        line = fits.line;
+        room = fits.room;
+        last = λ v. echo-last s x held v;
       }
 
-  -- where no byte is taken, all is left
-  pub left-whole : (s : StoreValue) (x : Ldterm M) → IsHeld name s x → with_left (cells_left (ldterm_in name s x)) (ldterm_in name s x) ≡ ldterm_in name s x
-  left-whole s x held = at x.in_work refl
-    where
-      at : (o : Option M) → x.in_work ≡ o → with_left (cells_left (ldterm_in name s x)) (ldterm_in name s x) ≡ ldterm_in name s x
-      at None there = idle-left name s x there (cells_left (ldterm_in name s x))
-      at (Some m) there = busy-all name s x m there held
+  -- each of them begins with blocks enough
+  pub run-begun : (here : Spot) → length run ≤ 256 → HasRoom s (STOP_BLOCKS + 2) → (byte : ℕ) → byte < length run → HasRoom s (STOP_BLOCKS + blocks_grown from (bytes_on here byte from).state)
+  run-begun here short room byte within =
+      free-on here s from stage byte
+      (room-for s (blocks_grown from (ahead here (3 * byte) from).state) room (run-blocks here (icanon from.termios) (echo from.termios) run (drop (length run) (cells_left from)) from byte runs-from short (omega arith)))
 
-  -- bytes that may be treated at once
-  module _ (s : StoreValue) (x : Ldterm M) (run : List ℕ) (most : ℕ) (held : IsHeld name s x) (stage : stages_left (stage_in x.stage) ≡ 0) (few : length run ≤ most)
-      (is : cells_left (ldterm_in name s x) ≡ run ++ drop (length run) (cells_left (ldterm_in name s x))) (all : AllByRecursion (λ b. is_plain x.termios b ≡ true) run) (may : MayRun most (ldterm_in name s x)) where
-    abbrev from : ldterms.Ldterm ℕ
-    from = ldterm_in name s x
+module _ (s s1 : StoreValue) (x x1 : Ldterm) (here : Spot) (run : List ℕ) (t : Fates) (held : IsHeld s x)
+    (front : Proceeds s s1 x x1 0 [] [] t t (sends [] (with_left (drop (length run) (cells_left (ldterm_in s x))) (ldterm_in s x)))) where
+  abbrev p : ldterms.Ldterm ℕ
+  p = ldterm_in s x
 
-    runs-from : Runs (icanon from.termios) (echo from.termios) run (drop (length run) (cells_left from)) from
-    runs-from =
-        let fits = may-fewer from most (length run) few may in
+  -- no byte is plain
+  pub no-run : (notes : List Note) → run ≡ [] → notes ≡ [] → Proceeds s s1 x x1 2 notes [] t t (ahead here 0 p)
+  no-run notes none quiet =
+      subst (λ ns. Proceeds s s1 x x1 2 ns [] t t (sends [] p)) (sym quiet)
+      (takes-more s s1 x x1 0 2 [] [] t t (sends [] p) (omega arith)
+      (subst (λ (q : ldterms.Ldterm ℕ). Proceeds s s1 x x1 0 [] [] t t (sends [] q)) (ap (λ l. with_left (drop (length l) (cells_left p)) p) none ∙ left-whole s x held) front))
+
+  -- what it is set to, and its line, are the same
+  pub same-termios : x1.termios ≡ x.termios
+  same-termios = ap (λ (q : ldterms.Ldterm ℕ). q.termios) front.state
+
+  pub same-line : x1.line ≡ x.line
+  same-line = ap (λ (q : ldterms.Ldterm ℕ). q.line) front.state
+
+  pub line-room : (most : ℕ) → length run ≤ most → MayRun most p → icanon x1.termios ≡ true → length x1.line + length run ≤ LINE_MAX
+  line-room most few may is = let l = may.line (ap icanon (sym same-termios) ∙ is) in let e = ap length same-line in omega arith
+
+  module _ (s2 : StoreValue) (x2 : Ldterm) (st1 : IsStore s1) (typed : Proceeds s1 s2 x1 x2 1 [] [] t t (sends [] (typed_run run (ldterm_in s1 x1)))) where
+    pub typed-on : Proceeds s s2 x x2 1 [] [] t t (sends [] (typed_run run (with_left (drop (length run) (cells_left p)) p)))
+    typed-on = proceeds-joined s s1 x x1 0 [] t t (sends [] (with_left (drop (length run) (cells_left p)) p)) st1 front s2 x2 1 [] [] t (λ q. sends [] (typed_run run q)) typed
+
+    -- all of a run was done, and so it was treated byte by byte
+    pub run-treated : (s3 : StoreValue) (x3 : Ldterm) (notes : List Note) (t3 : Fates) (most : ℕ) → IsStore s2 → Proceeds s2 s3 x2 x3 1 notes [] t t3 (run_echoed here run (ldterm_in s2 x2))
+        → stages_left (stage_in x.stage) ≡ 0 → 0 < length run → length run ≤ most → cells_left p ≡ run ++ drop (length run) (cells_left p) → AllByRecursion (λ b. is_plain x.termios b ≡ true) run → MayRun most p
+        → Proceeds s s3 x x3 2 notes [] t t3 (ahead here (3 * length run) p)
+    run-treated s3 x3 notes t3 most st2 echoed stage some few is all may =
+        let runs = runs-from s x run most held stage few is all may in
+        let same = runs-done here (icanon p.termios) (echo p.termios) run (drop (length run) (cells_left p)) p some runs in
+        let did = subst (Proceeds s s3 x x3 2 notes [] t t3) (done-as here (icanon p.termios) (echo p.termios) run p refl refl)
+        (proceeds-joined s s2 x x2 1 [] t t (sends [] (typed_run run (with_left (drop (length run) (cells_left p)) p))) st2 typed-on s3 x3 1 notes [] t3 (run_echoed here run) echoed) in
         record {
-          canonical = refl;
-          under = refl;
-          between = none-under-way from.stage stage;
-          running = fits.running;
-          free = fits.free;
-          front = is;
-          all = all;
-          line = fits.line;
-          room = fits.room;
-          last = λ v. echo-last s x held v;
+          state = did.state ∙ sym same.state;
+          noted = did.noted ∙ sym same.notes;
+          parcels = did.parcels ∙ sym same.sent;
+          told = did.told ∙ sym (same.told t);
+          held = did.held;
+          own = did.own;
+          chains = did.chains;
+          hands = did.hands;
+          mblks = did.mblks;
+          dblks = did.dblks;
+          pool = did.pool;
         }
-
-    -- each of them begins with blocks enough
-    pub run-begun : (here : Spot) → length run ≤ 256 → HasRoom s (STOP_BLOCKS + 2) → (byte : ℕ) → byte < length run → HasRoom s (STOP_BLOCKS + blocks_grown from (bytes_on here byte from).state)
-    run-begun here short room byte within =
-        free-on here s from stage byte
-        (room-for s (blocks_grown from (ahead here (3 * byte) from).state) room (run-blocks here (icanon from.termios) (echo from.termios) run (drop (length run) (cells_left from)) from byte runs-from short (omega arith)))
-
-  module _ (s s1 : StoreValue) (x x1 : Ldterm M) (here : Spot) (run : List ℕ) (t : Fates) (held : IsHeld name s x)
-      (front : Proceeds name s s1 x x1 0 [] [] t t (sends [] (with_left (drop (length run) (cells_left (ldterm_in name s x))) (ldterm_in name s x)))) where
-    abbrev p : ldterms.Ldterm ℕ
-    p = ldterm_in name s x
-
-    -- no byte is plain
-    pub no-run : (notes : List Note) → run ≡ [] → notes ≡ [] → Proceeds name s s1 x x1 2 notes [] t t (ahead here 0 p)
-    no-run notes none quiet =
-        subst (λ ns. Proceeds name s s1 x x1 2 ns [] t t (sends [] p)) (sym quiet)
-        (takes-more name s s1 x x1 0 2 [] [] t t (sends [] p) (omega arith)
-        (subst (λ (q : ldterms.Ldterm ℕ). Proceeds name s s1 x x1 0 [] [] t t (sends [] q)) (ap (λ l. with_left (drop (length l) (cells_left p)) p) none ∙ left-whole s x held) front))
-
-    -- what it is set to, and its line, are the same
-    pub same-termios : x1.termios ≡ x.termios
-    same-termios = ap (λ (q : ldterms.Ldterm ℕ). q.termios) front.state
-
-    pub same-line : x1.line ≡ x.line
-    same-line = ap (λ (q : ldterms.Ldterm ℕ). q.line) front.state
-
-    pub line-room : (most : ℕ) → length run ≤ most → MayRun most p → icanon x1.termios ≡ true → length x1.line + length run ≤ LINE_MAX
-    line-room most few may is = let l = may.line (ap icanon (sym same-termios) ∙ is) in let e = ap length same-line in omega arith
-
-    module _ (s2 : StoreValue) (x2 : Ldterm M) (st1 : IsStore s1) (typed : Proceeds name s1 s2 x1 x2 1 [] [] t t (sends [] (typed_run run (ldterm_in name s1 x1)))) where
-      pub typed-on : Proceeds name s s2 x x2 1 [] [] t t (sends [] (typed_run run (with_left (drop (length run) (cells_left p)) p)))
-      typed-on = proceeds-joined name s s1 x x1 0 [] t t (sends [] (with_left (drop (length run) (cells_left p)) p)) st1 front s2 x2 1 [] [] t (λ q. sends [] (typed_run run q)) typed
-
-      -- all of a run was done, and so it was treated byte by byte
-      pub run-treated : (s3 : StoreValue) (x3 : Ldterm M) (notes : List Note) (t3 : Fates) (most : ℕ) → IsStore s2 → Proceeds name s2 s3 x2 x3 1 notes [] t t3 (run_echoed here run (ldterm_in name s2 x2))
-          → stages_left (stage_in x.stage) ≡ 0 → 0 < length run → length run ≤ most → cells_left p ≡ run ++ drop (length run) (cells_left p) → AllByRecursion (λ b. is_plain x.termios b ≡ true) run → MayRun most p
-          → Proceeds name s s3 x x3 2 notes [] t t3 (ahead here (3 * length run) p)
-      run-treated s3 x3 notes t3 most st2 echoed stage some few is all may =
-          let runs = runs-from s x run most held stage few is all may in
-          let same = runs-done here (icanon p.termios) (echo p.termios) run (drop (length run) (cells_left p)) p some runs in
-          let did = subst (Proceeds name s s3 x x3 2 notes [] t t3) (done-as here (icanon p.termios) (echo p.termios) run p refl refl)
-          (proceeds-joined name s s2 x x2 1 [] t t (sends [] (typed_run run (with_left (drop (length run) (cells_left p)) p))) st2 typed-on s3 x3 1 notes [] t3 (run_echoed here run) echoed) in
-          record {
-            state = did.state ∙ sym same.state;
-            noted = did.noted ∙ sym same.notes;
-            parcels = did.parcels ∙ sym same.sent;
-            told = did.told ∙ sym (same.told t);
-            held = did.held;
-            own = did.own;
-            chains = did.chains;
-            hands = did.hands;
-            mblks = did.mblks;
-            dblks = did.dblks;
-            pool = did.pool;
-          }

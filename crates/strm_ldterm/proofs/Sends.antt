@@ -21,7 +21,7 @@ use Rattle.strm_types.specs.Names.{direction_at}
 use Rattle.strm_types.specs.Rules.{told_more}
 use Rattle.strm_types.specs.Typing.{bare, lost}
 use Rattle.strm_types.specs.Write.{chunk_count}
-use Rattle.strm_blocks.specs.Blocks.{Block, Held, StoreValue, IsStore, IsInHand, IsFreshName, in_hand, list_at, held, changed, times_in, references, free_m, free_d, copy_of, filled_block, written, taken_by, extended}
+use Rattle.strm_blocks.specs.Blocks.{Block, Held, StoreValue, IsStore, IsInHand, IsFreshName, in_hand, list_at, held, changed, times_in, references, free_m, free_d, copy_of, filled_block, written, taken_by, extended, token}
 use Rattle.strm_blocks.specs.Outcomes.{Copied, NoneFree}
 use Rattle.strm_blocks.proofs.Laws.{in_hand-held}
 use Rattle.strm_msg.specs.Bytes.{bytes_of, data_bytes}
@@ -120,120 +120,119 @@ times-held : (s : StoreValue) (i : ℕ) (chain : List Block) (j : ℕ) → times
 unfolding once
 times-held s i chain j = sum_by-cons (λ (h : Held). cond (eqb h.name j) 1 0) (record { name = i; chain = chain }) s.hand
 
-module _ {M : Type 0} (name : M → ℕ) where
-  pub times-one : (i : ℕ) (z : Sent M) (sent : List (Sent M)) → sent ≡ z ∷ [] → times_sent name i sent ≡ once (name z.message) i
-  unfolding times_sent
-  times-one i z sent one = let e = ap (times_sent name i) one in omega arith
+pub times-one : (i : ℕ) (z : Sent) (sent : List Sent) → sent ≡ z ∷ [] → times_sent i sent ≡ once (token z.message) i
+unfolding times_sent
+times-one i z sent one = let e = ap (times_sent i) one in omega arith
 
-  times-none : (i : ℕ) (sent : List (Sent M)) → sent ≡ [] → times_sent name i sent ≡ 0
-  unfolding times_sent
-  times-none i sent none = ap (times_sent name i) none
+times-none : (i : ℕ) (sent : List Sent) → sent ≡ [] → times_sent i sent ≡ 0
+unfolding times_sent
+times-none i sent none = ap (times_sent i) none
 
-  -- what the module keeps is as it was, where a message was made
-  module _ (s t : StoreValue) (x : Ldterm M) (i : ℕ) (m : Message ℕ) (made : MadeOne s t i m) where
-    made-stays : (j : ℕ) → 0 < times_in j s.hand → in_hand t j ≡ in_hand s j
-    made-stays j some =
-        ap (λ v. in_hand v j) made.after ∙ stays-chain s i (in_hand t i) j (λ e. (let f = made.fresh in let w = ap (λ k. times_in k s.hand) e in absurd (omega arith)))
+-- what the module keeps is as it was, where a message was made
+module _ (s t : StoreValue) (x : Ldterm) (i : ℕ) (m : Message ℕ) (made : MadeOne s t i m) where
+  made-stays : (j : ℕ) → 0 < times_in j s.hand → in_hand t j ≡ in_hand s j
+  made-stays j some =
+      ap (λ v. in_hand v j) made.after ∙ stays-chain s i (in_hand t i) j (λ e. (let f = made.fresh in let w = ap (λ k. times_in k s.hand) e in absurd (omega arith)))
 
-    pub made-same : AreIn s (λ _. 0) (keeps name x) → SameOwn s t (owns x) (keeps name x)
-    made-same kept = record {
-      lists = λ k some. ap (λ v. list_at v k) made.after;
-      mblks = ap (λ v. v.mblks) made.after;
-      dblks = ap (λ v. v.dblks) made.after;
-      kept = λ j some. made-stays j (let a = kept.apart j in omega arith);
+  pub made-same : AreIn s (λ _. 0) (keeps x) → SameOwn s t (owns x) (keeps x)
+  made-same kept = record {
+    lists = λ k some. ap (λ v. list_at v k) made.after;
+    mblks = ap (λ v. v.mblks) made.after;
+    dblks = ap (λ v. v.dblks) made.after;
+    kept = λ j some. made-stays j (let a = kept.apart j in omega arith);
+  }
+
+-- The module has changed beside its lists and what it keeps, and one message was made that is sent on.
+pub sends-made : (s t : StoreValue) (x y : Ldterm) (z : Sent) (sent : List Sent) (f f' : Fates) (m : Message ℕ) (to : Spot) (is : Acted ℕ (ldterms.Ldterm ℕ)) → IsHeld s y → AreIn s (λ _. 0) (keeps y)
+    → ((k : ℕ) → owns y k ≡ owns x k) → ((i : ℕ) → keeps y i ≡ keeps x i) → MadeOne s t (token z.message) m → sent ≡ z ∷ [] → z.to ≡ to → ldterm_in s y ≡ is.state → [] ≡ is.notes
+    → ◌≡◌ {A = List (Parcel ℕ)} (record { to = to; message = m } ∷ []) is.sent → f' ≡ tallied is.gone f → Proceeds s t x y 1 [] sent f f' is
+sends-made s t x y z sent f f' m to is holds kept own keep made one place state notes parcels told =
+    let i = token z.message in
+    let same = made-same s t y i m made kept in
+    let framed = ldterm-frame s t y same holds in
+    record {
+      state = framed.0 ∙ state;
+      noted = notes;
+      parcels =
+          one-parts t z sent one ∙ ap (λ (w : Message ℕ). record { to = z.to; message = w } ∷ []) made.shows
+          ∙ ap (λ (w : Spot). record { to = w; message = m } ∷ []) place ∙ parcels;
+      told = told;
+      held = framed.1;
+      own = record { lists = λ k none. ap (λ v. list_at v k) made.after; owns_same = own };
+      chains = one-chains t z sent one made.chain;
+      hands = record {
+        counts = λ j.
+            let a = ap (λ v. times_in j v.hand) made.after in
+            let h = times-held s i (in_hand t i) j in
+            let o = times-one j z sent one in
+            let e = keep j in
+            omega arith;
+        others = λ j gone none some. made-stays s t y i m made j some;
+      };
+      mblks = (let r = made.room_m in omega arith);
+      dblks = (let r = made.room_d in omega arith);
+      pool = record { mblks = same.mblks; dblks = same.dblks };
     }
 
-  -- The module has changed beside its lists and what it keeps, and one message was made that is sent on.
-  pub sends-made : (s t : StoreValue) (x y : Ldterm M) (z : Sent M) (sent : List (Sent M)) (f f' : Fates) (m : Message ℕ) (to : Spot) (is : Acted ℕ (ldterms.Ldterm ℕ)) → IsHeld name s y → AreIn s (λ _. 0) (keeps name y)
-      → ((k : ℕ) → owns y k ≡ owns x k) → ((i : ℕ) → keeps name y i ≡ keeps name x i) → MadeOne s t (name z.message) m → sent ≡ z ∷ [] → z.to ≡ to → ldterm_in name s y ≡ is.state → [] ≡ is.notes
-      → ◌≡◌ {A = List (Parcel ℕ)} (record { to = to; message = m } ∷ []) is.sent → f' ≡ tallied is.gone f → Proceeds name s t x y 1 [] sent f f' is
-  sends-made s t x y z sent f f' m to is holds kept own keep made one place state notes parcels told =
-      let i = name z.message in
-      let same = made-same s t y i m made kept in
-      let framed = ldterm-frame name s t y same holds in
-      record {
-        state = framed.0 ∙ state;
-        noted = notes;
-        parcels =
-            one-parts name t z sent one ∙ ap (λ (w : Message ℕ). record { to = z.to; message = w } ∷ []) made.shows
-            ∙ ap (λ (w : Spot). record { to = w; message = m } ∷ []) place ∙ parcels;
-        told = told;
-        held = framed.1;
-        own = record { lists = λ k none. ap (λ v. list_at v k) made.after; owns_same = own };
-        chains = one-chains name t z sent one made.chain;
-        hands = record {
-          counts = λ j.
-              let a = ap (λ v. times_in j v.hand) made.after in
-              let h = times-held s i (in_hand t i) j in
-              let o = times-one j z sent one in
-              let e = keep j in
-              omega arith;
-          others = λ j gone none some. made-stays s t y i m made j some;
-        };
-        mblks = (let r = made.room_m in omega arith);
-        dblks = (let r = made.room_d in omega arith);
-        pool = record { mblks = same.mblks; dblks = same.dblks };
-      }
+-- It has changed, and nothing is sent.
+pub sends-none : (s : StoreValue) (x y : Ldterm) (sent : List Sent) (f f' : Fates) (takes : ℕ) (is : Acted ℕ (ldterms.Ldterm ℕ)) → IsHeld s y → ((k : ℕ) → owns y k ≡ owns x k) → ((i : ℕ) → keeps y i ≡ keeps x i)
+    → sent ≡ [] → ldterm_in s y ≡ is.state → [] ≡ is.notes → [] ≡ is.sent → f' ≡ tallied is.gone f → Proceeds s s x y takes [] sent f f' is
+sends-none s x y sent f f' takes is holds own keep none state notes parcels told = record {
+  state = state;
+  noted = notes;
+  parcels = no-parts s sent none ∙ parcels;
+  told = told;
+  held = holds;
+  own = record { lists = λ k none. refl; owns_same = own };
+  chains = none-chains s sent none;
+  hands = record { counts = λ j. let o = times-none j sent none in let e = keep j in omega arith; others = λ j gone none some. refl };
+  mblks = omega arith;
+  dblks = omega arith;
+  pool = record { mblks = refl; dblks = refl };
+}
 
-  -- It has changed, and nothing is sent.
-  pub sends-none : (s : StoreValue) (x y : Ldterm M) (sent : List (Sent M)) (f f' : Fates) (takes : ℕ) (is : Acted ℕ (ldterms.Ldterm ℕ)) → IsHeld name s y → ((k : ℕ) → owns y k ≡ owns x k) → ((i : ℕ) → keeps name y i ≡ keeps name x i)
-      → sent ≡ [] → ldterm_in name s y ≡ is.state → [] ≡ is.notes → [] ≡ is.sent → f' ≡ tallied is.gone f → Proceeds name s s x y takes [] sent f f' is
-  sends-none s x y sent f f' takes is holds own keep none state notes parcels told = record {
-    state = state;
-    noted = notes;
-    parcels = no-parts name s sent none ∙ parcels;
-    told = told;
-    held = holds;
-    own = record { lists = λ k none. refl; owns_same = own };
-    chains = none-chains name s sent none;
-    hands = record { counts = λ j. let o = times-none j sent none in let e = keep j in omega arith; others = λ j gone none some. refl };
-    mblks = omega arith;
-    dblks = omega arith;
-    pool = record { mblks = refl; dblks = refl };
-  }
+-- whether output is stopped, and the line, are beside what it holds
+pub held-stopped : (s : StoreValue) (x : Ldterm) → IsHeld s x → IsHeld s (record x { stopped = true })
+held-stopped s x h = record { read = h.read; write = h.write; apart = h.apart; work = h.work; gathers = h.gathers; echoes = h.echoes; once_each = h.once_each }
 
-  -- whether output is stopped, and the line, are beside what it holds
-  pub held-stopped : (s : StoreValue) (x : Ldterm M) → IsHeld name s x → IsHeld name s (record x { stopped = true })
-  held-stopped s x h = record { read = h.read; write = h.write; apart = h.apart; work = h.work; gathers = h.gathers; echoes = h.echoes; once_each = h.once_each }
+pub held-line : (s : StoreValue) (x : Ldterm) (line : List ℕ) → IsHeld s x → IsHeld s (record x { line = line })
+held-line s x line h = record { read = h.read; write = h.write; apart = h.apart; work = h.work; gathers = h.gathers; echoes = h.echoes; once_each = h.once_each }
 
-  pub held-line : (s : StoreValue) (x : Ldterm M) (line : List ℕ) → IsHeld name s x → IsHeld name s (record x { line = line })
-  held-line s x line h = record { read = h.read; write = h.write; apart = h.apart; work = h.work; gathers = h.gathers; echoes = h.echoes; once_each = h.once_each }
+-- what a key tells beside what is sent
+pub tells : (s t : StoreValue) (x y : Ldterm) (takes : ℕ) (sent : List Sent) (f f' : Fates) (is : Acted ℕ (ldterms.Ldterm ℕ)) (gone : List (Fate ℕ)) → Proceeds s t x y takes [] sent f f is → f' ≡ tallied gone f
+    → Proceeds s t x y takes [] sent f f' (record is { gone = gone })
+tells s t x y takes sent f f' is gone did told = record {
+  state = did.state;
+  noted = did.noted;
+  parcels = did.parcels;
+  told = told;
+  held = did.held;
+  own = did.own;
+  chains = did.chains;
+  hands = did.hands;
+  mblks = did.mblks;
+  dblks = did.dblks;
+  pool = did.pool;
+}
 
-  -- what a key tells beside what is sent
-  pub tells : (s t : StoreValue) (x y : Ldterm M) (takes : ℕ) (sent : List (Sent M)) (f f' : Fates) (is : Acted ℕ (ldterms.Ldterm ℕ)) (gone : List (Fate ℕ)) → Proceeds name s t x y takes [] sent f f is → f' ≡ tallied gone f
-      → Proceeds name s t x y takes [] sent f f' (record is { gone = gone })
-  tells s t x y takes sent f f' is gone did told = record {
-    state = did.state;
-    noted = did.noted;
-    parcels = did.parcels;
-    told = told;
-    held = did.held;
-    own = did.own;
-    chains = did.chains;
-    hands = did.hands;
-    mblks = did.mblks;
-    dblks = did.dblks;
-    pool = did.pool;
-  }
+-- Behind a stage of a turn: what is kept is in hand, what was sent is beside it, and what wasn't taken is free.
+module _ (s t : StoreValue) (x y : Ldterm) (takes : ℕ) (notes : List Note) (sent : List Sent) (f f' : Fates) (is : Acted ℕ (ldterms.Ldterm ℕ)) (did : Proceeds s t x y takes notes sent f f' is) where
+  pub proceeds-kept : AreIn s (λ _. 0) (keeps x) → AreIn t (λ _. 0) (keeps y)
+  proceeds-kept kept = record { apart = λ i. let c = did.hands.counts i in let a = kept.apart i in omega arith }
 
-  -- Behind a stage of a turn: what is kept is in hand, what was sent is beside it, and what wasn't taken is free.
-  module _ (s t : StoreValue) (x y : Ldterm M) (takes : ℕ) (notes : List Note) (sent : List (Sent M)) (f f' : Fates) (is : Acted ℕ (ldterms.Ldterm ℕ)) (did : Proceeds name s t x y takes notes sent f f' is) where
-    pub proceeds-kept : AreIn s (λ _. 0) (keeps name x) → AreIn t (λ _. 0) (keeps name y)
-    proceeds-kept kept = record { apart = λ i. let c = did.hands.counts i in let a = kept.apart i in omega arith }
+  pub proceeds-sent : AreIn s (λ _. 0) (keeps x) → (i : ℕ) → times_sent i sent ≤ times_in i t.hand
+  proceeds-sent kept i = let c = did.hands.counts i in let a = kept.apart i in omega arith
 
-    pub proceeds-sent : AreIn s (λ _. 0) (keeps name x) → (i : ℕ) → times_sent name i sent ≤ times_in i t.hand
-    proceeds-sent kept i = let c = did.hands.counts i in let a = kept.apart i in omega arith
+  pub proceeds-room : (n more : ℕ) → takes + more ≤ n → HasRoom s n → HasRoom t more
+  proceeds-room n more few room = record { mblks = (let r = room.mblks in let d = did.mblks in omega arith); dblks = (let r = room.dblks in let d = did.dblks in omega arith) }
 
-    pub proceeds-room : (n more : ℕ) → takes + more ≤ n → HasRoom s n → HasRoom t more
-    proceeds-room n more few room = record { mblks = (let r = room.mblks in let d = did.mblks in omega arith); dblks = (let r = room.dblks in let d = did.dblks in omega arith) }
-
-  -- the first message that is sent is in hand
-  pub first-in_hand : (s : StoreValue) (sent rest : List (Sent M)) (z : Sent M) → IsStore s → sent ≡ z ∷ rest → ((i : ℕ) → times_sent name i sent ≤ times_in i s.hand) → IsInHand s (name z.message)
-  unfolding times_sent
-  first-in_hand s sent rest z st first within =
-      let i = name z.message in
-      let e = ap (times_sent name i) first in let some = within i in let few = st.apart i in let one = once-self i in
-      omega arith
+-- the first message that is sent is in hand
+pub first-in_hand : (s : StoreValue) (sent rest : List Sent) (z : Sent) → IsStore s → sent ≡ z ∷ rest → ((i : ℕ) → times_sent i sent ≤ times_in i s.hand) → IsInHand s (token z.message)
+unfolding times_sent
+first-in_hand s sent rest z st first within =
+    let i = token z.message in
+    let e = ap (times_sent i) first in let some = within i in let few = st.apart i in let one = once-self i in
+    omega arith
 
 pub stop-plain : is_data_kind Stop ≡ false
 unfolding is_data_kind

@@ -10,7 +10,7 @@ use Rattle.strm_types.specs.Ldterms as ldterms
 use Rattle.strm_types.specs.Ldterms.{queued_at, sends, onward}
 use Rattle.strm_types.specs.Message.{Message}
 use Rattle.strm_types.specs.Queue as plain
-use Rattle.strm_blocks.specs.Blocks.{StoreValue, IsStore, in_hand, dropped}
+use Rattle.strm_blocks.specs.Blocks.{StoreValue, IsStore, in_hand, dropped, token}
 use Rattle.strm_queue.specs.declared.queue.Queue.{Queue}
 use Rattle.strm_queue.specs.Stored.{queue_in, Changes, FreesBlocks}
 use Rattle.strm_frame.specs.declared.modules.Acts.{Acts}
@@ -27,98 +27,97 @@ use Rattle.strm_ldterm.specs.Does.{Alters, Does}
 use Rattle.strm_ldterm.specs.Frames.{kept-same, ldterm-frame}
 use Rattle.strm_ldterm.proofs.Beside.{read-plain, read-held, read-own, write-plain, write-held, write-own, without-same}
 
-module _ {M : Type 0} (name : M → ℕ) where
-  -- a message in hand that is put on a queue
-  joined-hands : (s t : StoreValue) (i : ℕ) (q q' : Queue) (k k' : ℕ → ℕ) → IsStore s → CanPut s i k → ((j : ℕ) → k' j ≡ k j) → Changes (dropped s i) t q q' → FreesBlocks s t → Hands s t i k k' (λ _. 0)
-  joined-hands s t i q q' k k' st can same changes frees =
-      let h = shifts-joined s t i q q' st (record { apart = λ j. let a = can.apart j in omega arith }) changes frees in
-      record { counts = λ j. let c = h.counts j in let e = same j in omega arith; others = λ j gone kept some. h.others j gone some }
+-- a message in hand that is put on a queue
+joined-hands : (s t : StoreValue) (i : ℕ) (q q' : Queue) (k k' : ℕ → ℕ) → IsStore s → CanPut s i k → ((j : ℕ) → k' j ≡ k j) → Changes (dropped s i) t q q' → FreesBlocks s t → Hands s t i k k' (λ _. 0)
+joined-hands s t i q q' k k' st can same changes frees =
+    let h = shifts-joined s t i q q' st (record { apart = λ j. let a = can.apart j in omega arith }) changes frees in
+    record { counts = λ j. let c = h.counts j in let e = same j in omega arith; others = λ j gone kept some. h.others j gone some }
 
-  module _ (s t : StoreValue) (x : Ldterm M) (i : ℕ) (q' : Queue) (acts : Acts M) (f : Fates) (note : Bool) (st : IsStore s) (held : IsHeld name s x) (can : CanPut s i (keeps name x))
-      (frees : FreesBlocks s t) (none : sent_of acts.sent ≡ []) where
-    framed : (ldterm_in name (dropped s i) x ≡ ldterm_in name s x) × IsHeld name (dropped s i) x
-    framed = ldterm-frame name s (dropped s i) x (without-same name s x i st can) held
+module _ (s t : StoreValue) (x : Ldterm) (i : ℕ) (q' : Queue) (acts : Acts) (f : Fates) (note : Bool) (st : IsStore s) (held : IsHeld s x) (can : CanPut s i (keeps x))
+    (frees : FreesBlocks s t) (none : sent_of acts.sent ≡ []) where
+  framed : (ldterm_in (dropped s i) x ≡ ldterm_in s x) × IsHeld (dropped s i) x
+  framed = ldterm-frame s (dropped s i) x (without-same s x i st can) held
 
-    pub waits-up : Changes (dropped s i) t x.read_queue q' → queue_in t q' ≡ plain.put_on (message_in s i) (queue_in s x.read_queue) → note ≡ plain.put_enables (message_in s i) (queue_in s x.read_queue)
-        → acts.notes.items ≡ cond note (Enable Up ∷ []) [] → Does name s t x (record x { read_queue = q' }) i acts f f (queued_at Up (message_in s i) (ldterm_in name s x))
-    waits-up changes is enables noted =
-        let h = shifts-joined s t i x.read_queue q' st (record { apart = λ j. let a = can.apart j in omega arith }) changes frees in
-        record {
-          state =
-              read-plain name (dropped s i) t x q' framed.1 changes
-              ∙ ap (λ (p : ldterms.Ldterm ℕ). record p { read_queue = queue_in t q' }) framed.0
-              ∙ ap (λ (q : plain.Queue ℕ). record (ldterm_in name s x) { read_queue = q }) is;
-          notes = noted ∙ ap (λ v. cond {A = List Note} v (Enable Up ∷ []) []) enables;
-          sent = no-parts name t (sent_of acts.sent) none;
-          told = refl;
-          held = read-held name (dropped s i) t x q' framed.1 changes;
-          own = (let own = read-own name (dropped s i) t x q' framed.1 changes in record { lists = own.lists; owns_same = own.owns_same });
-          chains = none-chains name t (sent_of acts.sent) none;
-          hands = none-hands name s t (once i) (keeps name x) (keeps name x) (sent_of acts.sent) none (joined-hands s t i x.read_queue q' (keeps name x) (keeps name x) st can (λ j. refl) changes frees);
-          frees = frees;
-          pool = h.pool;
-        }
+  pub waits-up : Changes (dropped s i) t x.read_queue q' → queue_in t q' ≡ plain.put_on (message_in s i) (queue_in s x.read_queue) → note ≡ plain.put_enables (message_in s i) (queue_in s x.read_queue)
+      → acts.notes.items ≡ cond note (Enable Up ∷ []) [] → Does s t x (record x { read_queue = q' }) i acts f f (queued_at Up (message_in s i) (ldterm_in s x))
+  waits-up changes is enables noted =
+      let h = shifts-joined s t i x.read_queue q' st (record { apart = λ j. let a = can.apart j in omega arith }) changes frees in
+      record {
+        state =
+            read-plain (dropped s i) t x q' framed.1 changes
+            ∙ ap (λ (p : ldterms.Ldterm ℕ). record p { read_queue = queue_in t q' }) framed.0
+            ∙ ap (λ (q : plain.Queue ℕ). record (ldterm_in s x) { read_queue = q }) is;
+        notes = noted ∙ ap (λ v. cond {A = List Note} v (Enable Up ∷ []) []) enables;
+        sent = no-parts t (sent_of acts.sent) none;
+        told = refl;
+        held = read-held (dropped s i) t x q' framed.1 changes;
+        own = (let own = read-own (dropped s i) t x q' framed.1 changes in record { lists = own.lists; owns_same = own.owns_same });
+        chains = none-chains t (sent_of acts.sent) none;
+        hands = none-hands s t (once i) (keeps x) (keeps x) (sent_of acts.sent) none (joined-hands s t i x.read_queue q' (keeps x) (keeps x) st can (λ j. refl) changes frees);
+        frees = frees;
+        pool = h.pool;
+      }
 
-    -- where it comes to stand before the turn's echo, or there is none
-    pub waits-down : with_last (kept_in name s x.echo) (plain.put_on (message_in s i) (queue_in s x.write_queue)) ≡ plain.put_on (message_in s i) (with_last (kept_in name s x.echo) (queue_in s x.write_queue))
-        → is_some x.echo ≡ (is_some x.echo && nat_lt 0 (message_in s i).band)
-        → Changes (dropped s i) t x.write_queue q' → queue_in t q' ≡ plain.put_on (message_in s i) (queue_in s x.write_queue) → note ≡ plain.put_enables (message_in s i) (queue_in s x.write_queue)
-        → acts.notes.items ≡ cond note (Enable Down ∷ []) [] → Does name s t x (record x { write_queue = q' }) i acts f f (queued_at Down (message_in s i) (ldterm_in name s x))
-    waits-down last stays changes is enables noted =
-        let h = shifts-joined s t i x.write_queue q' st (record { apart = λ j. let a = can.apart j in omega arith }) changes frees in
-        let p = ldterm_in name s x in
-        record {
-          state =
-              write-plain name (dropped s i) t x q' framed.1 changes
-              ∙ ap (λ (o : Option (Message ℕ)). record (ldterm_in name (dropped s i) x) { write_queue = with_last o (queue_in t q') }) (kept-same name s (dropped s i) x.echo (λ j some. (without-same name s x i st can).kept j (omega arith)))
-              ∙ ap (λ (y : ldterms.Ldterm ℕ). record y { write_queue = with_last (kept_in name s x.echo) (queue_in t q') }) framed.0
-              ∙ ap (λ (q : plain.Queue ℕ). record p { write_queue = with_last (kept_in name s x.echo) q }) is
-              ∙ ap (λ (q : plain.Queue ℕ). record p { write_queue = q }) last
-              ∙ ap (λ (v : Bool). record p { write_queue = plain.put_on (message_in s i) p.write_queue; echoing = v }) stays;
-          notes = noted ∙ ap (λ v. cond {A = List Note} v (Enable Down ∷ []) []) enables;
-          sent = no-parts name t (sent_of acts.sent) none;
-          told = refl;
-          held = write-held name (dropped s i) t x q' framed.1 changes;
-          own = (let own = write-own name (dropped s i) t x q' framed.1 changes in record { lists = own.lists; owns_same = own.owns_same });
-          chains = none-chains name t (sent_of acts.sent) none;
-          hands = none-hands name s t (once i) (keeps name x) (keeps name x) (sent_of acts.sent) none (joined-hands s t i x.write_queue q' (keeps name x) (keeps name x) st can (λ j. refl) changes frees);
-          frees = frees;
-          pool = h.pool;
-        }
+  -- where it comes to stand before the turn's echo, or there is none
+  pub waits-down : with_last (kept_in s x.echo) (plain.put_on (message_in s i) (queue_in s x.write_queue)) ≡ plain.put_on (message_in s i) (with_last (kept_in s x.echo) (queue_in s x.write_queue))
+      → is_some x.echo ≡ (is_some x.echo && nat_lt 0 (message_in s i).band)
+      → Changes (dropped s i) t x.write_queue q' → queue_in t q' ≡ plain.put_on (message_in s i) (queue_in s x.write_queue) → note ≡ plain.put_enables (message_in s i) (queue_in s x.write_queue)
+      → acts.notes.items ≡ cond note (Enable Down ∷ []) [] → Does s t x (record x { write_queue = q' }) i acts f f (queued_at Down (message_in s i) (ldterm_in s x))
+  waits-down last stays changes is enables noted =
+      let h = shifts-joined s t i x.write_queue q' st (record { apart = λ j. let a = can.apart j in omega arith }) changes frees in
+      let p = ldterm_in s x in
+      record {
+        state =
+            write-plain (dropped s i) t x q' framed.1 changes
+            ∙ ap (λ (o : Option (Message ℕ)). record (ldterm_in (dropped s i) x) { write_queue = with_last o (queue_in t q') }) (kept-same s (dropped s i) x.echo (λ j some. (without-same s x i st can).kept j (omega arith)))
+            ∙ ap (λ (y : ldterms.Ldterm ℕ). record y { write_queue = with_last (kept_in s x.echo) (queue_in t q') }) framed.0
+            ∙ ap (λ (q : plain.Queue ℕ). record p { write_queue = with_last (kept_in s x.echo) q }) is
+            ∙ ap (λ (q : plain.Queue ℕ). record p { write_queue = q }) last
+            ∙ ap (λ (v : Bool). record p { write_queue = plain.put_on (message_in s i) p.write_queue; echoing = v }) stays;
+        notes = noted ∙ ap (λ v. cond {A = List Note} v (Enable Down ∷ []) []) enables;
+        sent = no-parts t (sent_of acts.sent) none;
+        told = refl;
+        held = write-held (dropped s i) t x q' framed.1 changes;
+        own = (let own = write-own (dropped s i) t x q' framed.1 changes in record { lists = own.lists; owns_same = own.owns_same });
+        chains = none-chains t (sent_of acts.sent) none;
+        hands = none-hands s t (once i) (keeps x) (keeps x) (sent_of acts.sent) none (joined-hands s t i x.write_queue q' (keeps x) (keeps x) st can (λ j. refl) changes frees);
+        frees = frees;
+        pool = h.pool;
+      }
 
-  -- after the module has altered
-  module _ (s u : StoreValue) (x y : Ldterm M) (i : ℕ) (st : IsStore s) (can : CanPut s i (keeps name x)) (alters : Alters name s u x y) where
-    pub still-can : CanPut u i (keeps name y)
-    still-can = record { apart = λ j. let a = can.apart j in let c = alters.hands.counts j in omega arith }
+-- after the module has altered
+module _ (s u : StoreValue) (x y : Ldterm) (i : ℕ) (st : IsStore s) (can : CanPut s i (keeps x)) (alters : Alters s u x y) where
+  pub still-can : CanPut u i (keeps y)
+  still-can = record { apart = λ j. let a = can.apart j in let c = alters.hands.counts j in omega arith }
 
-    not-kept : keeps name x i ≡ 0
-    not-kept = let a = can.apart i in let few = st.apart i in let one = once-self i in omega arith
+  not-kept : keeps x i ≡ 0
+  not-kept = let a = can.apart i in let few = st.apart i in let one = once-self i in omega arith
 
-    pub still-chain : in_hand u i ≡ in_hand s i
-    still-chain = let a = can.apart i in let one = once-self i in alters.hands.others i refl not-kept (omega arith)
+  pub still-chain : in_hand u i ≡ in_hand s i
+  still-chain = let a = can.apart i in let one = once-self i in alters.hands.others i refl not-kept (omega arith)
 
-    pub alters-does : (t : StoreValue) (x' : Ldterm M) (acts : Acts M) (f f' : Fates) (is is' : Acted ℕ (ldterms.Ldterm ℕ)) → Does name u t y x' i acts f f' is → is ≡ is' → Does name s t x x' i acts f f' is'
-    alters-does t x' acts f f' is is' does same =
-        subst (λ v. Does name s t x x' i acts f f' v) same (record {
-          state = does.state;
-          notes = does.notes;
-          sent = does.sent;
-          told = does.told;
-          held = does.held;
-          own = record {
-            lists = λ k none. does.own.lists k (alters.own.owns_same k ∙ none) ∙ alters.own.lists k none;
-            owns_same = λ k. does.own.owns_same k ∙ alters.own.owns_same k;
-          };
-          chains = does.chains;
-          hands = record {
-            counts = λ j. let a = alters.hands.counts j in let d = does.hands.counts j in omega arith;
-            others = λ j gone kept some.
-                let a = alters.hands.counts j in let few = alters.fewer j in
-                does.hands.others j gone (omega arith) (omega arith) ∙ alters.hands.others j refl kept some;
-          };
-          frees = record { mblks = (let a = alters.frees.mblks in let b = does.frees.mblks in omega arith); dblks = (let a = alters.frees.dblks in let b = does.frees.dblks in omega arith) };
-          pool = record { mblks = does.pool.mblks ∙ alters.pool.mblks; dblks = does.pool.dblks ∙ alters.pool.dblks };
-        })
+  pub alters-does : (t : StoreValue) (x' : Ldterm) (acts : Acts) (f f' : Fates) (is is' : Acted ℕ (ldterms.Ldterm ℕ)) → Does u t y x' i acts f f' is → is ≡ is' → Does s t x x' i acts f f' is'
+  alters-does t x' acts f f' is is' does same =
+      subst (λ v. Does s t x x' i acts f f' v) same (record {
+        state = does.state;
+        notes = does.notes;
+        sent = does.sent;
+        told = does.told;
+        held = does.held;
+        own = record {
+          lists = λ k none. does.own.lists k (alters.own.owns_same k ∙ none) ∙ alters.own.lists k none;
+          owns_same = λ k. does.own.owns_same k ∙ alters.own.owns_same k;
+        };
+        chains = does.chains;
+        hands = record {
+          counts = λ j. let a = alters.hands.counts j in let d = does.hands.counts j in omega arith;
+          others = λ j gone kept some.
+              let a = alters.hands.counts j in let few = alters.fewer j in
+              does.hands.others j gone (omega arith) (omega arith) ∙ alters.hands.others j refl kept some;
+        };
+        frees = record { mblks = (let a = alters.frees.mblks in let b = does.frees.mblks in omega arith); dblks = (let a = alters.frees.dblks in let b = does.frees.dblks in omega arith) };
+        pool = record { mblks = does.pool.mblks ∙ alters.pool.mblks; dblks = does.pool.dblks ∙ alters.pool.dblks };
+      })
 
 -- a message of band 0 ends the echo that stood there
 and-false : (v : Bool) → (v && false) ≡ false
@@ -131,19 +130,18 @@ echo-ends m p none =
     (sym (ap (λ b. p.echoing && nat_lt 0 b) none ∙ and-false p.echoing))
 
 -- a message that passes
-module _ {M : Type 0} (name : M → ℕ) where
-  pub passes-does : (s : StoreValue) (x : Ldterm M) (z : Sent M) (acts : Acts M) (f : Fates) (here : Spot) (notes : List Note) → IsHeld name s x → IsChain (in_hand s (name z.message)) → z.to ≡ toward here.way here
-      → sent_of acts.sent ≡ z ∷ [] → acts.notes.items ≡ notes
-      → Does name s s x x (name z.message) acts f f (record (sends (onward here.way here (message_in s (name z.message)) ∷ []) (ldterm_in name s x)) { notes = notes })
-  passes-does s x z acts f here notes held chain to one noted = record {
-    state = refl;
-    notes = noted;
-    sent = one-parts name s z (sent_of acts.sent) one ∙ ap (λ (spot : Spot). record { to = spot; message = message_in s (name z.message) } ∷ []) to;
-    told = refl;
-    held = held;
-    own = record { lists = λ k none. refl; owns_same = λ k. refl };
-    chains = one-chains name s z (sent_of acts.sent) one chain;
-    hands = one-hands name s z (keeps name x) (sent_of acts.sent) one;
-    frees = record { mblks = omega arith; dblks = omega arith };
-    pool = record { mblks = refl; dblks = refl };
-  }
+pub passes-does : (s : StoreValue) (x : Ldterm) (z : Sent) (acts : Acts) (f : Fates) (here : Spot) (notes : List Note) → IsHeld s x → IsChain (in_hand s (token z.message)) → z.to ≡ toward here.way here
+    → sent_of acts.sent ≡ z ∷ [] → acts.notes.items ≡ notes
+    → Does s s x x (token z.message) acts f f (record (sends (onward here.way here (message_in s (token z.message)) ∷ []) (ldterm_in s x)) { notes = notes })
+passes-does s x z acts f here notes held chain to one noted = record {
+  state = refl;
+  notes = noted;
+  sent = one-parts s z (sent_of acts.sent) one ∙ ap (λ (spot : Spot). record { to = spot; message = message_in s (token z.message) } ∷ []) to;
+  told = refl;
+  held = held;
+  own = record { lists = λ k none. refl; owns_same = λ k. refl };
+  chains = one-chains s z (sent_of acts.sent) one chain;
+  hands = one-hands s z (keeps x) (sent_of acts.sent) one;
+  frees = record { mblks = omega arith; dblks = omega arith };
+  pool = record { mblks = refl; dblks = refl };
+}

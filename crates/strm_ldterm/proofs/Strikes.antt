@@ -34,29 +34,28 @@ module _ (here : Spot) (c : ℕ) (p : ldterms.Ldterm ℕ) where
   pub added-over : icanon p.termios ≡ true → has_room p.line ≡ false → imaxbel p.termios ≡ false → added plain here c p ≡ record (sends [] (record p { line = [] })) { gone = lost plain here LineOver (p.line ++ c ∷ []) }
   added-over lines full still = rw (lines, full, still) refl
 
-module _ {M : Type 0} (name : M → ℕ) where
-  -- only the line altered
-  pub line-proceeds : (s : StoreValue) (x : Ldterm M) (line line' : List ℕ) (f f' : Fates) (is : Acted ℕ (ldterms.Ldterm ℕ)) → IsHeld name s x → line ≡ line' → record (ldterm_in name s x) { line = line' } ≡ is.state
-      → [] ≡ is.notes → [] ≡ is.sent → f' ≡ tallied is.gone f → Proceeds name s s x (record x { line = line }) 1 [] [] f f' is
-  unfolding times_sent parcels_in AreChains
-  line-proceeds s x line line' f f' is held same state notes sent told = record {
-    state = ap (λ l. record (ldterm_in name s x) { line = l }) same ∙ state;
-    noted = notes;
-    parcels = sent;
-    told = told;
-    held = record {
-      read = held.read;
-      write = held.write;
-      apart = held.apart;
-      work = held.work;
-      gathers = held.gathers;
-      echoes = held.echoes;
-      once_each = held.once_each;
-    };
-    own = record { lists = λ k none. refl; owns_same = λ k. refl };
-    chains = tt;
-    hands = record { counts = λ i. refl; others = λ i gone kept some. refl };
-    mblks = omega arith;
-    dblks = omega arith;
-    pool = record { mblks = refl; dblks = refl };
-  }
+-- only the line altered
+pub line-proceeds : (s : StoreValue) (x : Ldterm) (line line' : List ℕ) (f f' : Fates) (is : Acted ℕ (ldterms.Ldterm ℕ)) → IsHeld s x → line ≡ line' → record (ldterm_in s x) { line = line' } ≡ is.state
+    → [] ≡ is.notes → [] ≡ is.sent → f' ≡ tallied is.gone f → Proceeds s s x (record x { line = line }) 1 [] [] f f' is
+unfolding times_sent parcels_in AreChains
+line-proceeds s x line line' f f' is held same state notes sent told = record {
+  state = ap (λ l. record (ldterm_in s x) { line = l }) same ∙ state;
+  noted = notes;
+  parcels = sent;
+  told = told;
+  held = record {
+    read = held.read;
+    write = held.write;
+    apart = held.apart;
+    work = held.work;
+    gathers = held.gathers;
+    echoes = held.echoes;
+    once_each = held.once_each;
+  };
+  own = record { lists = λ k none. refl; owns_same = λ k. refl };
+  chains = tt;
+  hands = record { counts = λ i. refl; others = λ i gone kept some. refl };
+  mblks = omega arith;
+  dblks = omega arith;
+  pool = record { mblks = refl; dblks = refl };
+}

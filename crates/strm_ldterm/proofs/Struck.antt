@@ -135,42 +135,42 @@ not-lnext Lnext e = absurd (false≢true (sym e))
 not-lnext Delimiter e = refl
 not-lnext Ordinary e = refl
 
-module _ {M : Type 0} (name : M → ℕ) (s s2 : StoreValue) (x x2 : Ldterm M) (here : Spot) (started : Bool) (byte : ℕ) (stroke : Stroke) (woken : List Note) (t t2 : Fates)
-    (same : stroke ≡ stroke_at plain here byte (ldterm_in name s x)) (wake : woken ≡ wakes plain here started (ldterm_in name s x)) where
+module _ (s s2 : StoreValue) (x x2 : Ldterm) (here : Spot) (started : Bool) (byte : ℕ) (stroke : Stroke) (woken : List Note) (t t2 : Fates)
+    (same : stroke ≡ stroke_at plain here byte (ldterm_in s x)) (wake : woken ≡ wakes plain here started (ldterm_in s x)) where
   abbrev p : ldterms.Ldterm ℕ
-  p = ldterm_in name s x
+  p = ldterm_in s x
 
-  pub quiet-proceeds : (s3 : StoreValue) (x4 : Ldterm M) (lnext : Bool) (notes : List Note) (bytes : List ℕ) (n : ℕ) (t3 : Fates) → IsStore s2 → lnext ≡ is_lnext stroke.key
+  pub quiet-proceeds : (s3 : StoreValue) (x4 : Ldterm) (lnext : Bool) (notes : List Note) (bytes : List ℕ) (n : ℕ) (t3 : Fates) → IsStore s2 → lnext ≡ is_lnext stroke.key
       → bytes ≡ echo_of x.termios x.line x2.line stroke
-      → Proceeds name s s2 (record x { after_lnext = lnext }) x2 1 [] [] t t2 (strikes plain here stroke.key stroke.byte (record p { after_lnext = lnext }))
-      → Proceeds name s2 s3 (record x2 { stage = stages.Between }) x4 n notes [] t2 t3 (echoed plain here 0 bytes (ldterm_in name s2 (record x2 { stage = stages.Between })))
-      → n ≤ 24 → Proceeds name s s3 x x4 25 (woken ++ notes) [] t t3 (one_after (struck plain here started byte p) (next_stage plain here 0))
+      → Proceeds s s2 (record x { after_lnext = lnext }) x2 1 [] [] t t2 (strikes plain here stroke.key stroke.byte (record p { after_lnext = lnext }))
+      → Proceeds s2 s3 (record x2 { stage = stages.Between }) x4 n notes [] t2 t3 (echoed plain here 0 bytes (ldterm_in s2 (record x2 { stage = stages.Between })))
+      → n ≤ 24 → Proceeds s s3 x x4 25 (woken ++ notes) [] t t3 (one_after (struck plain here started byte p) (next_stage plain here 0))
   quiet-proceeds s3 x4 lnext notes bytes n t3 st next echo a b few =
       let key = key_does here started byte p stroke in
-      let does : Proceeds name s s2 x x2 1 [] [] t t2 key =
-      subst (λ v. Proceeds name s s2 x x2 1 [] [] t t2 (strikes plain here stroke.key stroke.byte (record p { after_lnext = v }))) next
-      (from-other name s s2 x x2 1 [] [] t t2 (strikes plain here stroke.key stroke.byte (record p { after_lnext = lnext })) lnext x.stage a) in
-      let none = nothing-sent name s s2 x x2 1 [] t t2 key st does in
+      let does : Proceeds s s2 x x2 1 [] [] t t2 key =
+      subst (λ v. Proceeds s s2 x x2 1 [] [] t t2 (strikes plain here stroke.key stroke.byte (record p { after_lnext = v }))) next
+      (from-other s s2 x x2 1 [] [] t t2 (strikes plain here stroke.key stroke.byte (record p { after_lnext = lnext })) lnext x.stage a) in
+      let none = nothing-sent s s2 x x2 1 [] t t2 key st does in
       let is2 : Acts = record key { state = record key.state { stage = Between }; notes = woken } in
-      let staged : Proceeds name s s2 x (record x2 { stage = stages.Between }) 1 woken [] t t2 is2 =
-      with-notes name s s2 x (record x2 { stage = stages.Between }) 1 [] [] t t2 (record key { state = record key.state { stage = Between } }) woken
-      (to-stage name s s2 x x2 1 [] [] t t2 key stages.Between does) in
+      let staged : Proceeds s s2 x (record x2 { stage = stages.Between }) 1 woken [] t t2 is2 =
+      with-notes s s2 x (record x2 { stage = stages.Between }) 1 [] [] t t2 (record key { state = record key.state { stage = Between } }) woken
+      (to-stage s s2 x x2 1 [] [] t t2 key stages.Between does) in
       let line : x2.line ≡ key.state.line = ap (λ (q : ldterms.Ldterm ℕ). q.line) does.state in
-      takes-more name s s3 x x4 (1 + n) 25 (woken ++ notes) [] t t3 (one_after (struck plain here started byte p) (next_stage plain here 0)) (omega arith)
-      (subst (Proceeds name s s3 x x4 (1 + n) (woken ++ notes) [] t t3)
+      takes-more s s3 x x4 (1 + n) 25 (woken ++ notes) [] t t3 (one_after (struck plain here started byte p) (next_stage plain here 0)) (omega arith)
+      (subst (Proceeds s s3 x x4 (1 + n) (woken ++ notes) [] t t3)
       (struck-echoed here started byte p stroke woken bytes same wake none (echo ∙ ap (λ l. echo_of x.termios x.line l stroke) line))
-      (proceeds-joined name s s2 x (record x2 { stage = stages.Between }) 1 woken t t2 is2 st staged s3 x4 n notes [] t3 (echoed plain here 0 bytes) b))
+      (proceeds-joined s s2 x (record x2 { stage = stages.Between }) 1 woken t t2 is2 st staged s3 x4 n notes [] t3 (echoed plain here 0 bytes) b))
 
-  pub sent-proceeds : (sent : List (Sent M)) (echo : ArrayVec ℕ) → is_quiet stroke.key ≡ false → ((before after : List ℕ) → echo.items ≡ echo_of x.termios before after stroke)
-      → Proceeds name s s2 (record x { after_lnext = false }) x2 2 [] sent t t2 (strikes plain here stroke.key stroke.byte (record p { after_lnext = false }))
-      → Proceeds name s s2 x (record x2 { stage = stages.Answered echo }) 2 woken sent t t2 (struck plain here started byte p)
+  pub sent-proceeds : (sent : List Sent) (echo : ArrayVec ℕ) → is_quiet stroke.key ≡ false → ((before after : List ℕ) → echo.items ≡ echo_of x.termios before after stroke)
+      → Proceeds s s2 (record x { after_lnext = false }) x2 2 [] sent t t2 (strikes plain here stroke.key stroke.byte (record p { after_lnext = false }))
+      → Proceeds s s2 x (record x2 { stage = stages.Answered echo }) 2 woken sent t t2 (struck plain here started byte p)
   sent-proceeds sent echo loud echoes a =
       let is = strikes plain here stroke.key stroke.byte (record p { after_lnext = false }) in
-      subst (Proceeds name s s2 x (record x2 { stage = stages.Answered echo }) 2 woken sent t t2)
+      subst (Proceeds s s2 x (record x2 { stage = stages.Answered echo }) 2 woken sent t t2)
       (struck-answered here started byte p stroke woken echo.items same wake (not-lnext stroke.key loud) echoes)
-      (with-notes name s s2 x (record x2 { stage = stages.Answered echo }) 2 [] sent t t2 (record is { state = record is.state { stage = Answered echo.items } }) woken
-      (to-stage name s s2 x x2 2 [] sent t t2 is (stages.Answered echo)
-      (from-other name s s2 x x2 2 [] sent t t2 is false x.stage a)))
+      (with-notes s s2 x (record x2 { stage = stages.Answered echo }) 2 [] sent t t2 (record is { state = record is.state { stage = Answered echo.items } }) woken
+      (to-stage s s2 x x2 2 [] sent t t2 is (stages.Answered echo)
+      (from-other s s2 x x2 2 [] sent t t2 is false x.stage a)))
 
 -- and so both of them have room in one array
 pub join-room : (a b a' b' : List Note) → a ≡ a' → b ≡ b' → length a' ≤ 1 → length b' ≤ 1 → length a + length b ≤ 4
@@ -181,18 +181,18 @@ pub short-chunk : (n : ℕ) → n ≤ 3 → chunk_count n ≤ 1
 unfolding chunk_count
 short-chunk n few = omega arith
 
-pub answer-proceeds : {M : Type 0} (name : M → ℕ) (s s' : StoreValue) (x x' : Ldterm M) (here : Spot) (echo : ArrayVec ℕ) (dest : Stage) (bytes : List ℕ) (n : ℕ) (notes : List Note) (t t' : Fates)
+pub answer-proceeds : (s s' : StoreValue) (x x' : Ldterm) (here : Spot) (echo : ArrayVec ℕ) (dest : Stage) (bytes : List ℕ) (n : ℕ) (notes : List Note) (t t' : Fates)
     → x.stage ≡ stages.Answered echo → dest ≡ stages.Between → bytes ≡ echo.items → n ≤ 1
-    → Proceeds name s s' (record x { stage = dest }) x' n notes [] t t' (echoed plain here 0 bytes (ldterm_in name s (record x { stage = dest })))
-    → Proceeds name s s' x x' 1 notes [] t t' (next_stage plain here 0 (ldterm_in name s x))
-answer-proceeds name s s' x x' here echo dest bytes n notes t t' is between same few a =
-    let p = ldterm_in name s x in
-    takes-more name s s' x x' n 1 notes [] t t' (next_stage plain here 0 p) few
-    (subst (Proceeds name s s' x x' n notes [] t t')
+    → Proceeds s s' (record x { stage = dest }) x' n notes [] t t' (echoed plain here 0 bytes (ldterm_in s (record x { stage = dest })))
+    → Proceeds s s' x x' 1 notes [] t t' (next_stage plain here 0 (ldterm_in s x))
+answer-proceeds s s' x x' here echo dest bytes n notes t t' is between same few a =
+    let p = ldterm_in s x in
+    takes-more s s' x x' n 1 notes [] t t' (next_stage plain here 0 p) few
+    (subst (Proceeds s s' x x' n notes [] t t')
     (ap (λ bs. echoed plain here 0 bs (record p { stage = stage_in dest })) same
     ∙ ap (λ (d : Stage). echoed plain here 0 echo.items (record p { stage = stage_in d })) between
     ∙ sym (ap (λ (st : Stage). stage_at plain here (stage_in st) 0 p) is))
-    (from-other name s s' x x' n notes [] t t' (echoed plain here 0 bytes (record p { stage = stage_in dest })) x.after_lnext dest a))
+    (from-other s s' x x' n notes [] t t' (echoed plain here 0 bytes (record p { stage = stage_in dest })) x.after_lnext dest a))
 
 pub next-short : (here : Spot) (p : ldterms.Ldterm ℕ) → stages_left p.stage ≡ 1 → length (next_stage plain here 0 p).notes ≤ 1
 next-short here p one = at p.stage one
@@ -202,19 +202,19 @@ next-short here p one = at p.stage one
     at (Begun started c) e = absurd (omega arith)
     at (Answered echo) e = echoed-short here echo (record p { stage = Between })
 
-module _ {M : Type 0} (name : M → ℕ) (s s2 : StoreValue) (x x2 : Ldterm M) (woken : List Note) (sent : List (Sent M)) (t t2 : Fates) (is : Acts)
-    (a : Proceeds name s s2 x x2 2 woken sent t t2 is) (next : ldterms.Ldterm ℕ → Acts) where
+module _ (s s2 : StoreValue) (x x2 : Ldterm) (woken : List Note) (sent : List Sent) (t t2 : Fates) (is : Acts)
+    (a : Proceeds s s2 x x2 2 woken sent t t2 is) (next : ldterms.Ldterm ℕ → Acts) where
   -- a key that has sent nothing after all is echoed
-  pub then-answers : (s3 : StoreValue) (x3 : Ldterm M) (notes : List Note) (t3 : Fates) → IsStore s2 → sent ≡ [] → Proceeds name s2 s3 x2 x3 1 notes [] t2 t3 (next (ldterm_in name s2 x2))
-      → Proceeds name s s3 x x3 26 (woken ++ notes) sent t t3 (one_after is next)
+  pub then-answers : (s3 : StoreValue) (x3 : Ldterm) (notes : List Note) (t3 : Fates) → IsStore s2 → sent ≡ [] → Proceeds s2 s3 x2 x3 1 notes [] t2 t3 (next (ldterm_in s2 x2))
+      → Proceeds s s3 x x3 26 (woken ++ notes) sent t t3 (one_after is next)
   then-answers s3 x3 notes t3 st none b =
-      subst (λ out. Proceeds name s s3 x x3 26 (woken ++ notes) out t t3 (one_after is next)) (sym none)
-      (takes-more name s s3 x x3 3 26 (woken ++ notes) [] t t3 (one_after is next) (omega arith)
-      (proceeds-joined name s s2 x x2 2 woken t t2 is st (subst (λ out. Proceeds name s s2 x x2 2 woken out t t2 is) none a) s3 x3 1 notes [] t3 next b))
+      subst (λ out. Proceeds s s3 x x3 26 (woken ++ notes) out t t3 (one_after is next)) (sym none)
+      (takes-more s s3 x x3 3 26 (woken ++ notes) [] t t3 (one_after is next) (omega arith)
+      (proceeds-joined s s2 x x2 2 woken t t2 is st (subst (λ out. Proceeds s s2 x x2 2 woken out t t2 is) none a) s3 x3 1 notes [] t3 next b))
 
   -- one that has sent something isn't yet
-  pub sends-first : is_none_left sent ≡ false → Proceeds name s s2 x x2 26 woken sent t t2 (one_after is next)
-  sends-first some = takes-more name s s2 x x2 2 26 woken sent t t2 (one_after is next) (omega arith) (sent-ends name s s2 x x2 2 woken t t2 is sent next some a)
+  pub sends-first : is_none_left sent ≡ false → Proceeds s s2 x x2 26 woken sent t t2 (one_after is next)
+  sends-first some = takes-more s s2 x x2 2 26 woken sent t t2 (one_after is next) (omega arith) (sent-ends s s2 x x2 2 woken t t2 is sent next some a)
 
 pub some-left : {A : Type 0} (xs : List A) (v : Bool) → v ≡ false → (IsTrue v ↔ (xs ≡ [])) → is_none_left xs ≡ false
 some-left [] v e iff = absurd (false≢true (sym e ∙ iff.1 refl))

@@ -48,27 +48,27 @@ begins-left here (c ∷ rest) p some = at (p.stopped && restarts p.termios (stro
 pub next-begins : (here : Spot) (p : ldterms.Ldterm ℕ) → stages_left p.stage ≡ 0 → begins_next plain here (cells_left p) p ≡ next_stage plain here 0 p
 next-begins here p none = ap (λ st. stage_at plain here st 0 p) (sym (none-under-way p.stage none))
 
-module _ {M : Type 0} (name : M → ℕ) (s s1 : StoreValue) (x x1 : Ldterm M) (here : Spot) (sent : List (Sent M)) (t : Fates)
+module _ (s s1 : StoreValue) (x x1 : Ldterm) (here : Spot) (sent : List Sent) (t : Fates)
     (none : stages_left (stage_in x.stage) ≡ 0)
-    (a : Proceeds name s s1 x x1 1 [] sent t t (begins_next plain here (cells_left (ldterm_in name s x)) (ldterm_in name s x))) where
+    (a : Proceeds s s1 x x1 1 [] sent t t (begins_next plain here (cells_left (ldterm_in s x)) (ldterm_in s x))) where
   abbrev p : ldterms.Ldterm ℕ
-  p = ldterm_in name s x
+  p = ldterm_in s x
 
   -- where it has started output
-  pub byte-starts : is_none_left sent ≡ false → Proceeds name s s1 x x1 27 [] sent t t (ahead here 3 p)
+  pub byte-starts : is_none_left sent ≡ false → Proceeds s s1 x x1 27 [] sent t t (ahead here 3 p)
   byte-starts some =
-      takes-more name s s1 x x1 1 27 [] sent t t (ahead here 3 p) (omega arith)
-      (sent-ends name s s1 x x1 1 [] t t (next_stage plain here 0 p) sent (ahead here 2) some (subst (Proceeds name s s1 x x1 1 [] sent t t) (next-begins here p none) a))
+      takes-more s s1 x x1 1 27 [] sent t t (ahead here 3 p) (omega arith)
+      (sent-ends s s1 x x1 1 [] t t (next_stage plain here 0 p) sent (ahead here 2) some (subst (Proceeds s s1 x x1 1 [] sent t t) (next-begins here p none) a))
 
   module _ (some : 0 < length (cells_left p)) where
     pub begun-left : stages_left (stage_in x1.stage) ≡ 2
     begun-left = ap (λ (q : ldterms.Ldterm ℕ). stages_left q.stage) a.state ∙ begins-left here (cells_left p) p some
 
     -- and the rest of it
-    pub byte-goes-on : (s2 : StoreValue) (x2 : Ldterm M) (notes : List Note) (out : List (Sent M)) (t2 : Fates) → IsStore s1 → sent ≡ []
-        → Proceeds name s1 s2 x1 x2 26 notes out t t2 (ahead here (stages_left (stage_in x1.stage)) (ldterm_in name s1 x1)) → Proceeds name s s2 x x2 27 notes out t t2 (ahead here 3 p)
+    pub byte-goes-on : (s2 : StoreValue) (x2 : Ldterm) (notes : List Note) (out : List Sent) (t2 : Fates) → IsStore s1 → sent ≡ []
+        → Proceeds s1 s2 x1 x2 26 notes out t t2 (ahead here (stages_left (stage_in x1.stage)) (ldterm_in s1 x1)) → Proceeds s s2 x x2 27 notes out t t2 (ahead here 3 p)
     byte-goes-on s2 x2 notes out t2 st quiet b =
-        proceeds-joined name s s1 x x1 1 [] t t (next_stage plain here 0 p) st
-        (subst (λ o. Proceeds name s s1 x x1 1 [] o t t (next_stage plain here 0 p)) quiet (subst (Proceeds name s s1 x x1 1 [] sent t t) (next-begins here p none) a))
+        proceeds-joined s s1 x x1 1 [] t t (next_stage plain here 0 p) st
+        (subst (λ o. Proceeds s s1 x x1 1 [] o t t (next_stage plain here 0 p)) quiet (subst (Proceeds s s1 x x1 1 [] sent t t) (next-begins here p none) a))
         s2 x2 26 notes out t2 (ahead here 2)
-        (subst (λ n. Proceeds name s1 s2 x1 x2 26 notes out t t2 (ahead here n (ldterm_in name s1 x1))) begun-left b)
+        (subst (λ n. Proceeds s1 s2 x1 x2 26 notes out t t2 (ahead here n (ldterm_in s1 x1))) begun-left b)

@@ -82,9 +82,9 @@ some-left-room : (s : StoreValue) (stage : ldterms.Stage ℕ) → HasRoom s (lea
 some-left-room s stage room = let some = leaves-some stage in record { mblks = (let r = room.mblks in omega (arith, r, some)); dblks = (let r = room.dblks in omega (arith, r, some)) }
 
 -- before a byte of a message that has come into work
-pub begun-later : {M : Type 0} (name : M → ℕ) (s s1 : StoreValue) (x x1 : Ldterm M) (t : Fates) (next : ℕ → ldterms.Ldterm ℕ → Acted ℕ (ldterms.Ldterm ℕ)) (q : ldterms.Ldterm ℕ) (byte : ℕ) → IsStore s1
-    → Proceeds name s s1 x x1 0 [] [] t t (ldterms.sends [] q) → IsFreeBefore name s1 x1 t next (ldterm_in name s1 x1) byte → IsFreeBefore name s x t next q byte
-begun-later name s s1 x x1 t next q byte st works f = record {
+pub begun-later : (s s1 : StoreValue) (x x1 : Ldterm) (t : Fates) (next : ℕ → ldterms.Ldterm ℕ → Acted ℕ (ldterms.Ldterm ℕ)) (q : ldterms.Ldterm ℕ) (byte : ℕ) → IsStore s1
+    → Proceeds s s1 x x1 0 [] [] t t (ldterms.sends [] q) → IsFreeBefore s1 x1 t next (ldterm_in s1 x1) byte → IsFreeBefore s x t next q byte
+begun-later s s1 x x1 t next q byte st works f = record {
   before = f.before;
   more = f.more;
   is = f.is;
@@ -93,24 +93,24 @@ begun-later name s s1 x x1 t next q byte st works f = record {
   notes = f.notes;
   told = f.told;
   reached =
-      takes-any name s f.store x f.there (0 + all_free s1) f.notes [] t f.told (next f.before q)
-      (proceeds-joined name s s1 x x1 0 [] t t (ldterms.sends [] q) st works f.store f.there (all_free s1) f.notes [] f.told (next f.before) f.reached);
+      takes-any s f.store x f.there (0 + all_free s1) f.notes [] t f.told (next f.before q)
+      (proceeds-joined s s1 x x1 0 [] t t (ldterms.sends [] q) st works f.store f.there (all_free s1) f.notes [] f.told (next f.before) f.reached);
   free = f.free;
 }
 
-module _ {M : Type 0} (name : M → ℕ) (s s' : StoreValue) (here : Spot) (x x' : Ldterm M) (again : Bool) (t : Fates) where
+module _ (s s' : StoreValue) (here : Spot) (x x' : Ldterm) (again : Bool) (t : Fates) where
   -- a message passed whole, or none
-  pub whole-serves : (served : Served M) (sent : Outbox M) (bytes : ℕ) (v : Serving ℕ (ldterms.Ldterm ℕ)) → served.acts.notes.items ≡ [] → served.acts.sent ≡ sent → served.bytes ≡ bytes → served.stopped ≡ false → served.again ≡ false
-      → ldterm_serves plain here 0 again None (ldterm_in name s x) ≡ v → Proceeds name s s' x x' 0 [] (sent_of sent) t t v.acted → bytes ≡ v.bytes → v.again ≡ false → (here.way ≡ Up → HasRoom s 1) → passes_whole here.way again (ldterm_in name s x) ≡ true
-      → ServesAs name s s' here x x' again served t t
+  pub whole-serves : (served : Served) (sent : Outbox) (bytes : ℕ) (v : Serving ℕ (ldterms.Ldterm ℕ)) → served.acts.notes.items ≡ [] → served.acts.sent ≡ sent → served.bytes ≡ bytes → served.stopped ≡ false → served.again ≡ false
+      → ldterm_serves plain here 0 again None (ldterm_in s x) ≡ v → Proceeds s s' x x' 0 [] (sent_of sent) t t v.acted → bytes ≡ v.bytes → v.again ≡ false → (here.way ≡ Up → HasRoom s 1) → passes_whole here.way again (ldterm_in s x) ≡ true
+      → ServesAs s s' here x x' again served t t
   whole-serves served sent bytes v no-notes same-sent same-bytes goes-on ends is a size over room passed =
-      let p = ldterm_in name s x in
+      let p = ldterm_in s x in
       let whole : ldterm_serves plain here 0 again (stop_of served) p ≡ v = ap (λ b. ldterm_serves plain here 0 again (stop_at b served.bytes) p) goes-on ∙ is in
       record {
         does =
-            subst (λ (w : Serving ℕ (ldterms.Ldterm ℕ)). Proceeds name s s' x x' (all_free s) served.acts.notes.items (sent_of served.acts.sent) t t w.acted) (sym whole)
-            (subst (λ ns. Proceeds name s s' x x' (all_free s) ns (sent_of served.acts.sent) t t v.acted) (sym no-notes)
-            (subst (λ (o : Outbox M). Proceeds name s s' x x' (all_free s) [] (sent_of o) t t v.acted) (sym same-sent) (takes-any name s s' x x' 0 [] (sent_of sent) t t v.acted a)));
+            subst (λ (w : Serving ℕ (ldterms.Ldterm ℕ)). Proceeds s s' x x' (all_free s) served.acts.notes.items (sent_of served.acts.sent) t t w.acted) (sym whole)
+            (subst (λ ns. Proceeds s s' x x' (all_free s) ns (sent_of served.acts.sent) t t v.acted) (sym no-notes)
+            (subst (λ (o : Outbox). Proceeds s s' x x' (all_free s) [] (sent_of o) t t v.acted) (sym same-sent) (takes-any s s' x x' 0 [] (sent_of sent) t t v.acted a)));
         bytes = same-bytes ∙ size ∙ sym (ap (λ (w : Serving ℕ (ldterms.Ldterm ℕ)). w.bytes) whole);
         again_is = ends ∙ sym over ∙ sym (ap (λ (w : Serving ℕ (ldterms.Ldterm ℕ)). w.again) whole);
         begun = λ none. absurd (false≢true (sym none ∙ passed));
@@ -121,34 +121,34 @@ module _ {M : Type 0} (name : M → ℕ) (s s' : StoreValue) (here : Spot) (x x'
         whole = λ e. record { mblks = (let f = a.mblks in omega arith); dblks = (let f = a.dblks in omega arith) };
       }
 
-module _ {M : Type 0} (name : M → ℕ) (s s' : StoreValue) (here : Spot) (x x' : Ldterm M) (served : Served M) (t t' : Fates) (way : here.way ≡ Up) where
+module _ (s s' : StoreValue) (here : Spot) (x x' : Ldterm) (served : Served) (t t' : Fates) (way : here.way ≡ Up) where
   -- one more call
-  pub again-treats : (again : Bool) → again ≡ true → TreatsAs name s s' here x x' served t t' → ServesAs name s s' here x x' again served t t'
+  pub again-treats : (again : Bool) → again ≡ true → TreatsAs s s' here x x' served t t' → ServesAs s s' here x x' again served t t'
   again-treats again more b =
-      let whole = again-serves here again (stop_of served) (ldterm_in name s x) way more in
+      let whole = again-serves here again (stop_of served) (ldterm_in s x) way more in
       record {
-        does = subst (λ (w : Serving ℕ (ldterms.Ldterm ℕ)). Proceeds name s s' x x' (all_free s) served.acts.notes.items (sent_of served.acts.sent) t t' w.acted) (sym whole) b.does;
+        does = subst (λ (w : Serving ℕ (ldterms.Ldterm ℕ)). Proceeds s s' x x' (all_free s) served.acts.notes.items (sent_of served.acts.sent) t t' w.acted) (sym whole) b.does;
         bytes = b.bytes ∙ sym (ap (λ (w : Serving ℕ (ldterms.Ldterm ℕ)). w.bytes) whole);
         again_is = b.again ∙ sym (ap (λ (w : Serving ℕ (ldterms.Ldterm ℕ)). w.again) whole);
         begun = λ goes byte within.
-            let same : at_work here.way again (ldterm_in name s x) ≡ ldterm_in name s x = ap (λ w. at_work w again (ldterm_in name s x)) way ∙ ap (λ v. at_work Up v (ldterm_in name s x)) more in
-            subst (λ n. IsFreeBefore name s x t n (at_work here.way again (ldterm_in name s x)) byte) (sym (ap (bytes_of_way here) way))
-            (subst (λ (q : ldterms.Ldterm ℕ). IsFreeBefore name s x t (bytes_on here) q byte) (sym same) (b.begun byte within));
+            let same : at_work here.way again (ldterm_in s x) ≡ ldterm_in s x = ap (λ w. at_work w again (ldterm_in s x)) way ∙ ap (λ v. at_work Up v (ldterm_in s x)) more in
+            subst (λ n. IsFreeBefore s x t n (at_work here.way again (ldterm_in s x)) byte) (sym (ap (bytes_of_way here) way))
+            (subst (λ (q : ldterms.Ldterm ℕ). IsFreeBefore s x t (bytes_on here) q byte) (sym same) (b.begun byte within));
         stops = b.stops;
         ends = λ e.
-            let left = ap (λ w. bytes_left w again (ldterm_in name s x)) way ∙ ap (λ v. bytes_left Up v (ldterm_in name s x)) more in
+            let left = ap (λ w. bytes_left w again (ldterm_in s x)) way ∙ ap (λ v. bytes_left Up v (ldterm_in s x)) more in
             let at = b.ends e in
             record { treat = let few = at.treat in omega (arith, left); done = at.done };
         room = λ e. b.room;
         over = λ up. some-left-room s' (stage_in x'.stage) b.room;
-        whole = λ e. absurd (false≢true (sym (ap (λ w. passes_whole w again (ldterm_in name s x)) way ∙ ap (λ v. passes_whole Up v (ldterm_in name s x)) more) ∙ e));
+        whole = λ e. absurd (false≢true (sym (ap (λ w. passes_whole w again (ldterm_in s x)) way ∙ ap (λ v. passes_whole Up v (ldterm_in s x)) more) ∙ e));
       }
 
   -- the first call of a turn, whose message has come into work
-  pub work-treats : (s1 : StoreValue) (x1 : Ldterm M) (bytes : ℕ) → IsStore s1 → stages_left (stage_in x.stage) ≡ 0 → BeganWork name s s1 here x x1 bytes → TreatsAs name s1 s' here x1 x' served t t' → ServesAs name s s' here x x' false served t t'
+  pub work-treats : (s1 : StoreValue) (x1 : Ldterm) (bytes : ℕ) → IsStore s1 → stages_left (stage_in x.stage) ≡ 0 → BeganWork s s1 here x x1 bytes → TreatsAs s1 s' here x1 x' served t t' → ServesAs s s' here x x' false served t t'
   work-treats s1 x1 bytes st between w b =
-      let p = ldterm_in name s x in
-      let p1 = ldterm_in name s1 x1 in
+      let p = ldterm_in s x in
+      let p1 = ldterm_in s1 x1 in
       let works = w.works t in
       let stage : stages_left p1.stage ≡ 0 = ap stages_left w.stage ∙ between in
       let left : length (cells_left p1) ≡ bytes = ap (λ (q : ldterms.Ldterm ℕ). length (cells_left q)) works.state ∙ sym w.size in
@@ -156,9 +156,9 @@ module _ {M : Type 0} (name : M → ℕ) (s s' : StoreValue) (here : Spot) (x x'
       let whole = first-serves here false (stop_of served) p way refl ∙ w.treated (stop_of served) ∙ ap (λ n. treats plain here (unwrap_or (stop_of served) n) 0 p1) size in
       record {
         does =
-            subst (λ (v : Serving ℕ (ldterms.Ldterm ℕ)). Proceeds name s s' x x' (all_free s) served.acts.notes.items (sent_of served.acts.sent) t t' v.acted) (sym whole)
-            (takes-any name s s' x x' (0 + all_free s1) served.acts.notes.items (sent_of served.acts.sent) t t' _
-            (proceeds-joined name s s1 x x1 0 [] t t _ st works s' x' (all_free s1) served.acts.notes.items (sent_of served.acts.sent) t' (λ q. (treats plain here (unwrap_or (stop_of served) (to_treat p1)) 0 p1).acted) b.does));
+            subst (λ (v : Serving ℕ (ldterms.Ldterm ℕ)). Proceeds s s' x x' (all_free s) served.acts.notes.items (sent_of served.acts.sent) t t' v.acted) (sym whole)
+            (takes-any s s' x x' (0 + all_free s1) served.acts.notes.items (sent_of served.acts.sent) t t' _
+            (proceeds-joined s s1 x x1 0 [] t t _ st works s' x' (all_free s1) served.acts.notes.items (sent_of served.acts.sent) t' (λ q. (treats plain here (unwrap_or (stop_of served) (to_treat p1)) 0 p1).acted) b.does));
         bytes = b.bytes ∙ sym (ap (λ (v : Serving ℕ (ldterms.Ldterm ℕ)). v.bytes) whole);
         again_is = b.again ∙ sym (ap (λ (v : Serving ℕ (ldterms.Ldterm ℕ)). v.again) whole);
         begun = λ goes byte within.
@@ -167,9 +167,9 @@ module _ {M : Type 0} (name : M → ℕ) (s s' : StoreValue) (here : Spot) (x x'
             let begins : at_work Up false p ≡ record p { read_queue = left_with w.rest p.read_queue; in_work = Some w.message } =
             ap (λ ms. at_work Up false (record p { read_queue = record p.read_queue { messages = ms } })) w.first in
             let same : at_work here.way false p ≡ record p { read_queue = left_with w.rest p.read_queue; in_work = Some w.message } = ap (λ v. at_work v false p) way ∙ begins in
-            subst (λ n. IsFreeBefore name s x t n (at_work here.way false p) byte) (sym (ap (bytes_of_way here) way))
-            (subst (λ (q : ldterms.Ldterm ℕ). IsFreeBefore name s x t (bytes_on here) q byte) (sym same)
-            (begun-later name s s1 x x1 t (bytes_on here) _ byte st works (b.begun byte (omega (arith, within, none, none1)))));
+            subst (λ n. IsFreeBefore s x t n (at_work here.way false p) byte) (sym (ap (bytes_of_way here) way))
+            (subst (λ (q : ldterms.Ldterm ℕ). IsFreeBefore s x t (bytes_on here) q byte) (sym same)
+            (begun-later s s1 x x1 t (bytes_on here) _ byte st works (b.begun byte (omega (arith, within, none, none1)))));
         stops = b.stops;
         ends = λ e.
             let left : bytes_left here.way false p ≡ size_of w.message = ap (λ v. bytes_left v false p) way ∙ ap first_size w.first in
@@ -186,30 +186,30 @@ module _ {M : Type 0} (name : M → ℕ) (s s' : StoreValue) (here : Spot) (x x'
       }
 
 -- Behind a call that isn't called again nothing of a turn is under way. Behind one that is, a message is in work.
-pub served-behind : {M : Type 0} (name : M → ℕ) (s s' : StoreValue) (here : Spot) (x x' : Ldterm M) (again : Bool) (served : Served M) (t t' : Fates) → ServesAs name s s' here x x' again served t t'
-    → IsServed here.way again (ldterm_in name s x) → IsServed here.way served.again (ldterm_in name s' x')
-served-behind name s s' here x x' again served t t' did is =
-    let by = ldterm_serves plain here 0 again (stop_of served) (ldterm_in name s x) in
-    subst (λ v. IsServed here.way v (ldterm_in name s' x')) (sym did.again_is)
-    (subst (λ (p : ldterms.Ldterm ℕ). IsServed here.way by.again p) (sym did.does.state) (serves-served plain here 0 again (stop_of served) (ldterm_in name s x) is))
+pub served-behind : (s s' : StoreValue) (here : Spot) (x x' : Ldterm) (again : Bool) (served : Served) (t t' : Fates) → ServesAs s s' here x x' again served t t'
+    → IsServed here.way again (ldterm_in s x) → IsServed here.way served.again (ldterm_in s' x')
+served-behind s s' here x x' again served t t' did is =
+    let by = ldterm_serves plain here 0 again (stop_of served) (ldterm_in s x) in
+    subst (λ v. IsServed here.way v (ldterm_in s' x')) (sym did.again_is)
+    (subst (λ (p : ldterms.Ldterm ℕ). IsServed here.way by.again p) (sym did.does.state) (serves-served plain here 0 again (stop_of served) (ldterm_in s x) is))
 
 -- What a call needs, of the state before it: a message in work where it is one more in its turn, and else nothing in hand and no byte begun.
-module _ {M : Type 0} (name : M → ℕ) (s : StoreValue) (x : Ldterm M) (way : Way) (again : Bool) (is : IsServed way again (ldterm_in name s x)) where
+module _ (s : StoreValue) (x : Ldterm) (way : Way) (again : Bool) (is : IsServed way again (ldterm_in s x)) where
   pub more-works : way ≡ Up → again ≡ true → is_some x.in_work ≡ true
-  more-works up more = sym (kept-some name s x.in_work) ∙ again-works way again (ldterm_in name s x) up more is
+  more-works up more = sym (kept-some s x.in_work) ∙ again-works way again (ldterm_in s x) up more is
 
-  pub first-rests : again ≡ false → IsHeld name s x → (i : ℕ) → keeps name x i ≡ 0
-  first-rests first held = let idle = first-idle way again (ldterm_in name s x) first is in ldterm-rests name s x held idle.0 idle.1 idle.2
+  pub first-rests : again ≡ false → IsHeld s x → (i : ℕ) → keeps x i ≡ 0
+  first-rests first held = let idle = first-idle way again (ldterm_in s x) first is in ldterm-rests s x held idle.0 idle.1 idle.2
 
-  pub down-rests : way ≡ Down → IsHeld name s x → (i : ℕ) → keeps name x i ≡ 0
-  down-rests down held = let idle = down-idle way again (ldterm_in name s x) down is in ldterm-rests name s x held idle.0 idle.1 idle.2
+  pub down-rests : way ≡ Down → IsHeld s x → (i : ℕ) → keeps x i ≡ 0
+  down-rests down held = let idle = down-idle way again (ldterm_in s x) down is in ldterm-rests s x held idle.0 idle.1 idle.2
 
   pub down-between : way ≡ Down → stages_left (stage_in x.stage) ≡ 0
-  down-between down = ap stages_left (down-idle way again (ldterm_in name s x) down is).3
+  down-between down = ap stages_left (down-idle way again (ldterm_in s x) down is).3
 
   pub first-between : again ≡ false → stages_left (stage_in x.stage) ≡ 0
-  first-between first = ap stages_left (first-idle way again (ldterm_in name s x) first is).3
+  first-between first = ap stages_left (first-idle way again (ldterm_in s x) first is).3
 
 -- there is a message in work then
-pub work-in : {M : Type 0} (name : M → ℕ) (s s1 : StoreValue) (here : Spot) (x x1 : Ldterm M) (bytes : ℕ) (t : Fates) → BeganWork name s s1 here x x1 bytes → is_some x1.in_work ≡ true
-work-in name s s1 here x x1 bytes t w = sym (kept-some name s1 x1.in_work) ∙ ap (λ (q : ldterms.Ldterm ℕ). is_some q.in_work) (w.works t).state
+pub work-in : (s s1 : StoreValue) (here : Spot) (x x1 : Ldterm) (bytes : ℕ) (t : Fates) → BeganWork s s1 here x x1 bytes → is_some x1.in_work ≡ true
+work-in s s1 here x x1 bytes t w = sym (kept-some s1 x1.in_work) ∙ ap (λ (q : ldterms.Ldterm ℕ). is_some q.in_work) (w.works t).state

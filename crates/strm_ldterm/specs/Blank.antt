@@ -7,8 +7,8 @@ use Rattle.strm_ldterm.specs.declared.ldterm.Ldterm.{Ldterm}
 use Rattle.strm_ldterm.specs.Stands.{ldterm_in, owns, keeps, IsHeld}
 
 -- Wherever nothing stands on its two lists, it stands for a new one. It keeps nothing in hand.
-pub record IsNew {M : Type 0} (x : Ldterm M) (read write : ℕ) : Type 0 where
-  pub state : (name : M → ℕ) (s : StoreValue) → list_at s read ≡ [] → list_at s write ≡ [] → ldterm_in name s x ≡ new_ldterm
-  pub held : (name : M → ℕ) (s : StoreValue) → list_at s read ≡ [] → list_at s write ≡ [] → IsHeld name s x
-  pub rests : (name : M → ℕ) (i : ℕ) → keeps name x i ≡ 0
+pub record IsNew (x : Ldterm) (read write : ℕ) : Type 0 where
+  pub state : (s : StoreValue) → list_at s read ≡ [] → list_at s write ≡ [] → ldterm_in s x ≡ new_ldterm
+  pub held : (s : StoreValue) → list_at s read ≡ [] → list_at s write ≡ [] → IsHeld s x
+  pub rests : (i : ℕ) → keeps x i ≡ 0
   pub owns : (k : ℕ) → owns x k ≡ once read k + once write k

@@ -5,7 +5,8 @@ use Rattle.std.proofs.Common.{eqb, cond, true, refl, sym, ap, subst, ◌∙◌, 
 use Rattle.std.proofs.lemmas.Bool.Decides.{nat_tests}
 use Rattle.strm_types.specs.Ldterms as plain
 use Rattle.strm_types.specs.Message.{Message, cells_of}
-use Rattle.strm_blocks.specs.Blocks.{Block, StoreValue, in_hand, list_at, block_at}
+use Rattle.strm_blocks.specs.Blocks.{Block, StoreValue, in_hand, list_at, block_at, token}
+use Rattle.strm_blocks.specs.declared.in_hand.InHand.{InHand}
 use Rattle.strm_msg.specs.Messages.{message_of, AreMessages, IsChain}
 use Rattle.strm_queue.specs.declared.queue.Queue.{Queue}
 use Rattle.strm_queue.specs.Flows.{plain_flows}
@@ -32,61 +33,60 @@ gathered-same s t i same is = record { are = ordinary-same s t i same is.are; so
 pub list-ready : (s t : StoreValue) (q : Queue) → list_at t q.list ≡ list_at s q.list → IsReady s q → IsReady t q
 list-ready s t q same ready = record { messages = subst AreMessages (sym same) ready.messages; counted = subst (AreCounted q.flows) (sym same) ready.counted }
 
-module _ {M : Type 0} (name : M → ℕ) where
-  -- messages that are kept, and whose chains are the same
-  pub kept-same : (s t : StoreValue) (o : Option M) → ((i : ℕ) → 0 < times_kept name o i → in_hand t i ≡ in_hand s i) → kept_in name t o ≡ kept_in name s o
-  unfolding times_kept
-  kept-same s t None same = refl
-  kept-same s t (Some m) same = let one = name-once (name m) in ap (λ c. Some (message_of c)) (same (name m) (omega arith))
+-- messages that are kept, and whose chains are the same
+pub kept-same : (s t : StoreValue) (o : Option InHand) → ((i : ℕ) → 0 < times_kept o i → in_hand t i ≡ in_hand s i) → kept_in t o ≡ kept_in s o
+unfolding times_kept
+kept-same s t None same = refl
+kept-same s t (Some m) same = let one = name-once (token m) in ap (λ c. Some (message_of c)) (same (token m) (omega arith))
 
-  pub each-same : (s t : StoreValue) (P : StoreValue → ℕ → Type 0) → ((i : ℕ) → in_hand t i ≡ in_hand s i → P s i → P t i) → (o : Option M) → ((i : ℕ) → 0 < times_kept name o i → in_hand t i ≡ in_hand s i)
-      → IfSome o (λ m. P s (name m)) → IfSome o (λ m. P t (name m))
-  unfolding times_kept
-  each-same s t P stays None same is = tt
-  each-same s t P stays (Some m) same is = let one = name-once (name m) in stays (name m) (same (name m) (omega arith)) is
+pub each-same : (s t : StoreValue) (P : StoreValue → ℕ → Type 0) → ((i : ℕ) → in_hand t i ≡ in_hand s i → P s i → P t i) → (o : Option InHand) → ((i : ℕ) → 0 < times_kept o i → in_hand t i ≡ in_hand s i)
+    → IfSome o (λ m. P s (token m)) → IfSome o (λ m. P t (token m))
+unfolding times_kept
+each-same s t P stays None same is = tt
+each-same s t P stays (Some m) same is = let one = name-once (token m) in stays (token m) (same (token m) (omega arith)) is
 
-  -- what it stands for, by its lists and what it keeps
-  abbrev pub form : Ldterm M → List (List Block) → List (List Block) → Option (Message ℕ) → Option (Message ℕ) → Option (Message ℕ) → plain.Ldterm ℕ
-  form x reads writes work gathers echo = record {
-    termios = x.termios;
-    stopped = x.stopped;
-    after_lnext = x.after_lnext;
-    column = x.column;
-    line = x.line;
-    read_queue = record { messages = map message_of reads; flows = plain_flows x.read_queue.flows; want_read = x.read_queue.want_read; no_enable = x.read_queue.no_enable };
-    write_queue = record {
-      messages = map message_of writes ++ option_to_list echo;
-      flows = plain_flows x.write_queue.flows;
-      want_read = x.write_queue.want_read;
-      no_enable = x.write_queue.no_enable;
-    };
-    in_work = work;
-    gathered = cells_kept gathers;
-    echoing = is_some x.echo;
-    stage = stage_in x.stage;
-  }
+-- what it stands for, by its lists and what it keeps
+abbrev pub form : Ldterm → List (List Block) → List (List Block) → Option (Message ℕ) → Option (Message ℕ) → Option (Message ℕ) → plain.Ldterm ℕ
+form x reads writes work gathers echo = record {
+  termios = x.termios;
+  stopped = x.stopped;
+  after_lnext = x.after_lnext;
+  column = x.column;
+  line = x.line;
+  read_queue = record { messages = map message_of reads; flows = plain_flows x.read_queue.flows; want_read = x.read_queue.want_read; no_enable = x.read_queue.no_enable };
+  write_queue = record {
+    messages = map message_of writes ++ option_to_list echo;
+    flows = plain_flows x.write_queue.flows;
+    want_read = x.write_queue.want_read;
+    no_enable = x.write_queue.no_enable;
+  };
+  in_work = work;
+  gathered = cells_kept gathers;
+  echoing = is_some x.echo;
+  stage = stage_in x.stage;
+}
 
-  pub form-same : (x : Ldterm M) (a a' b b' : List (List Block)) (k k' l l' m m' : Option (Message ℕ)) → a ≡ a' → b ≡ b' → k ≡ k' → l ≡ l' → m ≡ m' → form x a b k l m ≡ form x a' b' k' l' m'
-  form-same x a a' b b' k k' l l' m m' ea eb ek el em =
-      ap (λ v. form x v b k l m) ea ∙ ap (λ v. form x a' v k l m) eb ∙ ap (λ v. form x a' b' v l m) ek ∙ ap (λ v. form x a' b' k' v m) el ∙ ap (λ v. form x a' b' k' l' v) em
+pub form-same : (x : Ldterm) (a a' b b' : List (List Block)) (k k' l l' m m' : Option (Message ℕ)) → a ≡ a' → b ≡ b' → k ≡ k' → l ≡ l' → m ≡ m' → form x a b k l m ≡ form x a' b' k' l' m'
+form-same x a a' b b' k k' l l' m m' ea eb ek el em =
+    ap (λ v. form x v b k l m) ea ∙ ap (λ v. form x a' v k l m) eb ∙ ap (λ v. form x a' b' v l m) ek ∙ ap (λ v. form x a' b' k' v m) el ∙ ap (λ v. form x a' b' k' l' v) em
 
-  pub ldterm-frame : (s t : StoreValue) (x : Ldterm M) → SameOwn s t (owns x) (keeps name x) → IsHeld name s x → (ldterm_in name t x ≡ ldterm_in name s x) × IsHeld name t x
-  ldterm-frame s t x same held =
-      let one = name-once x.read_queue.list in
-      let two = name-once x.write_queue.list in
-      let reads = same.lists x.read_queue.list (omega arith) in
-      let writes = same.lists x.write_queue.list (omega arith) in
-      let work : (i : ℕ) → 0 < times_kept name x.in_work i → in_hand t i ≡ in_hand s i = λ i some. same.kept i (omega arith) in
-      let gathers : (i : ℕ) → 0 < times_kept name x.gathered i → in_hand t i ≡ in_hand s i = λ i some. same.kept i (omega arith) in
-      let echo : (i : ℕ) → 0 < times_kept name x.echo i → in_hand t i ≡ in_hand s i = λ i some. same.kept i (omega arith) in (
-        form-same x _ _ _ _ _ _ _ _ _ _ reads writes (kept-same s t x.in_work work) (kept-same s t x.gathered gathers) (kept-same s t x.echo echo),
-        record {
-          read = list-ready s t x.read_queue reads held.read;
-          write = list-ready s t x.write_queue writes held.write;
-          apart = held.apart;
-          work = each-same s t IsData (data-same s t) x.in_work work held.work;
-          gathers = each-same s t IsGathered (gathered-same s t) x.gathered gathers held.gathers;
-          echoes = each-same s t IsOrdinary (ordinary-same s t) x.echo echo held.echoes;
-          once_each = held.once_each;
-        },
-      )
+pub ldterm-frame : (s t : StoreValue) (x : Ldterm) → SameOwn s t (owns x) (keeps x) → IsHeld s x → (ldterm_in t x ≡ ldterm_in s x) × IsHeld t x
+ldterm-frame s t x same held =
+    let one = name-once x.read_queue.list in
+    let two = name-once x.write_queue.list in
+    let reads = same.lists x.read_queue.list (omega arith) in
+    let writes = same.lists x.write_queue.list (omega arith) in
+    let work : (i : ℕ) → 0 < times_kept x.in_work i → in_hand t i ≡ in_hand s i = λ i some. same.kept i (omega arith) in
+    let gathers : (i : ℕ) → 0 < times_kept x.gathered i → in_hand t i ≡ in_hand s i = λ i some. same.kept i (omega arith) in
+    let echo : (i : ℕ) → 0 < times_kept x.echo i → in_hand t i ≡ in_hand s i = λ i some. same.kept i (omega arith) in (
+      form-same x _ _ _ _ _ _ _ _ _ _ reads writes (kept-same s t x.in_work work) (kept-same s t x.gathered gathers) (kept-same s t x.echo echo),
+      record {
+        read = list-ready s t x.read_queue reads held.read;
+        write = list-ready s t x.write_queue writes held.write;
+        apart = held.apart;
+        work = each-same s t IsData (data-same s t) x.in_work work held.work;
+        gathers = each-same s t IsGathered (gathered-same s t) x.gathered gathers held.gathers;
+        echoes = each-same s t IsOrdinary (ordinary-same s t) x.echo echo held.echoes;
+        once_each = held.once_each;
+      },
+    )

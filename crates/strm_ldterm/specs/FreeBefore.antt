@@ -35,7 +35,7 @@ echo_size p = if p.echoing then last_size p.write_queue.messages else 0
 abbrev pub blocks_grown : ldterms.Ldterm ℕ → ldterms.Ldterm ℕ → ℕ
 blocks_grown p q = blocks_for (length q.gathered) - blocks_for (length p.gathered) + (blocks_for (echo_size q) - blocks_for (echo_size p))
 
-module _ {M : Type 0} (name : M → ℕ) (old : StoreValue) (x : Ldterm M) (t : Fates) (next : ℕ → ldterms.Ldterm ℕ → Acted ℕ (ldterms.Ldterm ℕ)) (start : ldterms.Ldterm ℕ) where
+module _ (old : StoreValue) (x : Ldterm) (t : Fates) (next : ℕ → ldterms.Ldterm ℕ → Acted ℕ (ldterms.Ldterm ℕ)) (start : ldterms.Ldterm ℕ) where
   -- Before a byte of a call begins 32 blocks of each kind are free. Some of the bytes before it lead from the beginning of the call to a store, and those
   -- from there on to the byte fill no more blocks than are free there beside the 32. That is what is certain: a block that these empty isn't counted, as its
   -- bytes may be another message's too; and of what the module itself keeps the store is known by the messages, and not by how many blocks they have.
@@ -44,8 +44,8 @@ module _ {M : Type 0} (name : M → ℕ) (old : StoreValue) (x : Ldterm M) (t : 
     pub more : ℕ
     pub is : byte ≡ before + more
     pub store : StoreValue
-    pub there : Ldterm M
+    pub there : Ldterm
     pub notes : List Note
     pub told : Fates
-    pub reached : Proceeds name old store x there (all_free old) notes [] t told (next before start)
-    pub free : HasRoom store (STOP_BLOCKS + blocks_grown (ldterm_in name store there) (next more (ldterm_in name store there)).state)
+    pub reached : Proceeds old store x there (all_free old) notes [] t told (next before start)
+    pub free : HasRoom store (STOP_BLOCKS + blocks_grown (ldterm_in store there) (next more (ldterm_in store there)).state)

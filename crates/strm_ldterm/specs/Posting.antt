@@ -44,11 +44,11 @@ poured here n p =
       gone = t.told;
     }
 
-module _ {M : Type 0} (name : M → ℕ) (old new : StoreValue) (here : Spot) (x x' : Ldterm M) where
+module _ (old new : StoreValue) (here : Spot) (x x' : Ldterm) where
   -- Of so many bytes of the message in work all went out but those that are left. Before each of them blocks enough are free, and before the
   -- next one they are few.
   pub record PoursAs (bytes left : ℕ) (t t' : Fates) : Type 0 where
     pub fewer : left ≤ bytes
-    pub does : Proceeds name old new x x' (all_free old) [] [] t t' (poured here (bytes - left) (ldterm_in name old x))
-    pub begun : (byte : ℕ) → byte < bytes - left → IsFreeBefore name old x t (poured here) (ldterm_in name old x) byte
+    pub does : Proceeds old new x x' (all_free old) [] [] t t' (poured here (bytes - left) (ldterm_in old x))
+    pub begun : (byte : ℕ) → byte < bytes - left → IsFreeBefore old x t (poured here) (ldterm_in old x) byte
     pub stops : 0 < left → least_free new < STOP_BLOCKS

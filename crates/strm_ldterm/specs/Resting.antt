@@ -4,45 +4,45 @@ use Rattle.std.proofs.Common.{refl, sym, ap, arith}
 use Rattle.std.proofs.lemmas.Bool.{false≢true}
 use Rattle.strm_types.specs.declared.names.Way.{Way}
 use Rattle.strm_types.specs.declared.names.Way.TheVariants.{Up, Down}
-use Rattle.strm_blocks.specs.Blocks.{StoreValue}
+use Rattle.strm_blocks.specs.Blocks.{StoreValue, token}
 use Rattle.strm_ldterm.specs.declared.ldterm.Ldterm.{Ldterm}
 use Rattle.strm_ldterm.specs.Served.{IsServed}
 use Rattle.strm_ldterm.specs.Stands.{cells_kept, times_kept, kept_in, keeps, ldterm_in, IsGathered, IsHeld}
+use Rattle.strm_blocks.specs.declared.in_hand.InHand.{InHand}
 
-module _ {M : Type 0} (name : M → ℕ) where
-  -- a message that isn't there
-  none-shown : (s : StoreValue) (o : Option M) → kept_in name s o ≡ None → o ≡ None
-  none-shown s None none = refl
-  none-shown s (Some m) none = absurd (cc none)
+-- a message that isn't there
+none-shown : (s : StoreValue) (o : Option InHand) → kept_in s o ≡ None → o ≡ None
+none-shown s None none = refl
+none-shown s (Some m) none = absurd (cc none)
 
-  none-gathers : (s : StoreValue) (o : Option M) → IfSome o (λ m. IsGathered s (name m)) → cells_kept (kept_in name s o) ≡ [] → o ≡ None
-  none-gathers s None are none = refl
-  none-gathers s (Some m) are none = let empty = ap length none in let some = are.some in absurd (omega arith)
+none-gathers : (s : StoreValue) (o : Option InHand) → IfSome o (λ m. IsGathered s (token m)) → cells_kept (kept_in s o) ≡ [] → o ≡ None
+none-gathers s None are none = refl
+none-gathers s (Some m) are none = let empty = ap length none in let some = are.some in absurd (omega arith)
 
-  none-there : (o : Option M) → is_some o ≡ false → o ≡ None
-  none-there None none = refl
-  none-there (Some m) none = absurd (false≢true (sym none))
+none-there : (o : Option InHand) → is_some o ≡ false → o ≡ None
+none-there None none = refl
+none-there (Some m) none = absurd (false≢true (sym none))
 
-  none-kept : (o : Option M) (i : ℕ) → o ≡ None → times_kept name o i ≡ 0
-  unfolding times_kept
-  none-kept o i none = ap (λ k. times_kept name k i) none
+none-kept : (o : Option InHand) (i : ℕ) → o ≡ None → times_kept o i ≡ 0
+unfolding times_kept
+none-kept o i none = ap (λ k. times_kept k i) none
 
-  -- no bytes are gathered exactly where no message is kept for them
-  pub gathered-none : (s : StoreValue) (x : Ldterm M) → IsHeld name s x → (ldterm_in name s x).gathered ≡ [] → x.gathered ≡ None
-  gathered-none s x held empty = none-gathers s x.gathered held.gathers empty
+-- no bytes are gathered exactly where no message is kept for them
+pub gathered-none : (s : StoreValue) (x : Ldterm) → IsHeld s x → (ldterm_in s x).gathered ≡ [] → x.gathered ≡ None
+gathered-none s x held empty = none-gathers s x.gathered held.gathers empty
 
-  pub none-gathered : (s : StoreValue) (x : Ldterm M) → x.gathered ≡ None → (ldterm_in name s x).gathered ≡ []
-  none-gathered s x none = ap (λ o. cells_kept (kept_in name s o)) none
+pub none-gathered : (s : StoreValue) (x : Ldterm) → x.gathered ≡ None → (ldterm_in s x).gathered ≡ []
+none-gathered s x none = ap (λ o. cells_kept (kept_in s o)) none
 
-  -- no message in work, no bytes gathered and no echo that grows: nothing is kept in hand
-  pub ldterm-rests : (s : StoreValue) (x : Ldterm M) → IsHeld name s x → (ldterm_in name s x).in_work ≡ None → (ldterm_in name s x).gathered ≡ [] → (ldterm_in name s x).echoing ≡ false → (i : ℕ) → keeps name x i ≡ 0
-  ldterm-rests s x held work gathered echoing i =
-      let one = none-kept x.in_work i (none-shown s x.in_work work) in
-      let two = none-kept x.gathered i (gathered-none s x held gathered) in
-      let three = none-kept x.echo i (none-there x.echo echoing) in
-      omega arith
+-- no message in work, no bytes gathered and no echo that grows: nothing is kept in hand
+pub ldterm-rests : (s : StoreValue) (x : Ldterm) → IsHeld s x → (ldterm_in s x).in_work ≡ None → (ldterm_in s x).gathered ≡ [] → (ldterm_in s x).echoing ≡ false → (i : ℕ) → keeps x i ≡ 0
+ldterm-rests s x held work gathered echoing i =
+    let one = none-kept x.in_work i (none-shown s x.in_work work) in
+    let two = none-kept x.gathered i (gathered-none s x held gathered) in
+    let three = none-kept x.echo i (none-there x.echo echoing) in
+    omega arith
 
-  -- so it is where a turn may begin
-  pub served-rests : (s : StoreValue) (x : Ldterm M) (way : Way) (i : ℕ) → IsHeld name s x → IsServed way false (ldterm_in name s x) → keeps name x i ≡ 0
-  served-rests s x Up i held idle = ldterm-rests s x held idle.0 idle.1 idle.2 i
-  served-rests s x Down i held idle = ldterm-rests s x held idle.0 idle.1 idle.2 i
+-- so it is where a turn may begin
+pub served-rests : (s : StoreValue) (x : Ldterm) (way : Way) (i : ℕ) → IsHeld s x → IsServed way false (ldterm_in s x) → keeps x i ≡ 0
+served-rests s x Up i held idle = ldterm-rests s x held idle.0 idle.1 idle.2 i
+served-rests s x Down i held idle = ldterm-rests s x held idle.0 idle.1 idle.2 i

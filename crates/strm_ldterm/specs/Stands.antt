@@ -5,7 +5,8 @@ use Rattle.strm_types.specs.declared.kinds.MsgKind.TheVariants as kinds
 use Rattle.strm_types.specs.Ldterms as plain
 use Rattle.strm_types.specs.Message.{Message, cells_of}
 use Rattle.strm_types.specs.Queue.{Queue}
-use Rattle.strm_blocks.specs.Blocks.{StoreValue, in_hand, block_at}
+use Rattle.strm_blocks.specs.Blocks.{StoreValue, in_hand, block_at, token}
+use Rattle.strm_blocks.specs.declared.in_hand.InHand.{InHand}
 use Rattle.strm_msg.specs.Messages.{IsChain}
 use Rattle.strm_queue.specs.Stored.{queue_in, IsReady}
 use Rattle.strm_frame.specs.Hands.{once}
@@ -45,47 +46,46 @@ pub record IsGathered (s : StoreValue) (i : ℕ) : Type 0 where
   pub some : 0 < length (cells_of (message_in s i))
 
 -- 1 for each list that is its own
-abbrev pub owns : {M : Type 0} → Ldterm M → ℕ → ℕ
+abbrev pub owns : Ldterm → ℕ → ℕ
 owns x k = once x.read_queue.list k + once x.write_queue.list k
 
-module _ {M : Type 0} (name : M → ℕ) where
-  -- a message that may be kept in hand
-  abbrev pub kept_in : StoreValue → Option M → Option (Message ℕ)
-  kept_in s None = None
-  kept_in s (Some m) = Some (message_in s (name m))
+-- a message that may be kept in hand
+abbrev pub kept_in : StoreValue → Option InHand → Option (Message ℕ)
+kept_in s None = None
+kept_in s (Some m) = Some (message_in s (token m))
 
-  -- how often a name is one of a message that is kept
-  unfoldable pub times_kept : Option M → ℕ → ℕ
-  times_kept None i = 0
-  times_kept (Some m) i = once (name m) i
+-- how often a name is one of a message that is kept
+unfoldable pub times_kept : Option InHand → ℕ → ℕ
+times_kept None i = 0
+times_kept (Some m) i = once (token m) i
 
-  -- how often it keeps a message of a name in hand
-  abbrev pub keeps : Ldterm M → ℕ → ℕ
-  keeps x i = times_kept x.in_work i + times_kept x.gathered i + times_kept x.echo i
+-- how often it keeps a message of a name in hand
+abbrev pub keeps : Ldterm → ℕ → ℕ
+keeps x i = times_kept x.in_work i + times_kept x.gathered i + times_kept x.echo i
 
-  -- what it stands for
-  abbrev pub ldterm_in : StoreValue → Ldterm M → plain.Ldterm ℕ
-  ldterm_in s x = record {
-    termios = x.termios;
-    stopped = x.stopped;
-    after_lnext = x.after_lnext;
-    column = x.column;
-    line = x.line;
-    read_queue = queue_in s x.read_queue;
-    write_queue = with_last (kept_in s x.echo) (queue_in s x.write_queue);
-    in_work = kept_in s x.in_work;
-    gathered = cells_kept (kept_in s x.gathered);
-    echoing = is_some x.echo;
-    stage = stage_in x.stage;
-  }
+-- what it stands for
+abbrev pub ldterm_in : StoreValue → Ldterm → plain.Ldterm ℕ
+ldterm_in s x = record {
+  termios = x.termios;
+  stopped = x.stopped;
+  after_lnext = x.after_lnext;
+  column = x.column;
+  line = x.line;
+  read_queue = queue_in s x.read_queue;
+  write_queue = with_last (kept_in s x.echo) (queue_in s x.write_queue);
+  in_work = kept_in s x.in_work;
+  gathered = cells_kept (kept_in s x.gathered);
+  echoing = is_some x.echo;
+  stage = stage_in x.stage;
+}
 
-  -- Its queues are ready, each on a list of its own, the read queue's first. The message in work is M_DATA, what is gathered and the turn's echo are M_DATA
-  -- of band 0, what is gathered has bytes, and each of them is another message.
-  pub record IsHeld (s : StoreValue) (x : Ldterm M) : Type 0 where
-    pub read : IsReady s x.read_queue
-    pub write : IsReady s x.write_queue
-    pub apart : x.read_queue.list < x.write_queue.list
-    pub work : IfSome x.in_work (λ m. IsData s (name m))
-    pub gathers : IfSome x.gathered (λ m. IsGathered s (name m))
-    pub echoes : IfSome x.echo (λ m. IsOrdinary s (name m))
-    pub once_each : (i : ℕ) → keeps x i ≤ 1
+-- Its queues are ready, each on a list of its own, the read queue's first. The message in work is M_DATA, what is gathered and the turn's echo are M_DATA
+-- of band 0, what is gathered has bytes, and each of them is another message.
+pub record IsHeld (s : StoreValue) (x : Ldterm) : Type 0 where
+  pub read : IsReady s x.read_queue
+  pub write : IsReady s x.write_queue
+  pub apart : x.read_queue.list < x.write_queue.list
+  pub work : IfSome x.in_work (λ m. IsData s (token m))
+  pub gathers : IfSome x.gathered (λ m. IsGathered s (token m))
+  pub echoes : IfSome x.echo (λ m. IsOrdinary s (token m))
+  pub once_each : (i : ℕ) → keeps x i ≤ 1

@@ -39,24 +39,24 @@ fn clear_line(line: &mut Line, side: Side, rule: Rule, told: &mut Fates)
 /// own have room again, the read queue's first, and whether the M_IOCTL of a number stood on its write queue, where one is sought. It
 /// keeps nothing in hand, and takes no block. The cost is a step for each block on the queues.
 pub fn clear<B: Blocks>(
-    ldterm: &mut Ldterm<B::Mp>,
+    ldterm: &mut Ldterm,
     store: &mut B,
     side: Side,
     rule: Rule,
     seeking: Option<u32>,
     told: &mut Fates,
 ) -> LetGo
-    requires held { IsHeld B.name (B.value store.old) ldterm.old }
-    requires rests { (i : ℕ) → keeps B.name ldterm.old i ≡ 0 }
-    ensures state { let s = B.value store.old in ldterm_in B.name (B.value store.new) ldterm.new ≡
-        (cleared queue_of with_queue line_of without_line side rule (ldterm_in B.name s ldterm.old)).state }
+    requires held { IsHeld (B.value store.old) ldterm.old }
+    requires rests { (i : ℕ) → keeps ldterm.old i ≡ 0 }
+    ensures state { let s = B.value store.old in ldterm_in (B.value store.new) ldterm.new ≡
+        (cleared queue_of with_queue line_of without_line side rule (ldterm_in s ldterm.old)).state }
     ensures notes { let s = B.value store.old in result.notes.items ≡
-        (cleared queue_of with_queue line_of without_line side rule (ldterm_in B.name s ldterm.old)).notes }
-    ensures met { result.met ≡ is_met seeking (messages_at queue_of Down (ldterm_in B.name (B.value store.old) ldterm.old)) }
+        (cleared queue_of with_queue line_of without_line side rule (ldterm_in s ldterm.old)).notes }
+    ensures met { result.met ≡ is_met seeking (messages_at queue_of Down (ldterm_in (B.value store.old) ldterm.old)) }
     ensures told { let s = B.value store.old in told.new ≡
-        tallied (cleared queue_of with_queue line_of without_line side rule (ldterm_in B.name s ldterm.old)).gone told.old }
-    ensures held { IsHeld B.name (B.value store.new) ldterm.new }
-    ensures rests { (i : ℕ) → keeps B.name ldterm.new i ≡ 0 }
+        tallied (cleared queue_of with_queue line_of without_line side rule (ldterm_in s ldterm.old)).gone told.old }
+    ensures held { IsHeld (B.value store.new) ldterm.new }
+    ensures rests { (i : ℕ) → keeps ldterm.new i ≡ 0 }
     ensures own { OnlyOwn (B.value store.old) (B.value store.new) (owns ldterm.old) (owns ldterm.new) }
     ensures hand { SameHand (B.value store.old) (B.value store.new) }
     ensures frees { FreesBlocks (B.value store.old) (B.value store.new) }

@@ -13,6 +13,7 @@ ghost use Rattle.strm_ldterm.specs.Stands.{IsData, IsHeld, keeps, ldterm_in};
 ghost use Rattle.strm_ldterm.specs.Does.{Proceeds};
 ghost use Rattle.strm_ldterm.specs.Echoes.{echo_bytes};
 ghost use Rattle.strm_ldterm.specs.Grown.{Grown, Begins};
+ghost use Rattle.strm_blocks.specs.Blocks.{token};
 
 use crate::echoes::Echo;
 use crate::flushing::direction_at;
@@ -22,23 +23,23 @@ use crate::lines::Line;
 use crate::putting::note_if;
 use crate::queues::is_full;
 use arrayvec::ArrayVec;
-use strm_blocks::Blocks;
+use strm_blocks::{Blocks, InHand};
 use strm_queue::Queue;
 use strm_types::{Band, Fates, Note, Rule, Spot, Way, chunk_count};
 
 // Adds an echo to a message of data, run by run, so many at most.
 fn grow_by_runs<B: Blocks>(
     store: &mut B,
-    message: B::Mp,
+    message: InHand,
     plan: Echo,
     line: &Line,
     runs: usize,
-) -> B::Mp
-    requires data { IsData (B.value store.old) (B.name message) }
+) -> InHand
+    requires data { IsData (B.value store.old) (token message) }
     requires enough { length (echo_bytes plan line.now) ≤ runs * 256 }
     requires room { HasRoom (B.value store.old) runs }
-    ensures kept_name { B.name result ≡ B.name message }
-    ensures grown { Grown (B.value store.old) (B.value store.new) (B.name message) (echo_bytes plan line.now) runs }
+    ensures kept_name { token result ≡ token message }
+    ensures grown { Grown (B.value store.old) (B.value store.new) (token message) (echo_bytes plan line.now) runs }
 {
     let mut plan = plan;
     let mut grown = message;
@@ -51,11 +52,11 @@ fn grow_by_runs<B: Blocks>(
 }
 
 // Makes a message of an echo, run by run, so many at most.
-fn begin_by_runs<B: Blocks>(store: &mut B, plan: Echo, line: &Line, runs: usize) -> B::Mp
+fn begin_by_runs<B: Blocks>(store: &mut B, plan: Echo, line: &Line, runs: usize) -> InHand
     requires some { 0 < runs }
     requires enough { length (echo_bytes plan line.now) ≤ runs * 256 }
     requires room { HasRoom (B.value store.old) runs }
-    ensures { Begins (B.value store.old) (B.value store.new) (B.name result) (echo_bytes plan line.now) runs }
+    ensures { Begins (B.value store.old) (B.value store.new) (token result) (echo_bytes plan line.now) runs }
 {
     let mut plan = plan;
     let mut run = ArrayVec::new();
@@ -72,14 +73,14 @@ fn enables(queue: &Queue) -> bool
 }
 
 // Adds an echo to that of the turn, run by run, so many at most.
-fn grow_echo<B: Blocks>(ldterm: &mut Ldterm<B::Mp>, store: &mut B, plan: Echo, runs: usize)
-    requires held { IsHeld B.name (B.value store.old) ldterm.old }
+fn grow_echo<B: Blocks>(ldterm: &mut Ldterm, store: &mut B, plan: Echo, runs: usize)
+    requires held { IsHeld (B.value store.old) ldterm.old }
     requires some { is_some ldterm.old.echo ≡ true }
     requires enough { length (echo_bytes plan ldterm.old.line) ≤ runs * 256 }
     requires room { HasRoom (B.value store.old) runs }
     ensures { (here : Spot) (f : Fates) → let s = B.value store.old in
-        Proceeds B.name s (B.value store.new) ldterm.old ldterm.new runs [] [] f f
-        (record (echo_grows plain here (echo_bytes plan ldterm.old.line) (ldterm_in B.name s ldterm.old)) { gone = [] }) }
+        Proceeds s (B.value store.new) ldterm.old ldterm.new runs [] [] f f
+        (record (echo_grows plain here (echo_bytes plan ldterm.old.line) (ldterm_in s ldterm.old)) { gone = [] }) }
 {
     let Some(echo) = ldterm.echo.take() else {
         unreachable!()
@@ -88,16 +89,16 @@ fn grow_echo<B: Blocks>(ldterm: &mut Ldterm<B::Mp>, store: &mut B, plan: Echo, r
 }
 
 // Begins the turn's echo, run by run, so many at most, and says whether that enables the write queue.
-fn begin_echo<B: Blocks>(ldterm: &mut Ldterm<B::Mp>, store: &mut B, plan: Echo, runs: usize) -> bool
-    requires held { IsHeld B.name (B.value store.old) ldterm.old }
-    requires kept { AreIn (B.value store.old) (λ _. 0) (keeps B.name ldterm.old) }
+fn begin_echo<B: Blocks>(ldterm: &mut Ldterm, store: &mut B, plan: Echo, runs: usize) -> bool
+    requires held { IsHeld (B.value store.old) ldterm.old }
+    requires kept { AreIn (B.value store.old) (λ _. 0) (keeps ldterm.old) }
     requires none { is_some ldterm.old.echo ≡ false }
     requires some { 0 < runs }
     requires enough { length (echo_bytes plan ldterm.old.line) ≤ runs * 256 }
     requires room { HasRoom (B.value store.old) runs }
     ensures { (here : Spot) (f : Fates) → let s = B.value store.old in
-        Proceeds B.name s (B.value store.new) ldterm.old ldterm.new runs (if result then Enable Down ∷ [] else []) [] f f
-        (record (echo_stands plain here (echo_bytes plan ldterm.old.line) (ldterm_in B.name s ldterm.old)) { gone = [] }) }
+        Proceeds s (B.value store.new) ldterm.old ldterm.new runs (if result then Enable Down ∷ [] else []) [] f f
+        (record (echo_stands plain here (echo_bytes plan ldterm.old.line) (ldterm_in s ldterm.old)) { gone = [] }) }
 {
     store.audit();
     ldterm.echo = Some(begin_by_runs(store, plan, &ldterm.line, runs));
@@ -106,19 +107,19 @@ fn begin_echo<B: Blocks>(ldterm: &mut Ldterm<B::Mp>, store: &mut B, plan: Echo, 
 
 // Lets an echo of some bytes stand last on the write queue, where band 0 isn't full.
 fn let_stand<B: Blocks>(
-    ldterm: &mut Ldterm<B::Mp>,
+    ldterm: &mut Ldterm,
     store: &mut B,
     plan: Echo,
     runs: usize,
 ) -> ArrayVec<Note, 4>
-    requires held { IsHeld B.name (B.value store.old) ldterm.old }
-    requires kept { AreIn (B.value store.old) (λ _. 0) (keeps B.name ldterm.old) }
+    requires held { IsHeld (B.value store.old) ldterm.old }
+    requires kept { AreIn (B.value store.old) (λ _. 0) (keeps ldterm.old) }
     requires some { 0 < runs }
     requires enough { length (echo_bytes plan ldterm.old.line) ≤ runs * 256 }
     requires room { HasRoom (B.value store.old) runs }
-    ensures { (here : Spot) (f : Fates) → let s = B.value store.old in let p = ldterm_in B.name s ldterm.old in
+    ensures { (here : Spot) (f : Fates) → let s = B.value store.old in let p = ldterm_in s ldterm.old in
         let bytes = echo_bytes plan ldterm.old.line in
-        Proceeds B.name s (B.value store.new) ldterm.old ldterm.new runs result.items [] f f
+        Proceeds s (B.value store.new) ldterm.old ldterm.new runs result.items [] f f
         (record (if is_some ldterm.old.echo then echo_grows plain here bytes p else echo_stands plain here bytes p) { gone = [] }) }
 {
     if ldterm.echo.is_some() {
@@ -134,16 +135,16 @@ fn let_stand<B: Blocks>(
 /// Lets bytes stand last on the write queue as the turn's echo, or behind what stands of it, at least one and at most 256: band 0 isn't
 /// full. They take one block of each kind at most.
 pub(crate) fn stand_run<B: Blocks>(
-    ldterm: &mut Ldterm<B::Mp>,
+    ldterm: &mut Ldterm,
     store: &mut B,
     run: &[u8],
 ) -> ArrayVec<Note, 4>
-    requires held { IsHeld B.name (B.value store.old) ldterm.old }
-    requires kept { AreIn (B.value store.old) (λ _. 0) (keeps B.name ldterm.old) }
+    requires held { IsHeld (B.value store.old) ldterm.old }
+    requires kept { AreIn (B.value store.old) (λ _. 0) (keeps ldterm.old) }
     requires few { length run.now ≤ 256 }
     requires room { HasRoom (B.value store.old) 1 }
-    ensures { (here : Spot) (f : Fates) → let s = B.value store.old in let p = ldterm_in B.name s ldterm.old in
-        Proceeds B.name s (B.value store.new) ldterm.old ldterm.new 1 result.items [] f f
+    ensures { (here : Spot) (f : Fates) → let s = B.value store.old in let p = ldterm_in s ldterm.old in
+        Proceeds s (B.value store.new) ldterm.old ldterm.new 1 result.items [] f f
         (record (if is_some ldterm.old.echo then echo_grows plain here run.now p else echo_stands plain here run.now p) { gone = [] }) }
 {
     match ldterm.echo.take() {
@@ -165,18 +166,18 @@ pub(crate) fn stand_run<B: Blocks>(
 /// (EchoFull). It takes one block of each kind at most for each begun 256 bytes. The cost is a step for each byte of the echo, and for
 /// each block of the turn's echo.
 pub(crate) fn echo<B: Blocks>(
-    ldterm: &mut Ldterm<B::Mp>,
+    ldterm: &mut Ldterm,
     store: &mut B,
     here: Spot,
     plan: Echo,
     told: &mut Fates,
 ) -> ArrayVec<Note, 4>
-    requires held { IsHeld B.name (B.value store.old) ldterm.old }
-    requires kept { AreIn (B.value store.old) (λ _. 0) (keeps B.name ldterm.old) }
+    requires held { IsHeld (B.value store.old) ldterm.old }
+    requires kept { AreIn (B.value store.old) (λ _. 0) (keeps ldterm.old) }
     requires room { HasRoom (B.value store.old) (chunk_count (length (echo_bytes plan ldterm.old.line))) }
     ensures { let s = B.value store.old in let bytes = echo_bytes plan ldterm.old.line in
-        Proceeds B.name s (B.value store.new) ldterm.old ldterm.new (chunk_count (length bytes)) result.items [] told.old told.new
-        (echoed plain here 0 bytes (ldterm_in B.name s ldterm.old)) }
+        Proceeds s (B.value store.new) ldterm.old ldterm.new (chunk_count (length bytes)) result.items [] told.old told.new
+        (echoed plain here 0 bytes (ldterm_in s ldterm.old)) }
 {
     let len = plan.len(&ldterm.line);
     if len == 0 {

@@ -61,15 +61,15 @@ fn end_with<B: Blocks>(
 
 /// Ends a turn of its queue of a way: want-read is set where the queue is empty and cleared where it isn't. Where the turn took
 /// bytes, waiting writers are let go. The turn's echo stands on the write queue.
-pub fn end_turn<B: Blocks>(ldterm: &mut Ldterm<B::Mp>, store: &B, way: Way, took: bool) -> TurnEnd
-    requires held { IsHeld B.name (B.value store.now) ldterm.old }
+pub fn end_turn<B: Blocks>(ldterm: &mut Ldterm, store: &B, way: Way, took: bool) -> TurnEnd
+    requires held { IsHeld (B.value store.now) ldterm.old }
     ensures state { let s = B.value store.now in
-        ldterm_in B.name s ldterm.new ≡ queue_changed queue_of with_queue way (turn_ended took) (ldterm_in B.name s ldterm.old) }
-    ensures room { result.room ≡ end_relieves queue_of took way (ldterm_in B.name (B.value store.now) ldterm.old) }
-    ensures more { result.more ≡ has_more queue_of way (ldterm_in B.name (B.value store.now) ldterm.old) }
-    ensures held { IsHeld B.name (B.value store.now) ldterm.new }
+        ldterm_in s ldterm.new ≡ queue_changed queue_of with_queue way (turn_ended took) (ldterm_in s ldterm.old) }
+    ensures room { result.room ≡ end_relieves queue_of took way (ldterm_in (B.value store.now) ldterm.old) }
+    ensures more { result.more ≡ has_more queue_of way (ldterm_in (B.value store.now) ldterm.old) }
+    ensures held { IsHeld (B.value store.now) ldterm.new }
     ensures owns { (k : ℕ) → owns ldterm.new k ≡ owns ldterm.old k }
-    ensures keeps { (i : ℕ) → keeps B.name ldterm.new i ≡ keeps B.name ldterm.old i }
+    ensures keeps { (i : ℕ) → keeps ldterm.new i ≡ keeps ldterm.old i }
 {
     match way {
         Way::Up => end_queue_turn(store, &mut ldterm.read_queue, took),

@@ -10,7 +10,7 @@ ghost use Rattle.strm_types.specs.Ldterms.{sends};
 ghost use Rattle.strm_types.specs.Message.{cells_of};
 ghost use Rattle.strm_types.specs.Queue.{put_back};
 ghost use Rattle.strm_types.specs.Typing.{gathered_up};
-ghost use Rattle.strm_blocks.specs.Blocks.{IsInHand, in_hand, dropped};
+ghost use Rattle.strm_blocks.specs.Blocks.{IsInHand, in_hand, dropped, token};
 ghost use Rattle.strm_msg.specs.Messages.{message_of, IsChain};
 ghost use Rattle.strm_queue.specs.Stored.{queue_in, IsReady, Changes, FreesBlocks};
 ghost use Rattle.strm_frame.specs.Hands.{AreIn};
@@ -21,20 +21,20 @@ ghost use Rattle.strm_ldterm.specs.Freeing.{FreesNone};
 
 use crate::ldterm::{Ldterm, Stage};
 use crate::putting::settle_echo;
-use strm_blocks::Blocks;
+use strm_blocks::{Blocks, InHand};
 use strm_frame::{Outbox, Sent};
 use strm_msg::booked_size;
 use strm_queue::Queue;
 use strm_types::{Spot, Way};
 
 // Puts a message in hand back on a queue, in front of all of at most its rank: putbq(9F).
-fn put_back<B: Blocks>(store: &mut B, queue: &mut Queue, message: B::Mp)
+fn put_back<B: Blocks>(store: &mut B, queue: &mut Queue, message: InHand)
     requires ready { IsReady (B.value store.old) queue.old }
-    requires in_hand { IsInHand (B.value store.old) (B.name message) }
-    requires chain { IsChain (in_hand (B.value store.old) (B.name message)) }
+    requires in_hand { IsInHand (B.value store.old) (token message) }
+    requires chain { IsChain (in_hand (B.value store.old) (token message)) }
     ensures queue { let q = queue_in (B.value store.old) queue.old in queue_in (B.value store.new) queue.new
-        ≡ record q { messages = put_back (message_of (in_hand (B.value store.old) (B.name message))) q.messages } }
-    ensures changes { Changes (dropped (B.value store.old) (B.name message)) (B.value store.new) queue.old queue.new }
+        ≡ record q { messages = put_back (message_of (in_hand (B.value store.old) (token message))) q.messages } }
+    ensures changes { Changes (dropped (B.value store.old) (token message)) (B.value store.new) queue.old queue.new }
     ensures frees { FreesBlocks (B.value store.old) (B.value store.new) }
     ensures blocks { FreesNone (B.value store.old) (B.value store.new) }
 {
@@ -43,15 +43,15 @@ fn put_back<B: Blocks>(store: &mut B, queue: &mut Queue, message: B::Mp)
 }
 
 /// What is left of a message that was in work goes back to the front of a queue. Where nothing is left of it, it is freed.
-pub(crate) fn return_rest<B: Blocks>(store: &mut B, queue: &mut Queue, message: B::Mp)
+pub(crate) fn return_rest<B: Blocks>(store: &mut B, queue: &mut Queue, message: InHand)
     requires ready { IsReady (B.value store.old) queue.old }
-    requires in_hand { IsInHand (B.value store.old) (B.name message) }
-    requires chain { IsChain (in_hand (B.value store.old) (B.name message)) }
+    requires in_hand { IsInHand (B.value store.old) (token message) }
+    requires chain { IsChain (in_hand (B.value store.old) (token message)) }
     ensures queue { let s = B.value store.old in
-        queue_in (B.value store.new) queue.new ≡ back_on (Some (message_in s (B.name message))) (queue_in s queue.old) }
-    ensures changes { Changes (dropped (B.value store.old) (B.name message)) (B.value store.new) queue.old queue.new }
+        queue_in (B.value store.new) queue.new ≡ back_on (Some (message_in s (token message))) (queue_in s queue.old) }
+    ensures changes { Changes (dropped (B.value store.old) (token message)) (B.value store.new) queue.old queue.new }
     ensures frees { FreesBlocks (B.value store.old) (B.value store.new) }
-    ensures blocks { 0 < length (cells_of (message_in (B.value store.old) (B.name message))) →
+    ensures blocks { 0 < length (cells_of (message_in (B.value store.old) (token message))) →
         FreesNone (B.value store.old) (B.value store.new) }
 {
     if booked_size(store, &message) == 0 {
@@ -62,13 +62,13 @@ pub(crate) fn return_rest<B: Blocks>(store: &mut B, queue: &mut Queue, message: 
 }
 
 // What is left of the message in work goes back to the front of the read queue.
-fn return_work<B: Blocks>(ldterm: &mut Ldterm<B::Mp>, store: &mut B)
-    requires held { IsHeld B.name (B.value store.old) ldterm.old }
-    requires kept { AreIn (B.value store.old) (λ _. 0) (keeps B.name ldterm.old) }
-    ensures state { let p = ldterm_in B.name (B.value store.old) ldterm.old in ldterm_in B.name (B.value store.new) ldterm.new
+fn return_work<B: Blocks>(ldterm: &mut Ldterm, store: &mut B)
+    requires held { IsHeld (B.value store.old) ldterm.old }
+    requires kept { AreIn (B.value store.old) (λ _. 0) (keeps ldterm.old) }
+    ensures state { let p = ldterm_in (B.value store.old) ldterm.old in ldterm_in (B.value store.new) ldterm.new
         ≡ record p { in_work = None; read_queue = back_on p.in_work p.read_queue } }
-    ensures alters { Alters B.name (B.value store.old) (B.value store.new) ldterm.old ldterm.new }
-    ensures blocks { 0 < length (cells_left (ldterm_in B.name (B.value store.old) ldterm.old)) →
+    ensures alters { Alters (B.value store.old) (B.value store.new) ldterm.old ldterm.new }
+    ensures blocks { 0 < length (cells_left (ldterm_in (B.value store.old) ldterm.old)) →
         FreesNone (B.value store.old) (B.value store.new) }
 {
     let Some(message) = ldterm.in_work.take() else {
@@ -80,15 +80,15 @@ fn return_work<B: Blocks>(ldterm: &mut Ldterm<B::Mp>, store: &mut B)
 
 /// What was gathered goes up as one message, where there is any.
 pub(crate) fn send_gathered<B: Blocks>(
-    ldterm: &mut Ldterm<B::Mp>,
+    ldterm: &mut Ldterm,
     store: &B,
     here: Spot,
-) -> Option<Sent<B::Mp>>
-    requires held { IsHeld B.name (B.value store.now) ldterm.old }
+) -> Option<Sent>
+    requires held { IsHeld (B.value store.now) ldterm.old }
     requires inside { 0 < here.at }
     requires small { here.at ≤ MODULES }
-    ensures { (f : Fates) → let s = B.value store.now in let p = ldterm_in B.name s ldterm.old in
-        Proceeds B.name s s ldterm.old ldterm.new 0 [] (option_to_list result) f f
+    ensures { (f : Fates) → let s = B.value store.now in let p = ldterm_in s ldterm.old in
+        Proceeds s s ldterm.old ldterm.new 0 [] (option_to_list result) f f
         (sends (gathered_up plain here p.gathered) (record p { gathered = [] })) }
 {
     let _ = store;
@@ -106,18 +106,18 @@ pub(crate) fn send_gathered<B: Blocks>(
 /// block, and frees none where bytes of the message in work are left. The cost is a step for each block of these messages, and for each
 /// message of a higher rank on the read queue.
 pub(crate) fn finish<B: Blocks>(
-    ldterm: &mut Ldterm<B::Mp>,
+    ldterm: &mut Ldterm,
     store: &mut B,
     here: Spot,
-) -> Outbox<B::Mp>
-    requires held { IsHeld B.name (B.value store.old) ldterm.old }
-    requires kept { AreIn (B.value store.old) (λ _. 0) (keeps B.name ldterm.old) }
+) -> Outbox
+    requires held { IsHeld (B.value store.old) ldterm.old }
+    requires kept { AreIn (B.value store.old) (λ _. 0) (keeps ldterm.old) }
     requires inside { 0 < here.at }
     requires small { here.at ≤ MODULES }
     ensures did { (f : Fates) → let s = B.value store.old in
-        Proceeds B.name s (B.value store.new) ldterm.old ldterm.new 0 [] (sent_of result) f f
-        (finished plain here (ldterm_in B.name s ldterm.old)) }
-    ensures blocks { 0 < length (cells_left (ldterm_in B.name (B.value store.old) ldterm.old)) →
+        Proceeds s (B.value store.new) ldterm.old ldterm.new 0 [] (sent_of result) f f
+        (finished plain here (ldterm_in s ldterm.old)) }
+    ensures blocks { 0 < length (cells_left (ldterm_in (B.value store.old) ldterm.old)) →
         FreesNone (B.value store.old) (B.value store.new) }
 {
     settle_echo(ldterm, store);

@@ -71,14 +71,14 @@ fn flush_queue<B: Blocks>(
 }
 
 /// The unfinished line goes, where a flush takes band 0.
-pub(crate) fn flush_line<Mp: Drop>(
-    ldterm: &mut Ldterm<Mp>,
+pub(crate) fn flush_line(
+    ldterm: &mut Ldterm,
     here: Spot,
     band: Option<Band>,
     told: &mut Fates,
 )
-    ensures { (name : Mp → ℕ) (s : StoreValue) → IsHeld name s ldterm.old →
-        Flushes name s s ldterm.old ldterm.new [] told.old told.new (line_flushed here band (ldterm_in name s ldterm.old)) }
+    ensures { (s : StoreValue) → IsHeld s ldterm.old →
+        Flushes s s ldterm.old ldterm.new [] told.old told.new (line_flushed here band (ldterm_in s ldterm.old)) }
 {
     if !takes_band_0(band) || ldterm.line.len() == 0 {
         return;
@@ -89,17 +89,17 @@ pub(crate) fn flush_line<Mp: Drop>(
 
 /// FLUSHR: what waits to go up goes, and with band 0 the unfinished line. It says whether queues before have room again.
 pub(crate) fn flush_read<B: Blocks>(
-    ldterm: &mut Ldterm<B::Mp>,
+    ldterm: &mut Ldterm,
     store: &mut B,
     here: Spot,
     asked: FlushAsked,
     told: &mut Fates,
 ) -> bool
-    requires held { IsHeld B.name (B.value store.old) ldterm.old }
+    requires held { IsHeld (B.value store.old) ldterm.old }
     requires band { is_a_band asked.band ≡ true }
     ensures { let s = B.value store.old in
-        Flushes B.name s (B.value store.new) ldterm.old ldterm.new (if result then Room Up ∷ [] else []) told.old told.new
-        (read_flushed here asked (ldterm_in B.name s ldterm.old)) }
+        Flushes s (B.value store.new) ldterm.old ldterm.new (if result then Room Up ∷ [] else []) told.old told.new
+        (read_flushed here asked (ldterm_in s ldterm.old)) }
 {
     if !asked.for_read {
         return false;
@@ -112,18 +112,18 @@ pub(crate) fn flush_read<B: Blocks>(
 
 // Takes what a flush takes from the write queue, where no echo is in hand.
 fn flush_listed<B: Blocks>(
-    ldterm: &mut Ldterm<B::Mp>,
+    ldterm: &mut Ldterm,
     store: &mut B,
     here: Spot,
     band: Option<Band>,
     told: &mut Fates,
 ) -> bool
-    requires held { IsHeld B.name (B.value store.old) ldterm.old }
+    requires held { IsHeld (B.value store.old) ldterm.old }
     requires none { is_some ldterm.old.echo ≡ false }
     requires band { is_a_band band ≡ true }
     ensures { let s = B.value store.old in
-        Flushes B.name s (B.value store.new) ldterm.old ldterm.new (if result then Room Down ∷ [] else []) told.old told.new
-        (queue_flushed Down here band (ldterm_in B.name s ldterm.old)) }
+        Flushes s (B.value store.new) ldterm.old ldterm.new (if result then Room Down ∷ [] else []) told.old told.new
+        (queue_flushed Down here band (ldterm_in s ldterm.old)) }
 {
     let direction = direction_at(Way::Down, here.side);
     flush_queue(store, &mut ldterm.write_queue, direction, band, told)
@@ -168,18 +168,18 @@ fn flush_before<B: Blocks>(store: &mut B, queue: &mut Queue, more: usize, band: 
 
 // Takes the messages of a band other than 0 from the write queue. The turn's echo stays.
 fn flush_beside<B: Blocks>(
-    ldterm: &mut Ldterm<B::Mp>,
+    ldterm: &mut Ldterm,
     store: &mut B,
     here: Spot,
     band: Option<Band>,
     told: &mut Fates,
 ) -> bool
-    requires held { IsHeld B.name (B.value store.old) ldterm.old }
+    requires held { IsHeld (B.value store.old) ldterm.old }
     requires band { is_a_band band ≡ true }
     requires other { takes_band_0 band ≡ false }
     ensures { let s = B.value store.old in
-        Flushes B.name s (B.value store.new) ldterm.old ldterm.new (if result then Room Down ∷ [] else []) told.old told.new
-        (queue_flushed Down here band (ldterm_in B.name s ldterm.old)) }
+        Flushes s (B.value store.new) ldterm.old ldterm.new (if result then Room Down ∷ [] else []) told.old told.new
+        (queue_flushed Down here band (ldterm_in s ldterm.old)) }
 {
     let Some(named) = band else { unreachable!() };
     if ldterm.echo.is_none() {
@@ -194,18 +194,18 @@ fn flush_beside<B: Blocks>(
 
 /// FLUSHW: what waits to go down goes, with the turn's echo where band 0 goes. It says whether queues before have room again.
 pub(crate) fn flush_write<B: Blocks>(
-    ldterm: &mut Ldterm<B::Mp>,
+    ldterm: &mut Ldterm,
     store: &mut B,
     here: Spot,
     asked: FlushAsked,
     told: &mut Fates,
 ) -> bool
-    requires held { IsHeld B.name (B.value store.old) ldterm.old }
-    requires kept { AreIn (B.value store.old) (λ _. 0) (keeps B.name ldterm.old) }
+    requires held { IsHeld (B.value store.old) ldterm.old }
+    requires kept { AreIn (B.value store.old) (λ _. 0) (keeps ldterm.old) }
     requires band { is_a_band asked.band ≡ true }
     ensures { let s = B.value store.old in
-        Flushes B.name s (B.value store.new) ldterm.old ldterm.new (if result then Room Down ∷ [] else []) told.old told.new
-        (write_flushed here asked (ldterm_in B.name s ldterm.old)) }
+        Flushes s (B.value store.new) ldterm.old ldterm.new (if result then Room Down ∷ [] else []) told.old told.new
+        (write_flushed here asked (ldterm_in s ldterm.old)) }
 {
     if !asked.for_write {
         return false;

@@ -11,6 +11,7 @@ ghost use Rattle.strm_ldterm.specs.Stands.{ldterm_in, owns, keeps, IsHeld};
 
 use crate::lines::Line;
 use arrayvec::ArrayVec;
+use strm_blocks::InHand;
 use strm_queue::{OTHER_HIGH, OTHER_LOW, Queue};
 use strm_types::{ModuleName, Termios};
 
@@ -29,7 +30,7 @@ pub enum Stage {
 /// output; the unfinished line; its queues. In a turn of its read queue it has messages in hand: what is left of the message in
 /// work, the bytes that wait to go up together, and the turn's echo, which stands last on the write queue.
 #[derive(Drop)]
-pub struct Ldterm<Mp> {
+pub struct Ldterm {
     pub termios: Termios,
     pub stopped: bool,
     pub after_lnext: bool,
@@ -37,24 +38,24 @@ pub struct Ldterm<Mp> {
     pub line: Line,
     pub read_queue: Queue,
     pub write_queue: Queue,
-    pub in_work: Option<Mp>,
-    pub gathered: Option<Mp>,
-    pub echo: Option<Mp>,
+    pub in_work: Option<InHand>,
+    pub gathered: Option<InHand>,
+    pub echo: Option<InHand>,
     pub stage: Stage,
 }
 
-impl<Mp: Drop> Ldterm<Mp> {
+impl Ldterm {
     /// One as it is pushed, with these lists of its own, on which nothing stands. The read queue's comes first, so that who sees a
     /// store's lists knows which is which.
-    pub fn new(read_list: usize, write_list: usize) -> Ldterm<Mp>
+    pub fn new(read_list: usize, write_list: usize) -> Ldterm
         requires read { read_list < 8 }
         requires write { write_list < 8 }
         requires apart { read_list < write_list }
-        ensures state { (name : Mp → ℕ) (s : StoreValue) → list_at s read_list ≡ [] → list_at s write_list ≡ [] →
-            ldterm_in name s result ≡ new_ldterm }
-        ensures held { (name : Mp → ℕ) (s : StoreValue) → list_at s read_list ≡ [] → list_at s write_list ≡ [] →
-            IsHeld name s result }
-        ensures rests { (name : Mp → ℕ) (i : ℕ) → keeps name result i ≡ 0 }
+        ensures state { (s : StoreValue) → list_at s read_list ≡ [] → list_at s write_list ≡ [] →
+            ldterm_in s result ≡ new_ldterm }
+        ensures held { (s : StoreValue) → list_at s read_list ≡ [] → list_at s write_list ≡ [] →
+            IsHeld s result }
+        ensures rests { (i : ℕ) → keeps result i ≡ 0 }
         ensures owns { (k : ℕ) → owns result k ≡ once read_list k + once write_list k }
     {
         Ldterm {
@@ -75,7 +76,7 @@ impl<Mp: Drop> Ldterm<Mp> {
     /// Does nothing. Its contract is what holds of every one: the line is no longer than it may be, and what is still to be echoed
     /// of a byte is short.
     pub(crate) fn audit(&self)
-        ensures { (name : Mp → ℕ) (s : StoreValue) → IsShort (ldterm_in name s self.now) }
+        ensures { (s : StoreValue) → IsShort (ldterm_in s self.now) }
     {
         let _ = self.line.len();
         if let Stage::Answered { echo } = &self.stage {
@@ -84,14 +85,14 @@ impl<Mp: Drop> Ldterm<Mp> {
     }
 }
 
-impl<Mp: Drop> Default for Ldterm<Mp> {
+impl Default for Ldterm {
     ghost use Rattle.strm_ldterm.specs.Blank.{IsNew};
 
     ghost is_default = { λ x. IsNew x 0 1 };
 
     /// One as it is pushed, on lists 0 and 1: what stands in the unused places of an array. One that is pushed has lists of its own,
     /// by `new`.
-    fn default() -> Ldterm<Mp> {
+    fn default() -> Ldterm {
         Ldterm::new(0, 1)
     }
 }

@@ -5,11 +5,11 @@ ghost use Rattle.strm_types.specs.declared.names.ModuleName.TheVariants as names
 
 use crate::ldterm::Ldterm;
 use crate::{clearing, ending, ldterm, putting, queues, serving};
-use strm_blocks::Blocks;
+use strm_blocks::{Blocks, InHand};
 use strm_frame::{Acts, LetGo, Module, Served, TurnEnd};
 use strm_types::{Asks, Band, Fates, ModuleName, Rule, Side, Spot, Way};
 
-impl<B: Blocks> Module<B> for Ldterm<B::Mp> {
+impl Module for Ldterm {
     ghost use Rattle.strm_types.specs.Asking as asking;
     ghost use Rattle.strm_types.specs.Cells as cells;
     ghost use Rattle.strm_types.specs.Costs as costs;
@@ -30,15 +30,15 @@ impl<B: Blocks> Module<B> for Ldterm<B::Mp> {
 
     ghost Plain = { plain.Ldterm ℕ };
 
-    ghost plain = { λ s x. stands.ldterm_in B.name s x };
+    ghost plain = { λ s x. stands.ldterm_in s x };
 
     ghost name_of = { λ p. names.Ldterm };
 
-    ghost IsHeld = { λ s x. stands.IsHeld B.name s x };
+    ghost IsHeld = { λ s x. stands.IsHeld s x };
 
     ghost owns = { λ x. stands.owns x };
 
-    ghost keeps = { λ x. stands.keeps B.name x };
+    ghost keeps = { λ x. stands.keeps x };
 
     ghost puts = { ldterm_puts };
 
@@ -74,7 +74,7 @@ impl<B: Blocks> Module<B> for Ldterm<B::Mp> {
         ldterm::name()
     }
 
-    fn put(&mut self, store: &mut B, here: Spot, message: B::Mp, told: &mut Fates) -> Acts<B::Mp> {
+    fn put<B: Blocks>(&mut self, store: &mut B, here: Spot, message: InHand, told: &mut Fates) -> Acts {
         store.audit();
         putting::put(self, store, here, message, told)
     }
@@ -84,23 +84,23 @@ impl<B: Blocks> Module<B> for Ldterm<B::Mp> {
         true
     }
 
-    fn is_full(&self, store: &B, way: Way, band: Band) -> bool {
+    fn is_full<B: Blocks>(&self, store: &B, way: Way, band: Band) -> bool {
         queues::is_full(self, store, way, band)
     }
 
-    fn count(&self, store: &B, way: Way, band: Band) -> usize {
+    fn count<B: Blocks>(&self, store: &B, way: Way, band: Band) -> usize {
         queues::count(self, store, way, band)
     }
 
-    fn sizes(&self, store: &B, way: Way) -> (usize, usize) {
+    fn sizes<B: Blocks>(&self, store: &B, way: Way) -> (usize, usize) {
         queues::sizes(self, store, way)
     }
 
-    fn first_size(&self, store: &B, way: Way) -> usize {
+    fn first_size<B: Blocks>(&self, store: &B, way: Way) -> usize {
         queues::first_size(self, store, way)
     }
 
-    fn none_waits_up(&self, store: &B) -> bool {
+    fn none_waits_up<B: Blocks>(&self, store: &B) -> bool {
         queues::none_waits_up(self, store)
     }
 
@@ -115,21 +115,21 @@ impl<B: Blocks> Module<B> for Ldterm<B::Mp> {
         }
     }
 
-    fn asks(&self, store: &B, way: Way) -> Asks {
+    fn asks<B: Blocks>(&self, store: &B, way: Way) -> Asks {
         queues::asks(self, store, way)
     }
 
-    fn serve(&mut self, store: &mut B, here: Spot, again: bool, told: &mut Fates) -> Served<B::Mp> {
+    fn serve<B: Blocks>(&mut self, store: &mut B, here: Spot, again: bool, told: &mut Fates) -> Served {
         self.audit();
         store.audit();
         serving::serve(self, store, here, again, told)
     }
 
-    fn end_turn(&mut self, store: &B, way: Way, took: bool) -> TurnEnd {
+    fn end_turn<B: Blocks>(&mut self, store: &B, way: Way, took: bool) -> TurnEnd {
         ending::end_turn(self, store, way, took)
     }
 
-    fn clear(
+    fn clear<B: Blocks>(
         &mut self,
         store: &mut B,
         side: Side,
@@ -140,9 +140,9 @@ impl<B: Blocks> Module<B> for Ldterm<B::Mp> {
         clearing::clear(self, store, side, rule, seeking, told)
     }
 
-    ghost frame = { λ s t x same held. ldterm-frame B.name s t x same held };
+    ghost frame = { λ s t x same held. ldterm-frame s t x same held };
 
-    ghost rests = { λ s x way i held may. served-rests B.name s x way i held may };
+    ghost rests = { λ s x way i held may. served-rests s x way i held may };
 
     ghost either_way = { λ way other p may. either-served way other p may };
 

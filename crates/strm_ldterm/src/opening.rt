@@ -18,27 +18,27 @@ use strm_types::{Band, MsgKind, OutputModes, Spot, Termios, Way};
 
 /// What passes whole, and how many bytes it has.
 #[derive(Drop)]
-pub struct Passed<Mp> {
-    pub sent: Outbox<Mp>,
+pub struct Passed {
+    pub sent: Outbox,
     pub bytes: usize,
 }
 
 /// What a turn of the read queue begins with.
 #[derive(Drop)]
-pub enum InputBegun<Mp> {
+pub enum InputBegun {
     /// Nothing stands there.
     Empty,
     /// A message passes whole.
-    Whole(Passed<Mp>),
+    Whole(Passed),
     /// A message of data is in work, and has so many bytes.
     InWork { bytes: usize },
 }
 
 /// What a turn of the write queue begins with.
 #[derive(Drop)]
-pub enum OutputBegun<Mp> {
+pub enum OutputBegun {
     /// Nothing stands there, or a message passes whole.
-    Whole(Passed<Mp>),
+    Whole(Passed),
     /// A message of data is in work, to go out: it has so many bytes, and this band.
     InWork { bytes: usize, band: Band },
 }
@@ -60,15 +60,15 @@ fn goes_out(termios: &Termios, kind: MsgKind, bytes: usize) -> bool
 /// A turn of the write queue begins with what stands first there: M_DATA with bytes comes into work under OPOST, and all else goes down
 /// whole. It takes no block. The cost is a step for each block of the message.
 pub(crate) fn begin_output<B: Blocks>(
-    ldterm: &mut Ldterm<B::Mp>,
+    ldterm: &mut Ldterm,
     store: &mut B,
     here: Spot,
-) -> OutputBegun<B::Mp>
-    requires held { IsHeld B.name (B.value store.old) ldterm.old }
-    requires rests { (i : ℕ) → keeps B.name ldterm.old i ≡ 0 }
+) -> OutputBegun
+    requires held { IsHeld (B.value store.old) ldterm.old }
+    requires rests { (i : ℕ) → keeps ldterm.old i ≡ 0 }
     requires inside { 0 < here.at }
     requires small { here.at ≤ MODULES }
-    ensures { OutputBeganAs B.name (B.value store.old) (B.value store.new) here ldterm.old ldterm.new result }
+    ensures { OutputBeganAs (B.value store.old) (B.value store.new) here ldterm.old ldterm.new result }
 {
     if ldterm.write_queue.is_empty(store) {
         return OutputBegun::Whole(Passed {
@@ -98,15 +98,15 @@ pub(crate) fn begin_output<B: Blocks>(
 /// A turn of the read queue begins with what stands first there: M_DATA comes into work, and all else goes up whole. It takes no
 /// block. The cost is a step for each block of the message.
 pub(crate) fn begin_input<B: Blocks>(
-    ldterm: &mut Ldterm<B::Mp>,
+    ldterm: &mut Ldterm,
     store: &mut B,
     here: Spot,
-) -> InputBegun<B::Mp>
-    requires held { IsHeld B.name (B.value store.old) ldterm.old }
-    requires rests { (i : ℕ) → keeps B.name ldterm.old i ≡ 0 }
+) -> InputBegun
+    requires held { IsHeld (B.value store.old) ldterm.old }
+    requires rests { (i : ℕ) → keeps ldterm.old i ≡ 0 }
     requires inside { 0 < here.at }
     requires small { here.at ≤ MODULES }
-    ensures { BeganAs B.name (B.value store.old) (B.value store.new) here ldterm.old ldterm.new result }
+    ensures { BeganAs (B.value store.old) (B.value store.new) here ldterm.old ldterm.new result }
 {
     if ldterm.read_queue.is_empty(store) {
         return InputBegun::Empty;

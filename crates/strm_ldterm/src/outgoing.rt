@@ -9,7 +9,7 @@ ghost use Rattle.strm_types.specs.Input.{back_on, cells_left};
 ghost use Rattle.strm_types.specs.Ldterms.{onward, sends};
 ghost use Rattle.strm_types.specs.Message.{cells_of};
 ghost use Rattle.strm_types.specs.OutputTurns.{with_given};
-ghost use Rattle.strm_blocks.specs.Blocks.{IsInHand};
+ghost use Rattle.strm_blocks.specs.Blocks.{IsInHand, token};
 ghost use Rattle.strm_frame.specs.Hands.{AreIn};
 ghost use Rattle.strm_frame.specs.Outboxes.{message_in, sent_of};
 ghost use Rattle.strm_ldterm.specs.Becoming.{Becomes};
@@ -26,19 +26,19 @@ use crate::opening::{OutputBegun, begin_output};
 use crate::posting::post_bytes;
 use crate::serving::of_whole;
 use arrayvec::ArrayVec;
-use strm_blocks::Blocks;
+use strm_blocks::{Blocks, InHand};
 use strm_frame::{Acts, Outbox, Sent, Served};
 use strm_types::{Band, Fates, Spot, Way};
 
 // What is left of the message in work goes back to the front of the write queue.
-fn return_output<B: Blocks>(ldterm: &mut Ldterm<B::Mp>, store: &mut B)
-    requires held { IsHeld B.name (B.value store.old) ldterm.old }
-    requires kept { AreIn (B.value store.old) (λ _. 0) (keeps B.name ldterm.old) }
+fn return_output<B: Blocks>(ldterm: &mut Ldterm, store: &mut B)
+    requires held { IsHeld (B.value store.old) ldterm.old }
+    requires kept { AreIn (B.value store.old) (λ _. 0) (keeps ldterm.old) }
     requires quiet { is_some ldterm.old.echo ≡ false }
-    ensures state { let p = ldterm_in B.name (B.value store.old) ldterm.old in ldterm_in B.name (B.value store.new) ldterm.new
+    ensures state { let p = ldterm_in (B.value store.old) ldterm.old in ldterm_in (B.value store.new) ldterm.new
         ≡ record p { in_work = None; write_queue = back_on p.in_work p.write_queue } }
-    ensures alters { Alters B.name (B.value store.old) (B.value store.new) ldterm.old ldterm.new }
-    ensures blocks { 0 < length (cells_left (ldterm_in B.name (B.value store.old) ldterm.old)) →
+    ensures alters { Alters (B.value store.old) (B.value store.new) ldterm.old ldterm.new }
+    ensures blocks { 0 < length (cells_left (ldterm_in (B.value store.old) ldterm.old)) →
         FreesNone (B.value store.old) (B.value store.new) }
 {
     let Some(message) = ldterm.in_work.take() else {
@@ -49,11 +49,11 @@ fn return_output<B: Blocks>(ldterm: &mut Ldterm<B::Mp>, store: &mut B)
 }
 
 // Gives a message of data in hand another band.
-fn reband<B: Blocks>(store: &mut B, message: &B::Mp, band: Band)
-    requires in_hand { IsInHand (B.value store.old) (B.name message.now) }
-    requires is { IsData (B.value store.old) (B.name message.now) }
+fn reband<B: Blocks>(store: &mut B, message: &InHand, band: Band)
+    requires in_hand { IsInHand (B.value store.old) (token message.now) }
+    requires is { IsData (B.value store.old) (token message.now) }
     requires low { band.0 < BANDS }
-    ensures became { let i = B.name message.now in
+    ensures became { let i = token message.now in
         Becomes (B.value store.old) (B.value store.new) i i (data_of band.0 (cells_of (message_in (B.value store.old) i))) }
     ensures blocks { FreesNone (B.value store.old) (B.value store.new) }
 {
@@ -63,18 +63,18 @@ fn reband<B: Blocks>(store: &mut B, message: &B::Mp, band: Band)
 
 // What was gathered goes down as one message of a band, where there is any.
 fn send_output<B: Blocks>(
-    ldterm: &mut Ldterm<B::Mp>,
+    ldterm: &mut Ldterm,
     store: &mut B,
     here: Spot,
     band: Band,
-) -> Outbox<B::Mp>
-    requires held { IsHeld B.name (B.value store.old) ldterm.old }
-    requires kept { AreIn (B.value store.old) (λ _. 0) (keeps B.name ldterm.old) }
+) -> Outbox
+    requires held { IsHeld (B.value store.old) ldterm.old }
+    requires kept { AreIn (B.value store.old) (λ _. 0) (keeps ldterm.old) }
     requires inside { 0 < here.at }
     requires small { here.at ≤ MODULES }
     requires low { band.0 < BANDS }
-    ensures did { (f : Fates) → let s = B.value store.old in let p = ldterm_in B.name s ldterm.old in
-        Proceeds B.name s (B.value store.new) ldterm.old ldterm.new 0 [] (sent_of result) f f
+    ensures did { (f : Fates) → let s = B.value store.old in let p = ldterm_in s ldterm.old in
+        Proceeds s (B.value store.new) ldterm.old ldterm.new 0 [] (sent_of result) f f
         (sends (map (onward Down here) (with_given p.gathered (data_of band.0 []))) (record p { gathered = [] })) }
     ensures blocks { FreesNone (B.value store.old) (B.value store.new) }
 {
@@ -93,21 +93,21 @@ fn send_output<B: Blocks>(
 // down. It takes no block, and frees none where bytes are left. The cost is a step for each block of these messages, and for each message
 // of a higher rank on the write queue.
 fn let_go<B: Blocks>(
-    ldterm: &mut Ldterm<B::Mp>,
+    ldterm: &mut Ldterm,
     store: &mut B,
     here: Spot,
     band: Band,
-) -> Outbox<B::Mp>
-    requires held { IsHeld B.name (B.value store.old) ldterm.old }
-    requires kept { AreIn (B.value store.old) (λ _. 0) (keeps B.name ldterm.old) }
+) -> Outbox
+    requires held { IsHeld (B.value store.old) ldterm.old }
+    requires kept { AreIn (B.value store.old) (λ _. 0) (keeps ldterm.old) }
     requires quiet { is_some ldterm.old.echo ≡ false }
     requires inside { 0 < here.at }
     requires small { here.at ≤ MODULES }
     requires low { band.0 < BANDS }
     ensures did { (f : Fates) → let s = B.value store.old in
-        Proceeds B.name s (B.value store.new) ldterm.old ldterm.new 0 [] (sent_of result) f f
-        (let_go here band.0 (ldterm_in B.name s ldterm.old)) }
-    ensures blocks { 0 < length (cells_left (ldterm_in B.name (B.value store.old) ldterm.old)) →
+        Proceeds s (B.value store.new) ldterm.old ldterm.new 0 [] (sent_of result) f f
+        (let_go here band.0 (ldterm_in s ldterm.old)) }
+    ensures blocks { 0 < length (cells_left (ldterm_in (B.value store.old) ldterm.old)) →
         FreesNone (B.value store.old) (B.value store.new) }
 {
     return_output(ldterm, store);
@@ -119,19 +119,19 @@ fn let_go<B: Blocks>(
 /// `STOP_BLOCKS` blocks of some kind are free before the next byte. What is left goes back to the front of its queue then. The cost is in
 /// proportion to the bytes that go out and to what they give, and a step for each block of the message.
 pub(crate) fn serve_output<B: Blocks>(
-    ldterm: &mut Ldterm<B::Mp>,
+    ldterm: &mut Ldterm,
     store: &mut B,
     here: Spot,
     told: &mut Fates,
-) -> Served<B::Mp>
-    requires held { IsHeld B.name (B.value store.old) ldterm.old }
-    requires kept { AreIn (B.value store.old) (λ _. 0) (keeps B.name ldterm.old) }
+) -> Served
+    requires held { IsHeld (B.value store.old) ldterm.old }
+    requires kept { AreIn (B.value store.old) (λ _. 0) (keeps ldterm.old) }
     requires inside { 0 < here.at }
     requires small { here.at ≤ MODULES }
     requires way { here.way ≡ Down }
-    requires rests { (i : ℕ) → keeps B.name ldterm.old i ≡ 0 }
+    requires rests { (i : ℕ) → keeps ldterm.old i ≡ 0 }
     requires stage { stages_left (stage_in ldterm.old.stage) ≡ 0 }
-    ensures { (again : Bool) → ServesAs B.name (B.value store.old) (B.value store.new) here ldterm.old ldterm.new again result told.old told.new }
+    ensures { (again : Bool) → ServesAs (B.value store.old) (B.value store.new) here ldterm.old ldterm.new again result told.old told.new }
 {
     match begin_output(ldterm, store, here) {
         OutputBegun::Whole(passed) => of_whole(passed),

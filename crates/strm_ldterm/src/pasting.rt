@@ -10,7 +10,7 @@ ghost use Rattle.strm_types.specs.Input.{cells_left, left_of, with_left};
 ghost use Rattle.strm_types.specs.Ldterms.{sends};
 ghost use Rattle.strm_types.specs.Message.{cells_of};
 ghost use Rattle.strm_types.specs.Termios.{icanon};
-ghost use Rattle.strm_blocks.specs.Blocks.{IsInHand};
+ghost use Rattle.strm_blocks.specs.Blocks.{IsInHand, token};
 ghost use Rattle.strm_frame.specs.Hands.{AreIn, HasRoom};
 ghost use Rattle.strm_frame.specs.Outboxes.{message_in};
 ghost use Rattle.strm_ldterm.specs.Becoming.{Becomes, IsFronted};
@@ -29,7 +29,7 @@ use crate::queues::echo_room;
 use crate::typing::gather;
 use arrayvec::ArrayVec;
 use bitflags::Flags;
-use strm_blocks::Blocks;
+use strm_blocks::{Blocks, InHand};
 use strm_types::{Fates, InputModes, LINE_MAX, LocalModes, Note, STOP_BLOCKS, Spot, Termios, Way};
 
 /// What became of plain bytes that were treated at once: how many they were, and what is noted of their echo.
@@ -102,20 +102,20 @@ fn plain_len(odd: &[bool; 256], bytes: &[u8]) -> usize
 // most: adjmsg(9F). The block is freed where it is empty then and another one stands behind it.
 fn take_plain<B: Blocks>(
     store: &mut B,
-    message: B::Mp,
+    message: InHand,
     odd: &[bool; 256],
     most: usize,
-) -> (B::Mp, ArrayVec<u8, RUN_MAX>)
-    requires in_hand { IsInHand (B.value store.old) (B.name message) }
-    requires is { IsData (B.value store.old) (B.name message) }
-    ensures became { let m = message_in (B.value store.old) (B.name message) in
-        Becomes (B.value store.old) (B.value store.new) (B.name message) (B.name result.0)
+) -> (InHand, ArrayVec<u8, RUN_MAX>)
+    requires in_hand { IsInHand (B.value store.old) (token message) }
+    requires is { IsData (B.value store.old) (token message) }
+    ensures became { let m = message_in (B.value store.old) (token message) in
+        Becomes (B.value store.old) (B.value store.new) (token message) (token result.0)
         (left_of (drop (length result.1.items) (cells_of m)) m) }
-    ensures front { let cells = cells_of (message_in (B.value store.old) (B.name message)) in
+    ensures front { let cells = cells_of (message_in (B.value store.old) (token message)) in
         cells ≡ result.1.items ++ drop (length result.1.items) cells }
     ensures plain { AllByRecursion (λ b. slice_index_or odd.now b true ≡ false) result.1.items }
     ensures few { length result.1.items ≤ most }
-    ensures trimmed { IsFronted (B.value store.new) (B.name result.0) }
+    ensures trimmed { IsFronted (B.value store.new) (token result.0) }
 {
     let message = skip_empty(store, message);
     store.audit();
@@ -134,21 +134,21 @@ fn take_plain<B: Blocks>(
 /// Takes bytes that aren't marked off the front of the message in work, as many as its first block has of them, and so many at most. A block
 /// that this empties is freed, unless it is the message's last.
 pub(crate) fn take_front<B: Blocks>(
-    ldterm: &mut Ldterm<B::Mp>,
+    ldterm: &mut Ldterm,
     store: &mut B,
     odd: &[bool; 256],
     most: usize,
 ) -> ArrayVec<u8, RUN_MAX>
-    requires held { IsHeld B.name (B.value store.old) ldterm.old }
-    requires kept { AreIn (B.value store.old) (λ _. 0) (keeps B.name ldterm.old) }
-    ensures did { (f : Fates) → let s = B.value store.old in let p = ldterm_in B.name s ldterm.old in
-        Proceeds B.name s (B.value store.new) ldterm.old ldterm.new 0 [] [] f f
+    requires held { IsHeld (B.value store.old) ldterm.old }
+    requires kept { AreIn (B.value store.old) (λ _. 0) (keeps ldterm.old) }
+    ensures did { (f : Fates) → let s = B.value store.old in let p = ldterm_in s ldterm.old in
+        Proceeds s (B.value store.new) ldterm.old ldterm.new 0 [] [] f f
         (sends [] (with_left (drop (length result.items) (cells_left p)) p)) }
-    ensures front { let cells = cells_left (ldterm_in B.name (B.value store.old) ldterm.old) in
+    ensures front { let cells = cells_left (ldterm_in (B.value store.old) ldterm.old) in
         cells ≡ result.items ++ drop (length result.items) cells }
     ensures plain { AllByRecursion (λ b. slice_index_or odd.now b true ≡ false) result.items }
     ensures few { length result.items ≤ most }
-    ensures trimmed { IfSome ldterm.new.in_work (λ m. IsFronted (B.value store.new) (B.name m)) }
+    ensures trimmed { IfSome ldterm.new.in_work (λ m. IsFronted (B.value store.new) (token m)) }
 {
     let Some(message) = ldterm.in_work.take() else {
         return ArrayVec::new();
@@ -174,9 +174,9 @@ pub(crate) fn run_most<B: Blocks>(store: &B) -> usize
 }
 
 // How many plain bytes may be treated at once, where any may.
-fn run_room<B: Blocks>(ldterm: &Ldterm<B::Mp>, store: &B) -> usize
-    requires { IsHeld B.name (B.value store.now) ldterm.now }
-    ensures may { 0 < result → MayRun result (ldterm_in B.name (B.value store.now) ldterm.now) }
+fn run_room<B: Blocks>(ldterm: &Ldterm, store: &B) -> usize
+    requires { IsHeld (B.value store.now) ldterm.now }
+    ensures may { 0 < result → MayRun result (ldterm_in (B.value store.now) ldterm.now) }
     ensures few { result ≤ 256 }
     ensures many { 0 < result → HasRoom (B.value store.now) (STOP_BLOCKS + 2) }
 {
@@ -196,16 +196,16 @@ fn run_room<B: Blocks>(ldterm: &Ldterm<B::Mp>, store: &B) -> usize
 }
 
 // Plain bytes stand in the line, or wait to go up together where no lines are made.
-fn type_run<B: Blocks>(ldterm: &mut Ldterm<B::Mp>, store: &mut B, run: &[u8])
-    requires held { IsHeld B.name (B.value store.old) ldterm.old }
-    requires kept { AreIn (B.value store.old) (λ _. 0) (keeps B.name ldterm.old) }
+fn type_run<B: Blocks>(ldterm: &mut Ldterm, store: &mut B, run: &[u8])
+    requires held { IsHeld (B.value store.old) ldterm.old }
+    requires kept { AreIn (B.value store.old) (λ _. 0) (keeps ldterm.old) }
     requires some { 0 < length run.now }
     requires few { length run.now ≤ 256 }
     requires line { icanon ldterm.old.termios ≡ true → length ldterm.old.line + length run.now ≤ LINE_MAX }
     requires room { HasRoom (B.value store.old) 1 }
     ensures { (f : Fates) → let s = B.value store.old in
-        Proceeds B.name s (B.value store.new) ldterm.old ldterm.new 1 [] [] f f
-        (sends [] (typed_run run.now (ldterm_in B.name s ldterm.old))) }
+        Proceeds s (B.value store.new) ldterm.old ldterm.new 1 [] [] f f
+        (sends [] (typed_run run.now (ldterm_in s ldterm.old))) }
 {
     if ldterm.termios.lflag.contains(LocalModes::ICANON) {
         ldterm.line.extend(run);
@@ -216,19 +216,19 @@ fn type_run<B: Blocks>(ldterm: &mut Ldterm<B::Mp>, store: &mut B, run: &[u8])
 
 // Plain bytes are echoed as themselves under ECHO, where band 0 of the write queue has room for them.
 fn echo_run<B: Blocks>(
-    ldterm: &mut Ldterm<B::Mp>,
+    ldterm: &mut Ldterm,
     store: &mut B,
     here: Spot,
     run: &[u8],
     told: &mut Fates,
 ) -> ArrayVec<Note, 4>
-    requires held { IsHeld B.name (B.value store.old) ldterm.old }
-    requires kept { AreIn (B.value store.old) (λ _. 0) (keeps B.name ldterm.old) }
+    requires held { IsHeld (B.value store.old) ldterm.old }
+    requires kept { AreIn (B.value store.old) (λ _. 0) (keeps ldterm.old) }
     requires few { length run.now ≤ 256 }
     requires room { HasRoom (B.value store.old) 1 }
     ensures { let s = B.value store.old in
-        Proceeds B.name s (B.value store.new) ldterm.old ldterm.new 1 result.items [] told.old told.new
-        (run_echoed here run.now (ldterm_in B.name s ldterm.old)) }
+        Proceeds s (B.value store.new) ldterm.old ldterm.new 1 result.items [] told.old told.new
+        (run_echoed here run.now (ldterm_in s ldterm.old)) }
 {
     if ldterm.termios.lflag.contains(LocalModes::ECHO) {
         told.tell_made(direction_at(Way::Down, here.side), run.len());
@@ -241,20 +241,20 @@ fn echo_run<B: Blocks>(
 /// can be echoed before the write queue is full: just as if they were treated one after the other. They take two blocks of each kind at
 /// most, and there are some only where each of them begins with `STOP_BLOCKS` free. The cost is a step for each byte, and a pass over a table of 256 bytes.
 pub(crate) fn treat_run<B: Blocks>(
-    ldterm: &mut Ldterm<B::Mp>,
+    ldterm: &mut Ldterm,
     store: &mut B,
     here: Spot,
     told: &mut Fates,
 ) -> Ran
-    requires held { IsHeld B.name (B.value store.old) ldterm.old }
-    requires kept { AreIn (B.value store.old) (λ _. 0) (keeps B.name ldterm.old) }
+    requires held { IsHeld (B.value store.old) ldterm.old }
+    requires kept { AreIn (B.value store.old) (λ _. 0) (keeps ldterm.old) }
     requires room { HasRoom (B.value store.old) 2 }
     requires stage { stages_left (stage_in ldterm.old.stage) ≡ 0 }
     ensures does { let s = B.value store.old in
-        Proceeds B.name s (B.value store.new) ldterm.old ldterm.new 2 result.notes.items [] told.old told.new
-        (ahead here (3 * result.bytes) (ldterm_in B.name s ldterm.old)) }
-    ensures within { result.bytes ≤ length (cells_left (ldterm_in B.name (B.value store.old) ldterm.old)) }
-    ensures begun { let p = ldterm_in B.name (B.value store.old) ldterm.old in
+        Proceeds s (B.value store.new) ldterm.old ldterm.new 2 result.notes.items [] told.old told.new
+        (ahead here (3 * result.bytes) (ldterm_in s ldterm.old)) }
+    ensures within { result.bytes ≤ length (cells_left (ldterm_in (B.value store.old) ldterm.old)) }
+    ensures begun { let p = ldterm_in (B.value store.old) ldterm.old in
         (byte : ℕ) → byte < result.bytes → HasRoom (B.value store.old) (STOP_BLOCKS + blocks_grown p (bytes_on here byte p).state) }
 {
     let odd = odd_bytes(&ldterm.termios);

@@ -65,13 +65,13 @@ fn tell_given(told: &mut Fates, here: Spot, given: Given)
 }
 
 // Gathers so many spaces, at most 8.
-fn gather_spaces<B: Blocks>(ldterm: &mut Ldterm<B::Mp>, store: &mut B, columns: usize)
-    requires held { IsHeld B.name (B.value store.old) ldterm.old }
-    requires kept { AreIn (B.value store.old) (λ _. 0) (keeps B.name ldterm.old) }
+fn gather_spaces<B: Blocks>(ldterm: &mut Ldterm, store: &mut B, columns: usize)
+    requires held { IsHeld (B.value store.old) ldterm.old }
+    requires kept { AreIn (B.value store.old) (λ _. 0) (keeps ldterm.old) }
     requires few { columns ≤ 8 }
     requires room { HasRoom (B.value store.old) 1 }
-    ensures { (f : Fates) → let s = B.value store.old in let p = ldterm_in B.name s ldterm.old in
-        Proceeds B.name s (B.value store.new) ldterm.old ldterm.new 1 [] [] f f
+    ensures { (f : Fates) → let s = B.value store.old in let p = ldterm_in s ldterm.old in
+        Proceeds s (B.value store.new) ldterm.old ldterm.new 1 [] [] f f
         (sends [] (record p { gathered = p.gathered ++ replicate columns space })) }
 {
     if columns > 0 {
@@ -80,13 +80,13 @@ fn gather_spaces<B: Blocks>(ldterm: &mut Ldterm<B::Mp>, store: &mut B, columns: 
 }
 
 // Gathers what a byte gives, at most 8 bytes.
-fn gather_given<B: Blocks>(ldterm: &mut Ldterm<B::Mp>, store: &mut B, given: Given)
-    requires held { IsHeld B.name (B.value store.old) ldterm.old }
-    requires kept { AreIn (B.value store.old) (λ _. 0) (keeps B.name ldterm.old) }
+fn gather_given<B: Blocks>(ldterm: &mut Ldterm, store: &mut B, given: Given)
+    requires held { IsHeld (B.value store.old) ldterm.old }
+    requires kept { AreIn (B.value store.old) (λ _. 0) (keeps ldterm.old) }
     requires few { made_for given ≤ 8 }
     requires room { HasRoom (B.value store.old) 1 }
-    ensures { (f : Fates) → let s = B.value store.old in let p = ldterm_in B.name s ldterm.old in
-        Proceeds B.name s (B.value store.new) ldterm.old ldterm.new 1 [] [] f f
+    ensures { (f : Fates) → let s = B.value store.old in let p = ldterm_in s ldterm.old in
+        Proceeds s (B.value store.new) ldterm.old ldterm.new 1 [] [] f f
         (sends [] (record p { gathered = p.gathered ++ bytes_given given })) }
 {
     match given {
@@ -98,14 +98,14 @@ fn gather_given<B: Blocks>(ldterm: &mut Ldterm<B::Mp>, store: &mut B, given: Giv
 }
 
 // The next byte of the message in work goes out, where there is one.
-fn post_byte<B: Blocks>(ldterm: &mut Ldterm<B::Mp>, store: &mut B, here: Spot, told: &mut Fates)
-    requires held { IsHeld B.name (B.value store.old) ldterm.old }
-    requires kept { AreIn (B.value store.old) (λ _. 0) (keeps B.name ldterm.old) }
+fn post_byte<B: Blocks>(ldterm: &mut Ldterm, store: &mut B, here: Spot, told: &mut Fates)
+    requires held { IsHeld (B.value store.old) ldterm.old }
+    requires kept { AreIn (B.value store.old) (λ _. 0) (keeps ldterm.old) }
     requires room { HasRoom (B.value store.old) 1 }
-    requires some { 0 < length (cells_left (ldterm_in B.name (B.value store.old) ldterm.old)) }
+    requires some { 0 < length (cells_left (ldterm_in (B.value store.old) ldterm.old)) }
     ensures { let s = B.value store.old in
-        Proceeds B.name s (B.value store.new) ldterm.old ldterm.new 1 [] [] told.old told.new
-        (poured here 1 (ldterm_in B.name s ldterm.old)) }
+        Proceeds s (B.value store.new) ldterm.old ldterm.new 1 [] [] told.old told.new
+        (poured here 1 (ldterm_in s ldterm.old)) }
 {
     let Some(byte) = next_byte(ldterm, store) else {
         unreachable!()
@@ -119,17 +119,17 @@ fn post_byte<B: Blocks>(ldterm: &mut Ldterm<B::Mp>, store: &mut B, here: Spot, t
 
 // Bytes that go out as themselves, as many as stand at the front of the first block of the message in work. There are some only where each
 // of them begins with `STOP_BLOCKS` blocks of each kind free.
-fn post_run<B: Blocks>(ldterm: &mut Ldterm<B::Mp>, store: &mut B, odd: &[bool; 256]) -> usize
-    requires held { IsHeld B.name (B.value store.old) ldterm.old }
-    requires kept { AreIn (B.value store.old) (λ _. 0) (keeps B.name ldterm.old) }
+fn post_run<B: Blocks>(ldterm: &mut Ldterm, store: &mut B, odd: &[bool; 256]) -> usize
+    requires held { IsHeld (B.value store.old) ldterm.old }
+    requires kept { AreIn (B.value store.old) (λ _. 0) (keeps ldterm.old) }
     requires room { HasRoom (B.value store.old) 1 }
     requires odd { (b : ℕ) → slice_index_or odd.now b true ≡ false → is_printed ldterm.old.termios b ≡ true }
     requires work { is_some ldterm.old.in_work ≡ true }
     ensures does { (here : Spot) (f : Fates) → let s = B.value store.old in
-        Proceeds B.name s (B.value store.new) ldterm.old ldterm.new 1 [] [] f f
-        (poured here result (ldterm_in B.name s ldterm.old)) }
-    ensures within { result ≤ length (cells_left (ldterm_in B.name (B.value store.old) ldterm.old)) }
-    ensures begun { (here : Spot) (byte : ℕ) → let p = ldterm_in B.name (B.value store.old) ldterm.old in
+        Proceeds s (B.value store.new) ldterm.old ldterm.new 1 [] [] f f
+        (poured here result (ldterm_in s ldterm.old)) }
+    ensures within { result ≤ length (cells_left (ldterm_in (B.value store.old) ldterm.old)) }
+    ensures begun { (here : Spot) (byte : ℕ) → let p = ldterm_in (B.value store.old) ldterm.old in
         byte < result → HasRoom (B.value store.old) (STOP_BLOCKS + blocks_grown p (poured here byte p).state) }
 {
     let column = ldterm.column;
@@ -149,17 +149,17 @@ fn post_run<B: Blocks>(ldterm: &mut Ldterm<B::Mp>, store: &mut B, odd: &[bool; 2
 /// gathered in blocks of 256 bytes. The cost is in proportion to the bytes that go out and to what they give, and a pass over a table of 256
 /// bytes.
 pub(crate) fn post_bytes<B: Blocks>(
-    ldterm: &mut Ldterm<B::Mp>,
+    ldterm: &mut Ldterm,
     store: &mut B,
     here: Spot,
     bytes: usize,
     told: &mut Fates,
 ) -> usize
-    requires held { IsHeld B.name (B.value store.old) ldterm.old }
-    requires kept { AreIn (B.value store.old) (λ _. 0) (keeps B.name ldterm.old) }
+    requires held { IsHeld (B.value store.old) ldterm.old }
+    requires kept { AreIn (B.value store.old) (λ _. 0) (keeps ldterm.old) }
     requires work { is_some ldterm.old.in_work ≡ true }
-    requires bytes { bytes ≡ length (cells_left (ldterm_in B.name (B.value store.old) ldterm.old)) }
-    ensures { PoursAs B.name (B.value store.old) (B.value store.new) here ldterm.old ldterm.new bytes result told.old told.new }
+    requires bytes { bytes ≡ length (cells_left (ldterm_in (B.value store.old) ldterm.old)) }
+    ensures { PoursAs (B.value store.old) (B.value store.new) here ldterm.old ldterm.new bytes result told.old told.new }
 {
     let odd = odd_output(&ldterm.termios);
     let mut left = bytes;

@@ -12,7 +12,7 @@ ghost use Rattle.strm_types.specs.declared.spots.Note.TheVariants.{Room};
 ghost use Rattle.strm_types.specs.Message.{Message, is_high_priority};
 ghost use Rattle.strm_types.specs.Ldterms.{waits_there};
 ghost use Rattle.strm_types.specs.Queue.{put_on};
-ghost use Rattle.strm_blocks.specs.Blocks.{IsInHand, in_hand, dropped, block_at};
+ghost use Rattle.strm_blocks.specs.Blocks.{IsInHand, in_hand, dropped, block_at, token};
 ghost use Rattle.strm_msg.specs.Messages.{message_of, IsChain};
 ghost use Rattle.strm_queue.specs.Stored.{queue_in, IsReady, Changes, FreesBlocks};
 ghost use Rattle.strm_frame.specs.Hands.{AreIn, CanPut, HasRoom};
@@ -28,7 +28,7 @@ use crate::ldterm::Ldterm;
 use crate::reading::asked_of;
 use crate::taking_up::pass;
 use arrayvec::ArrayVec;
-use strm_blocks::Blocks;
+use strm_blocks::{Blocks, InHand};
 use strm_frame::{Acts, Outbox, Sent};
 use strm_queue::Queue;
 use strm_queue::standing::enqueue;
@@ -46,13 +46,13 @@ pub(crate) fn note_if(holds: bool, note: Note) -> ArrayVec<Note, 4>
 }
 
 // Puts a message in hand on a queue, behind all of its rank or a higher one: putq(9F). No block is taken or freed.
-fn stand<B: Blocks>(store: &mut B, queue: &mut Queue, message: B::Mp)
+fn stand<B: Blocks>(store: &mut B, queue: &mut Queue, message: InHand)
     requires ready { IsReady (B.value store.old) queue.old }
-    requires in_hand { IsInHand (B.value store.old) (B.name message) }
-    requires chain { IsChain (in_hand (B.value store.old) (B.name message)) }
+    requires in_hand { IsInHand (B.value store.old) (token message) }
+    requires chain { IsChain (in_hand (B.value store.old) (token message)) }
     ensures queue { queue_in (B.value store.new) queue.new
-        ≡ put_on (message_of (in_hand (B.value store.old) (B.name message))) (queue_in (B.value store.old) queue.old) }
-    ensures changes { Changes (dropped (B.value store.old) (B.name message)) (B.value store.new) queue.old queue.new }
+        ≡ put_on (message_of (in_hand (B.value store.old) (token message))) (queue_in (B.value store.old) queue.old) }
+    ensures changes { Changes (dropped (B.value store.old) (token message)) (B.value store.new) queue.old queue.new }
     ensures frees { FreesBlocks (B.value store.old) (B.value store.new) }
     ensures blocks { FreesNone (B.value store.old) (B.value store.new) }
 {
@@ -62,12 +62,12 @@ fn stand<B: Blocks>(store: &mut B, queue: &mut Queue, message: B::Mp)
 
 /// Puts the turn's echo on the write queue, where it stays last. From then on it stands there as any other message, and a new
 /// echo begins. No block is freed.
-pub(crate) fn settle_echo<B: Blocks>(ldterm: &mut Ldterm<B::Mp>, store: &mut B)
-    requires held { IsHeld B.name (B.value store.old) ldterm.old }
-    requires kept { AreIn (B.value store.old) (λ _. 0) (keeps B.name ldterm.old) }
-    ensures state { ldterm_in B.name (B.value store.new) ldterm.new
-        ≡ record (ldterm_in B.name (B.value store.old) ldterm.old) { echoing = false } }
-    ensures alters { Alters B.name (B.value store.old) (B.value store.new) ldterm.old ldterm.new }
+pub(crate) fn settle_echo<B: Blocks>(ldterm: &mut Ldterm, store: &mut B)
+    requires held { IsHeld (B.value store.old) ldterm.old }
+    requires kept { AreIn (B.value store.old) (λ _. 0) (keeps ldterm.old) }
+    ensures state { ldterm_in (B.value store.new) ldterm.new
+        ≡ record (ldterm_in (B.value store.old) ldterm.old) { echoing = false } }
+    ensures alters { Alters (B.value store.old) (B.value store.new) ldterm.old ldterm.new }
     ensures blocks { FreesNone (B.value store.old) (B.value store.new) }
 {
     let Some(echo) = ldterm.echo.take() else {
@@ -78,13 +78,13 @@ pub(crate) fn settle_echo<B: Blocks>(ldterm: &mut Ldterm<B::Mp>, store: &mut B)
 }
 
 // A message waits to go up.
-fn wait_up<B: Blocks>(ldterm: &mut Ldterm<B::Mp>, store: &mut B, message: B::Mp) -> Acts<B::Mp>
-    requires held { IsHeld B.name (B.value store.old) ldterm.old }
-    requires can_put { CanPut (B.value store.old) (B.name message) (keeps B.name ldterm.old) }
-    requires chain { IsChain (in_hand (B.value store.old) (B.name message)) }
+fn wait_up<B: Blocks>(ldterm: &mut Ldterm, store: &mut B, message: InHand) -> Acts
+    requires held { IsHeld (B.value store.old) ldterm.old }
+    requires can_put { CanPut (B.value store.old) (token message) (keeps ldterm.old) }
+    requires chain { IsChain (in_hand (B.value store.old) (token message)) }
     ensures { (f : Fates) → let s = B.value store.old in
-        Does B.name s (B.value store.new) ldterm.old ldterm.new (B.name message) result f f
-        (queued_at Up (message_in s (B.name message)) (ldterm_in B.name s ldterm.old)) }
+        Does s (B.value store.new) ldterm.old ldterm.new (token message) result f f
+        (queued_at Up (message_in s (token message)) (ldterm_in s ldterm.old)) }
 {
     store.audit();
     let enables = enqueue(store, &mut ldterm.read_queue, message);
@@ -95,16 +95,16 @@ fn wait_up<B: Blocks>(ldterm: &mut Ldterm<B::Mp>, store: &mut B, message: B::Mp)
 }
 
 // A message waits to go down, where it comes to stand before the turn's echo, or there is none.
-fn wait_before<B: Blocks>(ldterm: &mut Ldterm<B::Mp>, store: &mut B, message: B::Mp) -> Acts<B::Mp>
-    requires held { IsHeld B.name (B.value store.old) ldterm.old }
-    requires can_put { CanPut (B.value store.old) (B.name message) (keeps B.name ldterm.old) }
-    requires chain { IsChain (in_hand (B.value store.old) (B.name message)) }
-    requires low { is_high_priority (message_in (B.value store.old) (B.name message)).kind ≡ false }
+fn wait_before<B: Blocks>(ldterm: &mut Ldterm, store: &mut B, message: InHand) -> Acts
+    requires held { IsHeld (B.value store.old) ldterm.old }
+    requires can_put { CanPut (B.value store.old) (token message) (keeps ldterm.old) }
+    requires chain { IsChain (in_hand (B.value store.old) (token message)) }
+    requires low { is_high_priority (message_in (B.value store.old) (token message)).kind ≡ false }
     requires before { let s = B.value store.old in
-        (is_some ldterm.old.echo && not (nat_lt 0 (message_in s (B.name message)).band)) ≡ false }
+        (is_some ldterm.old.echo && not (nat_lt 0 (message_in s (token message)).band)) ≡ false }
     ensures { (f : Fates) → let s = B.value store.old in
-        Does B.name s (B.value store.new) ldterm.old ldterm.new (B.name message) result f f
-        (queued_at Down (message_in s (B.name message)) (ldterm_in B.name s ldterm.old)) }
+        Does s (B.value store.new) ldterm.old ldterm.new (token message) result f f
+        (queued_at Down (message_in s (token message)) (ldterm_in s ldterm.old)) }
 {
     store.audit();
     let enables = enqueue(store, &mut ldterm.write_queue, message);
@@ -115,14 +115,14 @@ fn wait_before<B: Blocks>(ldterm: &mut Ldterm<B::Mp>, store: &mut B, message: B:
 }
 
 // A message waits to go down. One of band 0 stands behind the turn's echo.
-fn wait_down<B: Blocks>(ldterm: &mut Ldterm<B::Mp>, store: &mut B, message: B::Mp) -> Acts<B::Mp>
-    requires held { IsHeld B.name (B.value store.old) ldterm.old }
-    requires can_put { CanPut (B.value store.old) (B.name message) (keeps B.name ldterm.old) }
-    requires chain { IsChain (in_hand (B.value store.old) (B.name message)) }
-    requires low { is_high_priority (message_in (B.value store.old) (B.name message)).kind ≡ false }
+fn wait_down<B: Blocks>(ldterm: &mut Ldterm, store: &mut B, message: InHand) -> Acts
+    requires held { IsHeld (B.value store.old) ldterm.old }
+    requires can_put { CanPut (B.value store.old) (token message) (keeps ldterm.old) }
+    requires chain { IsChain (in_hand (B.value store.old) (token message)) }
+    requires low { is_high_priority (message_in (B.value store.old) (token message)).kind ≡ false }
     ensures { (f : Fates) → let s = B.value store.old in
-        Does B.name s (B.value store.new) ldterm.old ldterm.new (B.name message) result f f
-        (queued_at Down (message_in s (B.name message)) (ldterm_in B.name s ldterm.old)) }
+        Does s (B.value store.new) ldterm.old ldterm.new (token message) result f f
+        (queued_at Down (message_in s (token message)) (ldterm_in s ldterm.old)) }
 {
     store.audit();
     let band = store.band(&message);
@@ -135,20 +135,20 @@ fn wait_down<B: Blocks>(ldterm: &mut Ldterm<B::Mp>, store: &mut B, message: B::M
 
 /// Sends a message on to the next place.
 pub(crate) fn pass_on<B: Blocks>(
-    ldterm: &Ldterm<B::Mp>,
+    ldterm: &Ldterm,
     store: &B,
     here: Spot,
     notes: ArrayVec<Note, 4>,
-    message: B::Mp,
-) -> Acts<B::Mp>
-    requires held { IsHeld B.name (B.value store.now) ldterm.now }
-    requires can_put { CanPut (B.value store.now) (B.name message) (keeps B.name ldterm.now) }
-    requires chain { IsChain (in_hand (B.value store.now) (B.name message)) }
+    message: InHand,
+) -> Acts
+    requires held { IsHeld (B.value store.now) ldterm.now }
+    requires can_put { CanPut (B.value store.now) (token message) (keeps ldterm.now) }
+    requires chain { IsChain (in_hand (B.value store.now) (token message)) }
     requires inside { 0 < here.at }
     requires small { here.at ≤ MODULES }
-    ensures { (f : Fates) → let s = B.value store.now in let m = message_in s (B.name message) in
-        Does B.name s s ldterm.now ldterm.now (B.name message) result f f
-        (record (sends (onward here.way here m ∷ []) (ldterm_in B.name s ldterm.now)) { notes = notes.items }) }
+    ensures { (f : Fates) → let s = B.value store.now in let m = message_in s (token message) in
+        Does s s ldterm.now ldterm.now (token message) result f f
+        (record (sends (onward here.way here m ∷ []) (ldterm_in s ldterm.now)) { notes = notes.items }) }
 {
     let _ = ldterm;
     let _ = store;
@@ -163,18 +163,18 @@ pub(crate) fn pass_on<B: Blocks>(
 
 // A message waits for the turn of its queue.
 fn wait<B: Blocks>(
-    ldterm: &mut Ldterm<B::Mp>,
+    ldterm: &mut Ldterm,
     store: &mut B,
     way: Way,
-    message: B::Mp,
-) -> Acts<B::Mp>
-    requires held { IsHeld B.name (B.value store.old) ldterm.old }
-    requires can_put { CanPut (B.value store.old) (B.name message) (keeps B.name ldterm.old) }
-    requires chain { IsChain (in_hand (B.value store.old) (B.name message)) }
-    requires low { is_high_priority (message_in (B.value store.old) (B.name message)).kind ≡ false }
+    message: InHand,
+) -> Acts
+    requires held { IsHeld (B.value store.old) ldterm.old }
+    requires can_put { CanPut (B.value store.old) (token message) (keeps ldterm.old) }
+    requires chain { IsChain (in_hand (B.value store.old) (token message)) }
+    requires low { is_high_priority (message_in (B.value store.old) (token message)).kind ≡ false }
     ensures { (f : Fates) → let s = B.value store.old in
-        Does B.name s (B.value store.new) ldterm.old ldterm.new (B.name message) result f f
-        (queued_at way (message_in s (B.name message)) (ldterm_in B.name s ldterm.old)) }
+        Does s (B.value store.new) ldterm.old ldterm.new (token message) result f f
+        (queued_at way (message_in s (token message)) (ldterm_in s ldterm.old)) }
 {
     match way {
         Way::Up => wait_up(ldterm, store, message),
@@ -198,21 +198,21 @@ pub(crate) fn rooms(up: bool, down: bool) -> ArrayVec<Note, 4>
 
 // Obeys an M_FLUSH, which goes on.
 fn pass_flush<B: Blocks>(
-    ldterm: &mut Ldterm<B::Mp>,
+    ldterm: &mut Ldterm,
     store: &mut B,
     here: Spot,
-    message: B::Mp,
+    message: InHand,
     told: &mut Fates,
-) -> Acts<B::Mp>
-    requires held { IsHeld B.name (B.value store.old) ldterm.old }
-    requires can_put { CanPut (B.value store.old) (B.name message) (keeps B.name ldterm.old) }
-    requires chain { IsChain (in_hand (B.value store.old) (B.name message)) }
-    requires kind { is_flush (message_in (B.value store.old) (B.name message)).kind ≡ true }
+) -> Acts
+    requires held { IsHeld (B.value store.old) ldterm.old }
+    requires can_put { CanPut (B.value store.old) (token message) (keeps ldterm.old) }
+    requires chain { IsChain (in_hand (B.value store.old) (token message)) }
+    requires kind { is_flush (message_in (B.value store.old) (token message)).kind ≡ true }
     requires inside { 0 < here.at }
     requires small { here.at ≤ MODULES }
     ensures { let s = B.value store.old in
-        Does B.name s (B.value store.new) ldterm.old ldterm.new (B.name message) result told.old told.new
-        (flush_passes here (message_in s (B.name message)) (ldterm_in B.name s ldterm.old)) }
+        Does s (B.value store.new) ldterm.old ldterm.new (token message) result told.old told.new
+        (flush_passes here (message_in s (token message)) (ldterm_in s ldterm.old)) }
 {
     store.audit();
     let asked = asked_of(store, &message);
@@ -229,11 +229,11 @@ fn waits_there(kind: MsgKind) -> bool
 }
 
 // Whether a message in hand waits on the queue of its way.
-fn waits_on<B: Blocks>(store: &B, way: Way, kind: MsgKind, message: &B::Mp) -> bool
-    requires in_hand { IsInHand (B.value store.now) (B.name message.now) }
-    requires chain { IsChain (in_hand (B.value store.now) (B.name message.now)) }
-    requires kind { kind ≡ (block_at 0 (in_hand (B.value store.now) (B.name message.now))).kind }
-    ensures { result ≡ waits_on way (message_in (B.value store.now) (B.name message.now)) }
+fn waits_on<B: Blocks>(store: &B, way: Way, kind: MsgKind, message: &InHand) -> bool
+    requires in_hand { IsInHand (B.value store.now) (token message.now) }
+    requires chain { IsChain (in_hand (B.value store.now) (token message.now)) }
+    requires kind { kind ≡ (block_at 0 (in_hand (B.value store.now) (token message.now))).kind }
+    ensures { result ≡ waits_on way (message_in (B.value store.now) (token message.now)) }
 {
     waits_there(kind) || goes_behind(store, way, kind, message)
 }
@@ -252,21 +252,21 @@ fn is_flush(kind: MsgKind) -> bool
 /// head its read mode. That takes two blocks of each kind at most, and all else none. The cost is a step for each block of the message, and
 /// for a flush for each on the queues.
 pub fn put<B: Blocks>(
-    ldterm: &mut Ldterm<B::Mp>,
+    ldterm: &mut Ldterm,
     store: &mut B,
     here: Spot,
-    message: B::Mp,
+    message: InHand,
     told: &mut Fates,
-) -> Acts<B::Mp>
-    requires held { IsHeld B.name (B.value store.old) ldterm.old }
-    requires can_put { CanPut (B.value store.old) (B.name message) (keeps B.name ldterm.old) }
-    requires chain { IsChain (in_hand (B.value store.old) (B.name message)) }
-    requires room { HasRoom (B.value store.old) (cost here (message_in (B.value store.old) (B.name message))) }
+) -> Acts
+    requires held { IsHeld (B.value store.old) ldterm.old }
+    requires can_put { CanPut (B.value store.old) (token message) (keeps ldterm.old) }
+    requires chain { IsChain (in_hand (B.value store.old) (token message)) }
+    requires room { HasRoom (B.value store.old) (cost here (message_in (B.value store.old) (token message))) }
     requires inside { 0 < here.at }
     requires small { here.at ≤ MODULES }
-    ensures { let s = B.value store.old in let m = message_in s (B.name message) in
-        Puts B.name s (B.value store.new) ldterm.old ldterm.new (B.name message) (cost here m) result told.old told.new
-        (ldterm_puts here m (ldterm_in B.name s ldterm.old)) }
+    ensures { let s = B.value store.old in let m = message_in s (token message) in
+        Puts s (B.value store.new) ldterm.old ldterm.new (token message) (cost here m) result told.old told.new
+        (ldterm_puts here m (ldterm_in s ldterm.old)) }
 {
     store.audit();
     let kind = store.kind(&message, 0);

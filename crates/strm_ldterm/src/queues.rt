@@ -13,17 +13,18 @@ ghost use Rattle.strm_frame.specs.Serves.{IsBand};
 ghost use Rattle.strm_ldterm.specs.Stands.{ldterm_in, kept_in, IsHeld, IsOrdinary};
 ghost use Rattle.strm_types.specs.Asking.{asked_by, asked_first, ldterm_asks};
 ghost use Rattle.strm_ldterm.specs.Calls.{queue_of};
+ghost use Rattle.strm_blocks.specs.Blocks.{token};
 
 use crate::ldterm::Ldterm;
-use strm_blocks::Blocks;
+use strm_blocks::{Blocks, InHand};
 use strm_msg::message_size;
 use strm_queue::{Queue, standing};
 use strm_types::{Asks, Band, MsgKind, Way};
 
 /// How many bytes the turn's echo has, where there is one.
-pub(crate) fn echo_size<B: Blocks>(store: &B, echo: &Option<B::Mp>) -> usize
-    requires { IfSome echo.now (λ m. IsOrdinary (B.value store.now) (B.name m)) }
-    ensures { result ≡ bytes_of (option_to_list (kept_in B.name (B.value store.now) echo.now)) }
+pub(crate) fn echo_size<B: Blocks>(store: &B, echo: &Option<InHand>) -> usize
+    requires { IfSome echo.now (λ m. IsOrdinary (B.value store.now) (token m)) }
+    ensures { result ≡ bytes_of (option_to_list (kept_in (B.value store.now) echo.now)) }
 {
     let Some(message) = echo else {
         return 0;
@@ -45,10 +46,10 @@ fn is_full_with<B: Blocks>(store: &B, queue: &Queue, band: Band, more: usize) ->
 }
 
 /// Whether a band of its queue of a way is full. The turn's echo counts on the write queue.
-pub fn is_full<B: Blocks>(ldterm: &Ldterm<B::Mp>, store: &B, way: Way, band: Band) -> bool
-    requires held { IsHeld B.name (B.value store.now) ldterm.now }
+pub fn is_full<B: Blocks>(ldterm: &Ldterm, store: &B, way: Way, band: Band) -> bool
+    requires held { IsHeld (B.value store.now) ldterm.now }
     requires band { band.0 < BANDS }
-    ensures { result ≡ full_at queue_of way band.0 (ldterm_in B.name (B.value store.now) ldterm.now) }
+    ensures { result ≡ full_at queue_of way band.0 (ldterm_in (B.value store.now) ldterm.now) }
 {
     match way {
         Way::Up => standing::is_full(store, &ldterm.read_queue, band),
@@ -61,10 +62,10 @@ pub fn is_full<B: Blocks>(ldterm: &Ldterm<B::Mp>, store: &B, way: Way, band: Ban
 }
 
 /// How many bytes count in a band of its queue of a way. The turn's echo counts in band 0 of the write queue.
-pub fn count<B: Blocks>(ldterm: &Ldterm<B::Mp>, store: &B, way: Way, band: Band) -> usize
-    requires held { IsHeld B.name (B.value store.now) ldterm.now }
+pub fn count<B: Blocks>(ldterm: &Ldterm, store: &B, way: Way, band: Band) -> usize
+    requires held { IsHeld (B.value store.now) ldterm.now }
     requires band { band.0 < BANDS }
-    ensures { result ≡ count_of band.0 (messages_at queue_of way (ldterm_in B.name (B.value store.now) ldterm.now)) }
+    ensures { result ≡ count_of band.0 (messages_at queue_of way (ldterm_in (B.value store.now) ldterm.now)) }
 {
     match way {
         Way::Up => standing::count(store, &ldterm.read_queue, band),
@@ -79,9 +80,9 @@ pub fn count<B: Blocks>(ldterm: &Ldterm<B::Mp>, store: &B, way: Way, band: Band)
 
 /// How many bytes more leave band 0 of the write queue at its high-water mark, so that it isn't full before the last of them; 0 where
 /// it is full. The turn's echo counts there.
-pub(crate) fn echo_room<B: Blocks>(ldterm: &Ldterm<B::Mp>, store: &B) -> usize
-    requires { IsHeld B.name (B.value store.now) ldterm.now }
-    ensures { let q = (ldterm_in B.name (B.value store.now) ldterm.now).write_queue in
+pub(crate) fn echo_room<B: Blocks>(ldterm: &Ldterm, store: &B) -> usize
+    requires { IsHeld (B.value store.now) ldterm.now }
+    ensures { let q = (ldterm_in (B.value store.now) ldterm.now).write_queue in
         0 < result → count_of 0 q.messages + result ≤ (flow_of 0 q).high }
 {
     let counted = count(ldterm, store, Way::Down, Band(0));
@@ -89,10 +90,10 @@ pub(crate) fn echo_room<B: Blocks>(ldterm: &Ldterm<B::Mp>, store: &B) -> usize
 }
 
 /// How many messages stand on its queue of a way, and how many bytes they have. The turn's echo stands on the write queue.
-pub fn sizes<B: Blocks>(ldterm: &Ldterm<B::Mp>, store: &B, way: Way) -> (usize, usize)
-    requires held { IsHeld B.name (B.value store.now) ldterm.now }
-    ensures messages { result.0 ≡ length (messages_at queue_of way (ldterm_in B.name (B.value store.now) ldterm.now)) }
-    ensures bytes { result.1 ≡ bytes_of (messages_at queue_of way (ldterm_in B.name (B.value store.now) ldterm.now)) }
+pub fn sizes<B: Blocks>(ldterm: &Ldterm, store: &B, way: Way) -> (usize, usize)
+    requires held { IsHeld (B.value store.now) ldterm.now }
+    ensures messages { result.0 ≡ length (messages_at queue_of way (ldterm_in (B.value store.now) ldterm.now)) }
+    ensures bytes { result.1 ≡ bytes_of (messages_at queue_of way (ldterm_in (B.value store.now) ldterm.now)) }
 {
     match way {
         Way::Up => standing::sizes(store, &ldterm.read_queue),
@@ -110,9 +111,9 @@ pub fn sizes<B: Blocks>(ldterm: &Ldterm<B::Mp>, store: &B, way: Way) -> (usize, 
 
 /// How many bytes the first message on its queue of a way has. The turn's echo stands last on the write queue. The cost is a step for
 /// each block of the message.
-pub fn first_size<B: Blocks>(ldterm: &Ldterm<B::Mp>, store: &B, way: Way) -> usize
-    requires { IsHeld B.name (B.value store.now) ldterm.now }
-    ensures { result ≡ first_size (messages_at queue_of way (ldterm_in B.name (B.value store.now) ldterm.now)) }
+pub fn first_size<B: Blocks>(ldterm: &Ldterm, store: &B, way: Way) -> usize
+    requires { IsHeld (B.value store.now) ldterm.now }
+    ensures { result ≡ first_size (messages_at queue_of way (ldterm_in (B.value store.now) ldterm.now)) }
 {
     match way {
         Way::Up => standing::first_size(store, &ldterm.read_queue),
@@ -127,9 +128,9 @@ pub fn first_size<B: Blocks>(ldterm: &Ldterm<B::Mp>, store: &B, way: Way) -> usi
 }
 
 /// Whether no M_DATA or M_PROTO stands on its read queue.
-pub fn none_waits_up<B: Blocks>(ldterm: &Ldterm<B::Mp>, store: &B) -> bool
-    requires { IsHeld B.name (B.value store.now) ldterm.now }
-    ensures { result ≡ has_no_data (messages_at queue_of Up (ldterm_in B.name (B.value store.now) ldterm.now)) }
+pub fn none_waits_up<B: Blocks>(ldterm: &Ldterm, store: &B) -> bool
+    requires { IsHeld (B.value store.now) ldterm.now }
+    ensures { result ≡ has_no_data (messages_at queue_of Up (ldterm_in (B.value store.now) ldterm.now)) }
 {
     standing::has_no_data(store, &ldterm.read_queue)
 }
@@ -162,11 +163,11 @@ fn asked_on<B: Blocks>(store: &B, queue: &Queue, way: Way, stopped: bool) -> Opt
 
 /// What the first message of its queue of a way asks before it goes on. While output is stopped, M_DATA on the write queue goes nowhere, and the
 /// turn's echo is such a message.
-pub fn asks<B: Blocks>(ldterm: &Ldterm<B::Mp>, store: &B, way: Way) -> Asks
-    requires held { IsHeld B.name (B.value store.now) ldterm.now }
-    ensures asks { result ≡ ldterm_asks way (ldterm_in B.name (B.value store.now) ldterm.now) }
+pub fn asks<B: Blocks>(ldterm: &Ldterm, store: &B, way: Way) -> Asks
+    requires held { IsHeld (B.value store.now) ldterm.now }
+    ensures asks { result ≡ ldterm_asks way (ldterm_in (B.value store.now) ldterm.now) }
     ensures band { IsBand result }
-    ensures few { first_size (messages_at queue_of way (ldterm_in B.name (B.value store.now) ldterm.now)) ≤ 16777216 }
+    ensures few { first_size (messages_at queue_of way (ldterm_in (B.value store.now) ldterm.now)) ≤ 16777216 }
 {
     store.audit();
     match way {

@@ -13,20 +13,21 @@ ghost use Rattle.strm_frame.specs.Outboxes.{sent_of};
 ghost use Rattle.strm_ldterm.specs.Does.{Proceeds};
 ghost use Rattle.strm_ldterm.specs.Sending.{MadeOne};
 ghost use Rattle.strm_ldterm.specs.Stands.{ldterm_in, keeps, IsHeld};
+ghost use Rattle.strm_blocks.specs.Blocks.{token};
 
 use crate::flushing::direction_at;
 use crate::ldterm::Ldterm;
-use strm_blocks::Blocks;
+use strm_blocks::{Blocks, InHand};
 use strm_frame::{Outbox, Sent};
 use strm_msg::from_bytes;
 use strm_types::{Band, Fates, MsgKind, Rule, Spot, Way};
 
 /// Makes a message of a kind without parts, of band 0, of at most 256 bytes, in one block.
-pub(crate) fn make<B: Blocks>(store: &mut B, kind: MsgKind, bytes: &[u8]) -> B::Mp
+pub(crate) fn make<B: Blocks>(store: &mut B, kind: MsgKind, bytes: &[u8]) -> InHand
     requires kind { is_data_kind kind ≡ false }
     requires few { length bytes.now ≤ 256 }
     requires room { HasRoom (B.value store.old) 1 }
-    ensures { MadeOne (B.value store.old) (B.value store.new) (B.name result) (bare kind bytes.now) }
+    ensures { MadeOne (B.value store.old) (B.value store.new) (token result) (bare kind bytes.now) }
 {
     let Ok(message) = from_bytes(store, kind, Band(0), bytes) else {
         unreachable!()
@@ -35,10 +36,10 @@ pub(crate) fn make<B: Blocks>(store: &mut B, kind: MsgKind, bytes: &[u8]) -> B::
 }
 
 /// Makes an M_DATA of band 0 of a line and what ends it, in one block. Each byte is copied once.
-pub(crate) fn make_line<B: Blocks>(store: &mut B, line: &[u8], ending: &[u8]) -> B::Mp
+pub(crate) fn make_line<B: Blocks>(store: &mut B, line: &[u8], ending: &[u8]) -> InHand
     requires few { length line.now + length ending.now ≤ 256 }
     requires room { HasRoom (B.value store.old) 1 }
-    ensures { MadeOne (B.value store.old) (B.value store.new) (B.name result) (data_message (line.now ++ ending.now)) }
+    ensures { MadeOne (B.value store.old) (B.value store.new) (token result) (data_message (line.now ++ ending.now)) }
 {
     let Ok(message) = store.alloc_with(MsgKind::Data, Band(0), line) else {
         unreachable!()
@@ -49,20 +50,20 @@ pub(crate) fn make_line<B: Blocks>(store: &mut B, line: &[u8], ending: &[u8]) ->
 
 /// STOP: output is stopped, and an M_STOP goes down, unless it was stopped already. It takes a block at most.
 pub(crate) fn stop<B: Blocks>(
-    ldterm: &mut Ldterm<B::Mp>,
+    ldterm: &mut Ldterm,
     store: &mut B,
     here: Spot,
     byte: u8,
     told: &mut Fates,
-) -> Outbox<B::Mp>
-    requires held { IsHeld B.name (B.value store.old) ldterm.old }
-    requires kept { AreIn (B.value store.old) (λ _. 0) (keeps B.name ldterm.old) }
+) -> Outbox
+    requires held { IsHeld (B.value store.old) ldterm.old }
+    requires kept { AreIn (B.value store.old) (λ _. 0) (keeps ldterm.old) }
     requires inside { 0 < here.at }
     requires small { here.at ≤ MODULES }
     requires room { HasRoom (B.value store.old) 1 }
     ensures { let s = B.value store.old in
-        Proceeds B.name s (B.value store.new) ldterm.old ldterm.new 1 [] (sent_of result) told.old told.new
-        (stops plain here byte (ldterm_in B.name s ldterm.old)) }
+        Proceeds s (B.value store.new) ldterm.old ldterm.new 1 [] (sent_of result) told.old told.new
+        (stops plain here byte (ldterm_in s ldterm.old)) }
 {
     let _ = byte;
     told.tell(direction_at(Way::Up, here.side), Rule::FlowKey, 1);
@@ -79,19 +80,19 @@ pub(crate) fn stop<B: Blocks>(
 
 // The line goes up with what ends it, at most a byte, and is empty then.
 fn send_line<B: Blocks>(
-    ldterm: &mut Ldterm<B::Mp>,
+    ldterm: &mut Ldterm,
     store: &mut B,
     here: Spot,
     ending: &[u8],
-) -> Outbox<B::Mp>
-    requires held { IsHeld B.name (B.value store.old) ldterm.old }
-    requires kept { AreIn (B.value store.old) (λ _. 0) (keeps B.name ldterm.old) }
+) -> Outbox
+    requires held { IsHeld (B.value store.old) ldterm.old }
+    requires kept { AreIn (B.value store.old) (λ _. 0) (keeps ldterm.old) }
     requires inside { 0 < here.at }
     requires small { here.at ≤ MODULES }
     requires room { HasRoom (B.value store.old) 1 }
     requires few { length ending.now ≤ 1 }
-    ensures { (f : Fates) → let s = B.value store.old in let p = ldterm_in B.name s ldterm.old in
-        Proceeds B.name s (B.value store.new) ldterm.old ldterm.new 1 [] (sent_of result) f f
+    ensures { (f : Fates) → let s = B.value store.old in let p = ldterm_in s ldterm.old in
+        Proceeds s (B.value store.new) ldterm.old ldterm.new 1 [] (sent_of result) f f
         (line_sent plain here (p.line ++ ending.now) p) }
 {
     let message = make_line(store, ldterm.line.bytes(), ending);
@@ -104,20 +105,20 @@ fn send_line<B: Blocks>(
 
 /// EOF: the line goes up as M_DATA, also an empty one, and the key itself goes by a rule of its own. It takes a block.
 pub(crate) fn end_file<B: Blocks>(
-    ldterm: &mut Ldterm<B::Mp>,
+    ldterm: &mut Ldterm,
     store: &mut B,
     here: Spot,
     byte: u8,
     told: &mut Fates,
-) -> Outbox<B::Mp>
-    requires held { IsHeld B.name (B.value store.old) ldterm.old }
-    requires kept { AreIn (B.value store.old) (λ _. 0) (keeps B.name ldterm.old) }
+) -> Outbox
+    requires held { IsHeld (B.value store.old) ldterm.old }
+    requires kept { AreIn (B.value store.old) (λ _. 0) (keeps ldterm.old) }
     requires inside { 0 < here.at }
     requires small { here.at ≤ MODULES }
     requires room { HasRoom (B.value store.old) 1 }
     ensures { let s = B.value store.old in
-        Proceeds B.name s (B.value store.new) ldterm.old ldterm.new 1 [] (sent_of result) told.old told.new
-        (strikes plain here Eof byte (ldterm_in B.name s ldterm.old)) }
+        Proceeds s (B.value store.new) ldterm.old ldterm.new 1 [] (sent_of result) told.old told.new
+        (strikes plain here Eof byte (ldterm_in s ldterm.old)) }
 {
     let _ = byte;
     told.tell(direction_at(Way::Up, here.side), Rule::EofKey, 1);
@@ -126,19 +127,19 @@ pub(crate) fn end_file<B: Blocks>(
 
 /// A delimiter: the line goes up with it as M_DATA, at most 256 bytes in one block.
 pub(crate) fn end_line<B: Blocks>(
-    ldterm: &mut Ldterm<B::Mp>,
+    ldterm: &mut Ldterm,
     store: &mut B,
     here: Spot,
     byte: u8,
-) -> Outbox<B::Mp>
-    requires held { IsHeld B.name (B.value store.old) ldterm.old }
-    requires kept { AreIn (B.value store.old) (λ _. 0) (keeps B.name ldterm.old) }
+) -> Outbox
+    requires held { IsHeld (B.value store.old) ldterm.old }
+    requires kept { AreIn (B.value store.old) (λ _. 0) (keeps ldterm.old) }
     requires inside { 0 < here.at }
     requires small { here.at ≤ MODULES }
     requires room { HasRoom (B.value store.old) 1 }
     ensures { (f : Fates) → let s = B.value store.old in
-        Proceeds B.name s (B.value store.new) ldterm.old ldterm.new 1 [] (sent_of result) f f
-        (strikes plain here Delimiter byte (ldterm_in B.name s ldterm.old)) }
+        Proceeds s (B.value store.new) ldterm.old ldterm.new 1 [] (sent_of result) f f
+        (strikes plain here Delimiter byte (ldterm_in s ldterm.old)) }
 {
     send_line(ldterm, store, here, &[byte])
 }

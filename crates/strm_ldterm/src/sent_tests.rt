@@ -22,12 +22,12 @@ const HERE: Spot = Spot {
 // Whether one message goes up or down from here, of this kind and with these bytes.
 fn goes<B: Blocks>(
     store: &B,
-    mut outbox: Outbox<B::Mp>,
+    mut outbox: Outbox,
     to: (Way, usize),
     kind: MsgKind,
     bytes: &[u8],
 ) -> bool
-    requires { (i : ℕ) → times_sent B.name i (sent_of outbox) ≤ times_in i (B.value store.now).hand }
+    requires { (i : ℕ) → times_sent i (sent_of outbox) ≤ times_in i (B.value store.now).hand }
 {
     store.audit();
     let Some(sent) = outbox.take_first() else {

@@ -27,13 +27,13 @@ use strm_types::{Fates, Note, STOP_BLOCKS, Spot, Way};
 /// What became of bytes that were treated one after the other, and how many are left: nothing was sent, and they are at their end or
 /// blocks are few; or the next one has sent something.
 #[derive(Drop)]
-pub(crate) enum Run<Mp> {
+pub(crate) enum Run {
     Out {
         notes: ArrayVec<Note, 4>,
         left: usize,
     },
     Into {
-        acts: Acts<Mp>,
+        acts: Acts,
         left: usize,
     },
 }
@@ -47,9 +47,9 @@ pub(crate) fn are_few<B: Blocks>(store: &B) -> bool
 }
 
 // How many bytes are left of the message in work.
-fn work_left<B: Blocks>(ldterm: &Ldterm<B::Mp>, store: &B) -> usize
-    requires held { IsHeld B.name (B.value store.now) ldterm.now }
-    ensures bytes { result ≡ length (cells_left (ldterm_in B.name (B.value store.now) ldterm.now)) }
+fn work_left<B: Blocks>(ldterm: &Ldterm, store: &B) -> usize
+    requires held { IsHeld (B.value store.now) ldterm.now }
+    ensures bytes { result ≡ length (cells_left (ldterm_in (B.value store.now) ldterm.now)) }
     ensures few { result ≤ 16777216 }
 {
     let Some(message) = &ldterm.in_work else {
@@ -62,20 +62,20 @@ fn work_left<B: Blocks>(ldterm: &Ldterm<B::Mp>, store: &B) -> usize
 // Treats the bytes that are left of the message in work, until one sends something or blocks are few: plain bytes at once, and one that
 // isn't plain by itself.
 fn treat_bytes<B: Blocks>(
-    ldterm: &mut Ldterm<B::Mp>,
+    ldterm: &mut Ldterm,
     store: &mut B,
     here: Spot,
     bytes: usize,
     told: &mut Fates,
-) -> Run<B::Mp>
-    requires held { IsHeld B.name (B.value store.old) ldterm.old }
-    requires kept { AreIn (B.value store.old) (λ _. 0) (keeps B.name ldterm.old) }
+) -> Run
+    requires held { IsHeld (B.value store.old) ldterm.old }
+    requires kept { AreIn (B.value store.old) (λ _. 0) (keeps ldterm.old) }
     requires inside { 0 < here.at }
     requires small { here.at ≤ MODULES }
     requires room { HasRoom (B.value store.old) 1 }
     requires stage { stages_left (stage_in ldterm.old.stage) ≡ 0 }
-    requires bytes { bytes ≡ length (cells_left (ldterm_in B.name (B.value store.old) ldterm.old)) }
-    ensures { RunAs B.name (B.value store.old) (B.value store.new) here ldterm.old ldterm.new bytes told.old told.new result }
+    requires bytes { bytes ≡ length (cells_left (ldterm_in (B.value store.old) ldterm.old)) }
+    ensures { RunAs (B.value store.old) (B.value store.new) here ldterm.old ldterm.new bytes told.old told.new result }
 {
     let mut notes = ArrayVec::new();
     let mut left = bytes;
@@ -106,19 +106,19 @@ fn treat_bytes<B: Blocks>(
 
 // A call that stands between two bytes.
 fn treat_on<B: Blocks>(
-    ldterm: &mut Ldterm<B::Mp>,
+    ldterm: &mut Ldterm,
     store: &mut B,
     here: Spot,
     told: &mut Fates,
-) -> Served<B::Mp>
-    requires held { IsHeld B.name (B.value store.old) ldterm.old }
-    requires kept { AreIn (B.value store.old) (λ _. 0) (keeps B.name ldterm.old) }
+) -> Served
+    requires held { IsHeld (B.value store.old) ldterm.old }
+    requires kept { AreIn (B.value store.old) (λ _. 0) (keeps ldterm.old) }
     requires inside { 0 < here.at }
     requires small { here.at ≤ MODULES }
     requires room { HasRoom (B.value store.old) 1 }
     requires stage { stages_left (stage_in ldterm.old.stage) ≡ 0 }
     requires work { is_some ldterm.old.in_work ≡ true }
-    ensures does { TreatsAs B.name (B.value store.old) (B.value store.new) here ldterm.old ldterm.new result told.old told.new }
+    ensures does { TreatsAs (B.value store.old) (B.value store.new) here ldterm.old ldterm.new result told.old told.new }
     ensures few { result.bytes ≤ 16777216 }
     ensures noted { length result.acts.notes.items ≤ 2 }
 {
@@ -154,18 +154,18 @@ fn is_under_way(stage: &Stage) -> bool
 /// and stops where fewer blocks are free than a byte may take: what is left goes back to the front of its queue then. The cost is
 /// in proportion to the bytes that are treated, and a step for each block of the message.
 pub(crate) fn treat<B: Blocks>(
-    ldterm: &mut Ldterm<B::Mp>,
+    ldterm: &mut Ldterm,
     store: &mut B,
     here: Spot,
     told: &mut Fates,
-) -> Served<B::Mp>
-    requires held { IsHeld B.name (B.value store.old) ldterm.old }
-    requires kept { AreIn (B.value store.old) (λ _. 0) (keeps B.name ldterm.old) }
+) -> Served
+    requires held { IsHeld (B.value store.old) ldterm.old }
+    requires kept { AreIn (B.value store.old) (λ _. 0) (keeps ldterm.old) }
     requires inside { 0 < here.at }
     requires small { here.at ≤ MODULES }
     requires room { HasRoom (B.value store.old) (needs (stage_in ldterm.old.stage)) }
     requires work { is_some ldterm.old.in_work ≡ true }
-    ensures { TreatsAs B.name (B.value store.old) (B.value store.new) here ldterm.old ldterm.new result told.old told.new }
+    ensures { TreatsAs (B.value store.old) (B.value store.new) here ldterm.old ldterm.new result told.old told.new }
 {
     if !is_under_way(&ldterm.stage) {
         return treat_on(ldterm, store, here, told);
@@ -193,7 +193,7 @@ pub(crate) fn treat<B: Blocks>(
 }
 
 /// What a call did in which a message passed whole, or none.
-pub(crate) fn of_whole<Mp: Drop>(passed: Passed<Mp>) -> Served<Mp>
+pub(crate) fn of_whole(passed: Passed) -> Served
     ensures notes { result.acts.notes.items ≡ [] }
     ensures sent { result.acts.sent ≡ passed.sent }
     ensures bytes { result.bytes ≡ passed.bytes }
@@ -213,20 +213,20 @@ pub(crate) fn of_whole<Mp: Drop>(passed: Passed<Mp>) -> Served<Mp>
 
 // The first call of a turn of the read queue.
 fn serve_input<B: Blocks>(
-    ldterm: &mut Ldterm<B::Mp>,
+    ldterm: &mut Ldterm,
     store: &mut B,
     here: Spot,
     told: &mut Fates,
-) -> Served<B::Mp>
-    requires held { IsHeld B.name (B.value store.old) ldterm.old }
-    requires kept { AreIn (B.value store.old) (λ _. 0) (keeps B.name ldterm.old) }
+) -> Served
+    requires held { IsHeld (B.value store.old) ldterm.old }
+    requires kept { AreIn (B.value store.old) (λ _. 0) (keeps ldterm.old) }
     requires inside { 0 < here.at }
     requires small { here.at ≤ MODULES }
     requires room { HasRoom (B.value store.old) 1 }
     requires way { here.way ≡ Up }
-    requires rests { (i : ℕ) → keeps B.name ldterm.old i ≡ 0 }
+    requires rests { (i : ℕ) → keeps ldterm.old i ≡ 0 }
     requires stage { stages_left (stage_in ldterm.old.stage) ≡ 0 }
-    ensures { ServesAs B.name (B.value store.old) (B.value store.new) here ldterm.old ldterm.new false result told.old told.new }
+    ensures { ServesAs (B.value store.old) (B.value store.new) here ldterm.old ldterm.new false result told.old told.new }
 {
     match begin_input(ldterm, store, here) {
         InputBegun::Empty => of_whole(Passed {
@@ -248,19 +248,19 @@ fn serve_input<B: Blocks>(
 /// `STOP_BLOCKS` blocks of each kind are free, and stops within the message only where, before a byte begins, they aren't; the rest of
 /// the message goes back to the front of its queue then. The cost is in proportion to the bytes that are treated, and a step for each block of the message.
 pub fn serve<B: Blocks>(
-    ldterm: &mut Ldterm<B::Mp>,
+    ldterm: &mut Ldterm,
     store: &mut B,
     here: Spot,
     again: bool,
     told: &mut Fates,
-) -> Served<B::Mp>
-    requires held { IsHeld B.name (B.value store.old) ldterm.old }
-    requires kept { AreIn (B.value store.old) (λ _. 0) (keeps B.name ldterm.old) }
+) -> Served
+    requires held { IsHeld (B.value store.old) ldterm.old }
+    requires kept { AreIn (B.value store.old) (λ _. 0) (keeps ldterm.old) }
     requires inside { 0 < here.at }
     requires small { here.at ≤ MODULES }
-    requires turn { IsServed here.way again (ldterm_in B.name (B.value store.old) ldterm.old) }
+    requires turn { IsServed here.way again (ldterm_in (B.value store.old) ldterm.old) }
     requires room { HasRoom (B.value store.old) (needs (stage_in ldterm.old.stage)) }
-    ensures { ServesAs B.name (B.value store.old) (B.value store.new) here ldterm.old ldterm.new again result told.old told.new }
+    ensures { ServesAs (B.value store.old) (B.value store.new) here ldterm.old ldterm.new again result told.old told.new }
 {
     match here.way {
         Way::Down => serve_output(ldterm, store, here, told),

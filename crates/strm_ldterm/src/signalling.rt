@@ -43,22 +43,22 @@ fn keeps_line(termios: &Termios) -> bool
 
 /// Makes a message without parts that goes up.
 pub(crate) fn send_up<B: Blocks>(
-    ldterm: &Ldterm<B::Mp>,
+    ldterm: &Ldterm,
     store: &mut B,
     here: Spot,
     kind: MsgKind,
     bytes: &[u8],
-) -> Sent<B::Mp>
-    requires held { IsHeld B.name (B.value store.old) ldterm.now }
-    requires kept { AreIn (B.value store.old) (λ _. 0) (keeps B.name ldterm.now) }
+) -> Sent
+    requires held { IsHeld (B.value store.old) ldterm.now }
+    requires kept { AreIn (B.value store.old) (λ _. 0) (keeps ldterm.now) }
     requires inside { 0 < here.at }
     requires small { here.at ≤ MODULES }
     requires room { HasRoom (B.value store.old) 1 }
     requires kind { is_data_kind kind ≡ false }
     requires few { length bytes.now ≤ 256 }
     ensures { (f : Fates) → let s = B.value store.old in
-        Proceeds B.name s (B.value store.new) ldterm.now ldterm.now 1 [] (result ∷ []) f f
-        (sends (onward Up here (bare kind bytes.now) ∷ []) (ldterm_in B.name s ldterm.now)) }
+        Proceeds s (B.value store.new) ldterm.now ldterm.now 1 [] (result ∷ []) f f
+        (sends (onward Up here (bare kind bytes.now) ∷ []) (ldterm_in s ldterm.now)) }
 {
     let _ = ldterm;
     let message = make(store, kind, bytes);
@@ -70,19 +70,19 @@ pub(crate) fn send_up<B: Blocks>(
 
 // The line is flushed, and an M_FLUSH goes up.
 fn flush_typed<B: Blocks>(
-    ldterm: &mut Ldterm<B::Mp>,
+    ldterm: &mut Ldterm,
     store: &mut B,
     here: Spot,
     asked: FlushAsked,
     told: &mut Fates,
-) -> Sent<B::Mp>
-    requires held { IsHeld B.name (B.value store.old) ldterm.old }
-    requires kept { AreIn (B.value store.old) (λ _. 0) (keeps B.name ldterm.old) }
+) -> Sent
+    requires held { IsHeld (B.value store.old) ldterm.old }
+    requires kept { AreIn (B.value store.old) (λ _. 0) (keeps ldterm.old) }
     requires inside { 0 < here.at }
     requires small { here.at ≤ MODULES }
     requires room { HasRoom (B.value store.old) 1 }
-    ensures { let s = B.value store.old in let p = ldterm_in B.name s ldterm.old in
-        Proceeds B.name s (B.value store.new) ldterm.old ldterm.new 1 [] (result ∷ []) told.old told.new
+    ensures { let s = B.value store.old in let p = ldterm_in s ldterm.old in
+        Proceeds s (B.value store.new) ldterm.old ldterm.new 1 [] (result ∷ []) told.old told.new
         (record (sends (onward Up here (flush_message (flush_bytes asked)) ∷ []) (record p { line = [] })) { gone = lost plain here Flushed p.line }) }
 {
     store.audit();
@@ -93,21 +93,21 @@ fn flush_typed<B: Blocks>(
 
 // The signal goes up, and the key is told.
 fn send_key<B: Blocks>(
-    ldterm: &Ldterm<B::Mp>,
+    ldterm: &Ldterm,
     store: &mut B,
     here: Spot,
     signal: u8,
     byte: u8,
     told: &mut Fates,
-) -> Sent<B::Mp>
-    requires held { IsHeld B.name (B.value store.old) ldterm.now }
-    requires kept { AreIn (B.value store.old) (λ _. 0) (keeps B.name ldterm.now) }
+) -> Sent
+    requires held { IsHeld (B.value store.old) ldterm.now }
+    requires kept { AreIn (B.value store.old) (λ _. 0) (keeps ldterm.now) }
     requires inside { 0 < here.at }
     requires small { here.at ≤ MODULES }
     requires room { HasRoom (B.value store.old) 1 }
     ensures { let s = B.value store.old in
-        Proceeds B.name s (B.value store.new) ldterm.now ldterm.now 1 [] (result ∷ []) told.old told.new
-        (record (sends (onward Up here (bare Pcsig (signal ∷ [])) ∷ []) (ldterm_in B.name s ldterm.now)) { gone = lost plain here SignalKey (byte ∷ []) }) }
+        Proceeds s (B.value store.new) ldterm.now ldterm.now 1 [] (result ∷ []) told.old told.new
+        (record (sends (onward Up here (bare Pcsig (signal ∷ [])) ∷ []) (ldterm_in s ldterm.now)) { gone = lost plain here SignalKey (byte ∷ []) }) }
 {
     let _ = byte;
     told.tell(direction_at(Way::Up, here.side), Rule::SignalKey, 1);
@@ -116,22 +116,22 @@ fn send_key<B: Blocks>(
 
 // A signal key: what was gathered goes up first. Without NOFLSH the line is flushed, and an M_FLUSH goes up. The signal follows.
 fn signal_with<B: Blocks>(
-    ldterm: &mut Ldterm<B::Mp>,
+    ldterm: &mut Ldterm,
     store: &mut B,
     here: Spot,
     asked: FlushAsked,
     signal: u8,
     byte: u8,
     told: &mut Fates,
-) -> Outbox<B::Mp>
-    requires held { IsHeld B.name (B.value store.old) ldterm.old }
-    requires kept { AreIn (B.value store.old) (λ _. 0) (keeps B.name ldterm.old) }
+) -> Outbox
+    requires held { IsHeld (B.value store.old) ldterm.old }
+    requires kept { AreIn (B.value store.old) (λ _. 0) (keeps ldterm.old) }
     requires inside { 0 < here.at }
     requires small { here.at ≤ MODULES }
     requires room { HasRoom (B.value store.old) 2 }
     ensures { let s = B.value store.old in
-        Proceeds B.name s (B.value store.new) ldterm.old ldterm.new 2 [] (sent_of result) told.old told.new
-        (signals plain here asked signal byte (ldterm_in B.name s ldterm.old)) }
+        Proceeds s (B.value store.new) ldterm.old ldterm.new 2 [] (sent_of result) told.old told.new
+        (signals plain here asked signal byte (ldterm_in s ldterm.old)) }
 {
     let keeps = keeps_line(&ldterm.termios);
     let first = send_gathered(ldterm, store, here);
@@ -159,22 +159,22 @@ fn signal_with<B: Blocks>(
 /// INTR, QUIT or SUSP: what was gathered goes up first. Without NOFLSH the line is flushed, and an M_FLUSH goes up, of both ways for
 /// INTR and QUIT and of what was typed for SUSP. The M_PCSIG follows. It takes two blocks at most.
 pub(crate) fn signal<B: Blocks>(
-    ldterm: &mut Ldterm<B::Mp>,
+    ldterm: &mut Ldterm,
     store: &mut B,
     here: Spot,
     key: Key,
     byte: u8,
     told: &mut Fates,
-) -> Outbox<B::Mp>
-    requires held { IsHeld B.name (B.value store.old) ldterm.old }
-    requires kept { AreIn (B.value store.old) (λ _. 0) (keeps B.name ldterm.old) }
+) -> Outbox
+    requires held { IsHeld (B.value store.old) ldterm.old }
+    requires kept { AreIn (B.value store.old) (λ _. 0) (keeps ldterm.old) }
     requires inside { 0 < here.at }
     requires small { here.at ≤ MODULES }
     requires room { HasRoom (B.value store.old) 2 }
     requires key { sends_signal key ≡ true }
     ensures { let s = B.value store.old in
-        Proceeds B.name s (B.value store.new) ldterm.old ldterm.new 2 [] (sent_of result) told.old told.new
-        (strikes plain here key byte (ldterm_in B.name s ldterm.old)) }
+        Proceeds s (B.value store.new) ldterm.old ldterm.new 2 [] (sent_of result) told.old told.new
+        (strikes plain here key byte (ldterm_in s ldterm.old)) }
 {
     let both_ways = FlushAsked {
         for_read: true,

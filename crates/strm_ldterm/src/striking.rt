@@ -38,8 +38,8 @@ fn is_lnext(key: Key) -> bool
 }
 
 // The queue of output is enabled where a byte has started output, unless nothing stands there.
-fn wakes<B: Blocks>(ldterm: &Ldterm<B::Mp>, store: &B, started: bool) -> ArrayVec<Note, 4>
-    ensures { (here : spots.Spot) → result.items ≡ wakes plain here started (ldterm_in B.name (B.value store.now) ldterm.now) }
+fn wakes<B: Blocks>(ldterm: &Ldterm, store: &B, started: bool) -> ArrayVec<Note, 4>
+    ensures { (here : spots.Spot) → result.items ≡ wakes plain here started (ldterm_in (B.value store.now) ldterm.now) }
 {
     let mut notes = ArrayVec::new();
     if started && (ldterm.echo.is_some() || !ldterm.write_queue.is_empty(store)) {
@@ -50,22 +50,22 @@ fn wakes<B: Blocks>(ldterm: &Ldterm<B::Mp>, store: &B, started: bool) -> ArrayVe
 
 // What a key does that may send something.
 fn strike_sending<B: Blocks>(
-    ldterm: &mut Ldterm<B::Mp>,
+    ldterm: &mut Ldterm,
     store: &mut B,
     here: Spot,
     key: Key,
     byte: u8,
     told: &mut Fates,
-) -> Outbox<B::Mp>
-    requires held { IsHeld B.name (B.value store.old) ldterm.old }
-    requires kept { AreIn (B.value store.old) (λ _. 0) (keeps B.name ldterm.old) }
+) -> Outbox
+    requires held { IsHeld (B.value store.old) ldterm.old }
+    requires kept { AreIn (B.value store.old) (λ _. 0) (keeps ldterm.old) }
     requires inside { 0 < here.at }
     requires small { here.at ≤ MODULES }
     requires room { HasRoom (B.value store.old) 2 }
     requires sends { is_quiet key ≡ false }
     ensures { let s = B.value store.old in
-        Proceeds B.name s (B.value store.new) ldterm.old ldterm.new 2 [] (sent_of result) told.old told.new
-        (strikes plain here key byte (ldterm_in B.name s ldterm.old)) }
+        Proceeds s (B.value store.new) ldterm.old ldterm.new 2 [] (sent_of result) told.old told.new
+        (strikes plain here key byte (ldterm_in s ldterm.old)) }
 {
     match key {
         Key::Stop => stop(ldterm, store, here, byte, told),
@@ -78,24 +78,24 @@ fn strike_sending<B: Blocks>(
 
 // A key that may send something. Its echo is still to come.
 fn strike_and_send<B: Blocks>(
-    ldterm: &mut Ldterm<B::Mp>,
+    ldterm: &mut Ldterm,
     store: &mut B,
     here: Spot,
     started: bool,
     byte: u8,
     stroke: Stroke,
     told: &mut Fates,
-) -> Acts<B::Mp>
-    requires held { IsHeld B.name (B.value store.old) ldterm.old }
-    requires kept { AreIn (B.value store.old) (λ _. 0) (keeps B.name ldterm.old) }
+) -> Acts
+    requires held { IsHeld (B.value store.old) ldterm.old }
+    requires kept { AreIn (B.value store.old) (λ _. 0) (keeps ldterm.old) }
     requires inside { 0 < here.at }
     requires small { here.at ≤ MODULES }
     requires room { HasRoom (B.value store.old) 2 }
-    requires stroke { stroke ≡ stroke_at plain here byte (ldterm_in B.name (B.value store.old) ldterm.old) }
+    requires stroke { stroke ≡ stroke_at plain here byte (ldterm_in (B.value store.old) ldterm.old) }
     requires sends { is_quiet stroke.key ≡ false }
     ensures does { let s = B.value store.old in
-        Proceeds B.name s (B.value store.new) ldterm.old ldterm.new 2 result.notes.items (sent_of result.sent) told.old told.new
-        (struck plain here started byte (ldterm_in B.name s ldterm.old)) }
+        Proceeds s (B.value store.new) ldterm.old ldterm.new 2 result.notes.items (sent_of result.sent) told.old told.new
+        (struck plain here started byte (ldterm_in s ldterm.old)) }
     ensures stage { stages_left (stage_in ldterm.new.stage) ≡ 1 }
 {
     let notes = wakes(ldterm, store, started);
@@ -108,7 +108,7 @@ fn strike_and_send<B: Blocks>(
 
 // A key that sends nothing, with its echo.
 fn strike_and_echo<B: Blocks>(
-    ldterm: &mut Ldterm<B::Mp>,
+    ldterm: &mut Ldterm,
     store: &mut B,
     here: Spot,
     started: bool,
@@ -116,14 +116,14 @@ fn strike_and_echo<B: Blocks>(
     stroke: Stroke,
     told: &mut Fates,
 ) -> ArrayVec<Note, 4>
-    requires held { IsHeld B.name (B.value store.old) ldterm.old }
-    requires kept { AreIn (B.value store.old) (λ _. 0) (keeps B.name ldterm.old) }
+    requires held { IsHeld (B.value store.old) ldterm.old }
+    requires kept { AreIn (B.value store.old) (λ _. 0) (keeps ldterm.old) }
     requires room { HasRoom (B.value store.old) 25 }
-    requires stroke { stroke ≡ stroke_at plain here byte (ldterm_in B.name (B.value store.old) ldterm.old) }
+    requires stroke { stroke ≡ stroke_at plain here byte (ldterm_in (B.value store.old) ldterm.old) }
     requires quiet { is_quiet stroke.key ≡ true }
     ensures { let s = B.value store.old in
-        Proceeds B.name s (B.value store.new) ldterm.old ldterm.new 25 result.items [] told.old told.new
-        (one_after (struck plain here started byte (ldterm_in B.name s ldterm.old)) (next_stage plain here 0)) }
+        Proceeds s (B.value store.new) ldterm.old ldterm.new 25 result.items [] told.old told.new
+        (one_after (struck plain here started byte (ldterm_in s ldterm.old)) (next_stage plain here 0)) }
 {
     let woken = wakes(ldterm, store, started);
     let plan = echo_of(&ldterm.termios, &ldterm.line, stroke);
@@ -148,18 +148,18 @@ pub(crate) fn join(mut first: ArrayVec<Note, 4>, second: ArrayVec<Note, 4>) -> A
 
 // The echo of a byte whose key may have sent something.
 fn answer<B: Blocks>(
-    ldterm: &mut Ldterm<B::Mp>,
+    ldterm: &mut Ldterm,
     store: &mut B,
     here: Spot,
     told: &mut Fates,
 ) -> ArrayVec<Note, 4>
-    requires held { IsHeld B.name (B.value store.old) ldterm.old }
-    requires kept { AreIn (B.value store.old) (λ _. 0) (keeps B.name ldterm.old) }
+    requires held { IsHeld (B.value store.old) ldterm.old }
+    requires kept { AreIn (B.value store.old) (λ _. 0) (keeps ldterm.old) }
     requires room { HasRoom (B.value store.old) 1 }
     requires stage { stages_left (stage_in ldterm.old.stage) ≡ 1 }
     ensures { let s = B.value store.old in
-        Proceeds B.name s (B.value store.new) ldterm.old ldterm.new 1 result.items [] told.old told.new
-        (next_stage plain here 0 (ldterm_in B.name s ldterm.old)) }
+        Proceeds s (B.value store.new) ldterm.old ldterm.new 1 result.items [] told.old told.new
+        (next_stage plain here 0 (ldterm_in s ldterm.old)) }
 {
     let Stage::Answered { echo: bytes } = mem::replace(&mut ldterm.stage, Stage::Between) else {
         unreachable!()
@@ -169,21 +169,21 @@ fn answer<B: Blocks>(
 
 // A byte that has begun does what its key does, and is echoed unless something was sent.
 fn strike<B: Blocks>(
-    ldterm: &mut Ldterm<B::Mp>,
+    ldterm: &mut Ldterm,
     store: &mut B,
     here: Spot,
     started: bool,
     byte: u8,
     told: &mut Fates,
-) -> Acts<B::Mp>
-    requires held { IsHeld B.name (B.value store.old) ldterm.old }
-    requires kept { AreIn (B.value store.old) (λ _. 0) (keeps B.name ldterm.old) }
+) -> Acts
+    requires held { IsHeld (B.value store.old) ldterm.old }
+    requires kept { AreIn (B.value store.old) (λ _. 0) (keeps ldterm.old) }
     requires inside { 0 < here.at }
     requires small { here.at ≤ MODULES }
     requires room { HasRoom (B.value store.old) 28 }
     ensures does { let s = B.value store.old in
-        Proceeds B.name s (B.value store.new) ldterm.old ldterm.new 26 result.notes.items (sent_of result.sent) told.old told.new
-        (one_after (struck plain here started byte (ldterm_in B.name s ldterm.old)) (next_stage plain here 0)) }
+        Proceeds s (B.value store.new) ldterm.old ldterm.new 26 result.notes.items (sent_of result.sent) told.old told.new
+        (one_after (struck plain here started byte (ldterm_in s ldterm.old)) (next_stage plain here 0)) }
     ensures leaves { is_none_left (sent_of result.sent) ≡ false →
         HasRoom (B.value store.new) 26 × (stages_left (stage_in ldterm.new.stage) ≡ 1) }
     ensures rest { HasRoom (B.value store.new) 1 }
@@ -217,19 +217,19 @@ fn begun_byte(stage: &Stage) -> Option<(bool, u8)>
 
 /// The rest of a byte that has begun, up to the first thing that is sent.
 pub(crate) fn resume<B: Blocks>(
-    ldterm: &mut Ldterm<B::Mp>,
+    ldterm: &mut Ldterm,
     store: &mut B,
     here: Spot,
     told: &mut Fates,
-) -> Acts<B::Mp>
-    requires held { IsHeld B.name (B.value store.old) ldterm.old }
-    requires kept { AreIn (B.value store.old) (λ _. 0) (keeps B.name ldterm.old) }
+) -> Acts
+    requires held { IsHeld (B.value store.old) ldterm.old }
+    requires kept { AreIn (B.value store.old) (λ _. 0) (keeps ldterm.old) }
     requires inside { 0 < here.at }
     requires small { here.at ≤ MODULES }
     requires room { HasRoom (B.value store.old) (needs (stage_in ldterm.old.stage)) }
     requires stage { 0 < stages_left (stage_in ldterm.old.stage) }
-    ensures does { let s = B.value store.old in let p = ldterm_in B.name s ldterm.old in
-        Proceeds B.name s (B.value store.new) ldterm.old ldterm.new 26 result.notes.items (sent_of result.sent) told.old told.new
+    ensures does { let s = B.value store.old in let p = ldterm_in s ldterm.old in
+        Proceeds s (B.value store.new) ldterm.old ldterm.new 26 result.notes.items (sent_of result.sent) told.old told.new
         (ahead here (stages_left p.stage) p) }
     ensures leaves { is_none_left (sent_of result.sent) ≡ false →
         HasRoom (B.value store.new) 26 × (stages_left (stage_in ldterm.new.stage) ≡ 1) }
@@ -246,21 +246,21 @@ pub(crate) fn resume<B: Blocks>(
 
 /// The next byte of the message in work, up to the first thing that is sent.
 pub(crate) fn treat_byte<B: Blocks>(
-    ldterm: &mut Ldterm<B::Mp>,
+    ldterm: &mut Ldterm,
     store: &mut B,
     here: Spot,
     told: &mut Fates,
-) -> Acts<B::Mp>
-    requires held { IsHeld B.name (B.value store.old) ldterm.old }
-    requires kept { AreIn (B.value store.old) (λ _. 0) (keeps B.name ldterm.old) }
+) -> Acts
+    requires held { IsHeld (B.value store.old) ldterm.old }
+    requires kept { AreIn (B.value store.old) (λ _. 0) (keeps ldterm.old) }
     requires inside { 0 < here.at }
     requires small { here.at ≤ MODULES }
     requires room { HasRoom (B.value store.old) STOP_BLOCKS }
     requires stage { stages_left (stage_in ldterm.old.stage) ≡ 0 }
-    requires some { 0 < length (cells_left (ldterm_in B.name (B.value store.old) ldterm.old)) }
+    requires some { 0 < length (cells_left (ldterm_in (B.value store.old) ldterm.old)) }
     ensures does { let s = B.value store.old in
-        Proceeds B.name s (B.value store.new) ldterm.old ldterm.new 27 result.notes.items (sent_of result.sent) told.old told.new
-        (ahead here 3 (ldterm_in B.name s ldterm.old)) }
+        Proceeds s (B.value store.new) ldterm.old ldterm.new 27 result.notes.items (sent_of result.sent) told.old told.new
+        (ahead here 3 (ldterm_in s ldterm.old)) }
     ensures leaves { is_none_left (sent_of result.sent) ≡ false →
         HasRoom (B.value store.new) (leaves (stage_in ldterm.new.stage)) × (0 < stages_left (stage_in ldterm.new.stage)) }
 {

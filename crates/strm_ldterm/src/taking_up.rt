@@ -12,7 +12,7 @@ ghost use Rattle.strm_types.specs.Costs.{cost};
 ghost use Rattle.strm_types.specs.LdtermPuts.{goes_on, passes_on_way, told_by_header};
 ghost use Rattle.strm_types.specs.Options.{mode_number};
 ghost use Rattle.strm_types.specs.TakenUp.{ends_lines, input_flushed, read_mode_of, taken_up};
-ghost use Rattle.strm_blocks.specs.Blocks.{in_hand, block_at};
+ghost use Rattle.strm_blocks.specs.Blocks.{in_hand, block_at, token};
 ghost use Rattle.strm_msg.specs.Messages.{IsChain};
 ghost use Rattle.strm_frame.specs.Hands.{AreIn, CanPut, HasRoom};
 ghost use Rattle.strm_frame.specs.Outboxes.{message_in};
@@ -27,7 +27,7 @@ use crate::sending::make_line;
 use crate::signalling::send_up;
 use arrayvec::ArrayVec;
 use bitflags::Flags;
-use strm_blocks::Blocks;
+use strm_blocks::{Blocks, InHand};
 use strm_frame::ioctls::{header_of, payload_of, sets_termios};
 use strm_frame::{Acts, Outbox, Sent};
 use strm_types::{Fates, FlushAsked, Ioc, LocalModes, MsgKind, Note, Spot, TCSETSF, Termios, Way};
@@ -70,36 +70,36 @@ fn mode_of(termios: &Termios) -> u8
 }
 
 // A message goes on at once.
-fn go_on<B: Blocks>(ldterm: &Ldterm<B::Mp>, store: &B, here: Spot, message: B::Mp) -> Acts<B::Mp>
-    requires held { IsHeld B.name (B.value store.now) ldterm.now }
-    requires can_put { CanPut (B.value store.now) (B.name message) (keeps B.name ldterm.now) }
-    requires chain { IsChain (in_hand (B.value store.now) (B.name message)) }
+fn go_on<B: Blocks>(ldterm: &Ldterm, store: &B, here: Spot, message: InHand) -> Acts
+    requires held { IsHeld (B.value store.now) ldterm.now }
+    requires can_put { CanPut (B.value store.now) (token message) (keeps ldterm.now) }
+    requires chain { IsChain (in_hand (B.value store.now) (token message)) }
     requires inside { 0 < here.at }
     requires small { here.at ≤ MODULES }
-    ensures { (f : Fates) → let s = B.value store.now in let m = message_in s (B.name message) in
-        Puts B.name s s ldterm.now ldterm.now (B.name message) (cost here m) result f f
-        (goes_on here m (ldterm_in B.name s ldterm.now)) }
+    ensures { (f : Fates) → let s = B.value store.now in let m = message_in s (token message) in
+        Puts s s ldterm.now ldterm.now (token message) (cost here m) result f f
+        (goes_on here m (ldterm_in s ldterm.now)) }
 {
     pass_on(ldterm, store, here, ArrayVec::new(), message)
 }
 
 // TCSETSF: what waits to be read is flushed, with the line, and an M_FLUSH goes up. It says whether queues before have room again.
 fn flush_input<B: Blocks>(
-    ldterm: &mut Ldterm<B::Mp>,
+    ldterm: &mut Ldterm,
     store: &mut B,
     here: Spot,
     command: u32,
     told: &mut Fates,
-) -> (bool, Option<Sent<B::Mp>>)
-    requires held { IsHeld B.name (B.value store.old) ldterm.old }
-    requires kept { AreIn (B.value store.old) (λ _. 0) (keeps B.name ldterm.old) }
+) -> (bool, Option<Sent>)
+    requires held { IsHeld (B.value store.old) ldterm.old }
+    requires kept { AreIn (B.value store.old) (λ _. 0) (keeps ldterm.old) }
     requires inside { 0 < here.at }
     requires small { here.at ≤ MODULES }
     requires room { HasRoom (B.value store.old) 1 }
     ensures { let s = B.value store.old in
-        Proceeds B.name s (B.value store.new) ldterm.old ldterm.new (flush_takes command)
+        Proceeds s (B.value store.new) ldterm.old ldterm.new (flush_takes command)
         (if result.0 then Room Up ∷ [] else []) (option_to_list result.1) told.old told.new
-        (input_flushed here command (ldterm_in B.name s ldterm.old)) }
+        (input_flushed here command (ldterm_in s ldterm.old)) }
 {
     if !flushes_input(command) {
         return (false, None);
@@ -118,19 +118,19 @@ fn flush_input<B: Blocks>(
 
 // The termios is set. Where lines are made no longer the unfinished one goes up, unless it is empty.
 fn set_termios<B: Blocks>(
-    ldterm: &mut Ldterm<B::Mp>,
+    ldterm: &mut Ldterm,
     store: &mut B,
     here: Spot,
     termios: Termios,
-) -> Option<Sent<B::Mp>>
-    requires held { IsHeld B.name (B.value store.old) ldterm.old }
-    requires kept { AreIn (B.value store.old) (λ _. 0) (keeps B.name ldterm.old) }
+) -> Option<Sent>
+    requires held { IsHeld (B.value store.old) ldterm.old }
+    requires kept { AreIn (B.value store.old) (λ _. 0) (keeps ldterm.old) }
     requires inside { 0 < here.at }
     requires small { here.at ≤ MODULES }
     requires room { HasRoom (B.value store.old) (line_takes ldterm.old.line) }
     ensures { (f : Fates) → let s = B.value store.old in
-        Proceeds B.name s (B.value store.new) ldterm.old ldterm.new (line_takes ldterm.old.line) []
-        (option_to_list result) f f (termios_set here termios (ldterm_in B.name s ldterm.old)) }
+        Proceeds s (B.value store.new) ldterm.old ldterm.new (line_takes ldterm.old.line) []
+        (option_to_list result) f f (termios_set here termios (ldterm_in s ldterm.old)) }
 {
     let ends = ends_lines(&ldterm.termios, &termios);
     ldterm.termios = termios;
@@ -148,24 +148,24 @@ fn set_termios<B: Blocks>(
 // The answer to a command that set a termios: with TCSETSF input is flushed, the termios is set, the head is told its read mode, and the
 // answer goes on.
 fn take_up<B: Blocks>(
-    ldterm: &mut Ldterm<B::Mp>,
+    ldterm: &mut Ldterm,
     store: &mut B,
     here: Spot,
     set: (u32, Termios),
-    message: B::Mp,
+    message: InHand,
     told: &mut Fates,
-) -> Acts<B::Mp>
-    requires held { IsHeld B.name (B.value store.old) ldterm.old }
-    requires can_put { CanPut (B.value store.old) (B.name message) (keeps B.name ldterm.old) }
-    requires chain { IsChain (in_hand (B.value store.old) (B.name message)) }
-    requires acked { is_acked (message_in (B.value store.old) (B.name message)) ≡ true }
+) -> Acts
+    requires held { IsHeld (B.value store.old) ldterm.old }
+    requires can_put { CanPut (B.value store.old) (token message) (keeps ldterm.old) }
+    requires chain { IsChain (in_hand (B.value store.old) (token message)) }
+    requires acked { is_acked (message_in (B.value store.old) (token message)) ≡ true }
     requires up { here.way ≡ Up }
     requires inside { 0 < here.at }
     requires small { here.at ≤ MODULES }
     requires room { HasRoom (B.value store.old) 2 }
-    ensures { let s = B.value store.old in let m = message_in s (B.name message) in
-        Puts B.name s (B.value store.new) ldterm.old ldterm.new (B.name message) (cost here m) result told.old told.new
-        (taken_up here set.0 set.1 m (ldterm_in B.name s ldterm.old)) }
+    ensures { let s = B.value store.old in let m = message_in s (token message) in
+        Puts s (B.value store.new) ldterm.old ldterm.new (token message) (cost here m) result told.old told.new
+        (taken_up here set.0 set.1 m (ldterm_in s ldterm.old)) }
 {
     store.audit();
     let (room, flush) = flush_input(ldterm, store, here, set.0, told);
@@ -189,24 +189,24 @@ fn take_up<B: Blocks>(
 
 // An answer that comes up, by its header: the termios that a command set is taken up, where the answer has one.
 fn obey<B: Blocks>(
-    ldterm: &mut Ldterm<B::Mp>,
+    ldterm: &mut Ldterm,
     store: &mut B,
     here: Spot,
     ioc: Ioc,
-    message: B::Mp,
+    message: InHand,
     told: &mut Fates,
-) -> Acts<B::Mp>
-    requires held { IsHeld B.name (B.value store.old) ldterm.old }
-    requires can_put { CanPut (B.value store.old) (B.name message) (keeps B.name ldterm.old) }
-    requires chain { IsChain (in_hand (B.value store.old) (B.name message)) }
-    requires acked { is_acked (message_in (B.value store.old) (B.name message)) ≡ true }
+) -> Acts
+    requires held { IsHeld (B.value store.old) ldterm.old }
+    requires can_put { CanPut (B.value store.old) (token message) (keeps ldterm.old) }
+    requires chain { IsChain (in_hand (B.value store.old) (token message)) }
+    requires acked { is_acked (message_in (B.value store.old) (token message)) ≡ true }
     requires up { here.way ≡ Up }
     requires inside { 0 < here.at }
     requires small { here.at ≤ MODULES }
     requires room { HasRoom (B.value store.old) 2 }
-    ensures { let s = B.value store.old in let m = message_in s (B.name message) in
-        Puts B.name s (B.value store.new) ldterm.old ldterm.new (B.name message) (cost here m) result told.old told.new
-        (told_by_header here (Some ioc) m (ldterm_in B.name s ldterm.old)) }
+    ensures { let s = B.value store.old in let m = message_in s (token message) in
+        Puts s (B.value store.new) ldterm.old ldterm.new (token message) (cost here m) result told.old told.new
+        (told_by_header here (Some ioc) m (ldterm_in s ldterm.old)) }
 {
     store.audit();
     if !sets_termios(ioc.command) {
@@ -221,24 +221,24 @@ fn obey<B: Blocks>(
 
 // What passes at once on its way up: an M_IOCACK is looked at.
 fn pass_up<B: Blocks>(
-    ldterm: &mut Ldterm<B::Mp>,
+    ldterm: &mut Ldterm,
     store: &mut B,
     here: Spot,
     kind: MsgKind,
-    message: B::Mp,
+    message: InHand,
     told: &mut Fates,
-) -> Acts<B::Mp>
-    requires held { IsHeld B.name (B.value store.old) ldterm.old }
-    requires can_put { CanPut (B.value store.old) (B.name message) (keeps B.name ldterm.old) }
-    requires chain { IsChain (in_hand (B.value store.old) (B.name message)) }
-    requires kind { kind ≡ (block_at 0 (in_hand (B.value store.old) (B.name message))).kind }
+) -> Acts
+    requires held { IsHeld (B.value store.old) ldterm.old }
+    requires can_put { CanPut (B.value store.old) (token message) (keeps ldterm.old) }
+    requires chain { IsChain (in_hand (B.value store.old) (token message)) }
+    requires kind { kind ≡ (block_at 0 (in_hand (B.value store.old) (token message))).kind }
     requires up { here.way ≡ Up }
     requires inside { 0 < here.at }
     requires small { here.at ≤ MODULES }
-    requires room { HasRoom (B.value store.old) (cost here (message_in (B.value store.old) (B.name message))) }
-    ensures { let s = B.value store.old in let m = message_in s (B.name message) in
-        Puts B.name s (B.value store.new) ldterm.old ldterm.new (B.name message) (cost here m) result told.old told.new
-        (passes_on_way Up here m (ldterm_in B.name s ldterm.old)) }
+    requires room { HasRoom (B.value store.old) (cost here (message_in (B.value store.old) (token message))) }
+    ensures { let s = B.value store.old in let m = message_in s (token message) in
+        Puts s (B.value store.new) ldterm.old ldterm.new (token message) (cost here m) result told.old told.new
+        (passes_on_way Up here m (ldterm_in s ldterm.old)) }
 {
     store.audit();
     if !is_iocack(kind) {
@@ -252,23 +252,23 @@ fn pass_up<B: Blocks>(
 
 /// What passes at once. On its way up an M_IOCACK is looked at: it tells the termios that was set. It takes two blocks of each kind at most.
 pub(crate) fn pass<B: Blocks>(
-    ldterm: &mut Ldterm<B::Mp>,
+    ldterm: &mut Ldterm,
     store: &mut B,
     here: Spot,
     kind: MsgKind,
-    message: B::Mp,
+    message: InHand,
     told: &mut Fates,
-) -> Acts<B::Mp>
-    requires held { IsHeld B.name (B.value store.old) ldterm.old }
-    requires can_put { CanPut (B.value store.old) (B.name message) (keeps B.name ldterm.old) }
-    requires chain { IsChain (in_hand (B.value store.old) (B.name message)) }
-    requires kind { kind ≡ (block_at 0 (in_hand (B.value store.old) (B.name message))).kind }
+) -> Acts
+    requires held { IsHeld (B.value store.old) ldterm.old }
+    requires can_put { CanPut (B.value store.old) (token message) (keeps ldterm.old) }
+    requires chain { IsChain (in_hand (B.value store.old) (token message)) }
+    requires kind { kind ≡ (block_at 0 (in_hand (B.value store.old) (token message))).kind }
     requires inside { 0 < here.at }
     requires small { here.at ≤ MODULES }
-    requires room { HasRoom (B.value store.old) (cost here (message_in (B.value store.old) (B.name message))) }
-    ensures { let s = B.value store.old in let m = message_in s (B.name message) in
-        Puts B.name s (B.value store.new) ldterm.old ldterm.new (B.name message) (cost here m) result told.old told.new
-        (passes_on_way here.way here m (ldterm_in B.name s ldterm.old)) }
+    requires room { HasRoom (B.value store.old) (cost here (message_in (B.value store.old) (token message))) }
+    ensures { let s = B.value store.old in let m = message_in s (token message) in
+        Puts s (B.value store.new) ldterm.old ldterm.new (token message) (cost here m) result told.old told.new
+        (passes_on_way here.way here m (ldterm_in s ldterm.old)) }
 {
     match here.way {
         Way::Down => go_on(ldterm, store, here, message),

@@ -48,10 +48,10 @@ fn rule_of_dropped(key: Key) -> Rule
 }
 
 // A key that is dropped, by its rule.
-fn strike_dropped<Mp: Drop>(ldterm: &Ldterm<Mp>, here: Spot, key: Key, byte: u8, told: &mut Fates)
+fn strike_dropped(ldterm: &Ldterm, here: Spot, key: Key, byte: u8, told: &mut Fates)
     requires { is_dropped key ≡ true }
-    ensures { (name : Mp → ℕ) (s : StoreValue) → IsHeld name s ldterm.now →
-        Proceeds name s s ldterm.now ldterm.now 1 [] [] told.old told.new (strikes plain here key byte (ldterm_in name s ldterm.now)) }
+    ensures { (s : StoreValue) → IsHeld s ldterm.now →
+        Proceeds s s ldterm.now ldterm.now 1 [] [] told.old told.new (strikes plain here key byte (ldterm_in s ldterm.now)) }
 {
     let _ = ldterm;
     let _ = byte;
@@ -68,9 +68,9 @@ fn tell_edit(told: &mut Fates, here: Spot, rule: Rule, bytes: usize)
 }
 
 // ERASE takes the last byte of the line.
-fn strike_erase<Mp: Drop>(ldterm: &mut Ldterm<Mp>, here: Spot, byte: u8, told: &mut Fates)
-    ensures { (name : Mp → ℕ) (s : StoreValue) → IsHeld name s ldterm.old →
-        Proceeds name s s ldterm.old ldterm.new 1 [] [] told.old told.new (edits plain here ErasesByte Erased byte (ldterm_in name s ldterm.old)) }
+fn strike_erase(ldterm: &mut Ldterm, here: Spot, byte: u8, told: &mut Fates)
+    ensures { (s : StoreValue) → IsHeld s ldterm.old →
+        Proceeds s s ldterm.old ldterm.new 1 [] [] told.old told.new (edits plain here ErasesByte Erased byte (ldterm_in s ldterm.old)) }
 {
     let _ = byte;
     let gone = ldterm.line.erase_byte();
@@ -78,9 +78,9 @@ fn strike_erase<Mp: Drop>(ldterm: &mut Ldterm<Mp>, here: Spot, byte: u8, told: &
 }
 
 // WERASE takes the last word of the line, and the blanks behind it.
-fn strike_werase<Mp: Drop>(ldterm: &mut Ldterm<Mp>, here: Spot, byte: u8, told: &mut Fates)
-    ensures { (name : Mp → ℕ) (s : StoreValue) → IsHeld name s ldterm.old →
-        Proceeds name s s ldterm.old ldterm.new 1 [] [] told.old told.new (edits plain here ErasesWord Erased byte (ldterm_in name s ldterm.old)) }
+fn strike_werase(ldterm: &mut Ldterm, here: Spot, byte: u8, told: &mut Fates)
+    ensures { (s : StoreValue) → IsHeld s ldterm.old →
+        Proceeds s s ldterm.old ldterm.new 1 [] [] told.old told.new (edits plain here ErasesWord Erased byte (ldterm_in s ldterm.old)) }
 {
     let _ = byte;
     let gone = ldterm.line.erase_word();
@@ -88,9 +88,9 @@ fn strike_werase<Mp: Drop>(ldterm: &mut Ldterm<Mp>, here: Spot, byte: u8, told: 
 }
 
 // KILL takes the whole line.
-fn strike_kill<Mp: Drop>(ldterm: &mut Ldterm<Mp>, here: Spot, byte: u8, told: &mut Fates)
-    ensures { (name : Mp → ℕ) (s : StoreValue) → IsHeld name s ldterm.old →
-        Proceeds name s s ldterm.old ldterm.new 1 [] [] told.old told.new (edits plain here ErasesAll Killed byte (ldterm_in name s ldterm.old)) }
+fn strike_kill(ldterm: &mut Ldterm, here: Spot, byte: u8, told: &mut Fates)
+    ensures { (s : StoreValue) → IsHeld s ldterm.old →
+        Proceeds s s ldterm.old ldterm.new 1 [] [] told.old told.new (edits plain here ErasesAll Killed byte (ldterm_in s ldterm.old)) }
 {
     let _ = byte;
     let gone = ldterm.line.clear();
@@ -99,10 +99,10 @@ fn strike_kill<Mp: Drop>(ldterm: &mut Ldterm<Mp>, here: Spot, byte: u8, told: &m
 
 // A byte that is typed in canonical mode. It is added to the line, where there is room. In a full line it is lost under IMAXBEL, and
 // else the line is lost with it.
-fn add_to_line<Mp: Drop>(ldterm: &mut Ldterm<Mp>, here: Spot, byte: u8, told: &mut Fates)
+fn add_to_line(ldterm: &mut Ldterm, here: Spot, byte: u8, told: &mut Fates)
     requires { icanon ldterm.old.termios ≡ true }
-    ensures { (name : Mp → ℕ) (s : StoreValue) → IsHeld name s ldterm.old →
-        Proceeds name s s ldterm.old ldterm.new 1 [] [] told.old told.new (added plain here byte (ldterm_in name s ldterm.old)) }
+    ensures { (s : StoreValue) → IsHeld s ldterm.old →
+        Proceeds s s ldterm.old ldterm.new 1 [] [] told.old told.new (added plain here byte (ldterm_in s ldterm.old)) }
 {
     if ldterm.line.has_room() {
         ldterm.line.push(byte);
@@ -118,14 +118,14 @@ fn add_to_line<Mp: Drop>(ldterm: &mut Ldterm<Mp>, here: Spot, byte: u8, told: &m
 
 /// Bytes that are typed where no lines are made wait to go up together, behind those that wait already. At least one comes at a time and at
 /// most 256, and they take one block of each kind at most.
-pub(crate) fn gather<B: Blocks>(ldterm: &mut Ldterm<B::Mp>, store: &mut B, bytes: &[u8])
-    requires held { IsHeld B.name (B.value store.old) ldterm.old }
-    requires kept { AreIn (B.value store.old) (λ _. 0) (keeps B.name ldterm.old) }
+pub(crate) fn gather<B: Blocks>(ldterm: &mut Ldterm, store: &mut B, bytes: &[u8])
+    requires held { IsHeld (B.value store.old) ldterm.old }
+    requires kept { AreIn (B.value store.old) (λ _. 0) (keeps ldterm.old) }
     requires some { 0 < length bytes.now }
     requires few { length bytes.now ≤ 256 }
     requires room { HasRoom (B.value store.old) 1 }
-    ensures { (f : Fates) → let s = B.value store.old in let p = ldterm_in B.name s ldterm.old in
-        Proceeds B.name s (B.value store.new) ldterm.old ldterm.new 1 [] [] f f
+    ensures { (f : Fates) → let s = B.value store.old in let p = ldterm_in s ldterm.old in
+        Proceeds s (B.value store.new) ldterm.old ldterm.new 1 [] [] f f
         (sends [] (record p { gathered = p.gathered ++ bytes.now })) }
 {
     match ldterm.gathered.take() {
@@ -140,17 +140,17 @@ pub(crate) fn gather<B: Blocks>(ldterm: &mut Ldterm<B::Mp>, store: &mut B, bytes
 
 // An ordinary byte: it is added to the line, or gathered where no lines are made.
 fn strike_ordinary<B: Blocks>(
-    ldterm: &mut Ldterm<B::Mp>,
+    ldterm: &mut Ldterm,
     store: &mut B,
     here: Spot,
     byte: u8,
     told: &mut Fates,
 )
-    requires held { IsHeld B.name (B.value store.old) ldterm.old }
-    requires kept { AreIn (B.value store.old) (λ _. 0) (keeps B.name ldterm.old) }
+    requires held { IsHeld (B.value store.old) ldterm.old }
+    requires kept { AreIn (B.value store.old) (λ _. 0) (keeps ldterm.old) }
     requires room { HasRoom (B.value store.old) 1 }
     ensures { let s = B.value store.old in
-        Proceeds B.name s (B.value store.new) ldterm.old ldterm.new 1 [] [] told.old told.new (added plain here byte (ldterm_in B.name s ldterm.old)) }
+        Proceeds s (B.value store.new) ldterm.old ldterm.new 1 [] [] told.old told.new (added plain here byte (ldterm_in s ldterm.old)) }
 {
     if ldterm.termios.lflag.contains(LocalModes::ICANON) {
         add_to_line(ldterm, here, byte, told);
@@ -162,20 +162,20 @@ fn strike_ordinary<B: Blocks>(
 /// What a key that sends nothing does to the unfinished line, or to the bytes that are gathered (termio(7I)). It takes one block of each kind
 /// at most. The cost is in proportion to the bytes that go of the line.
 pub(crate) fn strike_quiet<B: Blocks>(
-    ldterm: &mut Ldterm<B::Mp>,
+    ldterm: &mut Ldterm,
     store: &mut B,
     here: Spot,
     key: Key,
     byte: u8,
     told: &mut Fates,
 )
-    requires held { IsHeld B.name (B.value store.old) ldterm.old }
-    requires kept { AreIn (B.value store.old) (λ _. 0) (keeps B.name ldterm.old) }
+    requires held { IsHeld (B.value store.old) ldterm.old }
+    requires kept { AreIn (B.value store.old) (λ _. 0) (keeps ldterm.old) }
     requires room { HasRoom (B.value store.old) 1 }
     requires quiet { is_quiet key ≡ true }
     ensures { let s = B.value store.old in
-        Proceeds B.name s (B.value store.new) ldterm.old ldterm.new 1 [] [] told.old told.new
-        (strikes plain here key byte (ldterm_in B.name s ldterm.old)) }
+        Proceeds s (B.value store.new) ldterm.old ldterm.new 1 [] [] told.old told.new
+        (strikes plain here key byte (ldterm_in s ldterm.old)) }
 {
     match key {
         Key::Erase => strike_erase(ldterm, here, byte, told),

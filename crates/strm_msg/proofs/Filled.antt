@@ -5,9 +5,10 @@ use Rattle.std.proofs.lemmas.Bool.{cases_eq}
 use Rattle.std.proofs.lemmas.Bool.Decides.{nat_tests}
 use Rattle.std.proofs.lemmas.List.{nil_from_length}
 use Rattle.std.proofs.lemmas.List.Sums.{sum_by-cons}
-use Rattle.strm_blocks.specs.Blocks.{Block, Held, StoreValue, IsInHand, banded, block_at, changed, dropped, in_hand, times_in, without}
+use Rattle.strm_blocks.specs.Blocks.{Block, Held, StoreValue, IsInHand, banded, block_at, changed, dropped, in_hand, times_in, without, token}
 use Rattle.strm_blocks.specs.Outcomes.{Unlinked}
 use Rattle.strm_blocks.proofs.Laws.{IsInHand-dropped, in_hand-dropped}
+use Rattle.strm_blocks.specs.declared.in_hand.InHand.{InHand}
 use Rattle.strm_msg.specs.Bytes.{bytes_of}
 use Rattle.strm_msg.specs.Emptied.{filled_blocks, without_emptied, Beside, FreedWhole}
 use Rattle.strm_msg.proofs.Hands.{other-name, gone, held-chain, changed-chain, changed-in_hand, changed-twice, dropped-changed}
@@ -84,12 +85,12 @@ without-both i j apart (h ∷ hand) =
     ]
 
 -- A message whose first block was parted from it, and of whose other blocks those were freed that show no bytes.
-pub record Opened {M : Type 0} (name : M → ℕ) (s t : StoreValue) (i first : ℕ) (kept : Option M) : Type 0 where
+pub record Opened (s t : StoreValue) (i first : ℕ) (kept : Option InHand) : Type 0 where
   block : Block
   chain : List Block
   joined : in_hand s i ≡ block ∷ chain
   named : first ≡ i
-  left : MatchOption kept ((filled_blocks chain ≡ []) × (t ≡ changed s i (block ∷ []))) (λ m. Beside (changed s i (block ∷ [])) t (name m) (filled_blocks chain))
+  left : MatchOption kept ((filled_blocks chain ≡ []) × (t ≡ changed s i (block ∷ []))) (λ m. Beside (changed s i (block ∷ [])) t (token m) (filled_blocks chain))
 
 -- what is behind the first block has one block less
 pub behind-shorter : {s s1 : StoreValue} {i first r : ℕ} → Unlinked s s1 i first r → length (in_hand s1 r) < length (in_hand s i)
@@ -97,64 +98,64 @@ behind-shorter {s} {s1} {i} {first} {r} u =
     let behind : in_hand s1 r ≡ u.chain = ap (λ v. in_hand v r) u.after ∙ held-chain (changed s i (u.block ∷ [])) r u.chain in
     omega (arith, ap length behind, ap length u.joined)
 
-module _ {M : Type 0} (name : M → ℕ) {s s1 : StoreValue} {i first : ℕ} where
-  pub opened-more : {r : ℕ} → Unlinked s s1 i first r → {t : StoreValue} (kept : Option M)
-      → MatchOption kept (FreedWhole s1 t r) (λ m. Beside (dropped s1 r) t (name m) (filled_blocks (in_hand s1 r))) → Opened name s t i first kept
+module _ {s s1 : StoreValue} {i first : ℕ} where
+  pub opened-more : {r : ℕ} → Unlinked s s1 i first r → {t : StoreValue} (kept : Option InHand)
+      → MatchOption kept (FreedWhole s1 t r) (λ m. Beside (dropped s1 r) t (token m) (filled_blocks (in_hand s1 r))) → Opened s t i first kept
   opened-more {r} u {t} kept left =
       let base = changed s i (u.block ∷ []) in
       let behind : in_hand s1 r ≡ u.chain = ap (λ v. in_hand v r) u.after ∙ held-chain base r u.chain in
       let without_it : dropped s1 r ≡ base = ap (λ v. dropped v r) u.after ∙ gone base r u.chain in
       record { block = u.block; chain = u.chain; joined = u.joined; named = u.kept_name; left = at behind without_it kept left }
     where
-      at : in_hand s1 r ≡ u.chain → dropped s1 r ≡ changed s i (u.block ∷ []) → (kept : Option M) → MatchOption kept (FreedWhole s1 t r) (λ m. Beside (dropped s1 r) t (name m) (filled_blocks (in_hand s1 r)))
-          → MatchOption kept ((filled_blocks u.chain ≡ []) × (t ≡ changed s i (u.block ∷ []))) (λ m. Beside (changed s i (u.block ∷ [])) t (name m) (filled_blocks u.chain))
+      at : in_hand s1 r ≡ u.chain → dropped s1 r ≡ changed s i (u.block ∷ []) → (kept : Option InHand) → MatchOption kept (FreedWhole s1 t r) (λ m. Beside (dropped s1 r) t (token m) (filled_blocks (in_hand s1 r)))
+          → MatchOption kept ((filled_blocks u.chain ≡ []) × (t ≡ changed s i (u.block ∷ []))) (λ m. Beside (changed s i (u.block ∷ [])) t (token m) (filled_blocks u.chain))
       at behind without_it None f = (ap filled_blocks (sym behind) ∙ f.none, f.after ∙ without_it)
       at behind without_it (Some m) f = record { here = f.here; chain_is = f.chain_is ∙ ap filled_blocks behind; others = f.others ∙ without_it }
 
-module _ {M : Type 0} (name : M → ℕ) {s t : StoreValue} {i first : ℕ} (is : IsInHand s i) where
+module _ {s t : StoreValue} {i first : ℕ} (is : IsInHand s i) where
   -- the rest is another message, and the first block is in hand still
-  module _ {m : M} (o : Opened name s t i first (Some m)) where
+  module _ {m : InHand} (o : Opened s t i first (Some m)) where
     abbrev base : StoreValue
     base = changed s i (o.block ∷ [])
 
     base-in_hand : IsInHand base i
     base-in_hand = changed-in_hand s i (o.block ∷ []) i is
 
-    out : (j : ℕ) → times_in j base.hand + cond (eqb (name m) j) 1 0 ≡ times_in j t.hand
-    out j = ap (λ (v : StoreValue). times_in j v.hand + cond (eqb (name m) j) 1 0) (sym o.left.others) ∙ times-out (name m) j t.hand (omega (arith, o.left.here))
+    out : (j : ℕ) → times_in j base.hand + cond (eqb (token m) j) 1 0 ≡ times_in j t.hand
+    out j = ap (λ (v : StoreValue). times_in j v.hand + cond (eqb (token m) j) 1 0) (sym o.left.others) ∙ times-out (token m) j t.hand (omega (arith, o.left.here))
 
-    apart : name m ≢ i
+    apart : token m ≢ i
     apart same =
-        let hit : eqb (name m) i ≡ true = grind (arith, nat_tests) in
+        let hit : eqb (token m) i ≡ true = grind (arith, nat_tests) in
         let one = ap (λ v. cond {A = ℕ} v 1 0) hit in
         let here = ap (λ k. times_in k t.hand) same in
         absurd (omega (arith, out i, one, here, o.left.here, base-in_hand))
 
     some-in_hand : IsInHand t i
-    some-in_hand = let none = ap (λ v. cond {A = ℕ} v 1 0) (other-name (name m) i apart) in omega (arith, out i, none, base-in_hand)
+    some-in_hand = let none = ap (λ v. cond {A = ℕ} v 1 0) (other-name (token m) i apart) in omega (arith, out i, none, base-in_hand)
 
     some-chain : in_hand t i ≡ o.block ∷ []
-    some-chain = sym (in_hand-dropped t (name m) i apart) ∙ ap (λ v. in_hand v i) o.left.others ∙ changed-chain s i (o.block ∷ []) is
+    some-chain = sym (in_hand-dropped t (token m) i apart) ∙ ap (λ v. in_hand v i) o.left.others ∙ changed-chain s i (o.block ∷ []) is
 
-    some-freed : {v : StoreValue} → length o.block.bytes ≡ 0 → v ≡ dropped t i → Beside (dropped s i) v (name m) (filled_blocks (in_hand s i))
+    some-freed : {v : StoreValue} → length o.block.bytes ≡ 0 → v ≡ dropped t i → Beside (dropped s i) v (token m) (filled_blocks (in_hand s i))
     some-freed {v} none v_is = record {
-      here = ap (λ (w : StoreValue). times_in (name m) w.hand) v_is ∙ IsInHand-dropped t i (name m) (λ e. apart (sym e)) o.left.here;
-      chain_is = ap (λ w. in_hand w (name m)) v_is ∙ in_hand-dropped t i (name m) (λ e. apart (sym e)) ∙ o.left.chain_is ∙ sym (ap filled_blocks o.joined ∙ filled-goes o.block o.chain none);
-      others = ap (λ w. dropped w (name m)) v_is ∙ ap (λ h. record t { hand = h }) (without-both i (name m) (λ e. apart (sym e)) t.hand)
+      here = ap (λ (w : StoreValue). times_in (token m) w.hand) v_is ∙ IsInHand-dropped t i (token m) (λ e. apart (sym e)) o.left.here;
+      chain_is = ap (λ w. in_hand w (token m)) v_is ∙ in_hand-dropped t i (token m) (λ e. apart (sym e)) ∙ o.left.chain_is ∙ sym (ap filled_blocks o.joined ∙ filled-goes o.block o.chain none);
+      others = ap (λ w. dropped w (token m)) v_is ∙ ap (λ h. record t { hand = h }) (without-both i (token m) (λ e. apart (sym e)) t.hand)
           ∙ ap (λ w. dropped w i) o.left.others ∙ dropped-changed s i (o.block ∷ []);
     }
 
-    pub opened-apart : first ≢ name m
+    pub opened-apart : first ≢ token m
     opened-apart same = apart (sym same ∙ o.named)
 
     -- and is hung in front of it again
-    pub opened-linked : {v : StoreValue} {w : ℕ} → 0 < length (block_at 0 (in_hand s i)).bytes → w ≡ first → v ≡ changed (dropped t (name m)) first (in_hand t first ++ in_hand t (name m)) → Beside (dropped s i) v w (filled_blocks (in_hand s i))
+    pub opened-linked : {v : StoreValue} {w : ℕ} → 0 < length (block_at 0 (in_hand s i)).bytes → w ≡ first → v ≡ changed (dropped t (token m)) first (in_hand t first ++ in_hand t (token m)) → Beside (dropped s i) v w (filled_blocks (in_hand s i))
     opened-linked {v} {w} some w_is v_is =
         let rest = filled_blocks o.chain in
         let whole : v ≡ changed s i (o.block ∷ rest) =
-        v_is ∙ ap (λ k. changed (dropped t (name m)) k (in_hand t k ++ in_hand t (name m))) o.named
-        ∙ ap (λ xs. changed (dropped t (name m)) i (xs ++ in_hand t (name m))) some-chain
-        ∙ ap (λ xs. changed (dropped t (name m)) i (o.block ∷ xs)) o.left.chain_is
+        v_is ∙ ap (λ k. changed (dropped t (token m)) k (in_hand t k ++ in_hand t (token m))) o.named
+        ∙ ap (λ xs. changed (dropped t (token m)) i (xs ++ in_hand t (token m))) some-chain
+        ∙ ap (λ xs. changed (dropped t (token m)) i (o.block ∷ xs)) o.left.chain_is
         ∙ ap (λ z. changed z i (o.block ∷ rest)) o.left.others
         ∙ changed-twice s i (o.block ∷ []) (o.block ∷ rest) in
         subst (λ k. Beside (dropped s i) v k (filled_blocks (in_hand s i))) (sym (w_is ∙ o.named)) (record {
@@ -165,7 +166,7 @@ module _ {M : Type 0} (name : M → ℕ) {s t : StoreValue} {i first : ℕ} (is 
         })
 
   -- or there is none
-  module _ (o : Opened name s t i first None) where
+  module _ (o : Opened s t i first None) where
     none-in_hand : IsInHand t i
     none-in_hand = ap (λ (v : StoreValue). times_in i v.hand) o.left.1 ∙ changed-in_hand s i (o.block ∷ []) i is
 
@@ -183,12 +184,12 @@ module _ {M : Type 0} (name : M → ℕ) {s t : StoreValue} {i first : ℕ} (is 
       others = ap (λ z. dropped z i) o.left.1 ∙ dropped-changed s i (o.block ∷ []);
     })
 
-  pub opened-first : (kept : Option M) → Opened name s t i first kept → IsInHand t first
+  pub opened-first : (kept : Option InHand) → Opened s t i first kept → IsInHand t first
   opened-first None o = subst (IsInHand t) (sym o.named) (none-in_hand o)
   opened-first (Some m) o = subst (IsInHand t) (sym o.named) (some-in_hand o)
 
-  pub opened-freed : (kept : Option M) → Opened name s t i first kept → {v : StoreValue} → length (block_at 0 (in_hand s i)).bytes ≡ 0 → v ≡ dropped t first
-      → MatchOption kept (FreedWhole s v i) (λ m. Beside (dropped s i) v (name m) (filled_blocks (in_hand s i)))
+  pub opened-freed : (kept : Option InHand) → Opened s t i first kept → {v : StoreValue} → length (block_at 0 (in_hand s i)).bytes ≡ 0 → v ≡ dropped t first
+      → MatchOption kept (FreedWhole s v i) (λ m. Beside (dropped s i) v (token m) (filled_blocks (in_hand s i)))
   opened-freed None o {v} none v_is = none-freed o (ap (λ xs. length (block_at 0 xs).bytes) (sym o.joined) ∙ none) (v_is ∙ ap (dropped t) o.named)
   opened-freed (Some m) o {v} none v_is = some-freed o (ap (λ xs. length (block_at 0 xs).bytes) (sym o.joined) ∙ none) (v_is ∙ ap (dropped t) o.named)
 

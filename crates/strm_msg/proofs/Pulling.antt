@@ -1,8 +1,9 @@
 -- A message without its second block, which was parted from it and freed.
 use Rattle.std.proofs.Common.{ℕ, ◌≡◌, ◌≢◌, cond, List, [], ◌∷◌, ◌++◌, length, take, drop, Option, None, Some, refl, sym, ap, ◌∙◌, arith}
 use Rattle.std.specs.Prelude.{MatchOption}
-use Rattle.strm_blocks.specs.Blocks.{Block, StoreValue, in_hand, held, dropped, changed, IsInHand, IsFreshName, times_in, without}
+use Rattle.strm_blocks.specs.Blocks.{Block, StoreValue, in_hand, held, dropped, changed, IsInHand, IsFreshName, times_in, without, token}
 use Rattle.strm_blocks.specs.Outcomes.{Unlinked, UnlinkedLast}
+use Rattle.strm_blocks.specs.declared.in_hand.InHand.{InHand}
 use Rattle.strm_msg.proofs.Hands.{other-name, held-is, held-chain, held-apart, fresh-before, stays, stays-chain, gone, held-changed, times-replaced, changed-chain, changed-in_hand, changed-twice, changed-same}
 
 -- a message that goes from behind another one
@@ -75,9 +76,9 @@ module _ {s s1 : StoreValue} {i f r : ℕ} (is : IsInHand s i) (one : Unlinked s
         link ∙ ap (λ j. changed (dropped s3 q) j (in_hand s3 j ++ in_hand s3 q)) one.kept_name ∙ ap (λ u. changed (dropped u q) i (in_hand u i ++ in_hand u q)) after ∙ ap (λ xs. changed (dropped t q) i (xs ++ in_hand t q)) first ∙ ap (λ xs. changed (dropped t q) i (one.block ∷ xs)) rest ∙ ap (λ u. changed u i (one.block ∷ two.chain)) (gone base q two.chain) ∙ changed-twice s i (one.block ∷ []) (one.block ∷ two.chain) ∙ ap (λ xs. changed s i (take 1 xs ++ drop 2 xs)) (sym whole)
 
   -- what is parted first of what is behind is in hand
-  pub second-in_hand : {A : Type 0} (name : A → ℕ) (s2 : StoreValue) (k : ℕ) (rest : Option A) → MatchOption rest (UnlinkedLast s1 s2 r k) (λ q. Unlinked s1 s2 r k (name q)) → IsInHand s2 k
-  second-in_hand name s2 k None last = ap (λ j. times_in j s2.hand) last.kept_name ∙ ap (λ t. times_in r t.hand) last.same ∙ behind-in_hand
-  second-in_hand name s2 k (Some q) two =
+  pub second-in_hand : (s2 : StoreValue) (k : ℕ) (rest : Option InHand) → MatchOption rest (UnlinkedLast s1 s2 r k) (λ q. Unlinked s1 s2 r k (token q)) → IsInHand s2 k
+  second-in_hand s2 k None last = ap (λ j. times_in j s2.hand) last.kept_name ∙ ap (λ t. times_in r t.hand) last.same ∙ behind-in_hand
+  second-in_hand s2 k (Some q) two =
       let t = changed s1 r (two.block ∷ []) in
-      let fresh : IsFreshName t (name q) = times-replaced r (name q) (two.block ∷ []) s1.hand ∙ two.fresh_name in
-      ap (λ j. times_in j s2.hand) two.kept_name ∙ ap (λ u. times_in r u.hand) two.after ∙ stays t (name q) two.chain r fresh (changed-in_hand s1 r (two.block ∷ []) r behind-in_hand)
+      let fresh : IsFreshName t (token q) = times-replaced r (token q) (two.block ∷ []) s1.hand ∙ two.fresh_name in
+      ap (λ j. times_in j s2.hand) two.kept_name ∙ ap (λ u. times_in r u.hand) two.after ∙ stays t (token q) two.chain r fresh (changed-in_hand s1 r (two.block ∷ []) r behind-in_hand)

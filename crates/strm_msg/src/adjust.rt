@@ -1,14 +1,14 @@
 //! Bytes trimmed at an end of a message.
 ghost use Rattle.std.specs.Prelude.{◌≡◌, ◌≤◌, ◌<◌, pos, map, length};
 ghost use Rattle.std.specs.Bool.{OnTrue, OnFalse};
-ghost use Rattle.strm_blocks.specs.Blocks.{IsInHand, in_hand, changed, block_at, with_block, trimmed_head, free_m, free_d};
+ghost use Rattle.strm_blocks.specs.Blocks.{IsInHand, in_hand, changed, block_at, with_block, trimmed_head, free_m, free_d, token};
 ghost use Rattle.strm_msg.specs.Bytes.{bytes_of};
 ghost use Rattle.strm_msg.specs.Runs.{front_run};
 ghost use Rattle.strm_msg.specs.Adjusted.{adjusted, has_bytes, left_of, seen_from, trim_at, trimmed_by, trimmed_front, without_bytes};
 ghost use Rattle.strm_msg.specs.Adjusted as adjusting;
 
 use crate::kinds::same_kind;
-use strm_blocks::Blocks;
+use strm_blocks::{Blocks, InHand};
 
 /// An end of a message.
 #[derive(Clone, Copy)]
@@ -44,12 +44,12 @@ fn place_from(end: End, count: usize, steps: usize) -> usize
 }
 
 /// The run of blocks of one kind at an end of a message.
-pub(crate) fn run_at<B: Blocks>(store: &B, message: &B::Mp, end: End) -> Run
-    requires { IsInHand (B.value store.now) (B.name message.now) }
+pub(crate) fn run_at<B: Blocks>(store: &B, message: &InHand, end: End) -> Run
+    requires { IsInHand (B.value store.now) (token message.now) }
     ensures blocks { result.blocks
-        ≡ length (front_run (seen_from end (in_hand (B.value store.now) (B.name message.now)))) }
+        ≡ length (front_run (seen_from end (in_hand (B.value store.now) (token message.now)))) }
     ensures len { result.len
-        ≡ length (bytes_of (front_run (seen_from end (in_hand (B.value store.now) (B.name message.now))))) }
+        ≡ length (bytes_of (front_run (seen_from end (in_hand (B.value store.now) (token message.now))))) }
 {
     store.audit();
     let count = store.blocks(message);
@@ -66,12 +66,12 @@ pub(crate) fn run_at<B: Blocks>(store: &B, message: &B::Mp, end: End) -> Run
 }
 
 /// Trims bytes of block `at` of a message at an end of the block.
-fn trim_block<B: Blocks>(store: &mut B, message: &B::Mp, end: End, at: usize, n: usize)
-    requires in_hand { IsInHand (B.value store.old) (B.name message.now) }
-    requires within { at < length (in_hand (B.value store.old) (B.name message.now)) }
-    requires enough { n ≤ length (block_at at (in_hand (B.value store.old) (B.name message.now))).bytes }
-    ensures { let chain = in_hand (B.value store.old) (B.name message.now) in
-        B.value store.new ≡ changed (B.value store.old) (B.name message.now)
+fn trim_block<B: Blocks>(store: &mut B, message: &InHand, end: End, at: usize, n: usize)
+    requires in_hand { IsInHand (B.value store.old) (token message.now) }
+    requires within { at < length (in_hand (B.value store.old) (token message.now)) }
+    requires enough { n ≤ length (block_at at (in_hand (B.value store.old) (token message.now))).bytes }
+    ensures { let chain = in_hand (B.value store.old) (token message.now) in
+        B.value store.new ≡ changed (B.value store.old) (token message.now)
         (with_block at (trim_at end n (block_at at chain)) chain) }
 {
     match end {
@@ -81,11 +81,11 @@ fn trim_block<B: Blocks>(store: &mut B, message: &B::Mp, end: End, at: usize, n:
 }
 
 /// Trims bytes of so many blocks at an end of a message, those nearest to the end first.
-fn trim_blocks<B: Blocks>(store: &mut B, message: &B::Mp, end: End, blocks: usize, n: usize)
-    requires in_hand { IsInHand (B.value store.old) (B.name message.now) }
-    requires within { blocks ≤ length (in_hand (B.value store.old) (B.name message.now)) }
-    ensures { let chain = in_hand (B.value store.old) (B.name message.now) in
-        B.value store.new ≡ changed (B.value store.old) (B.name message.now)
+fn trim_blocks<B: Blocks>(store: &mut B, message: &InHand, end: End, blocks: usize, n: usize)
+    requires in_hand { IsInHand (B.value store.old) (token message.now) }
+    requires within { blocks ≤ length (in_hand (B.value store.old) (token message.now)) }
+    ensures { let chain = in_hand (B.value store.old) (token message.now) in
+        B.value store.new ≡ changed (B.value store.old) (token message.now)
         (seen_from end (trimmed_front (trim_at end) n blocks (seen_from end chain))) }
 {
     let count = store.blocks(message);
@@ -101,18 +101,18 @@ fn trim_blocks<B: Blocks>(store: &mut B, message: &B::Mp, end: End, blocks: usiz
 /// Trims bytes off an end of a message: `adjmsg(9F)`. From 0 up it trims the first `n` bytes, below 0 the last `-n`, all
 /// of them within the blocks at that end that are of one kind; those stay in the chain, some of them with no bytes.
 /// False where these blocks have fewer bytes, and then nothing changes.
-pub fn adjmsg<B: Blocks>(store: &mut B, message: &B::Mp, n: isize) -> bool
-    requires { IsInHand (B.value store.old) (B.name message.now) }
-    ensures answer { result ≡ has_bytes n (in_hand (B.value store.old) (B.name message.now)) }
-    ensures trimmed { let chain = in_hand (B.value store.old) (B.name message.now) in
-        B.value store.new ≡ changed (B.value store.old) (B.name message.now) (adjusted n chain) }
+pub fn adjmsg<B: Blocks>(store: &mut B, message: &InHand, n: isize) -> bool
+    requires { IsInHand (B.value store.old) (token message.now) }
+    ensures answer { result ≡ has_bytes n (in_hand (B.value store.old) (token message.now)) }
+    ensures trimmed { let chain = in_hand (B.value store.old) (token message.now) in
+        B.value store.new ≡ changed (B.value store.old) (token message.now) (adjusted n chain) }
     ensures refused { OnFalse result (B.value store.new ≡ B.value store.old) }
     ensures nothing { n ≡ pos 0 → B.value store.new ≡ B.value store.old }
-    ensures left { let shown = bytes_of (in_hand (B.value store.old) (B.name message.now)) in
-        OnTrue result (bytes_of (in_hand (B.value store.new) (B.name message.now)) ≡ left_of n shown) }
+    ensures left { let shown = bytes_of (in_hand (B.value store.old) (token message.now)) in
+        OnTrue result (bytes_of (in_hand (B.value store.new) (token message.now)) ≡ left_of n shown) }
     // The blocks stay, with their kinds, bands and data blocks, and so no block is taken or freed.
-    ensures blocks { map without_bytes (in_hand (B.value store.new) (B.name message.now))
-        ≡ map without_bytes (in_hand (B.value store.old) (B.name message.now)) }
+    ensures blocks { map without_bytes (in_hand (B.value store.new) (token message.now))
+        ≡ map without_bytes (in_hand (B.value store.old) (token message.now)) }
     ensures free_m { free_m (B.value store.new) ≡ free_m (B.value store.old) }
     ensures free_d { free_d (B.value store.new) ≡ free_d (B.value store.old) }
 {
@@ -128,10 +128,10 @@ pub fn adjmsg<B: Blocks>(store: &mut B, message: &B::Mp, n: isize) -> bool
 
 /// Trims the first `n` bytes of a message, or all of them where they are fewer, whatever the kinds of its blocks. All blocks stay, some
 /// of them with no bytes.
-pub fn trim_front<B: Blocks>(store: &mut B, message: &B::Mp, n: usize)
-    requires { IsInHand (B.value store.old) (B.name message.now) }
-    ensures { let chain = in_hand (B.value store.old) (B.name message.now) in
-        B.value store.new ≡ changed (B.value store.old) (B.name message.now) (trimmed_by trimmed_head n chain) }
+pub fn trim_front<B: Blocks>(store: &mut B, message: &InHand, n: usize)
+    requires { IsInHand (B.value store.old) (token message.now) }
+    ensures { let chain = in_hand (B.value store.old) (token message.now) in
+        B.value store.new ≡ changed (B.value store.old) (token message.now) (trimmed_by trimmed_head n chain) }
 {
     let count = store.blocks(message);
     trim_blocks(store, message, End::Head, count, n);

@@ -1,14 +1,14 @@
 //! Messages made of bytes, and the first bytes of a message.
 ghost use Rattle.std.specs.Prelude.{◌≡◌, ◌≤◌, ◌*◌, min, length, take, drop, MatchResult};
 ghost use Rattle.strm_types.specs.Write as write;
-ghost use Rattle.strm_blocks.specs.Blocks.{IsInHand, in_hand};
+ghost use Rattle.strm_blocks.specs.Blocks.{IsInHand, in_hand, token};
 ghost use Rattle.strm_blocks.specs.Outcomes.{Copied, NoneFree};
 ghost use Rattle.strm_msg.specs.Bytes.{bytes_of};
 ghost use Rattle.strm_msg.specs.Made.{MadeOf, TooFew, piece};
 ghost use Rattle.strm_msg.specs.Taken.{filled};
 
 use crate::data::copy_into;
-use strm_blocks::{Blocks, NoBlocks};
+use strm_blocks::{Blocks, InHand, NoBlocks};
 use strm_types::{Band, MsgKind, chunk_count};
 
 /// The chunk of that number, from 0: 256 bytes, or what is left.
@@ -30,10 +30,10 @@ pub(crate) fn block_of<B: Blocks>(
     kind: MsgKind,
     band: Band,
     bytes: &[u8],
-) -> Result<B::Mp, NoBlocks>
+) -> Result<InHand, NoBlocks>
     requires { length bytes.now ≤ 256 }
     ensures { MatchResult result
-        (λ m. Copied (B.value store.old) (B.value store.new) (B.name m) (piece kind band.0 bytes.now))
+        (λ m. Copied (B.value store.old) (B.value store.new) (token m) (piece kind band.0 bytes.now))
         (λ _. NoneFree (B.value store.old) (B.value store.new)) }
 {
     store.alloc_with(kind, band, bytes)
@@ -48,9 +48,9 @@ pub fn from_bytes<B: Blocks>(
     kind: MsgKind,
     band: Band,
     bytes: &[u8],
-) -> Result<B::Mp, NoBlocks>
+) -> Result<InHand, NoBlocks>
     ensures { MatchResult result
-        (λ m. MadeOf (B.value store.old) (B.value store.new) (B.name m) kind band.0 bytes.now)
+        (λ m. MadeOf (B.value store.old) (B.value store.new) (token m) kind band.0 bytes.now)
         (λ _. TooFew (B.value store.old) (B.value store.new) (write.chunk_count (length bytes.now))) }
 {
     let count = chunk_count(bytes.len());
@@ -69,11 +69,11 @@ pub fn from_bytes<B: Blocks>(
 
 /// Copies the first bytes of a message into a buffer, as many as both have, whatever the kinds of its blocks. The message
 /// keeps them. Returns how many.
-pub fn first_bytes<B: Blocks>(store: &B, message: &B::Mp, buffer: &mut [u8]) -> usize
-    requires { IsInHand (B.value store.now) (B.name message.now) }
+pub fn first_bytes<B: Blocks>(store: &B, message: &InHand, buffer: &mut [u8]) -> usize
+    requires { IsInHand (B.value store.now) (token message.now) }
     ensures count { result ≡ min (length buffer.old)
-        (length (bytes_of (in_hand (B.value store.now) (B.name message.now)))) }
-    ensures given { buffer.new ≡ filled buffer.old (bytes_of (in_hand (B.value store.now) (B.name message.now))) }
+        (length (bytes_of (in_hand (B.value store.now) (token message.now)))) }
+    ensures given { buffer.new ≡ filled buffer.old (bytes_of (in_hand (B.value store.now) (token message.now))) }
 {
     let mut done = 0;
     for at in 0..store.blocks(message) {

@@ -1,17 +1,17 @@
 //! Blocks without bytes that leave a message.
 ghost use Rattle.std.specs.Prelude.{◌≡◌, ◌<◌, length, MatchOption};
 ghost use Rattle.std.specs.Bool.{OnTrue, OnFalse};
-ghost use Rattle.strm_blocks.specs.Blocks.{IsInHand, dropped, in_hand};
+ghost use Rattle.strm_blocks.specs.Blocks.{IsInHand, dropped, in_hand, token};
 ghost use Rattle.strm_msg.specs.Bytes.{bytes_of};
 ghost use Rattle.strm_msg.specs.Emptied.{filled_blocks, without_emptied, Beside, FreedWhole};
 
-use strm_blocks::Blocks;
+use strm_blocks::{Blocks, InHand};
 
 // Whether each block of a message shows bytes.
-fn all_show<B: Blocks>(store: &B, message: &B::Mp) -> bool
-    requires { IsInHand (B.value store.now) (B.name message.now) }
-    ensures all { let chain = in_hand (B.value store.now) (B.name message.now) in OnTrue result (filled_blocks chain ≡ chain) }
-    ensures some { let chain = in_hand (B.value store.now) (B.name message.now) in
+fn all_show<B: Blocks>(store: &B, message: &InHand) -> bool
+    requires { IsInHand (B.value store.now) (token message.now) }
+    ensures all { let chain = in_hand (B.value store.now) (token message.now) in OnTrue result (filled_blocks chain ≡ chain) }
+    ensures some { let chain = in_hand (B.value store.now) (token message.now) in
         OnFalse result (length (filled_blocks chain) < length chain) }
 {
     for at in 0..store.blocks(message) {
@@ -23,12 +23,12 @@ fn all_show<B: Blocks>(store: &B, message: &B::Mp) -> bool
 }
 
 // Frees the blocks of a message that show no bytes, and all of it where none does.
-fn keep_filled<B: Blocks>(store: &mut B, message: B::Mp) -> Option<B::Mp>
-    requires { IsInHand (B.value store.old) (B.name message) }
-    ensures { let chain = in_hand (B.value store.old) (B.name message) in
+fn keep_filled<B: Blocks>(store: &mut B, message: InHand) -> Option<InHand>
+    requires { IsInHand (B.value store.old) (token message) }
+    ensures { let chain = in_hand (B.value store.old) (token message) in
         MatchOption result
-        (FreedWhole (B.value store.old) (B.value store.new) (B.name message))
-        (λ m. Beside (dropped (B.value store.old) (B.name message)) (B.value store.new) (B.name m) (filled_blocks chain)) }
+        (FreedWhole (B.value store.old) (B.value store.new) (token message))
+        (λ m. Beside (dropped (B.value store.old) (token message)) (B.value store.new) (token m) (filled_blocks chain)) }
 {
     if all_show(store, &message) {
         return Some(message);
@@ -53,11 +53,11 @@ fn keep_filled<B: Blocks>(store: &mut B, message: B::Mp) -> Option<B::Mp>
 
 /// Frees the blocks of a message that show no bytes: unlinkb(9F), freeb(9F). The message, which has bytes, keeps its band and has
 /// the kind of the first block that is left. It takes a step for each block where all show bytes.
-pub fn free_emptied<B: Blocks>(store: &mut B, message: B::Mp) -> B::Mp
-    requires in_hand { IsInHand (B.value store.old) (B.name message) }
-    requires some { 0 < length (bytes_of (in_hand (B.value store.old) (B.name message))) }
-    ensures { let chain = in_hand (B.value store.old) (B.name message) in
-        Beside (dropped (B.value store.old) (B.name message)) (B.value store.new) (B.name result) (without_emptied chain) }
+pub fn free_emptied<B: Blocks>(store: &mut B, message: InHand) -> InHand
+    requires in_hand { IsInHand (B.value store.old) (token message) }
+    requires some { 0 < length (bytes_of (in_hand (B.value store.old) (token message))) }
+    ensures { let chain = in_hand (B.value store.old) (token message) in
+        Beside (dropped (B.value store.old) (token message)) (B.value store.new) (token result) (without_emptied chain) }
 {
     let band = store.band(&message);
     let Some(rest) = keep_filled(store, message) else {

@@ -1,6 +1,6 @@
 //! Bytes of a message that are joined in one block.
 ghost use Rattle.std.specs.Prelude.{◌≡◌, ◌≤◌, ◌<◌, ◌++◌, ℕ, List, [], ◌∷◌, length, take, drop, MatchResult, Option, None, Some};
-ghost use Rattle.strm_blocks.specs.Blocks.{IsInHand, in_hand, held, dropped, changed, block_at};
+ghost use Rattle.strm_blocks.specs.Blocks.{IsInHand, in_hand, held, dropped, changed, block_at, token};
 ghost use Rattle.strm_blocks.specs.Outcomes.{Copied, NoneFree};
 ghost use Rattle.strm_msg.specs.Bytes.{bytes_of};
 ghost use Rattle.strm_msg.specs.Taken.{filled};
@@ -11,16 +11,16 @@ ghost use Rattle.strm_msg.specs.Pulled.{run_bytes, asked_of, count_refusal, with
 use crate::adjust::{End, run_at};
 use crate::bytes::{block_of, first_bytes};
 use crate::kinds::same_kind;
-use strm_blocks::{Blocks, NoBlocks};
+use strm_blocks::{Blocks, InHand, NoBlocks};
 use strm_types::Refusal;
 
 /// Why a message was not pulled up, and its name again.
 #[derive(Drop)]
-pub struct NotPulled<Mp> {
+pub struct NotPulled {
     /// EINVAL, ERANGE or ENOSR.
     pub refusal: Refusal,
     /// The message, as it was.
-    pub message: Mp,
+    pub message: InHand,
 }
 
 /// How many bytes of a run of `size` are to be joined for `n`: that many, or all for -1.
@@ -43,13 +43,13 @@ fn joined_count(n: isize, size: usize) -> Result<usize, Refusal>
 }
 
 /// Makes a message of one block, of a message's kind and band, that shows its first bytes.
-fn join<B: Blocks>(store: &mut B, message: &B::Mp, count: usize) -> Result<B::Mp, NoBlocks>
-    requires in_hand { IsInHand (B.value store.old) (B.name message.now) }
+fn join<B: Blocks>(store: &mut B, message: &InHand, count: usize) -> Result<InHand, NoBlocks>
+    requires in_hand { IsInHand (B.value store.old) (token message.now) }
     requires few { count ≤ 256 }
-    requires enough { count ≤ length (bytes_of (in_hand (B.value store.old) (B.name message.now))) }
-    ensures { let chain = in_hand (B.value store.old) (B.name message.now) in let b = block_at 0 chain in
+    requires enough { count ≤ length (bytes_of (in_hand (B.value store.old) (token message.now))) }
+    ensures { let chain = in_hand (B.value store.old) (token message.now) in let b = block_at 0 chain in
         MatchResult result
-        (λ m. Copied (B.value store.old) (B.value store.new) (B.name m)
+        (λ m. Copied (B.value store.old) (B.value store.new) (token m)
         (piece b.kind b.band (take count (bytes_of chain))))
         (λ _. NoneFree (B.value store.old) (B.value store.new)) }
 {
@@ -62,11 +62,11 @@ fn join<B: Blocks>(store: &mut B, message: &B::Mp, count: usize) -> Result<B::Mp
 }
 
 /// Frees the second block of a message, if it has one: `unlinkb(9F)`, `freeb(9F)`.
-fn free_second<B: Blocks>(store: &mut B, message: B::Mp) -> B::Mp
-    requires { IsInHand (B.value store.old) (B.name message) }
-    ensures kept_name { B.name result ≡ B.name message }
-    ensures freed { let chain = in_hand (B.value store.old) (B.name message) in
-        B.value store.new ≡ changed (B.value store.old) (B.name message) (take 1 chain ++ drop 2 chain) }
+fn free_second<B: Blocks>(store: &mut B, message: InHand) -> InHand
+    requires { IsInHand (B.value store.old) (token message) }
+    ensures kept_name { token result ≡ token message }
+    ensures freed { let chain = in_hand (B.value store.old) (token message) in
+        B.value store.new ≡ changed (B.value store.old) (token message) (take 1 chain ++ drop 2 chain) }
 {
     let (first, behind) = store.unlink(message);
     let Some(behind) = behind else {
@@ -82,11 +82,11 @@ fn free_second<B: Blocks>(store: &mut B, message: B::Mp) -> B::Mp
 
 /// Takes the first bytes of a run of blocks of one kind off the message behind its first block. Blocks in which nothing is
 /// left are freed, and the next one is trimmed at its head.
-fn drop_joined<B: Blocks>(store: &mut B, mut message: B::Mp, count: usize) -> B::Mp
-    requires { IsInHand (B.value store.old) (B.name message) }
-    ensures kept_name { B.name result ≡ B.name message }
-    ensures dropped { let chain = in_hand (B.value store.old) (B.name message) in
-        B.value store.new ≡ changed (B.value store.old) (B.name message)
+fn drop_joined<B: Blocks>(store: &mut B, mut message: InHand, count: usize) -> InHand
+    requires { IsInHand (B.value store.old) (token message) }
+    ensures kept_name { token result ≡ token message }
+    ensures dropped { let chain = in_hand (B.value store.old) (token message) in
+        B.value store.new ≡ changed (B.value store.old) (token message)
         (take 1 chain ++ without_joined (block_at 0 chain).kind count (drop 1 chain)) }
 {
     let blocks = store.blocks(&message);
@@ -114,12 +114,12 @@ fn drop_joined<B: Blocks>(store: &mut B, mut message: B::Mp, count: usize) -> B:
 ///
 /// EINVAL where `n` is below -1 or the run has fewer bytes, else ERANGE for more than 256, else ENOSR where none of either
 /// kind of block is free. Then nothing changes, and the message's name is given back.
-pub fn pullup<B: Blocks>(store: &mut B, message: B::Mp, n: isize) -> Result<B::Mp, NotPulled<B::Mp>>
-    requires { IsInHand (B.value store.old) (B.name message) }
+pub fn pullup<B: Blocks>(store: &mut B, message: InHand, n: isize) -> Result<InHand, NotPulled>
+    requires { IsInHand (B.value store.old) (token message) }
     ensures { MatchResult result
-        (λ m. PulledUp (B.value store.old) (B.value store.new) (B.name message) (B.name m) n)
-        (λ not. PullRefused (B.value store.old) (B.value store.new) (B.name message)
-        (B.name not.message) n not.refusal) }
+        (λ m. PulledUp (B.value store.old) (B.value store.new) (token message) (token m) n)
+        (λ not. PullRefused (B.value store.old) (B.value store.new) (token message)
+        (token not.message) n not.refusal) }
 {
     let run = run_at(store, &message, End::Head);
     let count = match joined_count(n, run.len) {

@@ -18,35 +18,34 @@ use Rattle.strm_laws.specs.Ledgers.{FewBooked}
 use Rattle.strm_pair.specs.PairViews.{pair_of, IsKept}
 use Rattle.strm_pair.proofs.Shown.{free-empty}
 use Rattle.strm_pair.proofs.Steps.{led-nowhere}
-use Rattle.strm_pair.specs.Streams.{View}
 
 -- streams as new, beside a store with nothing in it
-pub record AreFresh {S : Type 0} (view : View S) (mblks dblks : ℕ) (p : Streams S) : Type 0 where
-  pub state : state_in view.modules (empty_store mblks dblks) p ≡ opening
-  pub held : AreHeld view (empty_store mblks dblks) p
+pub record AreFresh (mblks dblks : ℕ) (p : Streams) : Type 0 where
+  pub state : state_in (empty_store mblks dblks) p ≡ opening
+  pub held : AreHeld (empty_store mblks dblks) p
 
 -- nothing is booked at the opening
 opening-few : FewBooked {C = ℕ} opening
 opening-few MasterToSlave = omega arith
 opening-few SlaveToMaster = omega arith
 
-pub fresh-kept : {S : Type 0} (view : View S) (s : StoreValue) (p : Streams S) (j : Journal) (limits : Config) (fates : Fates) → s ≡ empty_store limits.mblks limits.dblks → AreFresh view limits.mblks limits.dblks p
-    → journal_of j ≡ [] → j.most_entries ≡ limits.journal_events → j.most_bytes ≡ limits.journal_bytes → fates ≡ no_fates → IsKept view s p j limits fates
-fresh-kept view s p j limits fates blank fresh empty events bytes none = record {
-  replayed = ap (λ v. state_in view.modules v p) blank ∙ fresh.state ∙ sym (led-nowhere j empty);
+pub fresh-kept : (s : StoreValue) (p : Streams) (j : Journal) (limits : Config) (fates : Fates) → s ≡ empty_store limits.mblks limits.dblks → AreFresh limits.mblks limits.dblks p
+    → journal_of j ≡ [] → j.most_entries ≡ limits.journal_events → j.most_bytes ≡ limits.journal_bytes → fates ≡ no_fates → IsKept s p j limits fates
+fresh-kept s p j limits fates blank fresh empty events bytes none = record {
+  replayed = ap (λ v. state_in v p) blank ∙ fresh.state ∙ sym (led-nowhere j empty);
   legal = subst (λ js. IsLegal plain opening js) (sym empty) tt;
-  few = subst FewBooked (sym (ap (λ v. state_in view.modules v p) blank ∙ fresh.state)) opening-few;
+  few = subst FewBooked (sym (ap (λ v. state_in v p) blank ∙ fresh.state)) opening-few;
   told = none ∙ ap (λ js. told_by plain opening js no_fates) (sym empty);
-  held = subst (λ v. AreHeld view v p) (sym blank) fresh.held;
+  held = subst (λ v. AreHeld v p) (sym blank) fresh.held;
   mblks = ap (λ (v : StoreValue). v.mblks) blank;
   dblks = ap (λ (v : StoreValue). v.dblks) blank;
   events = events;
   bytes = bytes;
 }
 
-pub fresh-shown : {S : Type 0} (view : View S) (s : StoreValue) (p : Streams S) (j : Journal) (limits : Config) (fates : Fates) → s ≡ empty_store limits.mblks limits.dblks → AreFresh view limits.mblks limits.dblks p → journal_of j ≡ [] → fates ≡ no_fates → pair_of view s p j limits fates ≡ new_pair limits
-fresh-shown view s p j limits fates blank fresh empty none =
-    ap (λ v. pair_of view v p j limits fates) blank
+pub fresh-shown : (s : StoreValue) (p : Streams) (j : Journal) (limits : Config) (fates : Fates) → s ≡ empty_store limits.mblks limits.dblks → AreFresh limits.mblks limits.dblks p → journal_of j ≡ [] → fates ≡ no_fates → pair_of s p j limits fates ≡ new_pair limits
+fresh-shown s p j limits fates blank fresh empty none =
+    ap (λ v. pair_of v p j limits fates) blank
     ∙ rw (none, fresh.state, empty, free-empty limits.mblks limits.dblks) refl
 
 -- a store that holds nothing, as it stands with its numbers of blocks, all of which are free

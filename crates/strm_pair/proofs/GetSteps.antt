@@ -24,7 +24,6 @@ use Rattle.strm_pair.specs.declared.streams.Streams.{Streams}
 use Rattle.strm_pair.specs.Pairs.{state_in, end_at}
 use Rattle.strm_pair.specs.Parts.{longest_part}
 use Rattle.strm_pair.proofs.Sides.{head-is}
-use Rattle.strm_pair.specs.Streams.{View}
 
 part-plain : (o : Option (List ℕ)) → o ≡ option_map (bytes_of plain) o
 part-plain None = refl
@@ -35,13 +34,13 @@ part-size None = refl
 part-size (Some bytes) = refl
 
 -- what a get takes of a side's head
-abbrev pub got_at : {S : Type 0} → View S → Side → Wanted → ℕ → ℕ → StoreValue → Streams S → Got ℕ
-got_at view side wanted cmax dmax s p = head_get wanted (min cmax READ_MAX) (min dmax READ_MAX) (stream side (state_in view.modules s p)).head.queue.messages
+abbrev pub got_at : Side → Wanted → ℕ → ℕ → StoreValue → Streams → Got ℕ
+got_at side wanted cmax dmax s p = head_get wanted (min cmax READ_MAX) (min dmax READ_MAX) (stream side (state_in s p)).head.queue.messages
 
-pub gives-is : {S : Type 0} (view : View S) (side : Side) (wanted : Wanted) (cmax dmax most most_data : ℕ) (s : StoreValue) (p : Streams S) → most ≡ min cmax READ_MAX → most_data ≡ min dmax READ_MAX
-    → (got : Gotten) (out : List ℕ) → Gives got out (head_get wanted most most_data (messages_on s (end_at side p).head.queue.list)) → Gives got out (got_at view side wanted cmax dmax s p)
-gives-is view side wanted cmax dmax most most_data s p most_is data_is got out gives =
-    subst (λ (h : plain_state.Head ℕ). Gives got out (head_get wanted (min cmax READ_MAX) (min dmax READ_MAX) h.queue.messages)) (sym (head-is view s p side))
+pub gives-is : (side : Side) (wanted : Wanted) (cmax dmax most most_data : ℕ) (s : StoreValue) (p : Streams) → most ≡ min cmax READ_MAX → most_data ≡ min dmax READ_MAX
+    → (got : Gotten) (out : List ℕ) → Gives got out (head_get wanted most most_data (messages_on s (end_at side p).head.queue.list)) → Gives got out (got_at side wanted cmax dmax s p)
+gives-is side wanted cmax dmax most most_data s p most_is data_is got out gives =
+    subst (λ (h : plain_state.Head ℕ). Gives got out (head_get wanted (min cmax READ_MAX) (min dmax READ_MAX) h.queue.messages)) (sym (head-is s p side))
     (subst (λ n. Gives got out (head_get wanted (min cmax READ_MAX) n (messages_on s (end_at side p).head.queue.list))) data_is
     (subst (λ n. Gives got out (head_get wanted n most_data (messages_on s (end_at side p).head.queue.list))) most_is gives))
 
@@ -68,15 +67,15 @@ module _ (got : Gotten) (out : List ℕ) (g : Got ℕ) (gives : Gives got out g)
   got-filled = ap answer_len shape ∙ reply-size (reply_of g) ∙ ap (λ (xs : List ℕ). length xs) (sym gives.given)
 
 -- how much is got
-module _ {S : Type 0} (view : View S) (got : Gotten) (out : List ℕ) (side : Side) (wanted : Wanted) (cmax dmax : ℕ) (s : StoreValue) (p : Streams S) (gives : Gives got out (got_at view side wanted cmax dmax s p)) where
+module _ (got : Gotten) (out : List ℕ) (side : Side) (wanted : Wanted) (cmax dmax : ℕ) (s : StoreValue) (p : Streams) (gives : Gives got out (got_at side wanted cmax dmax s p)) where
   abbrev g : Got ℕ
-  g = got_at view side wanted cmax dmax s p
+  g = got_at side wanted cmax dmax s p
 
   control-few : length (part g.control) ≤ min cmax READ_MAX
-  control-few = get-control wanted (min cmax READ_MAX) (min dmax READ_MAX) (stream side (state_in view.modules s p)).head.queue.messages
+  control-few = get-control wanted (min cmax READ_MAX) (min dmax READ_MAX) (stream side (state_in s p)).head.queue.messages
 
   body-few : length (part g.body) ≤ min dmax READ_MAX
-  body-few = get-data wanted (min cmax READ_MAX) (min dmax READ_MAX) (stream side (state_in view.modules s p)).head.queue.messages
+  body-few = get-data wanted (min cmax READ_MAX) (min dmax READ_MAX) (stream side (state_in s p)).head.queue.messages
 
   pub got-few : length out ≤ min cmax READ_MAX + min dmax READ_MAX
   got-few =

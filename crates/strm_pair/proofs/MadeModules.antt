@@ -25,10 +25,10 @@ once-two a b k apart = by (a == k) (b == k) refl refl
     by false true one two = omega arith
     by false false one two = omega arith
 
-module _ {M : Type 0} (first : ℕ) (x : Ldterm M)
-    (made : (name : M → ℕ) (s : StoreValue) → list_at s first ≡ [] → list_at s (first + 1) ≡ [] → ldterm_in name s x ≡ new_ldterm)
-    (held : (name : M → ℕ) (s : StoreValue) → list_at s first ≡ [] → list_at s (first + 1) ≡ [] → IsHeld name s x)
-    (rests : (name : M → ℕ) (i : ℕ) → keeps name x i ≡ 0)
+module _ (first : ℕ) (x : Ldterm)
+    (made : (s : StoreValue) → list_at s first ≡ [] → list_at s (first + 1) ≡ [] → ldterm_in s x ≡ new_ldterm)
+    (held : (s : StoreValue) → list_at s first ≡ [] → list_at s (first + 1) ≡ [] → IsHeld s x)
+    (rests : (i : ℕ) → keeps x i ≡ 0)
     (own : (k : ℕ) → owns x k ≡ once first k + once (first + 1) k) where
   -- both lists are its own
   reads : (s : StoreValue) → ((k : ℕ) → 0 < owns x k → list_at s k ≡ []) → list_at s first ≡ []
@@ -46,9 +46,9 @@ module _ {M : Type 0} (first : ℕ) (x : Ldterm M)
 
   pub ldterm-made : IsMade first names.Ldterm (kinds.Ldterm x)
   ldterm-made = record {
-    named = λ name s. refl;
-    state = λ name s empty. ap (λ l. Some (OfLdterm l)) (sym (made name s (reads s empty) (writes s empty)));
-    held = λ name s empty. held name s (reads s empty) (writes s empty);
+    named = λ s. refl;
+    state = λ s empty. ap (λ l. Some (OfLdterm l)) (sym (made s (reads s empty) (writes s empty)));
+    held = λ s empty. held s (reads s empty) (writes s empty);
     within = own-within;
     apart = λ k. omega (arith, own k, once-two first (first + 1) k (λ e. absurd (omega (arith, e))));
     rests = rests;

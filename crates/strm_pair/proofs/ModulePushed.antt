@@ -44,30 +44,30 @@ may-named names.Ldterm p ms is may = ap (λ kind. nat_lt (length ms) MODULES && 
 may-named names.Ptem p ms is may = ap (λ kind. nat_lt (length ms) MODULES && not (stands module_name kind ms)) is ∙ may
 may-named names.Pckt p ms is may = ap (λ kind. nat_lt (length ms) MODULES && not (stands module_name kind ms)) is ∙ may
 
-module _ {M : Type 0} (name : M → ℕ) (s : StoreValue) where
+module _ (s : StoreValue) where
   -- modules among which no ldterm stands own no list
-  no-ldterm : (xs : List (AnyModule M)) → stands module_name names.Ldterm (map (module_in name s) xs) ≡ false → (k : ℕ) → all_of owns xs k ≡ 0
+  no-ldterm : (xs : List AnyModule) → stands module_name names.Ldterm (map (module_in s) xs) ≡ false → (k : ℕ) → all_of owns xs k ≡ 0
   no-ldterm [] none k = refl
   no-ldterm (kinds.Ldterm x ∷ xs) none k = absurd (cc)
   no-ldterm (kinds.Ptem x ∷ xs) none k = omega (arith, sum_by-cons (λ y. owns y k) (kinds.Ptem x) xs, no-ldterm xs none k)
   no-ldterm (kinds.Pckt x ∷ xs) none k = omega (arith, sum_by-cons (λ y. owns y k) (kinds.Pckt x) xs, no-ldterm xs none k)
 
   -- where a module may stand, the others own none of its lists
-  not-owned : (x : AnyModule M) (xs : List (AnyModule M)) → may_push module_name (module_in name s x) (map (module_in name s) xs) ≡ true → (k : ℕ) → 0 < owns x k → all_of owns xs k ≡ 0
+  not-owned : (x : AnyModule) (xs : List AnyModule) → may_push module_name (module_in s x) (map (module_in s) xs) ≡ true → (k : ℕ) → 0 < owns x k → all_of owns xs k ≡ 0
   not-owned (kinds.Ldterm x) xs may k some =
-      let ms = map (module_in name s) xs in
+      let ms = map (module_in s) xs in
       no-ldterm xs (none-has (stands module_name names.Ldterm ms) (second-holds (nat_lt (length ms) MODULES) (not (stands module_name names.Ldterm ms)) may)) k
   not-owned (kinds.Ptem x) xs may k some = absurd (omega (arith, some))
   not-owned (kinds.Pckt x) xs may k some = absurd (omega (arith, some))
 
-  module _ (first : ℕ) (kind : ModuleName) (a b : Stream (AnyModule M)) (x : AnyModule M)
-      (may : may_stand (named_by (Some kind)) (map (module_in name s) a.modules.items) ≡ true)
+  module _ (first : ℕ) (kind : ModuleName) (a b : Stream AnyModule) (x : AnyModule)
+      (may : may_stand (named_by (Some kind)) (map (module_in s) a.modules.items) ≡ true)
       (spare : (k : ℕ) → first + 2 ≤ k → k < first + 4 → all_of owns a.modules.items k ≡ 0 → list_at s k ≡ [])
       (made : IsMade (first + 2) kind x)
-      {U : Type 0} (r : Result U (AnyModule M))
-      (pushed : MatchResult r (λ _. (may_push module_name (module_in name s x) (map (module_in name s) a.modules.items) ≡ true) × (b.modules.items ≡ x ∷ a.modules.items)) (λ back. (may_push module_name (module_in name s x) (map (module_in name s) a.modules.items) ≡ false) × ((back ≡ x) × (b ≡ a)))) where
-    may-be : may_push module_name (module_in name s x) (map (module_in name s) a.modules.items) ≡ true
-    may-be = may-named kind (module_in name s x) (map (module_in name s) a.modules.items) (made.named name s) may
+      {U : Type 0} (r : Result U AnyModule)
+      (pushed : MatchResult r (λ _. (may_push module_name (module_in s x) (map (module_in s) a.modules.items) ≡ true) × (b.modules.items ≡ x ∷ a.modules.items)) (λ back. (may_push module_name (module_in s x) (map (module_in s) a.modules.items) ≡ false) × ((back ≡ x) × (b ≡ a)))) where
+    may-be : may_push module_name (module_in s x) (map (module_in s) a.modules.items) ≡ true
+    may-be = may-named kind (module_in s x) (map (module_in s) a.modules.items) (made.named s) may
 
     -- its own lists are no other's, and nothing stands on them
     others-none : (k : ℕ) → 0 < owns x k → all_of owns a.modules.items k ≡ 0
@@ -80,22 +80,22 @@ module _ {M : Type 0} (name : M → ℕ) (s : StoreValue) where
     is : b.modules.items ≡ x ∷ a.modules.items
     is = by r pushed
       where
-        by : (r : Result U (AnyModule M)) → MatchResult r (λ _. (may_push module_name (module_in name s x) (map (module_in name s) a.modules.items) ≡ true) × (b.modules.items ≡ x ∷ a.modules.items)) (λ back. (may_push module_name (module_in name s x) (map (module_in name s) a.modules.items) ≡ false) × ((back ≡ x) × (b ≡ a))) → b.modules.items ≡ x ∷ a.modules.items
+        by : (r : Result U AnyModule) → MatchResult r (λ _. (may_push module_name (module_in s x) (map (module_in s) a.modules.items) ≡ true) × (b.modules.items ≡ x ∷ a.modules.items)) (λ back. (may_push module_name (module_in s x) (map (module_in s) a.modules.items) ≡ false) × ((back ≡ x) × (b ≡ a))) → b.modules.items ≡ x ∷ a.modules.items
         by (Ok u) pushed = pushed.1
         by (Err back) pushed = absurd (let never = sym pushed.0 ∙ may-be in cc)
 
-    pub pushed-modules : IfSome (named_by (Some kind)) (λ p. map (module_in name s) b.modules.items ≡ p ∷ map (module_in name s) a.modules.items)
-    pushed-modules = subst (λ o. IfSome o (λ p. map (module_in name s) b.modules.items ≡ p ∷ map (module_in name s) a.modules.items)) (sym (made.state name s empty)) (ap (map (module_in name s)) is)
+    pub pushed-modules : IfSome (named_by (Some kind)) (λ p. map (module_in s) b.modules.items ≡ p ∷ map (module_in s) a.modules.items)
+    pushed-modules = subst (λ o. IfSome o (λ p. map (module_in s) b.modules.items ≡ p ∷ map (module_in s) a.modules.items)) (sym (made.state s empty)) (ap (map (module_in s)) is)
 
-    pub pushed-keeps : (i : ℕ) → all_of (keeps name) b.modules.items i ≡ all_of (keeps name) a.modules.items i
-    pushed-keeps i = omega (arith, ap (λ xs. all_of (keeps name) xs i) is, sum_by-cons (λ y. keeps name y i) x a.modules.items, made.rests name i)
+    pub pushed-keeps : (i : ℕ) → all_of keeps b.modules.items i ≡ all_of keeps a.modules.items i
+    pushed-keeps i = omega (arith, ap (λ xs. all_of keeps xs i) is, sum_by-cons (λ y. keeps y i) x a.modules.items, made.rests i)
 
     owns-all : (k : ℕ) → all_of owns b.modules.items k ≡ owns x k + all_of owns a.modules.items k
     owns-all k = ap (λ xs. all_of owns xs k) is ∙ sum_by-cons (λ y. owns y k) x a.modules.items
 
-    pub pushed-held : AreHeld (IsHeld name) owns s a.modules.items → AreHeld (IsHeld name) owns s b.modules.items
+    pub pushed-held : AreHeld IsHeld owns s a.modules.items → AreHeld IsHeld owns s b.modules.items
     pushed-held held = record {
-      each = subst (λ xs. AllByRecursion (IsHeld name s) xs) (sym is) (made.held name s empty, held.each);
+      each = subst (λ xs. AllByRecursion (IsHeld s) xs) (sym is) (made.held s empty, held.each);
       apart = λ k. by k (owns x k) refl;
     }
       where

@@ -41,8 +41,9 @@ use Rattle.strm_pair.specs.declared.streams.Streams.{Streams}
 use Rattle.strm_pair.specs.Pairs.{state_in, end_at, with_end, AreBeside, Stays, kept_by}
 use Rattle.strm_pair.specs.ModuleServed.{BookTakes, between}
 use Rattle.strm_pair.specs.PutBy.{PutAs, StackTakes, taken_at}
-use Rattle.strm_pair.specs.Streams.{View, stream_in, IsSide}
+use Rattle.strm_pair.specs.Streams.{stream_in, IsSide}
 use Rattle.strm_pair.proofs.Sides.{both, queue-same, side-stays, stream-stays}
+use Rattle.strm_pair.specs.Stacks.{modules_in, IsStackHeld, stack_owns, stack_keeps, Stack}
 
 -- modules of the same names
 abbrev pub SameNames : (ps qs : List (Module ℕ)) → Type 0
@@ -53,10 +54,10 @@ none : (n : ℕ) → (0 < n → ⊥) → n ≡ 0
 none zero not = refl
 none (suc n) not = absurd (not (omega arith))
 
-module _ {S : Type 0} (view : View S) (s t : StoreValue) (first : ℕ) (e : End S) (x : S) (is : IsSide view s first e) (own : OnlyOwn s t (view.owns e.stack) (view.owns x)) where
+module _ (s t : StoreValue) (first : ℕ) (e : End) (x : Stack) (is : IsSide s first e) (own : OnlyOwn s t (stack_owns e.stack) (stack_owns x)) where
   -- a list that isn't one of the two for the modules of this side
   apart : (k : ℕ) → (first + 2 ≤ k → k < first + 4 → ⊥) → list_at t k ≡ list_at s k
-  apart k away = own.lists k (none (view.owns e.stack k) (λ some. let within = is.owned k some in away within.0 within.1))
+  apart k away = own.lists k (none (stack_owns e.stack k) (λ some. let within = is.owned k some in away within.0 within.1))
 
   head-apart : list_at t e.head.queue.list ≡ list_at s e.head.queue.list
   head-apart = apart e.head.queue.list (λ low high. let l = is.head_list in absurd (omega (arith, l, low)))
@@ -64,7 +65,7 @@ module _ {S : Type 0} (view : View S) (s t : StoreValue) (first : ℕ) (e : End 
   driver-apart : list_at t e.driver.list ≡ list_at s e.driver.list
   driver-apart = apart e.driver.list (λ low high. let l = is.driver_list in absurd (omega (arith, l, low)))
 
-  stack-side : view.IsHeld t x → SameNames (view.modules t x) (view.modules s e.stack) → IsSide view t first (record e { stack = x })
+  stack-side : IsStackHeld t x → SameNames (modules_in t x) (modules_in s e.stack) → IsSide t first (record e { stack = x })
   stack-side held names = record {
     head_list = is.head_list;
     driver_list = is.driver_list;
@@ -73,105 +74,105 @@ module _ {S : Type 0} (view : View S) (s t : StoreValue) (first : ℕ) (e : End 
     stack = held;
     once = subst EachOnce (sym names) is.once;
     owned = λ k some. is.owned k (omega (arith, some, own.owns_same k));
-    spare = λ k low high none. let was : view.owns e.stack k ≡ 0 = sym (own.owns_same k) ∙ none in own.lists k was ∙ is.spare k low high was;
+    spare = λ k low high none. let was : stack_owns e.stack k ≡ 0 = sym (own.owns_same k) ∙ none in own.lists k was ∙ is.spare k low high was;
   }
 
-  stack-stream : (ms : List (Module ℕ)) → view.modules t x ≡ ms → stream_in view.modules t (record e { stack = x }) ≡ record (stream_in view.modules s e) { modules = ms }
+  stack-stream : (ms : List (Module ℕ)) → modules_in t x ≡ ms → stream_in t (record e { stack = x }) ≡ record (stream_in s e) { modules = ms }
   stack-stream ms state =
-      ap (λ h. record (stream_in view.modules t (record e { stack = x })) { head = record (stream_in view.modules s e).head { queue = h } }) (queue-same s t e.head.queue head-apart)
-      ∙ ap (λ l. record (stream_in view.modules s e) { modules = l; driver = record { queue = queue_in t e.driver } }) state
-      ∙ ap (λ d. record (stream_in view.modules s e) { modules = ms; driver = record { queue = d } }) (queue-same s t e.driver driver-apart)
+      ap (λ h. record (stream_in t (record e { stack = x })) { head = record (stream_in s e).head { queue = h } }) (queue-same s t e.head.queue head-apart)
+      ∙ ap (λ l. record (stream_in s e) { modules = l; driver = record { queue = queue_in t e.driver } }) state
+      ∙ ap (λ d. record (stream_in s e) { modules = ms; driver = record { queue = d } }) (queue-same s t e.driver driver-apart)
 
 -- what the other side's stack keeps stays, as it is apart from what goes and from what this one keeps
-pub other-stays : {S : Type 0} (view : View S) (side : Side) (s t : StoreValue) (p : Streams S) (gone keeps sent : ℕ → ℕ) → IsStore s → AreIn s gone (kept_by view p)
-    → Handles s t gone (view.keeps (end_at side p).stack) keeps sent → SamePool s t → Stays s t (view.keeps (end_at (other side) p).stack)
-other-stays view Master s t p gone keeps sent store can hands pool = record {
+pub other-stays : (side : Side) (s t : StoreValue) (p : Streams) (gone keeps sent : ℕ → ℕ) → IsStore s → AreIn s gone (kept_by p)
+    → Handles s t gone (stack_keeps (end_at side p).stack) keeps sent → SamePool s t → Stays s t (stack_keeps (end_at (other side) p).stack)
+other-stays Master s t p gone keeps sent store can hands pool = record {
   mblks = pool.mblks;
   dblks = pool.dblks;
   kept = λ i some. hands.others i (omega (arith, can.apart i, store.apart i, some)) (omega (arith, can.apart i, store.apart i, some)) (omega (arith, can.apart i, some));
 }
-other-stays view Slave s t p gone keeps sent store can hands pool = record {
+other-stays Slave s t p gone keeps sent store can hands pool = record {
   mblks = pool.mblks;
   dblks = pool.dblks;
   kept = λ i some. hands.others i (omega (arith, can.apart i, store.apart i, some)) (omega (arith, can.apart i, store.apart i, some)) (omega (arith, can.apart i, some));
 }
 
 -- what both stacks keep
-pub joint-hands : {S : Type 0} (view : View S) (side : Side) (s t : StoreValue) (p : Streams S) (x : S) (gone sent : ℕ → ℕ)
-    → Handles s t gone (view.keeps (end_at side p).stack) (view.keeps x) sent → Handles s t gone (kept_by view p) (kept_by view (with_end side (record (end_at side p) { stack = x }) p)) sent
-joint-hands view Master s t p x gone sent hands = record {
+pub joint-hands : (side : Side) (s t : StoreValue) (p : Streams) (x : Stack) (gone sent : ℕ → ℕ)
+    → Handles s t gone (stack_keeps (end_at side p).stack) (stack_keeps x) sent → Handles s t gone (kept_by p) (kept_by (with_end side (record (end_at side p) { stack = x }) p)) sent
+joint-hands Master s t p x gone sent hands = record {
   counts = λ i. omega (arith, hands.counts i);
   others = λ i none kept some. hands.others i none (omega (arith, kept)) some;
 }
-joint-hands view Slave s t p x gone sent hands = record {
+joint-hands Slave s t p x gone sent hands = record {
   counts = λ i. omega (arith, hands.counts i);
   others = λ i none kept some. hands.others i none (omega (arith, kept)) some;
 }
 
-module _ {S : Type 0} (view : View S) (s t : StoreValue) (p : Streams S) (x : S) (beside : AreBeside view s p) where
+module _ (s t : StoreValue) (p : Streams) (x : Stack) (beside : AreBeside s p) where
   -- the lists of the slave's side, where the master's stack changed, and the other way round
-  slave-apart : OnlyOwn s t (view.owns p.master.stack) (view.owns x) → (k : ℕ) → 4 ≤ k → k < 4 + 4 → list_at t k ≡ list_at s k
-  slave-apart own k low high = apart view s t 0 p.master x beside.master own k (λ above below. absurd (omega (arith, low, below)))
+  slave-apart : OnlyOwn s t (stack_owns p.master.stack) (stack_owns x) → (k : ℕ) → 4 ≤ k → k < 4 + 4 → list_at t k ≡ list_at s k
+  slave-apart own k low high = apart s t 0 p.master x beside.master own k (λ above below. absurd (omega (arith, low, below)))
 
-  master-apart : OnlyOwn s t (view.owns p.slave.stack) (view.owns x) → (k : ℕ) → 0 ≤ k → k < 0 + 4 → list_at t k ≡ list_at s k
-  master-apart own k low high = apart view s t 4 p.slave x beside.slave own k (λ above below. absurd (omega (arith, high, above)))
+  master-apart : OnlyOwn s t (stack_owns p.slave.stack) (stack_owns x) → (k : ℕ) → 0 ≤ k → k < 0 + 4 → list_at t k ≡ list_at s k
+  master-apart own k low high = apart s t 4 p.slave x beside.slave own k (λ above below. absurd (omega (arith, high, above)))
 
   -- the stack of a side changed
-  pub stack-changed : (side : Side) → OnlyOwn s t (view.owns (end_at side p).stack) (view.owns x) → Stays s t (view.keeps (end_at (other side) p).stack) → view.IsHeld t x
-      → SameNames (view.modules t x) (view.modules s (end_at side p).stack) → AreBeside view t (with_end side (record (end_at side p) { stack = x }) p)
-  stack-changed Master own stays held names = record { master = stack-side view s t 0 p.master x beside.master own held names; slave = side-stays view s t 4 p.slave beside.slave stays (slave-apart own) }
-  stack-changed Slave own stays held names = record { master = side-stays view s t 0 p.master beside.master stays (master-apart own); slave = stack-side view s t 4 p.slave x beside.slave own held names }
+  pub stack-changed : (side : Side) → OnlyOwn s t (stack_owns (end_at side p).stack) (stack_owns x) → Stays s t (stack_keeps (end_at (other side) p).stack) → IsStackHeld t x
+      → SameNames (modules_in t x) (modules_in s (end_at side p).stack) → AreBeside t (with_end side (record (end_at side p) { stack = x }) p)
+  stack-changed Master own stays held names = record { master = stack-side s t 0 p.master x beside.master own held names; slave = side-stays s t 4 p.slave beside.slave stays (slave-apart own) }
+  stack-changed Slave own stays held names = record { master = side-stays s t 0 p.master beside.master stays (master-apart own); slave = stack-side s t 4 p.slave x beside.slave own held names }
 
-  pub stack-state : (side : Side) → OnlyOwn s t (view.owns (end_at side p).stack) (view.owns x) → Stays s t (view.keeps (end_at (other side) p).stack) → (ms : List (Module ℕ)) → view.modules t x ≡ ms
-      → state_in view.modules t (with_end side (record (end_at side p) { stack = x }) p) ≡ with_stream side (record (stream side (state_in view.modules s p)) { modules = ms }) (state_in view.modules s p)
+  pub stack-state : (side : Side) → OnlyOwn s t (stack_owns (end_at side p).stack) (stack_owns x) → Stays s t (stack_keeps (end_at (other side) p).stack) → (ms : List (Module ℕ)) → modules_in t x ≡ ms
+      → state_in t (with_end side (record (end_at side p) { stack = x }) p) ≡ with_stream side (record (stream side (state_in s p)) { modules = ms }) (state_in s p)
   stack-state Master own stays ms state =
-      both p (stream_in view.modules t (record p.master { stack = x })) (record (stream_in view.modules s p.master) { modules = ms }) (stream_in view.modules t p.slave) (stream_in view.modules s p.slave)
-      (stack-stream view s t 0 p.master x beside.master own ms state) (stream-stays view s t 4 p.slave beside.slave stays (slave-apart own))
+      both p (stream_in t (record p.master { stack = x })) (record (stream_in s p.master) { modules = ms }) (stream_in t p.slave) (stream_in s p.slave)
+      (stack-stream s t 0 p.master x beside.master own ms state) (stream-stays s t 4 p.slave beside.slave stays (slave-apart own))
   stack-state Slave own stays ms state =
-      both p (stream_in view.modules t p.master) (stream_in view.modules s p.master) (stream_in view.modules t (record p.slave { stack = x })) (record (stream_in view.modules s p.slave) { modules = ms })
-      (stream-stays view s t 0 p.master beside.master stays (master-apart own)) (stack-stream view s t 4 p.slave x beside.slave own ms state)
+      both p (stream_in t p.master) (stream_in s p.master) (stream_in t (record p.slave { stack = x })) (record (stream_in s p.slave) { modules = ms })
+      (stream-stays s t 0 p.master beside.master stays (master-apart own)) (stack-stream s t 4 p.slave x beside.slave own ms state)
 
 -- the modules of a side, as the state has them
-pub modules-are : {S : Type 0} (view : View S) (s : StoreValue) (p : Streams S) (side : Side) → (stream side (state_in view.modules s p)).modules ≡ view.modules s (end_at side p).stack
-modules-are view s p Master = refl
-modules-are view s p Slave = refl
+pub modules-are : (s : StoreValue) (p : Streams) (side : Side) → (stream side (state_in s p)).modules ≡ modules_in s (end_at side p).stack
+modules-are s p Master = refl
+modules-are s p Slave = refl
 
 -- the modules of a side whose stack is another one
-pub stack-modules : {S : Type 0} (view : View S) (side : Side) (t : StoreValue) (p : Streams S) (x : S) (names : List QueueName) (a b : Book)
-    → (stream side (state_in view.modules t (record (with_end side (record (end_at side p) { stack = x }) p) { enabled = names; from_master = a; from_slave = b }))).modules ≡ view.modules t x
-stack-modules view Master t p x names a b = refl
-stack-modules view Slave t p x names a b = refl
+pub stack-modules : (side : Side) (t : StoreValue) (p : Streams) (x : Stack) (names : List QueueName) (a b : Book)
+    → (stream side (state_in t (record (with_end side (record (end_at side p) { stack = x }) p) { enabled = names; from_master = a; from_slave = b }))).modules ≡ modules_in t x
+stack-modules Master t p x names a b = refl
+stack-modules Slave t p x names a b = refl
 
 -- the books stay where a stream changes, and the queues that are enabled do
-pub books-same : {S : Type 0} (side : Side) (e : End S) (p : Streams S) → ((with_end side e p).from_master ≡ p.from_master) × ((with_end side e p).from_slave ≡ p.from_slave) × ((with_end side e p).enabled ≡ p.enabled)
+pub books-same : (side : Side) (e : End) (p : Streams) → ((with_end side e p).from_master ≡ p.from_master) × ((with_end side e p).from_slave ≡ p.from_slave) × ((with_end side e p).enabled ≡ p.enabled)
 books-same Master e p = (refl, refl, refl)
 books-same Slave e p = (refl, refl, refl)
 
 -- A stack acted at a place: the streams stand for what its modules did, what they said of their queues is noted, and what they made is booked.
-pub record ActsIn {S : Type 0} (view : View S) (s t : StoreValue) (p q : Streams S) (gone sent : ℕ → ℕ) (is : State ℕ) : Type 0 where
-  pub state : state_in view.modules t q ≡ is
-  pub beside : AreBeside view t q
-  pub hands : Handles s t gone (kept_by view p) (kept_by view q) sent
+pub record ActsIn (s t : StoreValue) (p q : Streams) (gone sent : ℕ → ℕ) (is : State ℕ) : Type 0 where
+  pub state : state_in t q ≡ is
+  pub beside : AreBeside t q
+  pub hands : Handles s t gone (kept_by p) (kept_by q) sent
 
-module _ {S : Type 0} (view : View S) (s t : StoreValue) (p q : Streams S) (x : S) (here : Spot) (gone sent : ℕ → ℕ) where
+module _ (s t : StoreValue) (p q : Streams) (x : Stack) (here : Spot) (gone sent : ℕ → ℕ) where
   abbrev st : State ℕ
-  st = state_in view.modules s p
+  st = state_in s p
 
-  abbrev old : S
+  abbrev old : Stack
   old = (end_at here.side p).stack
 
-  pub stack-acts : (did : Acted ℕ (List (Module ℕ))) (place : Option Place) (earlier : Way → Option QueueName) (notes : List Note) (m n : ℕ) → IsStore s → AreIn s gone (kept_by view p) → AreBeside view s p
+  pub stack-acts : (did : Acted ℕ (List (Module ℕ))) (place : Option Place) (earlier : Way → Option QueueName) (notes : List Note) (m n : ℕ) → IsStore s → AreIn s gone (kept_by p) → AreBeside s p
       → place ≡ slice_index_or (places_of (stream here.side st).modules) (here.at - 1) None → ((way : Way) → earlier way ≡ earlier_at here.side here.at st way)
-      → view.modules t x ≡ did.state → notes ≡ did.notes → SameNames did.state (stream here.side st).modules → view.IsHeld t x → OnlyOwn s t (view.owns old) (view.owns x)
-      → Handles s t gone (view.keeps old) (view.keeps x) sent → SamePool s t → m ≡ made_in MasterToSlave did.gone → n ≡ made_in SlaveToMaster did.gone
+      → modules_in t x ≡ did.state → notes ≡ did.notes → SameNames did.state (stream here.side st).modules → IsStackHeld t x → OnlyOwn s t (stack_owns old) (stack_owns x)
+      → Handles s t gone (stack_keeps old) (stack_keeps x) sent → SamePool s t → m ≡ made_in MasterToSlave did.gone → n ≡ made_in SlaveToMaster did.gone
       → q ≡ record (with_end here.side (record (end_at here.side p) { stack = x }) p) {
         enabled = noted here.side place earlier notes p.enabled;
         from_master = with_made m p.from_master;
         from_slave = with_made n p.from_slave;
       }
-      → ActsIn view s t p q gone sent (module_acted here did st).state
+      → ActsIn s t p q gone sent (module_acted here did st).state
   stack-acts did place earlier notes m n store can beside place_is earlier_is state notes_is names held own hands pool m_is n_is q_is =
-      let stays = other-stays view here.side s t p gone (view.keeps x) sent store can hands pool in
+      let stays = other-stays here.side s t p gone (stack_keeps x) sent store can hands pool in
       let queues = noted here.side place earlier notes p.enabled in
       let queued = noted here.side (slice_index_or (places_of (stream here.side st).modules) (here.at - 1) None) (earlier_at here.side here.at st) did.notes p.enabled in
       let queues_are : queues ≡ queued =
@@ -180,52 +181,51 @@ module _ {S : Type 0} (view : View S) (s t : StoreValue) (p q : Streams S) (x : 
       ∙ noted-same here.side (slice_index_or (places_of (stream here.side st).modules) (here.at - 1) None) earlier (earlier_at here.side here.at st) earlier_is did.notes p.enabled in
       let booked_at : ℕ → ℕ → List QueueName → State ℕ → State ℕ = λ a b ns v. record v { enabled = ns; from_master = with_made a p.from_master; from_slave = with_made b p.from_slave } in
       let on : Stream ℕ = record (stream here.side st) { modules = did.state } in
-      let same = ap (λ ls. map module_name ls) state ∙ names ∙ ap (λ ls. map module_name ls) (modules-are view s p here.side) in
+      let same = ap (λ ls. map module_name ls) state ∙ names ∙ ap (λ ls. map module_name ls) (modules-are s p here.side) in
       record {
-        state = ap (λ y. state_in view.modules t y) q_is
-            ∙ ap (booked_at m n queues) (stack-state view s t p x beside here.side own stays did.state state)
+        state = ap (λ y. state_in t y) q_is
+            ∙ ap (booked_at m n queues) (stack-state s t p x beside here.side own stays did.state state)
             ∙ ap (λ ns. booked_at m n ns (with_stream here.side on st)) queues_are
             ∙ ap (λ a. booked_at a n queued (with_stream here.side on st)) m_is
             ∙ ap (λ b. booked_at (made_in MasterToSlave did.gone) b queued (with_stream here.side on st)) n_is
             ∙ sym (booked-on here.side on queued did.gone st);
-        beside = subst (λ y. AreBeside view t y) (sym q_is) (stack-changed view s t p x beside here.side own stays held same);
-        hands = subst (λ y. Handles s t gone (kept_by view p) (kept_by view y) sent) (sym q_is) (joint-hands view here.side s t p x gone sent hands);
+        beside = subst (λ y. AreBeside t y) (sym q_is) (stack-changed s t p x beside here.side own stays held same);
+        hands = subst (λ y. Handles s t gone (kept_by p) (kept_by y) sent) (sym q_is) (joint-hands here.side s t p x gone sent hands);
       }
 
-module _ {M S : Type 0} (name : M → ℕ) (view : View S) where
-  -- a module takes the message
-  pub module-by : (s t : StoreValue) (p q : Streams S) (x : S) (i : ℕ) (to : Spot) (place : Option Place) (earlier : Way → Option QueueName) (acts : Acts M) (f f' : Fates) (a b : ℕ)
-      → let m = message_in s i in let st = state_in view.modules s p in let ms = (stream to.side st).modules in IsStore s → CanPut s i (kept_by view p)
-      → place ≡ slice_index_or (places_of ms) (to.at - 1) None → ((way : Way) → earlier way ≡ earlier_at to.side to.at st way) → AreBeside view s p
-      → StackTakes name view s t (end_at to.side p).stack x i to acts f f' → a ≡ made_in MasterToSlave (taken_at to m ms).gone → b ≡ made_in SlaveToMaster (taken_at to m ms).gone
-      → q ≡ record (with_end to.side (record (end_at to.side p) { stack = x }) p) {
-        enabled = noted to.side place earlier acts.notes.items p.enabled;
-        from_master = with_made a p.from_master;
-        from_slave = with_made b p.from_slave;
-      }
-      → PutAs name view s t p q i (at_place (module_takes to m) 0 to.at ms) (at_place (module_leaves to m) 0 to.at ms) (sent_of acts.sent) f f' (put_at_module plain to m st)
-  module-by s t p q x i to place earlier acts f f' a b store can place_is earlier_is beside e a_is b_is q_is =
-      let m = message_in s i in
-      let st = state_in view.modules s p in
-      let ms = (stream to.side st).modules in
-      let same = sym (modules-are view s p to.side) in
-      let did = taken_at to m ms in
-      let r = stack-acts view s t p q x to (once i) (λ j. times_sent name j (sent_of acts.sent)) did place earlier acts.notes.items a b store can beside place_is earlier_is
-      (e.state ∙ ap (λ ls. (taken_at to m ls).state) same) (e.notes ∙ ap (λ ls. (taken_at to m ls).notes) same) (keep-names plain 0 (to.at - 1) to m ms)
-      e.held e.own e.hands e.pool a_is b_is q_is in
-      let books : (Acted ℕ (List (Module ℕ))) → Took ℕ (State ℕ) = λ t. module_acted to t st in
-      subst (λ w. PutAs name view s t p q i (at_place (module_takes to m) 0 to.at ms) (at_place (module_leaves to m) 0 to.at ms) (sent_of acts.sent) f f' w)
-      (ap books (among-same 0 (made_above to.side st) to m (to.at - 1) ms))
-      (record {
-        state = r.state;
-        sent = e.sent ∙ ap (λ ls. (taken_at to m ls).sent) same;
-        tells = e.tells ∙ ap (λ ls. tallied (taken_at to m ls).gone f) same;
-        beside = r.beside;
-        chains = e.chains;
-        hands = r.hands;
-        spends = subst (λ ls. Spends s t (at_place (module_takes to m) 0 to.at ls) (at_place (module_leaves to m) 0 to.at ls)) same e.spends;
-        pool = e.pool;
-      })
+-- a module takes the message
+pub module-by : (s t : StoreValue) (p q : Streams) (x : Stack) (i : ℕ) (to : Spot) (place : Option Place) (earlier : Way → Option QueueName) (acts : Acts) (f f' : Fates) (a b : ℕ)
+    → let m = message_in s i in let st = state_in s p in let ms = (stream to.side st).modules in IsStore s → CanPut s i (kept_by p)
+    → place ≡ slice_index_or (places_of ms) (to.at - 1) None → ((way : Way) → earlier way ≡ earlier_at to.side to.at st way) → AreBeside s p
+    → StackTakes s t (end_at to.side p).stack x i to acts f f' → a ≡ made_in MasterToSlave (taken_at to m ms).gone → b ≡ made_in SlaveToMaster (taken_at to m ms).gone
+    → q ≡ record (with_end to.side (record (end_at to.side p) { stack = x }) p) {
+      enabled = noted to.side place earlier acts.notes.items p.enabled;
+      from_master = with_made a p.from_master;
+      from_slave = with_made b p.from_slave;
+    }
+    → PutAs s t p q i (at_place (module_takes to m) 0 to.at ms) (at_place (module_leaves to m) 0 to.at ms) (sent_of acts.sent) f f' (put_at_module plain to m st)
+module-by s t p q x i to place earlier acts f f' a b store can place_is earlier_is beside e a_is b_is q_is =
+    let m = message_in s i in
+    let st = state_in s p in
+    let ms = (stream to.side st).modules in
+    let same = sym (modules-are s p to.side) in
+    let did = taken_at to m ms in
+    let r = stack-acts s t p q x to (once i) (λ j. times_sent j (sent_of acts.sent)) did place earlier acts.notes.items a b store can beside place_is earlier_is
+    (e.state ∙ ap (λ ls. (taken_at to m ls).state) same) (e.notes ∙ ap (λ ls. (taken_at to m ls).notes) same) (keep-names plain 0 (to.at - 1) to m ms)
+    e.held e.own e.hands e.pool a_is b_is q_is in
+    let books : (Acted ℕ (List (Module ℕ))) → Took ℕ (State ℕ) = λ t. module_acted to t st in
+    subst (λ w. PutAs s t p q i (at_place (module_takes to m) 0 to.at ms) (at_place (module_leaves to m) 0 to.at ms) (sent_of acts.sent) f f' w)
+    (ap books (among-same 0 (made_above to.side st) to m (to.at - 1) ms))
+    (record {
+      state = r.state;
+      sent = e.sent ∙ ap (λ ls. (taken_at to m ls).sent) same;
+      tells = e.tells ∙ ap (λ ls. tallied (taken_at to m ls).gone f) same;
+      beside = r.beside;
+      chains = e.chains;
+      hands = r.hands;
+      spends = subst (λ ls. Spends s t (at_place (module_takes to m) 0 to.at ls) (at_place (module_leaves to m) 0 to.at ls)) same e.spends;
+      pool = e.pool;
+    })
 
 abbrev pub made_told : Dir → Fates → ℕ
 made_told MasterToSlave f = f.made_from_master

@@ -30,7 +30,6 @@ use Rattle.strm_pair.specs.declared.modules.AnyModule.{AnyModule}
 use Rattle.strm_pair.specs.declared.modules.AnyModule.TheVariants as kinds
 use Rattle.strm_pair.specs.AnyModules.{IsHeld, keeps, module_in, owns}
 use Rattle.strm_pair.specs.declared.stacks.Taken.{Taken}
-use Rattle.strm_pair.specs.ModuleStacks.{stacks_of}
 use Rattle.strm_pair.specs.Taken.{TookTop, let_go_of}
 
 -- nothing is left on a queue from which all went
@@ -71,77 +70,77 @@ name_or None = names.Ldterm
 name_or (Some name) = name
 
 -- no module stands on a stack that has no name on top
-pub none-top : {M : Type 0} (name : M → ℕ) (s : StoreValue) (xs : List (AnyModule M)) → top_name module_name (map (module_in name s) xs) ≡ None → map (module_in name s) xs ≡ []
-none-top name s [] none = refl
-none-top name s (x ∷ xs) none = absurd (cc)
+pub none-top : (s : StoreValue) (xs : List AnyModule) → top_name module_name (map (module_in s) xs) ≡ None → map (module_in s) xs ≡ []
+none-top s [] none = refl
+none-top s (x ∷ xs) none = absurd (cc)
 
-module _ {M : Type 0} (name : M → ℕ) (s t : StoreValue) (side : Side) (rule : Rule) where
+module _ (s t : StoreValue) (side : Side) (rule : Rule) where
   -- nothing stands on the lists of a module that let all go
-  cleared-ldterm : (x y : Ldterm M) (k : ℕ) → OfLdterm (ldterm_in name t y) ≡ (let_go_of side rule (OfLdterm (ldterm_in name s x))).state → 0 < stands.owns y k → list_at t k ≡ []
+  cleared-ldterm : (x y : Ldterm) (k : ℕ) → OfLdterm (ldterm_in t y) ≡ (let_go_of side rule (OfLdterm (ldterm_in s x))).state → 0 < stands.owns y k → list_at t k ≡ []
   cleared-ldterm x y k is some = by (once y.read_queue.list k) refl
     where
       reads : list_at t y.read_queue.list ≡ []
-      reads = no-chain (list_at t y.read_queue.list) (ap (λ (p : Module ℕ). (ldterm_of p).read_queue.messages) is ∙ none-behind (ldterm_in name s x).read_queue)
+      reads = no-chain (list_at t y.read_queue.list) (ap (λ (p : Module ℕ). (ldterm_of p).read_queue.messages) is ∙ none-behind (ldterm_in s x).read_queue)
 
       writes : list_at t y.write_queue.list ≡ []
-      writes = no-chain-before (list_at t y.write_queue.list) _ (ap (λ (p : Module ℕ). (ldterm_of p).write_queue.messages) is ∙ none-behind (ldterm_in name s x).write_queue)
+      writes = no-chain-before (list_at t y.write_queue.list) _ (ap (λ (p : Module ℕ). (ldterm_of p).write_queue.messages) is ∙ none-behind (ldterm_in s x).write_queue)
 
       by : (n : ℕ) → once y.read_queue.list k ≡ n → list_at t k ≡ []
       by zero none = subst (λ l. list_at t l ≡ []) (once-is y.write_queue.list k (omega (arith, some, none))) writes
       by (suc n) one = subst (λ l. list_at t l ≡ []) (once-is y.read_queue.list k (omega (arith, one))) reads
 
-  cleared-list : (x y : AnyModule M) (k : ℕ) → module_in name t y ≡ (let_go_of side rule (module_in name s x)).state → 0 < owns y k → list_at t k ≡ []
+  cleared-list : (x y : AnyModule) (k : ℕ) → module_in t y ≡ (let_go_of side rule (module_in s x)).state → 0 < owns y k → list_at t k ≡ []
   cleared-list (kinds.Ldterm x) (kinds.Ldterm y) k is some = cleared-ldterm x y k is some
   cleared-list (kinds.Ptem x) (kinds.Ldterm y) k is some = absurd (cc)
   cleared-list (kinds.Pckt x) (kinds.Ldterm y) k is some = absurd (cc)
   cleared-list x (kinds.Ptem y) k is some = absurd (omega (arith, some))
   cleared-list x (kinds.Pckt y) k is some = absurd (omega (arith, some))
 
-  module _ (told told' : Fates) (taken : Taken) (a b c : Stream (AnyModule M)) where
+  module _ (told told' : Fates) (taken : Taken) (a b c : Stream AnyModule) where
     -- the stack before it, behind the clearing, and without the module
-    took-these : (x : AnyModule M) (xs : List (AnyModule M)) (y : AnyModule M) → a.modules.items ≡ x ∷ xs → b.modules.items ≡ y ∷ c.modules.items
-        → taken.name ≡ module_name (module_in name s x)
-        → map (module_in name t) b.modules.items ≡ (act_among (let_go_of side rule) 0 (map (module_in name s) a.modules.items)).state
-        → taken.notes.items ≡ (act_among (let_go_of side rule) 0 (map (module_in name s) a.modules.items)).notes
-        → told' ≡ tallied (act_among (let_go_of side rule) 0 (map (module_in name s) a.modules.items)).gone told
-        → AreHeld (IsHeld name) owns t b.modules.items → ((i : ℕ) → all_of (keeps name) b.modules.items i ≡ 0)
+    took-these : (x : AnyModule) (xs : List AnyModule) (y : AnyModule) → a.modules.items ≡ x ∷ xs → b.modules.items ≡ y ∷ c.modules.items
+        → taken.name ≡ module_name (module_in s x)
+        → map (module_in t) b.modules.items ≡ (act_among (let_go_of side rule) 0 (map (module_in s) a.modules.items)).state
+        → taken.notes.items ≡ (act_among (let_go_of side rule) 0 (map (module_in s) a.modules.items)).notes
+        → told' ≡ tallied (act_among (let_go_of side rule) 0 (map (module_in s) a.modules.items)).gone told
+        → AreHeld IsHeld owns t b.modules.items → ((i : ℕ) → all_of keeps b.modules.items i ≡ 0)
         → OnlyOwn s t (all_of owns a.modules.items) (all_of owns b.modules.items) → SameHand s t → FreesBlocks s t
-        → TookTop (stacks_of name) side rule s t a c told told' taken
+        → TookTop side rule s t a c told told' taken
     took-these x xs y before behind named state notes tells held rests own hand frees =
-        let was = ap (map (module_in name s)) before in
+        let was = ap (map (module_in s)) before in
         let act = λ (ps : List (Module ℕ)). act_among (let_go_of side rule) 0 ps in
-        let all : module_in name t y ∷ map (module_in name t) c.modules.items ≡ (let_go_of side rule (module_in name s x)).state ∷ map (module_in name s) xs = ap (map (module_in name t)) (sym behind) ∙ state ∙ ap (λ ps. (act ps).state) was in
-        let both : AreHeld (IsHeld name) owns t (y ∷ c.modules.items) = subst (AreHeld (IsHeld name) owns t) behind held in
+        let all : module_in t y ∷ map (module_in t) c.modules.items ≡ (let_go_of side rule (module_in s x)).state ∷ map (module_in s) xs = ap (map (module_in t)) (sym behind) ∙ state ∙ ap (λ ps. (act ps).state) was in
+        let both : AreHeld IsHeld owns t (y ∷ c.modules.items) = subst (AreHeld IsHeld owns t) behind held in
         let owned : (k : ℕ) → owns y k + all_of owns c.modules.items k ≡ all_of owns a.modules.items k = λ k. sym (sum_by-cons (λ z. owns z k) y c.modules.items) ∙ ap (λ zs. all_of owns zs k) (sym behind) ∙ own.owns_same k in
         record {
-          top = module_in name s x;
-          rest = map (module_in name s) xs;
+          top = module_in s x;
+          rest = map (module_in s) xs;
           was = was;
           name = named;
           notes = notes ∙ ap (λ ps. (act ps).notes) was;
           tells = tells ∙ ap (λ ps. tallied (act ps).gone told) was;
           stays = ap rest_of all;
           held = record { each = both.each.1; apart = λ k. omega (arith, both.apart k, sum_by-cons (λ z. owns z k) y c.modules.items) };
-          rests = λ i. omega (arith, rests i, ap (λ zs. all_of (keeps name) zs i) behind, sum_by-cons (λ z. keeps name z i) y c.modules.items);
+          rests = λ i. omega (arith, rests i, ap (λ zs. all_of keeps zs i) behind, sum_by-cons (λ z. keeps z i) y c.modules.items);
           owns = λ k. omega (arith, owned k);
           others = own.lists;
-          emptied = λ k some none. cleared-list x y k (ap (first_or (module_in name t y)) all) (omega (arith, owned k, some, none));
+          emptied = λ k some none. cleared-list x y k (ap (first_or (module_in t y)) all) (omega (arith, owned k, some, none));
           hand = hand;
           frees = frees;
         }
 
-    pub took-top : (popped : Option (AnyModule M)) → top_name module_name (map (module_in name s) a.modules.items) ≡ Some taken.name
-        → map (module_in name t) b.modules.items ≡ (act_among (let_go_of side rule) 0 (map (module_in name s) a.modules.items)).state
-        → taken.notes.items ≡ (act_among (let_go_of side rule) 0 (map (module_in name s) a.modules.items)).notes
-        → told' ≡ tallied (act_among (let_go_of side rule) 0 (map (module_in name s) a.modules.items)).gone told
-        → AreHeld (IsHeld name) owns t b.modules.items → ((i : ℕ) → all_of (keeps name) b.modules.items i ≡ 0)
+    pub took-top : (popped : Option AnyModule) → top_name module_name (map (module_in s) a.modules.items) ≡ Some taken.name
+        → map (module_in t) b.modules.items ≡ (act_among (let_go_of side rule) 0 (map (module_in s) a.modules.items)).state
+        → taken.notes.items ≡ (act_among (let_go_of side rule) 0 (map (module_in s) a.modules.items)).notes
+        → told' ≡ tallied (act_among (let_go_of side rule) 0 (map (module_in s) a.modules.items)).gone told
+        → AreHeld IsHeld owns t b.modules.items → ((i : ℕ) → all_of keeps b.modules.items i ≡ 0)
         → OnlyOwn s t (all_of owns a.modules.items) (all_of owns b.modules.items) → SameHand s t → FreesBlocks s t
         → MatchOption popped ((b.modules.items ≡ []) × (c ≡ b)) (λ y. b.modules.items ≡ y ∷ c.modules.items)
-        → TookTop (stacks_of name) side rule s t a c told told' taken
+        → TookTop side rule s t a c told told' taken
     took-top popped top state notes tells held rests own hand frees = by a.modules.items refl popped
       where
-        by : (l : List (AnyModule M)) → a.modules.items ≡ l → (popped : Option (AnyModule M)) → MatchOption popped ((b.modules.items ≡ []) × (c ≡ b)) (λ y. b.modules.items ≡ y ∷ c.modules.items) → TookTop (stacks_of name) side rule s t a c told told' taken
-        by [] none popped took = absurd (let e = sym top ∙ ap (λ l. top_name module_name (map (module_in name s) l)) none in cc)
-        by (x ∷ xs) before None took = absurd (let e = sym (ap (map (module_in name t)) took.0) ∙ state ∙ ap (λ l. (act_among (let_go_of side rule) 0 (map (module_in name s) l)).state) before in cc)
+        by : (l : List AnyModule) → a.modules.items ≡ l → (popped : Option AnyModule) → MatchOption popped ((b.modules.items ≡ []) × (c ≡ b)) (λ y. b.modules.items ≡ y ∷ c.modules.items) → TookTop side rule s t a c told told' taken
+        by [] none popped took = absurd (let e = sym top ∙ ap (λ l. top_name module_name (map (module_in s) l)) none in cc)
+        by (x ∷ xs) before None took = absurd (let e = sym (ap (map (module_in t)) took.0) ∙ state ∙ ap (λ l. (act_among (let_go_of side rule) 0 (map (module_in s) l)).state) before in cc)
         by (x ∷ xs) before (Some y) took =
-            took-these x xs y before took (ap name_or (sym top ∙ ap (λ l. top_name module_name (map (module_in name s) l)) before)) state notes tells held rests own hand frees
+            took-these x xs y before took (ap name_or (sym top ∙ ap (λ l. top_name module_name (map (module_in s) l)) before)) state notes tells held rests own hand frees

@@ -32,7 +32,6 @@ use Rattle.strm_frame.specs.Hands.{HasRoom, MayTake}
 use Rattle.strm_frame.specs.Outboxes.{message_in}
 use Rattle.strm_pair.specs.declared.streams.Streams.{Streams}
 use Rattle.strm_pair.specs.Pairs.{state_in, AreBeside}
-use Rattle.strm_pair.specs.Streams.{View}
 use Rattle.strm_pair.proofs.ModuleCosts.{ldterm-less, ptem-less}
 use Rattle.strm_pair.proofs.PutsCost.{behind-stack, head-stack}
 
@@ -102,8 +101,8 @@ unfolding cost_of
 sent-most all once [] = omega arith
 sent-most all once (p ∷ ps) = let first = stack-most all once p.to p.message in let rest = sent-most all once ps in omega (arith, first, rest)
 
-pub once-stands : {S : Type 0} (view : View S) (s : StoreValue) (p : Streams S) → AreBeside view s p → StandOnce (stands_of (state_in view.modules s p))
-once-stands view s p beside = record { master = beside.master.once; slave = beside.slave.once }
+pub once-stands : (s : StoreValue) (p : Streams) → AreBeside s p → StandOnce (stands_of (state_in s p))
+once-stands s p beside = record { master = beside.master.once; slave = beside.slave.once }
 
 -- a message that stands for one of which is known what it takes at most
 pub may-by : (s : StoreValue) (left : ℕ) (to : Spot) (m x : Message ℕ) (n : ℕ) → m ≡ x → most_cost to x ≤ n → HasRoom s n → n ≤ left → MayTake s left (most_cost to m)

@@ -11,7 +11,7 @@ use Rattle.strm_types.specs.declared.rules.Rule.TheVariants.{EndClosed}
 use Rattle.strm_types.specs.Cells as cells
 use Rattle.strm_types.specs.Drivers.{driver_put}
 use Rattle.strm_types.specs.Queue as plain
-use Rattle.strm_blocks.specs.Blocks.{IsStore, dropped, list_at}
+use Rattle.strm_blocks.specs.Blocks.{IsStore, dropped, list_at, token}
 use Rattle.strm_head.specs.declared.head.Head as heads
 use Rattle.strm_head.specs.Heads.{head_in}
 use Rattle.strm_queue.specs.declared.queue.Queue.{Queue}
@@ -64,7 +64,6 @@ use Rattle.strm_pair.specs.Framing.{same-state, same-beside}
 use Rattle.strm_pair.specs.PutBy.{PutAs, PutBy, CameBy}
 use Rattle.strm_pair.proofs.PlaceCosts.{place-cost}
 use Rattle.strm_pair.proofs.PutsCost.{behind-stack, behind-takes, head-stack}
-use Rattle.strm_pair.specs.Streams.{View}
 
 -- what a head sends down is nothing where nothing is turned round
 sent-nothing : (S : Type 0) (b : Bool) (one another : Acted ℕ S) → one.sent ≡ [] → another.sent ≡ [] → (cond b one another).sent ≡ []
@@ -148,13 +147,13 @@ can-alone : (s : StoreValue) (m : ℕ) (keeps : ℕ → ℕ) → CanPut s m keep
 can-alone s m keeps can = record { apart = λ i. omega (arith, can.apart i) }
 
 -- the stacks stay where a head changes, or a driver
-kept-head : {S : Type 0} (view : View S) (p : Streams S) (side : Side) (h : heads.Head) (i : ℕ) → kept_by view (with_end side (record (end_at side p) { head = h }) p) i ≡ kept_by view p i
-kept-head view p Master h i = refl
-kept-head view p Slave h i = refl
+kept-head : (p : Streams) (side : Side) (h : heads.Head) (i : ℕ) → kept_by (with_end side (record (end_at side p) { head = h }) p) i ≡ kept_by p i
+kept-head p Master h i = refl
+kept-head p Slave h i = refl
 
-kept-driver : {S : Type 0} (view : View S) (p : Streams S) (side : Side) (d : Queue) (i : ℕ) → kept_by view (with_end side (record (end_at side p) { driver = d }) p) i ≡ kept_by view p i
-kept-driver view p Master d i = refl
-kept-driver view p Slave d i = refl
+kept-driver : (p : Streams) (side : Side) (d : Queue) (i : ℕ) → kept_by (with_end side (record (end_at side p) { driver = d }) p) i ≡ kept_by p i
+kept-driver p Master d i = refl
+kept-driver p Slave d i = refl
 
 -- behind the head there is room for what a put takes itself, and so for what stands there: on the way down nothing goes by what was sent across
 pub behind-room : (way : Way) (s : StoreValue) (i : ℕ) (to : Spot) → let m = message_in s i in to.way ≡ way → (to.at ≡ 0 → ⊥) → HasRoom s (cost to m) → HasRoom s (below_takes way (has_parts m) (is_across to m))
@@ -183,44 +182,44 @@ at_head side s t = record {
 open-is : (side : Side) (here : Spot) (m : Message ℕ) (s : State ℕ) → is_open (stream side s).opened ≡ true → put_at_head side here m s ≡ at_head side s (head_put here m (stream side s).head)
 open-is side here m s opened = rw opened refl
 
-module _ {S : Type 0} (view : View S) (side : Side) (s t : StoreValue) (p : Streams S) (h : heads.Head) (i : ℕ) (to : Spot) (m : Message ℕ) (lets_go : Bool) (down : Option heads_down.Down) (f f' : Fates) where
+module _ (side : Side) (s t : StoreValue) (p : Streams) (h : heads.Head) (i : ℕ) (to : Spot) (m : Message ℕ) (lets_go : Bool) (down : Option heads_down.Down) (f f' : Fates) where
   -- what the head did
   abbrev Did : Acted ℕ (Head ℕ)
   Did = head_put to m (head_in s (end_at side p).head)
 
-  abbrev behind : Streams S
-  behind = record (with_end side (record (end_at side p) { head = h }) p) { enabled = enable_some lets_go (before_head side (state_in view.modules s p)) p.enabled }
+  abbrev behind : Streams
+  behind = record (with_end side (record (end_at side p) { head = h }) p) { enabled = enable_some lets_go (before_head side (state_in s p)) p.enabled }
 
-  came-at : IsStore s → CanPut s i (kept_by view p) → AreBeside view s p → head_in t h ≡ Did.state → notes_of lets_go ≡ Did.notes → sent_down to down ≡ Did.sent → f' ≡ tallied Did.gone f
-      → Changes (dropped s i) t (end_at side p).head.queue h.queue → HoldsReadable (list_at t h.queue.list) → FreesBlocks s t → CameBy view s t p behind i (sent_down to down) f f' (at_head side (state_in view.modules s p) Did)
+  came-at : IsStore s → CanPut s i (kept_by p) → AreBeside s p → head_in t h ≡ Did.state → notes_of lets_go ≡ Did.notes → sent_down to down ≡ Did.sent → f' ≡ tallied Did.gone f
+      → Changes (dropped s i) t (end_at side p).head.queue h.queue → HoldsReadable (list_at t h.queue.list) → FreesBlocks s t → CameBy s t p behind i (sent_down to down) f f' (at_head side (state_in s p) Did)
   came-at store can beside state notes sent told changes readable frees =
       let only : OnlyQueue s t (end_at side p).head.queue h.queue = record { ready = changes.ready; list = changes.list; others = changes.others } in
-      let hands = shifts-joined s t i (end_at side p).head.queue h.queue store (can-alone s i (kept_by view p) can) changes frees in
-      let stays = put-stays s t i 0 (λ _. 0) (kept_by view p) store can hands in
-      let st = state_in view.modules s p in
+      let hands = shifts-joined s t i (end_at side p).head.queue h.queue store (can-alone s i (kept_by p) can) changes frees in
+      let stays = put-stays s t i 0 (λ _. 0) (kept_by p) store can hands in
+      let st = state_in s p in
       record {
         state = ap (λ (x : State ℕ). record x { enabled = enable_some lets_go (before_head side st) p.enabled })
-            (head-state view s t p beside stays side h only ∙ ap (λ x. with_stream side (record (stream side st) { head = x }) st) state)
+            (head-state s t p beside stays side h only ∙ ap (λ x. with_stream side (record (stream side st) { head = x }) st) state)
             ∙ ap (λ ns. record (with_stream side (record (stream side st) { head = Did.state }) st) { enabled = ns })
             (sym (noted-room side (earlier_at side 0 st) lets_go p.enabled) ∙ ap (λ n. noted side (Some places.Head) (earlier_at side 0 st) n p.enabled) notes);
         down_is = sent;
         tells = told;
-        beside = head-changed view s t p beside stays side h only readable;
-        keeps = kept-head view p side h;
+        beside = head-changed s t p beside stays side h only readable;
+        keeps = kept-head p side h;
         hands = hands;
       }
 
-  pub came-by : (q : Streams S) → to.side ≡ side → IsStore s → CanPut s i (kept_by view p) → AreBeside view s p → is_open (stream to.side (state_in view.modules s p)).opened ≡ true
+  pub came-by : (q : Streams) → to.side ≡ side → IsStore s → CanPut s i (kept_by p) → AreBeside s p → is_open (stream to.side (state_in s p)).opened ≡ true
       → head_in t h ≡ Did.state → notes_of lets_go ≡ Did.notes → sent_down to down ≡ Did.sent → f' ≡ tallied Did.gone f
       → Changes (dropped s i) t (end_at side p).head.queue h.queue → HoldsReadable (list_at t h.queue.list) → FreesBlocks s t
       → q ≡ behind
-      → CameBy view s t p q i (sent_down to down) f f' (put_at_head to.side to m (state_in view.modules s p))
+      → CameBy s t p q i (sent_down to down) f f' (put_at_head to.side to m (state_in s p))
   came-by q is store can beside opened state notes sent told changes readable frees q_is =
-      let st = state_in view.modules s p in
+      let st = state_in s p in
       let here : put_at_head to.side to m st ≡ at_head side st Did =
-      open-is to.side to m st opened ∙ ap (λ sd. at_head sd st (head_put to m (stream sd st).head)) is ∙ ap (λ x. at_head side st (head_put to m x)) (head-is view s p side) in
-      subst (λ w. CameBy view s t p q i (sent_down to down) f f' w) (sym here)
-      (subst (λ x. CameBy view s t p x i (sent_down to down) f f' (at_head side st Did)) (sym q_is) (came-at store can beside state notes sent told changes readable frees))
+      open-is to.side to m st opened ∙ ap (λ sd. at_head sd st (head_put to m (stream sd st).head)) is ∙ ap (λ x. at_head side st (head_put to m x)) (head-is s p side) in
+      subst (λ w. CameBy s t p q i (sent_down to down) f f' w) (sym here)
+      (subst (λ x. CameBy s t p x i (sent_down to down) f f' (at_head side st Did)) (sym q_is) (came-at store can beside state notes sent told changes readable frees))
 
 -- a put at a driver, by what the driver does at its place
 abbrev at_driver : Side → ℕ → State ℕ → Acted ℕ (plain.Queue ℕ) → Took ℕ (State ℕ)
@@ -249,170 +248,169 @@ driver-room way s i chain room =
     let low = cost-low way s i chain in
     record { mblks = (let a = room.mblks in omega (arith, a, low)); dblks = (let a = room.dblks in omega (arith, a, low)) }
 
-module _ {M S : Type 0} (name : M → ℕ) (view : View S) where
-  -- the driver takes the message
-  pub driver-by : (side : Side) (s t : StoreValue) (p q : Streams S) (d : Queue) (i : ℕ) (to : Spot) (at : ℕ) (across : Across) (acts : Acts M) (f f' : Fates)
-      → let m = message_in s i in let st = state_in view.modules s p in let did = driver_put to.side across (record to { at = at }) m (queue_in s (end_at side p).driver) in
-      IsStore s → CanPut s i (kept_by view p) → IsChain (in_hand s i) → to.side ≡ side → at ≡ driver_place to.side st → across ≡ across_of to.side st → AreBeside view s p → queue_in t d ≡ did.state → acts.notes.items ≡ did.notes → parcels_in name t (sent_of acts.sent) ≡ did.sent
-      → f' ≡ tallied did.gone f → OnlyQueue s t (end_at side p).driver d → AreChains name t (sent_of acts.sent) → Hands s t i (λ _. 0) (λ _. 0) (λ j. times_sent name j (sent_of acts.sent))
-      → Spends s t (driver_cost to.way m.kind) 0 → SamePool s t
-      → q ≡ record (with_end side (record (end_at side p) { driver = d }) p) { enabled = noted side (Some places.Driver) (earlier_at side at st) acts.notes.items p.enabled }
-      → PutBy name view s t p q i (below_takes to.way (has_parts m) true) (sent_of acts.sent) f f' (put_at_driver to.side to m st)
-  driver-by side s t p q d i to at across acts f f' store can chain is at_is across_is beside state notes sent told only chains hands spends pool q_is =
-      let m = message_in s i in
-      let st = state_in view.modules s p in
-      let queue = queue_in s (end_at side p).driver in
-      let did = driver_put to.side across (record to { at = at }) m queue in
-      let names = noted side (Some places.Driver) (earlier_at side at st) acts.notes.items p.enabled in
-      let low = cost-low to.way s i chain in
-      let stays : Stays s t (kept_by view p) = record {
-        mblks = pool.mblks;
-        dblks = pool.dblks;
-        kept = λ j some. hands.others j (omega (arith, can.apart j, store.apart j, some)) refl (omega (arith, can.apart j, some));
-      } in
-      let there = driver_place to.side st in
-      let here : at_driver side at st did ≡ put_at_driver to.side to m st =
-      ap (λ n. at_driver side n st (driver_put to.side across (record to { at = n }) m queue)) at_is
-      ∙ ap (λ x. at_driver side there st (driver_put to.side x (record to { at = there }) m queue)) across_is
-      ∙ ap (λ x. at_driver side there st (driver_put to.side (across_of to.side st) (record to { at = there }) m x)) (sym (driver-is view s p side))
-      ∙ ap (λ sd. at_driver sd there st (driver_put to.side (across_of to.side st) (record to { at = there }) m (stream sd st).driver.queue)) (sym is) in
-      subst (λ w. PutBy name view s t p q i (below_takes to.way (has_parts m) true) (sent_of acts.sent) f f' w) here
-      (record {
-        state = ap (λ x. state_in view.modules t x) q_is
-            ∙ ap (λ (x : State ℕ). record x { enabled = names }) (driver-state view s t p beside stays side d only ∙ ap (λ x. with_stream side (with_driver_queue x (stream side st)) st) state)
-            ∙ ap (λ ns. record (with_stream side (with_driver_queue did.state (stream side st)) st) { enabled = ns })
-            (ap (λ n. noted side (Some places.Driver) (earlier_at side at st) n p.enabled) notes);
-        sent = sent;
-        tells = told;
-        beside = subst (λ x. AreBeside view t x) (sym q_is) (driver-changed view s t p beside stays side d only);
-        chains = chains;
-        hands = record {
-          counts = λ j. omega (arith, hands.counts j, ap (λ x. kept_by view x j) q_is ∙ kept-driver view p side d j);
-          others = λ j none kept some. hands.others j none refl some;
-        };
-        spends = record { mblks = omega (arith, spends.mblks, low); dblks = omega (arith, spends.dblks, low) };
-        pool = pool;
-      })
+-- the driver takes the message
+pub driver-by : (side : Side) (s t : StoreValue) (p q : Streams) (d : Queue) (i : ℕ) (to : Spot) (at : ℕ) (across : Across) (acts : Acts) (f f' : Fates)
+    → let m = message_in s i in let st = state_in s p in let did = driver_put to.side across (record to { at = at }) m (queue_in s (end_at side p).driver) in
+    IsStore s → CanPut s i (kept_by p) → IsChain (in_hand s i) → to.side ≡ side → at ≡ driver_place to.side st → across ≡ across_of to.side st → AreBeside s p → queue_in t d ≡ did.state → acts.notes.items ≡ did.notes → parcels_in t (sent_of acts.sent) ≡ did.sent
+    → f' ≡ tallied did.gone f → OnlyQueue s t (end_at side p).driver d → AreChains t (sent_of acts.sent) → Hands s t i (λ _. 0) (λ _. 0) (λ j. times_sent j (sent_of acts.sent))
+    → Spends s t (driver_cost to.way m.kind) 0 → SamePool s t
+    → q ≡ record (with_end side (record (end_at side p) { driver = d }) p) { enabled = noted side (Some places.Driver) (earlier_at side at st) acts.notes.items p.enabled }
+    → PutBy s t p q i (below_takes to.way (has_parts m) true) (sent_of acts.sent) f f' (put_at_driver to.side to m st)
+driver-by side s t p q d i to at across acts f f' store can chain is at_is across_is beside state notes sent told only chains hands spends pool q_is =
+    let m = message_in s i in
+    let st = state_in s p in
+    let queue = queue_in s (end_at side p).driver in
+    let did = driver_put to.side across (record to { at = at }) m queue in
+    let names = noted side (Some places.Driver) (earlier_at side at st) acts.notes.items p.enabled in
+    let low = cost-low to.way s i chain in
+    let stays : Stays s t (kept_by p) = record {
+      mblks = pool.mblks;
+      dblks = pool.dblks;
+      kept = λ j some. hands.others j (omega (arith, can.apart j, store.apart j, some)) refl (omega (arith, can.apart j, some));
+    } in
+    let there = driver_place to.side st in
+    let here : at_driver side at st did ≡ put_at_driver to.side to m st =
+    ap (λ n. at_driver side n st (driver_put to.side across (record to { at = n }) m queue)) at_is
+    ∙ ap (λ x. at_driver side there st (driver_put to.side x (record to { at = there }) m queue)) across_is
+    ∙ ap (λ x. at_driver side there st (driver_put to.side (across_of to.side st) (record to { at = there }) m x)) (sym (driver-is s p side))
+    ∙ ap (λ sd. at_driver sd there st (driver_put to.side (across_of to.side st) (record to { at = there }) m (stream sd st).driver.queue)) (sym is) in
+    subst (λ w. PutBy s t p q i (below_takes to.way (has_parts m) true) (sent_of acts.sent) f f' w) here
+    (record {
+      state = ap (λ x. state_in t x) q_is
+          ∙ ap (λ (x : State ℕ). record x { enabled = names }) (driver-state s t p beside stays side d only ∙ ap (λ x. with_stream side (with_driver_queue x (stream side st)) st) state)
+          ∙ ap (λ ns. record (with_stream side (with_driver_queue did.state (stream side st)) st) { enabled = ns })
+          (ap (λ n. noted side (Some places.Driver) (earlier_at side at st) n p.enabled) notes);
+      sent = sent;
+      tells = told;
+      beside = subst (λ x. AreBeside t x) (sym q_is) (driver-changed s t p beside stays side d only);
+      chains = chains;
+      hands = record {
+        counts = λ j. omega (arith, hands.counts j, ap (λ x. kept_by x j) q_is ∙ kept-driver p side d j);
+        others = λ j none kept some. hands.others j none refl some;
+      };
+      spends = record { mblks = omega (arith, spends.mblks, low); dblks = omega (arith, spends.dblks, low) };
+      pool = pool;
+    })
 
-  -- a message goes, and the streams stay
-  pub swaps-put : (s t : StoreValue) (p : Streams S) (m n k : ℕ) (made : List (Sent M)) (ps : List (Parcel ℕ)) (f f' : Fates) (is : Took ℕ (State ℕ))
-      → IsStore s → CanPut s m (kept_by view p) → AreBeside view s p → Swaps name s t m n made ps → n ≤ k → state_in view.modules s p ≡ is.state → ps ≡ is.sent → f' ≡ tallied is.gone f → PutBy name view s t p p m k made f f' is
-  swaps-put s t p m n k made ps f f' is store can beside swaps le stays sends tells =
-      let kept = put-stays s t m n (λ i. times_sent name i made) (kept_by view p) store can swaps.hands in
-      record {
-        state = same-state view s t swaps.lists p beside kept ∙ stays;
-        sent = swaps.sent ∙ sends;
-        tells = tells;
-        beside = same-beside view s t swaps.lists p beside kept;
-        chains = swaps.chains;
-        hands = handled s t m n (λ i. times_sent name i made) (kept_by view p) (kept_by view p) (λ i. refl) swaps.hands;
-        spends = spent s t (once m) (λ i. times_sent name i made) n k le swaps.hands;
-        pool = swaps.hands.pool;
-      }
+-- a message goes, and the streams stay
+pub swaps-put : (s t : StoreValue) (p : Streams) (m n k : ℕ) (made : List Sent) (ps : List (Parcel ℕ)) (f f' : Fates) (is : Took ℕ (State ℕ))
+    → IsStore s → CanPut s m (kept_by p) → AreBeside s p → Swaps s t m n made ps → n ≤ k → state_in s p ≡ is.state → ps ≡ is.sent → f' ≡ tallied is.gone f → PutBy s t p p m k made f f' is
+swaps-put s t p m n k made ps f f' is store can beside swaps le stays sends tells =
+    let kept = put-stays s t m n (λ i. times_sent i made) (kept_by p) store can swaps.hands in
+    record {
+      state = same-state s t swaps.lists p beside kept ∙ stays;
+      sent = swaps.sent ∙ sends;
+      tells = tells;
+      beside = same-beside s t swaps.lists p beside kept;
+      chains = swaps.chains;
+      hands = handled s t m n (λ i. times_sent i made) (kept_by p) (kept_by p) (λ i. refl) swaps.hands;
+      spends = spent s t (once m) (λ i. times_sent i made) n k le swaps.hands;
+      pool = swaps.hands.pool;
+    }
 
-  -- the message itself goes on
-  pub passed-put : (s : StoreValue) (p : Streams S) (x : Sent M) (sent_on : List (Sent M)) (f : Fates) (to : Spot) → AreBeside view s p → IsChain (in_hand s (name x.message)) → x.to ≡ record to { at = modules_on to.side (state_in view.modules s p) } → sent_on ≡ x ∷ []
-      → PutBy name view s s p p (name x.message) 0 sent_on f f (passed_up to (message_in s (name x.message)) (state_in view.modules s p))
-  passed-put s p x sent_on f to beside chain on one = record {
-    state = refl;
-    sent = one-parts name s x sent_on one ∙ ap (λ spot. record { to = spot; message = message_in s (name x.message) } ∷ []) on;
-    tells = refl;
-    beside = beside;
-    chains = one-chains name s x sent_on one chain;
-    hands = record { counts = λ i. let o = times-one name i x sent_on one in omega arith; others = λ i none kept some. refl };
-    spends = record { mblks = omega arith; dblks = omega arith };
-    pool = record { mblks = refl; dblks = refl };
-  }
+-- the message itself goes on
+pub passed-put : (s : StoreValue) (p : Streams) (x : Sent) (sent_on : List Sent) (f : Fates) (to : Spot) → AreBeside s p → IsChain (in_hand s (token x.message)) → x.to ≡ record to { at = modules_on to.side (state_in s p) } → sent_on ≡ x ∷ []
+    → PutBy s s p p (token x.message) 0 sent_on f f (passed_up to (message_in s (token x.message)) (state_in s p))
+passed-put s p x sent_on f to beside chain on one = record {
+  state = refl;
+  sent = one-parts s x sent_on one ∙ ap (λ spot. record { to = spot; message = message_in s (token x.message) } ∷ []) on;
+  tells = refl;
+  beside = beside;
+  chains = one-chains s x sent_on one chain;
+  hands = record { counts = λ i. let o = times-one i x sent_on one in omega arith; others = λ i none kept some. refl };
+  spends = record { mblks = omega arith; dblks = omega arith };
+  pool = record { mblks = refl; dblks = refl };
+}
 
-  -- what a put takes, with all that it gives rise to
-  with-later : (s t : StoreValue) (p q : Streams S) (m takes all later : ℕ) (sent_on : List (Sent M)) (f f' : Fates) (is : Took ℕ (State ℕ)) → takes + later ≤ all
-      → PutBy name view s t p q m takes sent_on f f' is → PutAs name view s t p q m all later sent_on f f' is
-  with-later s t p q m takes all later sent_on f f' is low put = record {
-    state = put.state;
-    sent = put.sent;
-    tells = put.tells;
-    beside = put.beside;
-    chains = put.chains;
-    hands = put.hands;
-    spends = record { mblks = omega (arith, put.spends.mblks, low); dblks = omega (arith, put.spends.dblks, low) };
-    pool = put.pool;
-  }
+-- what a put takes, with all that it gives rise to
+with-later : (s t : StoreValue) (p q : Streams) (m takes all later : ℕ) (sent_on : List Sent) (f f' : Fates) (is : Took ℕ (State ℕ)) → takes + later ≤ all
+    → PutBy s t p q m takes sent_on f f' is → PutAs s t p q m all later sent_on f f' is
+with-later s t p q m takes all later sent_on f f' is low put = record {
+  state = put.state;
+  sent = put.sent;
+  tells = put.tells;
+  beside = put.beside;
+  chains = put.chains;
+  hands = put.hands;
+  spends = record { mblks = omega (arith, put.spends.mblks, low); dblks = omega (arith, put.spends.dblks, low) };
+  pool = put.pool;
+}
 
-  -- a put at a spot
-  abbrev PutIn : (s t : StoreValue) (p q : Streams S) (i : ℕ) (to : Spot) (sent_on : List (Sent M)) (f f' : Fates) → Took ℕ (State ℕ) → Type 0
-  PutIn s t p q i to sent_on f f' is =
-      let each = stack_cost (stands_of (state_in view.modules s p)) in
-      PutAs name view s t p q i (each to (message_in s i)) (cost_of each is.sent) sent_on f f' is
+-- a put at a spot
+abbrev PutIn : (s t : StoreValue) (p q : Streams) (i : ℕ) (to : Spot) (sent_on : List Sent) (f f' : Fates) → Took ℕ (State ℕ) → Type 0
+PutIn s t p q i to sent_on f f' is =
+    let each = stack_cost (stands_of (state_in s p)) in
+    PutAs s t p q i (each to (message_in s i)) (cost_of each is.sent) sent_on f f' is
 
-  -- at the head
-  pub head-put : (s t : StoreValue) (p q : Streams S) (i : ℕ) (to : Spot) (sent_on : List (Sent M)) (f f' : Fates) → let m = message_in s i in to.at ≡ 0
-      → PutBy name view s t p q i (head_takes m) sent_on f f' (put_at_head to.side to m (state_in view.modules s p)) → PutIn s t p q i to sent_on f f' (put_in cells.plain to m (state_in view.modules s p))
-  head-put s t p q i to sent_on f f' top put =
-      let m = message_in s i in
-      let st = state_in view.modules s p in
-      let all = stands_of st in
-      let is = put_at_head to.side to m st in
-      let at : (to.at == 0) ≡ true = grind (arith, nat_tests) in
-      subst (λ b. PutIn s t p q i to sent_on f f' (cond b (put_at_head to.side to m st) (put_below cells.plain to.way to m st))) (sym at)
-      (with-later s t p q i (head_takes m) (stack_cost all to m) (cost_of (stack_cost all) is.sent) sent_on f f' is (head-stack all to m st top) put)
+-- at the head
+pub head-put : (s t : StoreValue) (p q : Streams) (i : ℕ) (to : Spot) (sent_on : List Sent) (f f' : Fates) → let m = message_in s i in to.at ≡ 0
+    → PutBy s t p q i (head_takes m) sent_on f f' (put_at_head to.side to m (state_in s p)) → PutIn s t p q i to sent_on f f' (put_in cells.plain to m (state_in s p))
+head-put s t p q i to sent_on f f' top put =
+    let m = message_in s i in
+    let st = state_in s p in
+    let all = stands_of st in
+    let is = put_at_head to.side to m st in
+    let at : (to.at == 0) ≡ true = grind (arith, nat_tests) in
+    subst (λ b. PutIn s t p q i to sent_on f f' (cond b (put_at_head to.side to m st) (put_below cells.plain to.way to m st))) (sym at)
+    (with-later s t p q i (head_takes m) (stack_cost all to m) (cost_of (stack_cost all) is.sent) sent_on f f' is (head-stack all to m st top) put)
 
-  -- below the head, by whether a module stands at the place
-  below-put : (s t : StoreValue) (p q : Streams S) (i : ℕ) (to : Spot) (sent_on : List (Sent M)) (f f' : Fates) (stands : Bool) → let m = message_in s i in let st = state_in view.modules s p in
-      (to.at ≡ 0 → ⊥) → nat_le to.at (modules_on to.side st) ≡ stands
-      → PutIn s t p q i to sent_on f f' (cond stands (put_at_module cells.plain to m st) (put_behind to.way to m st)) → PutIn s t p q i to sent_on f f' (put_in cells.plain to m st)
-  below-put s t p q i to sent_on f f' stands inside place put =
-      let m = message_in s i in
-      let st = state_in view.modules s p in
-      let below : (to.at == 0) ≡ false = grind (arith, nat_tests) in
-      subst (λ b. PutIn s t p q i to sent_on f f' (cond b (put_at_head to.side to m st) (put_below cells.plain to.way to m st))) (sym below)
-      (subst (λ b. PutIn s t p q i to sent_on f f' (cond b (put_at_module cells.plain to m st) (put_behind to.way to m st))) (sym place) put)
+-- below the head, by whether a module stands at the place
+below-put : (s t : StoreValue) (p q : Streams) (i : ℕ) (to : Spot) (sent_on : List Sent) (f f' : Fates) (stands : Bool) → let m = message_in s i in let st = state_in s p in
+    (to.at ≡ 0 → ⊥) → nat_le to.at (modules_on to.side st) ≡ stands
+    → PutIn s t p q i to sent_on f f' (cond stands (put_at_module cells.plain to m st) (put_behind to.way to m st)) → PutIn s t p q i to sent_on f f' (put_in cells.plain to m st)
+below-put s t p q i to sent_on f f' stands inside place put =
+    let m = message_in s i in
+    let st = state_in s p in
+    let below : (to.at == 0) ≡ false = grind (arith, nat_tests) in
+    subst (λ b. PutIn s t p q i to sent_on f f' (cond b (put_at_head to.side to m st) (put_below cells.plain to.way to m st))) (sym below)
+    (subst (λ b. PutIn s t p q i to sent_on f f' (cond b (put_at_module cells.plain to m st) (put_behind to.way to m st))) (sym place) put)
 
-  pub module-put : (s t : StoreValue) (p q : Streams S) (i : ℕ) (to : Spot) (sent_on : List (Sent M)) (f f' : Fates) → let m = message_in s i in let st = state_in view.modules s p in
-      let ms = (stream to.side st).modules in (to.at ≡ 0 → ⊥) → nat_le to.at (modules_on to.side st) ≡ true
-      → PutAs name view s t p q i (at_place (module_takes to m) 0 to.at ms) (at_place (module_leaves to m) 0 to.at ms) sent_on f f' (put_at_module cells.plain to m st)
-      → PutIn s t p q i to sent_on f f' (put_in cells.plain to m st)
-  module-put s t p q i to sent_on f f' inside stands put =
-      let m = message_in s i in
-      let st = state_in view.modules s p in
-      let some : 0 < to.at = grind (arith, nat_tests) in
-      let low : to.at ≤ modules_on to.side st = grind (arith, nat_tests) in
-      let fits = place-cost to m st some low in
-      below-put s t p q i to sent_on f f' true inside stands record {
-        state = put.state;
-        sent = put.sent;
-        tells = put.tells;
-        beside = put.beside;
-        chains = put.chains;
-        hands = put.hands;
-        spends = record { mblks = omega (arith, put.spends.mblks, fits); dblks = omega (arith, put.spends.dblks, fits) };
-        pool = put.pool;
-      }
+pub module-put : (s t : StoreValue) (p q : Streams) (i : ℕ) (to : Spot) (sent_on : List Sent) (f f' : Fates) → let m = message_in s i in let st = state_in s p in
+    let ms = (stream to.side st).modules in (to.at ≡ 0 → ⊥) → nat_le to.at (modules_on to.side st) ≡ true
+    → PutAs s t p q i (at_place (module_takes to m) 0 to.at ms) (at_place (module_leaves to m) 0 to.at ms) sent_on f f' (put_at_module cells.plain to m st)
+    → PutIn s t p q i to sent_on f f' (put_in cells.plain to m st)
+module-put s t p q i to sent_on f f' inside stands put =
+    let m = message_in s i in
+    let st = state_in s p in
+    let some : 0 < to.at = grind (arith, nat_tests) in
+    let low : to.at ≤ modules_on to.side st = grind (arith, nat_tests) in
+    let fits = place-cost to m st some low in
+    below-put s t p q i to sent_on f f' true inside stands record {
+      state = put.state;
+      sent = put.sent;
+      tells = put.tells;
+      beside = put.beside;
+      chains = put.chains;
+      hands = put.hands;
+      spends = record { mblks = omega (arith, put.spends.mblks, fits); dblks = omega (arith, put.spends.dblks, fits) };
+      pool = put.pool;
+    }
 
-  pub behind-put : (way : Way) (s t : StoreValue) (p q : Streams S) (i : ℕ) (to : Spot) (sent_on : List (Sent M)) (f f' : Fates) → let m = message_in s i in let st = state_in view.modules s p in
-      to.way ≡ way → (to.at ≡ 0 → ⊥) → nat_le to.at (modules_on to.side st) ≡ false
-      → PutBy name view s t p q i (below_takes way (has_parts m) (is_across to m)) sent_on f f' (put_behind way to m st) → PutIn s t p q i to sent_on f f' (put_in cells.plain to m st)
-  behind-put way s t p q i to sent_on f f' is inside past put =
-      let m = message_in s i in
-      let st = state_in view.modules s p in
-      below-put s t p q i to sent_on f f' false inside past
-      (with-later s t p q i (below_takes to.way (has_parts m) (is_across to m)) (stack_cost (stands_of st) to m) (cost_of (stack_cost (stands_of st)) (put_behind to.way to m st).sent) sent_on f f' (put_behind to.way to m st) (behind-stack (stands_of st) to m st inside past)
-      (subst (λ w. PutBy name view s t p q i (below_takes w (has_parts m) (is_across to m)) sent_on f f' (put_behind w to m st)) (sym is) put))
+pub behind-put : (way : Way) (s t : StoreValue) (p q : Streams) (i : ℕ) (to : Spot) (sent_on : List Sent) (f f' : Fates) → let m = message_in s i in let st = state_in s p in
+    to.way ≡ way → (to.at ≡ 0 → ⊥) → nat_le to.at (modules_on to.side st) ≡ false
+    → PutBy s t p q i (below_takes way (has_parts m) (is_across to m)) sent_on f f' (put_behind way to m st) → PutIn s t p q i to sent_on f f' (put_in cells.plain to m st)
+behind-put way s t p q i to sent_on f f' is inside past put =
+    let m = message_in s i in
+    let st = state_in s p in
+    below-put s t p q i to sent_on f f' false inside past
+    (with-later s t p q i (below_takes to.way (has_parts m) (is_across to m)) (stack_cost (stands_of st) to m) (cost_of (stack_cost (stands_of st)) (put_behind to.way to m st).sent) sent_on f f' (put_behind to.way to m st) (behind-stack (stands_of st) to m st inside past)
+    (subst (λ w. PutBy s t p q i (below_takes w (has_parts m) (is_across to m)) sent_on f f' (put_behind w to m st)) (sym is) put))
 
-  -- what a head sends down is made
-  pub came-put : (s t u : StoreValue) (p q : Streams S) (m n k : ℕ) (down : List (Parcel ℕ)) (made : List (Sent M)) (f f' : Fates) (is : Took ℕ (State ℕ))
-      → CanPut s m (kept_by view p) → CameBy view s t p q m down f f' is → Makes name t u n made down → n ≤ k → PutBy name view s u p q m k made f f' is
-  came-put s t u p q m n k down made f f' is can came makes le =
-      let can' : CanPut s m (kept_by view q) = record { apart = λ i. omega (arith, can.apart i, came.keeps i) } in
-      let stays = made-stays s t u m 0 n (λ _. 0) (λ i. times_sent name i made) (kept_by view q) can' came.hands makes.hands in
-      let all = shifts-as s u (λ i. once m i + 0) (λ i. 0 + times_sent name i made) (once m) (λ i. times_sent name i made) (0 + n) k
-      (shifts-both s t u (once m) (λ _. 0) (λ _. 0) (λ i. times_sent name i made) 0 n came.hands makes.hands) (λ i. omega arith) (λ i. omega arith) (omega arith) in
-      record {
-        state = same-state view t u makes.lists q came.beside stays ∙ came.state;
-        sent = makes.sent ∙ came.down_is;
-        tells = came.tells;
-        beside = same-beside view t u makes.lists q came.beside stays;
-        chains = makes.chains;
-        hands = handled s u m k (λ i. times_sent name i made) (kept_by view p) (kept_by view q) came.keeps all;
-        spends = spent s u (once m) (λ i. times_sent name i made) k k (omega arith) all;
-        pool = all.pool;
-      }
+-- what a head sends down is made
+pub came-put : (s t u : StoreValue) (p q : Streams) (m n k : ℕ) (down : List (Parcel ℕ)) (made : List Sent) (f f' : Fates) (is : Took ℕ (State ℕ))
+    → CanPut s m (kept_by p) → CameBy s t p q m down f f' is → Makes t u n made down → n ≤ k → PutBy s u p q m k made f f' is
+came-put s t u p q m n k down made f f' is can came makes le =
+    let can' : CanPut s m (kept_by q) = record { apart = λ i. omega (arith, can.apart i, came.keeps i) } in
+    let stays = made-stays s t u m 0 n (λ _. 0) (λ i. times_sent i made) (kept_by q) can' came.hands makes.hands in
+    let all = shifts-as s u (λ i. once m i + 0) (λ i. 0 + times_sent i made) (once m) (λ i. times_sent i made) (0 + n) k
+    (shifts-both s t u (once m) (λ _. 0) (λ _. 0) (λ i. times_sent i made) 0 n came.hands makes.hands) (λ i. omega arith) (λ i. omega arith) (omega arith) in
+    record {
+      state = same-state t u makes.lists q came.beside stays ∙ came.state;
+      sent = makes.sent ∙ came.down_is;
+      tells = came.tells;
+      beside = same-beside t u makes.lists q came.beside stays;
+      chains = makes.chains;
+      hands = handled s u m k (λ i. times_sent i made) (kept_by p) (kept_by q) came.keeps all;
+      spends = spent s u (once m) (λ i. times_sent i made) k k (omega arith) all;
+      pool = all.pool;
+    }

@@ -100,3 +100,8 @@ pub put-low : (s : State ℕ) (caller : Caller) (prio : Prio) (control body : Op
 put-low s caller prio control body at_once =
     let later = (or_else-none (unless (goes_down caller.side s) Enxio) _ at_once).1 in
     low-band prio control body (or_else-none (put_refusal prio control body) (unless (in_range s) Erange) later).0
+
+-- the first refusal is the one that is told
+pub first-told : (r : Refusal) (first rest : Option Refusal) → Some r ≡ first → Some r ≡ or_else first rest
+first-told r (Some q) rest is = is
+first-told r None rest is = absurd (cc)

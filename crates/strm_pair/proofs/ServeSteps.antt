@@ -48,11 +48,12 @@ use Rattle.strm_pair.specs.declared.calling.Call.{Call}
 use Rattle.strm_pair.specs.declared.streams.Streams.{Streams}
 use Rattle.strm_pair.specs.ModuleServed.{ActsAs, CallsAs, IsKeptAll, MayBook, StackServes, TellsAs, acts_in, between, call_of, call_units, next_cost, stop_in}
 use Rattle.strm_pair.specs.Pairs.{state_in, end_at, with_end, AreBeside, kept_by}
-use Rattle.strm_pair.specs.Streams.{View}
 use Rattle.strm_pair.proofs.Takings.{tallied-both}
 use Rattle.strm_ldterm.proofs.Spared.{call-few}
 use Rattle.strm_pair.proofs.ModuleSteps.{modules-are, stack-acts, stack-modules}
 use Rattle.strm_pair.proofs.PlaceCosts.{once-stands, sent-most}
+use Rattle.strm_pair.specs.Stacks.{stack_keeps, Stack}
+use Rattle.strm_pair.specs.ModuleStacks.{stack-long}
 
 -- what is so where something is, is so of what follows from it
 pub on-true : {P Q : Type 0} (b : Bool) → (P → Q) → OnTrue b P → OnTrue b Q
@@ -144,34 +145,33 @@ module _ (here : Spot) (again : Bool) (call : Call) (st : State ℕ) (tells : Te
       ∙ ap (between f.made_from_slave) (slave-told told_in f few)
       ∙ between-counts f.made_from_slave (made_in SlaveToMaster told_in) few (omega (arith, made-fits may SlaveToMaster))
 
-module _ {S : Type 0} (view : View S) where
-  -- what the stack of a side keeps is in hand, where all that is in hand is kept
-  pub kept-in : (side : Side) (s : StoreValue) (p : Streams S) → IsKeptAll view s p → AreIn s (λ _. 0) (view.keeps (end_at side p).stack)
-  kept-in Master s p all = record { apart = λ i. omega (arith, all i) }
-  kept-in Slave s p all = record { apart = λ i. omega (arith, all i) }
+-- what the stack of a side keeps is in hand, where all that is in hand is kept
+pub kept-in : (side : Side) (s : StoreValue) (p : Streams) → IsKeptAll s p → AreIn s (λ _. 0) (stack_keeps (end_at side p).stack)
+kept-in Master s p all = record { apart = λ i. omega (arith, all i) }
+kept-in Slave s p all = record { apart = λ i. omega (arith, all i) }
 
-  pub all-in : (s : StoreValue) (p : Streams S) → IsKeptAll view s p → AreIn s (λ _. 0) (kept_by view p)
-  all-in s p all = record { apart = λ i. omega (arith, all i) }
+pub all-in : (s : StoreValue) (p : Streams) → IsKeptAll s p → AreIn s (λ _. 0) (kept_by p)
+all-in s p all = record { apart = λ i. omega (arith, all i) }
 
-  -- as many modules stand there, whatever the store
-  pub within-any : (s t : StoreValue) (p : Streams S) (side : Side) (at : ℕ) → at ≤ length (stream side (state_in view.modules s p)).modules → at ≤ length (stream side (state_in view.modules t p)).modules
-  within-any s t p Master at low = omega (arith, low, view.long s t p.master.stack)
-  within-any s t p Slave at low = omega (arith, low, view.long s t p.slave.stack)
+-- as many modules stand there, whatever the store
+pub within-any : (s t : StoreValue) (p : Streams) (side : Side) (at : ℕ) → at ≤ length (stream side (state_in s p)).modules → at ≤ length (stream side (state_in t p)).modules
+within-any s t p Master at low = omega (arith, low, stack-long s t p.master.stack)
+within-any s t p Slave at low = omega (arith, low, stack-long s t p.slave.stack)
 
-module _ {M S : Type 0} (name : M → ℕ) (view : View S) (s t : StoreValue) (p q : Streams S) (x : S) (here : Spot) (again : Bool) (served : Served M) (f f' : Fates) where
+module _ (s t : StoreValue) (p q : Streams) (x : Stack) (here : Spot) (again : Bool) (served : Served) (f f' : Fates) where
   abbrev st : State ℕ
-  st = state_in view.modules s p
+  st = state_in s p
 
-  abbrev old : S
+  abbrev old : Stack
   old = (end_at here.side p).stack
 
   abbrev ms : List (Module ℕ)
   ms = (stream here.side st).modules
 
   -- what it tells of itself
-  pub tells-by : StackServes name view s t old x here again served f f' → TellsAs here again (call_of served) st
+  pub tells-by : StackServes s t old x here again served f f' → TellsAs here again (call_of served) st
   tells-by e =
-      let same = sym (modules-are view s p here.side) in
+      let same = sym (modules-are s p here.side) in
       record {
         bytes = e.bytes ∙ ap (treated here again (stop_in (call_of served))) same;
         asks = e.asks ∙ ap (asks_on here again (stop_in (call_of served))) same;
@@ -181,21 +181,21 @@ module _ {M S : Type 0} (name : M → ℕ) (view : View S) (s t : StoreValue) (p
       }
 
   -- what the module does, and what is booked of it
-  pub acts-by : (place : Option Place) (earlier : Way → Option QueueName) (m n : ℕ) → IsStore s → IsKeptAll view s p → AreBeside view s p
+  pub acts-by : (place : Option Place) (earlier : Way → Option QueueName) (m n : ℕ) → IsStore s → IsKeptAll s p → AreBeside s p
       → place ≡ slice_index_or (places_of ms) (here.at - 1) None → ((way : Way) → earlier way ≡ earlier_at here.side here.at st way)
-      → StackServes name view s t old x here again served f f'
+      → StackServes s t old x here again served f f'
       → let told = (called here again (stop_in (call_of served)) ms).gone in m ≡ made_in MasterToSlave told → n ≡ made_in SlaveToMaster told
       → q ≡ record (with_end here.side (record (end_at here.side p) { stack = x }) p) {
         enabled = noted here.side place earlier served.acts.notes.items p.enabled;
         from_master = with_made m p.from_master;
         from_slave = with_made n p.from_slave;
       }
-      → ActsAs name view s t p q here again (call_of served) (sent_of served.acts.sent) f f'
+      → ActsAs s t p q here again (call_of served) (sent_of served.acts.sent) f f'
   acts-by place earlier m n store all beside place_is earlier_is e m_is n_is q_is =
       let stop = stop_in (call_of served) in
-      let same = sym (modules-are view s p here.side) in
+      let same = sym (modules-are s p here.side) in
       let did = called here again stop ms in
-      let r = stack-acts view s t p q x here (λ _. 0) (λ i. times_sent name i (sent_of served.acts.sent)) did place earlier served.acts.notes.items m n store (all-in view s p all) beside place_is earlier_is
+      let r = stack-acts s t p q x here (λ _. 0) (λ i. times_sent i (sent_of served.acts.sent)) did place earlier served.acts.notes.items m n store (all-in s p all) beside place_is earlier_is
       (e.state ∙ ap (λ ls. (called here again stop ls).state) same) (e.notes ∙ ap (λ ls. (called here again stop ls).notes) same) (serve-names plain here 0 again stop (here.at - 1) ms)
       e.held e.own e.hands e.pool m_is n_is q_is in
       record {
@@ -207,7 +207,7 @@ module _ {M S : Type 0} (name : M → ℕ) (view : View S) (s t : StoreValue) (p
         chains = e.chains;
         falls = e.falls;
         hands = r.hands;
-        room = subst (λ ls. HasRoom t (later_cost most_cost served.again (at_place (turn_cost here true) 0 here.at ls) (parcels_in name t (sent_of served.acts.sent)))) (sym (ap (λ y. (stream here.side (state_in view.modules t y)).modules) q_is ∙ stack-modules view here.side t p x (noted here.side place earlier served.acts.notes.items p.enabled) (with_made m p.from_master) (with_made n p.from_slave))) e.room;
+        room = subst (λ ls. HasRoom t (later_cost most_cost served.again (at_place (turn_cost here true) 0 here.at ls) (parcels_in t (sent_of served.acts.sent)))) (sym (ap (λ y. (stream here.side (state_in t y)).modules) q_is ∙ stack-modules here.side t p x (noted here.side place earlier served.acts.notes.items p.enabled) (with_made m p.from_master) (with_made n p.from_slave))) e.room;
         pool = e.pool;
       }
 
@@ -251,40 +251,40 @@ next-room s t true sent next next' same room spends = record { mblks = omega (ar
 next-room s t false sent next next' same room spends = tt
 
 -- a call whose messages are delivered
-module _ {M S : Type 0} (name : M → ℕ) (view : View S) (r s : StoreValue) (o p : Streams S) (here : Spot) (again : Bool) (call : Call) (sent_on : List (Sent M)) (f f' : Fates)
-    (inside : 0 < here.at) (begins : Begins here.way again (ldterm_of (module_at here (state_in view.modules r o)))) (low : here.at - 1 < length (stream here.side (state_in view.modules r o)).modules)
-    (a : ActsAs name view r s o p here again call sent_on f f') where
+module _ (r s : StoreValue) (o p : Streams) (here : Spot) (again : Bool) (call : Call) (sent_on : List Sent) (f f' : Fates)
+    (inside : 0 < here.at) (begins : Begins here.way again (ldterm_of (module_at here (state_in r o)))) (low : here.at - 1 < length (stream here.side (state_in r o)).modules)
+    (a : ActsAs r s o p here again call sent_on f f') where
   -- what its messages take, by the modules that stand there
   abbrev takes : ℕ
-  takes = cost_of (stack_cost (stands_of (state_in view.modules s p))) (parcels_in name s sent_on)
+  takes = cost_of (stack_cost (stands_of (state_in s p))) (parcels_in s sent_on)
 
-  takes-most : takes ≤ cost_of most_cost (parcels_in name s sent_on)
-  takes-most = sent-most (stands_of (state_in view.modules s p)) (once-stands view s p a.beside) (parcels_in name s sent_on)
+  takes-most : takes ≤ cost_of most_cost (parcels_in s sent_on)
+  takes-most = sent-most (stands_of (state_in s p)) (once-stands s p a.beside) (parcels_in s sent_on)
 
   takes-few : takes ≤ 31
   takes-few =
-      let few = among-sends here inside again (stop_in call) (here.at - 1) (stream here.side (state_in view.modules r o)).modules low begins in
+      let few = among-sends here inside again (stop_in call) (here.at - 1) (stream here.side (state_in r o)).modules low begins in
       omega (arith, takes-most, few, ap (cost_of (most_cost {C = ℕ})) a.sent)
 
-  acted-spare : spare (state_in view.modules r o) ≤ spare (state_in view.modules s p) + (3 * call.bytes + 2)
-  acted-spare = omega (arith, acted-left here again call (state_in view.modules r o) a.itself begins low, ap spare a.state)
+  acted-spare : spare (state_in r o) ≤ spare (state_in s p) + (3 * call.bytes + 2)
+  acted-spare = omega (arith, acted-left here again call (state_in r o) a.itself begins low, ap spare a.state)
 
-  pub calls-may : MayBook here again (state_in view.modules r o) → MayTake s (spare (state_in view.modules s p)) takes
+  pub calls-may : MayBook here again (state_in r o) → MayTake s (spare (state_in s p)) takes
   calls-may may = record {
     room = record { mblks = omega (arith, a.room.mblks, takes-most); dblks = omega (arith, a.room.dblks, takes-most) };
-    spare = omega (arith, may, call-within here again call (state_in view.modules r o) a.itself begins low, acted-spare, takes-few);
+    spare = omega (arith, may, call-within here again call (state_in r o) a.itself begins low, acted-spare, takes-few);
   }
 
-  pub calls-by : (t : StoreValue) (q : Streams S) (f'' : Fates) → IsKeptAll view r o
-      → (let u = in_turn (carried (put_in plain) HOPS) (parcels_in name s sent_on) (state_in view.modules s p) in f'' ≡ tallied u.gone f')
-      → (let u = in_turn (carried (put_in plain) HOPS) (parcels_in name s sent_on) (state_in view.modules s p) in state_in view.modules t q ≡ u.state)
-      → AreBeside view t q → Handles s t (λ i. times_sent name i sent_on) (kept_by view p) (kept_by view q) (λ _. 0)
-      → Takes s t (spare (state_in view.modules s p)) (spare (state_in view.modules t q)) takes 0 → SamePool s t → CallsAs view r t o q here again call f f''
+  pub calls-by : (t : StoreValue) (q : Streams) (f'' : Fates) → IsKeptAll r o
+      → (let u = in_turn (carried (put_in plain) HOPS) (parcels_in s sent_on) (state_in s p) in f'' ≡ tallied u.gone f')
+      → (let u = in_turn (carried (put_in plain) HOPS) (parcels_in s sent_on) (state_in s p) in state_in t q ≡ u.state)
+      → AreBeside t q → Handles s t (λ i. times_sent i sent_on) (kept_by p) (kept_by q) (λ _. 0)
+      → Takes s t (spare (state_in s p)) (spare (state_in t q)) takes 0 → SamePool s t → CallsAs r t o q here again call f f''
   calls-by t q f'' all told state beside hands spends pool =
-      let st = state_in view.modules r o in
+      let st = state_in r o in
       let w = acts_in here again call st in
       let on : List (Parcel ℕ) → State ℕ → Carried ℕ (State ℕ) = λ ps v. in_turn (carried (put_in plain) HOPS) ps v in
-      let is = ap (λ ps. on ps (state_in view.modules s p)) a.sent ∙ ap (on w.sent) a.state in
+      let is = ap (λ ps. on ps (state_in s p)) a.sent ∙ ap (on w.sent) a.state in
       let led_state = state ∙ ap (λ (u : Carried ℕ (State ℕ)). u.state) is in
       record {
         state = led_state;
@@ -292,7 +292,7 @@ module _ {M S : Type 0} (name : M → ℕ) (view : View S) (r s : StoreValue) (o
         itself = a.itself;
         beside = beside;
         hand = λ i. omega (arith, all i, a.hands.counts i, hands.counts i);
-        room = next-room s t call.again (cost_of most_cost (parcels_in name s sent_on)) (next_cost here (state_in view.modules s p)) (next_cost here (state_in view.modules t q))
+        room = next-room s t call.again (cost_of most_cost (parcels_in s sent_on)) (next_cost here (state_in s p)) (next_cost here (state_in t q))
             (ap (next_cost here) led_state ∙ sent-cost here w.sent w.state ∙ ap (next_cost here) (sym a.state)) a.room
             (record { mblks = omega (arith, spends.blocks.mblks, takes-most); dblks = omega (arith, spends.blocks.dblks, takes-most) });
         left = omega (arith, acted-spare, spends.spare, takes-few);

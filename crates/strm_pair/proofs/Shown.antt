@@ -18,35 +18,37 @@ use Rattle.strm_pair.specs.declared.streams.Streams.{Streams}
 use Rattle.strm_pair.specs.ModuleLists.{ordered-map}
 use Rattle.strm_pair.specs.Pairs.{state_in, free_in, AreHeld}
 use Rattle.strm_pair.specs.Pool.{IsPoolOf}
-use Rattle.strm_pair.specs.Streams.{AreFor, AreShown, IsSide, View, stream_in}
+use Rattle.strm_pair.specs.Streams.{AreFor, AreShown, IsSide, stream_in}
 use Rattle.strm_pair.proofs.FreeBlocks.{IsBare, used-enough, bare-free_m, bare-free_d}
+use Rattle.strm_pair.specs.Stacks.{modules_in, stack_owns}
+use Rattle.strm_pair.specs.ModuleStacks.{stack-shows}
 
 all-joined : {A : Type 0} (P : A → Type 0) (xs ys : List A) → AllByRecursion P xs → AllByRecursion P ys → AllByRecursion P (xs ++ ys)
 all-joined P [] ys all more = more
 all-joined P (x ∷ xs) ys all more = (all.0, all-joined P xs ys all.1 more)
 
 -- what a side's lists show of its stream, while nothing of a turn is under way
-module _ {S : Type 0} (view : View S) (s : StoreValue) (first : ℕ) (e : End S) (is : IsSide view s first e) (idle : AllByRecursion (λ p. IsAtRest p) (view.modules s e.stack)) where
-  lists-for : AreFor s (first + 2) (view.owns e.stack)
+module _ (s : StoreValue) (first : ℕ) (e : End) (is : IsSide s first e) (idle : AllByRecursion (λ p. IsAtRest p) (modules_in s e.stack)) where
+  lists-for : AreFor s (first + 2) (stack_owns e.stack)
   lists-for = record {
     owned = λ k some. let own = is.owned k some in (own.0, omega (arith, own.1));
     spare = λ k low high none. is.spare k low (omega (arith, high)) none;
   }
 
-  pub modules-shown : AreShown s (first + 2) (view.modules s e.stack)
-  modules-shown = view.shown s e.stack (first + 2) is.stack idle lists-for
+  pub modules-shown : AreShown s (first + 2) (modules_in s e.stack)
+  modules-shown = stack-shows s e.stack (first + 2) is.stack idle lists-for
 
-  pub stream-ordered : AllByRecursion (λ q. IsOrdered q.messages) (stream_queues (stream_in view.modules s e))
+  pub stream-ordered : AllByRecursion (λ q. IsOrdered q.messages) (stream_queues (stream_in s e))
   stream-ordered = (
     ordered-map (list_at s e.head.queue.list) is.head.ready.messages.ordered,
-    all-joined (λ (q : Queue ℕ). IsOrdered q.messages) (queues_of_modules (view.modules s e.stack)) (queue_in s e.driver ∷ []) modules-shown.ordered
+    all-joined (λ (q : Queue ℕ). IsOrdered q.messages) (queues_of_modules (modules_in s e.stack)) (queue_in s e.driver ∷ []) modules-shown.ordered
         (ordered-map (list_at s e.driver.list) is.driver.messages.ordered, tt),
   )
 
-  pub stream-many : sum_by (λ (q : Queue ℕ). length q.messages) (stream_queues (stream_in view.modules s e))
+  pub stream-many : sum_by (λ (q : Queue ℕ). length q.messages) (stream_queues (stream_in s e))
       ≡ length (list_at s first) + (length (list_at s (first + 1)) + (length (list_at s (first + 2)) + length (list_at s (first + 2 + 1))))
   stream-many =
-      let qs = queues_of_modules (view.modules s e.stack) in
+      let qs = queues_of_modules (modules_in s e.stack) in
       let h = queue_in s e.head.queue in
       let d = queue_in s e.driver in
       omega (
@@ -65,26 +67,26 @@ no-chain : (q : List (List Block)) → length q ≡ 0 → q ≡ []
 no-chain [] none = refl
 no-chain (c ∷ q) none = absurd (omega arith)
 
-module _ {S : Type 0} (view : View S) (s : StoreValue) (p : Streams S) (held : AreHeld view s p) (idle : AreIdle (state_in view.modules s p)) where
+module _ (s : StoreValue) (p : Streams) (held : AreHeld s p) (idle : AreIdle (state_in s p)) where
   -- each queue is in order
-  pub ordered : AreOrdered (state_in view.modules s p)
-  ordered = all-joined (λ (q : Queue ℕ). IsOrdered q.messages) (stream_queues (stream_in view.modules s p.master)) (stream_queues (stream_in view.modules s p.slave))
-      (stream-ordered view s 0 p.master held.beside.master idle.master) (stream-ordered view s 4 p.slave held.beside.slave idle.slave)
+  pub ordered : AreOrdered (state_in s p)
+  ordered = all-joined (λ (q : Queue ℕ). IsOrdered q.messages) (stream_queues (stream_in s p.master)) (stream_queues (stream_in s p.slave))
+      (stream-ordered s 0 p.master held.beside.master idle.master) (stream-ordered s 4 p.slave held.beside.slave idle.slave)
 
   -- how many messages stand on the queues
-  many : messages_in (state_in view.modules s p)
+  many : messages_in (state_in s p)
       ≡ length (list_at s 0) + (length (list_at s 1) + (length (list_at s 2) + length (list_at s 3))) + (length (list_at s 4) + (length (list_at s 5) + (length (list_at s 6) + length (list_at s 7))))
   many = omega (
     arith,
-    sum_by-append (λ (q : Queue ℕ). length q.messages) (stream_queues (stream_in view.modules s p.master)) (stream_queues (stream_in view.modules s p.slave)),
-    stream-many view s 0 p.master held.beside.master idle.master,
-    stream-many view s 4 p.slave held.beside.slave idle.slave,
+    sum_by-append (λ (q : Queue ℕ). length q.messages) (stream_queues (stream_in s p.master)) (stream_queues (stream_in s p.slave)),
+    stream-many s 0 p.master held.beside.master idle.master,
+    stream-many s 4 p.slave held.beside.slave idle.slave,
   )
 
-  in-use : IsStore s → messages_in (state_in view.modules s p) ≤ used s
+  in-use : IsStore s → messages_in (state_in s p) ≤ used s
   in-use is = omega (arith, used-enough s is, many)
 
-  bare : IsStore s → messages_in (state_in view.modules s p) ≡ 0 → IsBare s
+  bare : IsStore s → messages_in (state_in s p) ≡ 0 → IsBare s
   bare is none =
       let all = many in
       record {
@@ -100,7 +102,7 @@ module _ {S : Type 0} (view : View S) (s : StoreValue) (p : Streams S) (held : A
         at_7 = no-chain (list_at s 7) (omega arith);
       }
 
-  pub free-shown : (limits : Config) → IsStore s → s.mblks ≡ limits.mblks → s.dblks ≡ limits.dblks → IsPoolOf (messages_in (state_in view.modules s p)) limits (free_in s)
+  pub free-shown : (limits : Config) → IsStore s → s.mblks ≡ limits.mblks → s.dblks ≡ limits.dblks → IsPoolOf (messages_in (state_in s p)) limits (free_in s)
   free-shown limits is mblks dblks = record {
     in_use = omega (arith, free_m-is s, in-use is, is.enough, mblks);
     all_free = λ none.

@@ -6,10 +6,13 @@ use Rattle.strm_types.specs.declared.names.Side.TheVariants.{Master, Slave}
 use Rattle.strm_types.specs.declared.kinds.MsgKind.TheVariants as kinds
 use Rattle.strm_types.specs.Flush.{is_data_kind}
 use Rattle.strm_types.specs.Emptied.{of_all, emptied, none_goes, queue_behind}
+use Rattle.strm_types.specs.Names.{enable_some}
 use Rattle.strm_types.specs.Queue as state
+use Rattle.strm_types.specs.Queue.{is_none_left}
+use Rattle.strm_laws.specs.Earlier.{before_driver, before_head}
 use Rattle.strm_laws.specs.Stacked as stacked
 use Rattle.strm_laws.specs.State as streams
-use Rattle.strm_laws.specs.State.{State, stream, with_stream, with_driver_queue}
+use Rattle.strm_laws.specs.State.{State, stream, with_stream, with_driver_queue, with_head_queue}
 use Rattle.strm_blocks.specs.Blocks.{Block, StoreValue, empty_store, list_at}
 use Rattle.strm_msg.specs.Messages.{message_of}
 use Rattle.strm_head.specs.declared.head.Head.{Head}
@@ -23,17 +26,30 @@ use Rattle.strm_pty.specs.Does.{OnlyQueue}
 use Rattle.strm_pair.specs.declared.ends.End.{End}
 use Rattle.strm_pair.specs.declared.streams.Streams.{Streams}
 use Rattle.strm_pair.specs.Framing.{state_with, stack-same, stays-master, stays-slave, still}
-use Rattle.strm_pair.specs.Streams.{View, stream_in, IsBlank, IsSide, AreApart}
+use Rattle.strm_pair.specs.Streams.{stream_in, IsBlank, IsSide, AreApart}
 use Rattle.strm_pair.specs.Pairs.{state_in, end_at, with_end, AreBeside, AreHeld, Stays, kept_by}
+use Rattle.strm_pair.specs.Stacks.{modules_in, IsStackHeld, stack_owns, stack_keeps}
 
 -- the driver of a side is ready, and so is the head
-pub driver-ready : {S : Type 0} (view : View S) (s : StoreValue) (p : Streams S) → AreBeside view s p → (side : Side) → IsReady s (end_at side p).driver
-driver-ready view s p beside Master = beside.master.driver
-driver-ready view s p beside Slave = beside.slave.driver
+pub driver-ready : (s : StoreValue) (p : Streams) → AreBeside s p → (side : Side) → IsReady s (end_at side p).driver
+driver-ready s p beside Master = beside.master.driver
+driver-ready s p beside Slave = beside.slave.driver
 
-pub head-queue : {S : Type 0} (view : View S) (s : StoreValue) (p : Streams S) → AreBeside view s p → (side : Side) → IsHeadQueue s (end_at side p).head.queue
-head-queue view s p beside Master = beside.master.head
-head-queue view s p beside Slave = beside.slave.head
+pub head-queue : (s : StoreValue) (p : Streams) → AreBeside s p → (side : Side) → IsHeadQueue s (end_at side p).head.queue
+head-queue s p beside Master = beside.master.head
+head-queue s p beside Slave = beside.slave.head
+
+pub stack-held : (s : StoreValue) (p : Streams) → AreBeside s p → (side : Side) → IsStackHeld s (end_at side p).stack
+stack-held s p beside Master = beside.master.stack
+stack-held s p beside Slave = beside.slave.stack
+
+-- a list that stays has a message still, or none
+none-map : {A B : Type 0} (f : A → B) (xs : List A) → is_none_left (map f xs) ≡ is_none_left xs
+none-map f [] = refl
+none-map f (x ∷ xs) = refl
+
+pub none-left : (s t : StoreValue) (k : ℕ) → list_at t k ≡ list_at s k → is_none_left (map message_of (list_at s k)) ≡ is_none_left (list_at t k)
+none-left s t k same = none-map message_of (list_at s k) ∙ ap is_none_left (sym same)
 
 -- a store with nothing in it
 no-list : (n k : ℕ) → slice_index_or (replicate {A = List (List Block)} n []) k [] ≡ []
@@ -67,7 +83,7 @@ pub queue-same : (s t : StoreValue) (q : Queue) → list_at t q.list ≡ list_at
 queue-same s t q same = ap (λ l. record { messages = map message_of l; flows = plain_flows q.flows; want_read = q.want_read; no_enable = q.no_enable }) same
 
 -- a stream by its two queues and its modules
-abbrev pub stream_of : {S : Type 0} → End S → state.Queue ℕ → List (stacked.Module ℕ) → state.Queue ℕ → streams.Stream ℕ
+abbrev pub stream_of : End → state.Queue ℕ → List (stacked.Module ℕ) → state.Queue ℕ → streams.Stream ℕ
 stream_of e h ms d = record {
   opened = e.opened;
   head = record { queue = h; read_mode = e.head.read_mode; control_mode = e.head.control_mode; hung_up = e.head.hung_up; signals = e.head.signals; ioctl = plain_slot e.head.ioctl };
@@ -75,7 +91,7 @@ stream_of e h ms d = record {
   driver = record { queue = d };
 }
 
-module _ {S : Type 0} (view : View S) (s t : StoreValue) (first : ℕ) (e : End S) (is : IsSide view s first e) (stays : Stays s t (view.keeps e.stack)) where
+module _ (s t : StoreValue) (first : ℕ) (e : End) (is : IsSide s first e) (stays : Stays s t (stack_keeps e.stack)) where
   -- all lists of the side stay
   abbrev Stay : Type 0
   Stay = (k : ℕ) → first ≤ k → k < first + 4 → list_at t k ≡ list_at s k
@@ -93,23 +109,23 @@ module _ {S : Type 0} (view : View S) (s t : StoreValue) (first : ℕ) (e : End 
   within : Stay → Beside
   within stay k low high = stay k (omega (arith, low)) high
 
-  pub side-stays : Stay → IsSide view t first e
+  pub side-stays : Stay → IsSide t first e
   side-stays stay = record {
     head_list = is.head_list;
     driver_list = is.driver_list;
     head = record { ready = ready-same s t e.head.queue (head-at stay) is.head.ready; readable = subst HoldsReadable (sym (head-at stay)) is.head.readable };
     driver = ready-same s t e.driver (driver-at stay) is.driver;
-    stack = (stack-same view s t first e is stays (within stay)).1;
-    once = subst AreApart (sym (stack-same view s t first e is stays (within stay)).0) is.once;
+    stack = (stack-same s t first e is stays (within stay)).1;
+    once = subst AreApart (sym (stack-same s t first e is stays (within stay)).0) is.once;
     owned = is.owned;
     spare = λ k low high none. within stay k low high ∙ is.spare k low high none;
   }
 
-  pub stream-stays : Stay → stream_in view.modules t e ≡ stream_in view.modules s e
+  pub stream-stays : Stay → stream_in t e ≡ stream_in s e
   stream-stays stay =
-      ap (λ h. stream_of e h (view.modules t e.stack) (queue_in t e.driver)) (queue-same s t e.head.queue (head-at stay))
-      ∙ ap (λ ms. stream_of e (queue_in s e.head.queue) ms (queue_in t e.driver)) (stack-same view s t first e is stays (within stay)).0
-      ∙ ap (λ d. stream_of e (queue_in s e.head.queue) (view.modules s e.stack) d) (queue-same s t e.driver (driver-at stay))
+      ap (λ h. stream_of e h (modules_in t e.stack) (queue_in t e.driver)) (queue-same s t e.head.queue (head-at stay))
+      ∙ ap (λ ms. stream_of e (queue_in s e.head.queue) ms (queue_in t e.driver)) (stack-same s t first e is stays (within stay)).0
+      ∙ ap (λ d. stream_of e (queue_in s e.head.queue) (modules_in s e.stack) d) (queue-same s t e.driver (driver-at stay))
 
   -- the driver's queue changed
   module _ (q : Queue) (only : OnlyQueue s t e.driver q) where
@@ -119,22 +135,22 @@ module _ {S : Type 0} (view : View S) (s t : StoreValue) (first : ℕ) (e : End 
     driver-apart : Beside
     driver-apart k low high = only.others k (λ eq. let a = is.driver_list in absurd (omega arith))
 
-    driver-side : IsSide view t first (record e { driver = q })
+    driver-side : IsSide t first (record e { driver = q })
     driver-side = record {
       head_list = is.head_list;
       driver_list = only.list ∙ is.driver_list;
       head = record { ready = ready-same s t e.head.queue head-beside is.head.ready; readable = subst HoldsReadable (sym head-beside) is.head.readable };
       driver = only.ready;
-      stack = (stack-same view s t first e is stays driver-apart).1;
-      once = subst AreApart (sym (stack-same view s t first e is stays driver-apart).0) is.once;
+      stack = (stack-same s t first e is stays driver-apart).1;
+      once = subst AreApart (sym (stack-same s t first e is stays driver-apart).0) is.once;
       owned = is.owned;
       spare = λ k low high none. driver-apart k low high ∙ is.spare k low high none;
     }
 
-    driver-stream : stream_in view.modules t (record e { driver = q }) ≡ with_driver_queue (queue_in t q) (stream_in view.modules s e)
+    driver-stream : stream_in t (record e { driver = q }) ≡ with_driver_queue (queue_in t q) (stream_in s e)
     driver-stream =
-        ap (λ h. stream_of e h (view.modules t e.stack) (queue_in t q)) (queue-same s t e.head.queue head-beside)
-        ∙ ap (λ ms. stream_of e (queue_in s e.head.queue) ms (queue_in t q)) (stack-same view s t first e is stays driver-apart).0
+        ap (λ h. stream_of e h (modules_in t e.stack) (queue_in t q)) (queue-same s t e.head.queue head-beside)
+        ∙ ap (λ ms. stream_of e (queue_in s e.head.queue) ms (queue_in t q)) (stack-same s t first e is stays driver-apart).0
 
   -- the head changed
   module _ (h : Head) (only : OnlyQueue s t e.head.queue h.queue) where
@@ -144,34 +160,34 @@ module _ {S : Type 0} (view : View S) (s t : StoreValue) (first : ℕ) (e : End 
     head-apart : Beside
     head-apart k low high = only.others k (λ eq. let a = is.head_list in absurd (omega arith))
 
-    head-side : HoldsReadable (list_at t h.queue.list) → IsSide view t first (record e { head = h })
+    head-side : HoldsReadable (list_at t h.queue.list) → IsSide t first (record e { head = h })
     head-side readable = record {
       head_list = only.list ∙ is.head_list;
       driver_list = is.driver_list;
       head = record { ready = only.ready; readable = readable };
       driver = ready-same s t e.driver driver-beside is.driver;
-      stack = (stack-same view s t first e is stays head-apart).1;
-      once = subst AreApart (sym (stack-same view s t first e is stays head-apart).0) is.once;
+      stack = (stack-same s t first e is stays head-apart).1;
+      once = subst AreApart (sym (stack-same s t first e is stays head-apart).0) is.once;
       owned = is.owned;
       spare = λ k low high none. head-apart k low high ∙ is.spare k low high none;
     }
 
-    head-stream : stream_in view.modules t (record e { head = h }) ≡ record (stream_in view.modules s e) { head = head_in t h }
+    head-stream : stream_in t (record e { head = h }) ≡ record (stream_in s e) { head = head_in t h }
     head-stream =
-        ap (λ d. record { opened = e.opened; head = head_in t h; modules = view.modules t e.stack; driver = record { queue = d } }) (queue-same s t e.driver driver-beside)
-        ∙ ap (λ ms. record { opened = e.opened; head = head_in t h; modules = ms; driver = record { queue = queue_in s e.driver } }) (stack-same view s t first e is stays head-apart).0
+        ap (λ d. record { opened = e.opened; head = head_in t h; modules = modules_in t e.stack; driver = record { queue = d } }) (queue-same s t e.driver driver-beside)
+        ∙ ap (λ ms. record { opened = e.opened; head = head_in t h; modules = ms; driver = record { queue = queue_in s e.driver } }) (stack-same s t first e is stays head-apart).0
 
 -- a stream that was closed has the same driver
-as-side : {S : Type 0} (view : View S) (t : StoreValue) (first : ℕ) (e e' : End S) → e'.driver ≡ e.driver → e'.stack ≡ e.stack → IsSide view t first (record e { head = e'.head }) → IsSide view t first e'
-as-side view t first e e' same stays is = record {
+as-side : (t : StoreValue) (first : ℕ) (e e' : End) → e'.driver ≡ e.driver → e'.stack ≡ e.stack → IsSide t first (record e { head = e'.head }) → IsSide t first e'
+as-side t first e e' same stays is = record {
   head_list = is.head_list;
   driver_list = ap (λ d. d.list) same ∙ is.driver_list;
   head = is.head;
   driver = subst (IsReady t) (sym same) is.driver;
-  stack = subst (view.IsHeld t) (sym stays) is.stack;
-  once = subst (λ x. AreApart (view.modules t x)) (sym stays) is.once;
-  owned = subst (λ x. (k : ℕ) → 0 < view.owns x k → (first + 2 ≤ k) × (k < first + 4)) (sym stays) is.owned;
-  spare = subst (λ x. (k : ℕ) → first + 2 ≤ k → k < first + 4 → view.owns x k ≡ 0 → list_at t k ≡ []) (sym stays) is.spare;
+  stack = subst (IsStackHeld t) (sym stays) is.stack;
+  once = subst (λ x. AreApart (modules_in t x)) (sym stays) is.once;
+  owned = subst (λ x. (k : ℕ) → 0 < stack_owns x k → (first + 2 ≤ k) × (k < first + 4)) (sym stays) is.owned;
+  spare = subst (λ x. (k : ℕ) → first + 2 ≤ k → k < first + 4 → stack_owns x k ≡ 0 → list_at t k ≡ []) (sym stays) is.spare;
 }
 
 -- a queue from which all went has what readers may read
@@ -187,10 +203,10 @@ readable-cleared t q old is = readable-none (list_at t q.list) (no-chain (list_a
     behind false = all-gone old.messages
 
 -- a state where both streams change
-pub both : {S : Type 0} (p : Streams S) (m m' sl sl' : streams.Stream ℕ) → m ≡ m' → sl ≡ sl' → state_with p m sl ≡ state_with p m' sl'
+pub both : (p : Streams) (m m' sl sl' : streams.Stream ℕ) → m ≡ m' → sl ≡ sl' → state_with p m sl ≡ state_with p m' sl'
 both p m m' sl sl' a b = ap (λ v. state_with p v sl) a ∙ ap (λ v. state_with p m' v) b
 
-module _ {S : Type 0} (view : View S) (s t : StoreValue) (p : Streams S) (beside : AreBeside view s p) (stays : Stays s t (kept_by view p)) where
+module _ (s t : StoreValue) (p : Streams) (beside : AreBeside s p) (stays : Stays s t (kept_by p)) where
   module _ (q : Queue) (only : OnlyQueue s t p.master.driver q) where
     across-master-driver : (k : ℕ) → 4 ≤ k → k < 4 + 4 → list_at t k ≡ list_at s k
     across-master-driver k low high = only.others k (λ eq. let a = beside.master.driver_list in absurd (omega arith))
@@ -208,58 +224,111 @@ module _ {S : Type 0} (view : View S) (s t : StoreValue) (p : Streams S) (beside
     across-slave-head k low high = only.others k (λ eq. let a = beside.slave.head_list in absurd (omega arith))
 
   -- the queue of a side's driver changed
-  pub driver-changed : (side : Side) (q : Queue) → OnlyQueue s t (end_at side p).driver q → AreBeside view t (with_end side (record (end_at side p) { driver = q }) p)
-  driver-changed Master q only = record { master = driver-side view s t 0 p.master beside.master (stays-master view s t p stays) q only; slave = side-stays view s t 4 p.slave beside.slave (stays-slave view s t p stays) (across-master-driver q only) }
-  driver-changed Slave q only = record { master = side-stays view s t 0 p.master beside.master (stays-master view s t p stays) (across-slave-driver q only); slave = driver-side view s t 4 p.slave beside.slave (stays-slave view s t p stays) q only }
+  pub driver-changed : (side : Side) (q : Queue) → OnlyQueue s t (end_at side p).driver q → AreBeside t (with_end side (record (end_at side p) { driver = q }) p)
+  driver-changed Master q only = record { master = driver-side s t 0 p.master beside.master (stays-master s t p stays) q only; slave = side-stays s t 4 p.slave beside.slave (stays-slave s t p stays) (across-master-driver q only) }
+  driver-changed Slave q only = record { master = side-stays s t 0 p.master beside.master (stays-master s t p stays) (across-slave-driver q only); slave = driver-side s t 4 p.slave beside.slave (stays-slave s t p stays) q only }
 
   pub driver-state : (side : Side) (q : Queue) → OnlyQueue s t (end_at side p).driver q
-      → state_in view.modules t (with_end side (record (end_at side p) { driver = q }) p) ≡ with_stream side (with_driver_queue (queue_in t q) (stream side (state_in view.modules s p))) (state_in view.modules s p)
+      → state_in t (with_end side (record (end_at side p) { driver = q }) p) ≡ with_stream side (with_driver_queue (queue_in t q) (stream side (state_in s p))) (state_in s p)
   driver-state Master q only =
-      both p (stream_in view.modules t (record p.master { driver = q })) (with_driver_queue (queue_in t q) (stream_in view.modules s p.master)) (stream_in view.modules t p.slave) (stream_in view.modules s p.slave)
-      (driver-stream view s t 0 p.master beside.master (stays-master view s t p stays) q only) (stream-stays view s t 4 p.slave beside.slave (stays-slave view s t p stays) (across-master-driver q only))
+      both p (stream_in t (record p.master { driver = q })) (with_driver_queue (queue_in t q) (stream_in s p.master)) (stream_in t p.slave) (stream_in s p.slave)
+      (driver-stream s t 0 p.master beside.master (stays-master s t p stays) q only) (stream-stays s t 4 p.slave beside.slave (stays-slave s t p stays) (across-master-driver q only))
   driver-state Slave q only =
-      both p (stream_in view.modules t p.master) (stream_in view.modules s p.master) (stream_in view.modules t (record p.slave { driver = q })) (with_driver_queue (queue_in t q) (stream_in view.modules s p.slave))
-      (stream-stays view s t 0 p.master beside.master (stays-master view s t p stays) (across-slave-driver q only)) (driver-stream view s t 4 p.slave beside.slave (stays-slave view s t p stays) q only)
+      both p (stream_in t p.master) (stream_in s p.master) (stream_in t (record p.slave { driver = q })) (with_driver_queue (queue_in t q) (stream_in s p.slave))
+      (stream-stays s t 0 p.master beside.master (stays-master s t p stays) (across-slave-driver q only)) (driver-stream s t 4 p.slave beside.slave (stays-slave s t p stays) q only)
 
   -- the head of a side changed
-  pub head-changed : (side : Side) (h : Head) → OnlyQueue s t (end_at side p).head.queue h.queue → HoldsReadable (list_at t h.queue.list) → AreBeside view t (with_end side (record (end_at side p) { head = h }) p)
-  head-changed Master h only readable = record { master = head-side view s t 0 p.master beside.master (stays-master view s t p stays) h only readable; slave = side-stays view s t 4 p.slave beside.slave (stays-slave view s t p stays) (across-master-head h only) }
-  head-changed Slave h only readable = record { master = side-stays view s t 0 p.master beside.master (stays-master view s t p stays) (across-slave-head h only); slave = head-side view s t 4 p.slave beside.slave (stays-slave view s t p stays) h only readable }
+  pub head-changed : (side : Side) (h : Head) → OnlyQueue s t (end_at side p).head.queue h.queue → HoldsReadable (list_at t h.queue.list) → AreBeside t (with_end side (record (end_at side p) { head = h }) p)
+  head-changed Master h only readable = record { master = head-side s t 0 p.master beside.master (stays-master s t p stays) h only readable; slave = side-stays s t 4 p.slave beside.slave (stays-slave s t p stays) (across-master-head h only) }
+  head-changed Slave h only readable = record { master = side-stays s t 0 p.master beside.master (stays-master s t p stays) (across-slave-head h only); slave = head-side s t 4 p.slave beside.slave (stays-slave s t p stays) h only readable }
 
   pub head-state : (side : Side) (h : Head) → OnlyQueue s t (end_at side p).head.queue h.queue
-      → state_in view.modules t (with_end side (record (end_at side p) { head = h }) p) ≡ with_stream side (record (stream side (state_in view.modules s p)) { head = head_in t h }) (state_in view.modules s p)
+      → state_in t (with_end side (record (end_at side p) { head = h }) p) ≡ with_stream side (record (stream side (state_in s p)) { head = head_in t h }) (state_in s p)
   head-state Master h only =
-      both p (stream_in view.modules t (record p.master { head = h })) (record (stream_in view.modules s p.master) { head = head_in t h }) (stream_in view.modules t p.slave) (stream_in view.modules s p.slave)
-      (head-stream view s t 0 p.master beside.master (stays-master view s t p stays) h only) (stream-stays view s t 4 p.slave beside.slave (stays-slave view s t p stays) (across-master-head h only))
+      both p (stream_in t (record p.master { head = h })) (record (stream_in s p.master) { head = head_in t h }) (stream_in t p.slave) (stream_in s p.slave)
+      (head-stream s t 0 p.master beside.master (stays-master s t p stays) h only) (stream-stays s t 4 p.slave beside.slave (stays-slave s t p stays) (across-master-head h only))
   head-state Slave h only =
-      both p (stream_in view.modules t p.master) (stream_in view.modules s p.master) (stream_in view.modules t (record p.slave { head = h })) (record (stream_in view.modules s p.slave) { head = head_in t h })
-      (stream-stays view s t 0 p.master beside.master (stays-master view s t p stays) (across-slave-head h only)) (head-stream view s t 4 p.slave beside.slave (stays-slave view s t p stays) h only)
+      both p (stream_in t p.master) (stream_in s p.master) (stream_in t (record p.slave { head = h })) (record (stream_in s p.slave) { head = head_in t h })
+      (stream-stays s t 0 p.master beside.master (stays-master s t p stays) (across-slave-head h only)) (head-stream s t 4 p.slave beside.slave (stays-slave s t p stays) h only)
 
 -- the same while nobody is in a call
-pub driver-held : {S : Type 0} (view : View S) (s t : StoreValue) (p : Streams S) (side : Side) (q : Queue) → AreHeld view s p → OnlyQueue s t (end_at side p).driver q → t.hand ≡ s.hand → t.mblks ≡ s.mblks → t.dblks ≡ s.dblks
-    → AreHeld view t (with_end side (record (end_at side p) { driver = q }) p)
-driver-held view s t p side q held only hand mblks dblks = record {
+pub driver-held : (s t : StoreValue) (p : Streams) (side : Side) (q : Queue) → AreHeld s p → OnlyQueue s t (end_at side p).driver q → t.hand ≡ s.hand → t.mblks ≡ s.mblks → t.dblks ≡ s.dblks
+    → AreHeld t (with_end side (record (end_at side p) { driver = q }) p)
+driver-held s t p side q held only hand mblks dblks = record {
   hand = hand ∙ held.hand;
-  beside = driver-changed view s t p held.beside (still s t (kept_by view p) hand mblks dblks) side q only;
+  beside = driver-changed s t p held.beside (still s t (kept_by p) hand mblks dblks) side q only;
 }
 
 -- the queue of a side's driver, as the state has it
-pub driver-is : {S : Type 0} (view : View S) (s : StoreValue) (p : Streams S) (side : Side) → (stream side (state_in view.modules s p)).driver.queue ≡ queue_in s (end_at side p).driver
-driver-is view s p Master = refl
-driver-is view s p Slave = refl
+pub driver-is : (s : StoreValue) (p : Streams) (side : Side) → (stream side (state_in s p)).driver.queue ≡ queue_in s (end_at side p).driver
+driver-is s p Master = refl
+driver-is s p Slave = refl
 
 -- and its head
-pub head-is : {S : Type 0} (view : View S) (s : StoreValue) (p : Streams S) (side : Side) → (stream side (state_in view.modules s p)).head ≡ head_in s (end_at side p).head
-head-is view s p Master = refl
-head-is view s p Slave = refl
+pub head-is : (s : StoreValue) (p : Streams) (side : Side) → (stream side (state_in s p)).head ≡ head_in s (end_at side p).head
+head-is s p Master = refl
+head-is s p Slave = refl
 
 -- a side whose head's queue was emptied, and whose driver stays
-pub master-renewed : {S : Type 0} (view : View S) (s t : StoreValue) (p : Streams S) (e : End S) → AreBeside view s p → e.driver ≡ p.master.driver → e.stack ≡ p.master.stack → Keeps s t p.master.head.queue e.head.queue → AreBeside view t (with_end Master e p)
-master-renewed view s t p e beside same stays keeps =
-    let all = head-changed view s t p beside (still s t (kept_by view p) keeps.hand keeps.mblks keeps.dblks) Master e.head (only-kept s t p.master.head.queue e.head.queue keeps) (readable-kept s t p.master.head.queue e.head.queue beside.master.head keeps) in
-    record { master = as-side view t 0 p.master e same stays all.master; slave = all.slave }
+pub master-renewed : (s t : StoreValue) (p : Streams) (e : End) → AreBeside s p → e.driver ≡ p.master.driver → e.stack ≡ p.master.stack → Keeps s t p.master.head.queue e.head.queue → AreBeside t (with_end Master e p)
+master-renewed s t p e beside same stays keeps =
+    let all = head-changed s t p beside (still s t (kept_by p) keeps.hand keeps.mblks keeps.dblks) Master e.head (only-kept s t p.master.head.queue e.head.queue keeps) (readable-kept s t p.master.head.queue e.head.queue beside.master.head keeps) in
+    record { master = as-side t 0 p.master e same stays all.master; slave = all.slave }
 
-pub slave-renewed : {S : Type 0} (view : View S) (s t : StoreValue) (p : Streams S) (e : End S) → AreBeside view s p → e.driver ≡ p.slave.driver → e.stack ≡ p.slave.stack → Keeps s t p.slave.head.queue e.head.queue → AreBeside view t (with_end Slave e p)
-slave-renewed view s t p e beside same stays keeps =
-    let all = head-changed view s t p beside (still s t (kept_by view p) keeps.hand keeps.mblks keeps.dblks) Slave e.head (only-kept s t p.slave.head.queue e.head.queue keeps) (readable-kept s t p.slave.head.queue e.head.queue beside.slave.head keeps) in
-    record { master = all.master; slave = as-side view t 4 p.slave e same stays all.slave }
+pub slave-renewed : (s t : StoreValue) (p : Streams) (e : End) → AreBeside s p → e.driver ≡ p.slave.driver → e.stack ≡ p.slave.stack → Keeps s t p.slave.head.queue e.head.queue → AreBeside t (with_end Slave e p)
+slave-renewed s t p e beside same stays keeps =
+    let all = head-changed s t p beside (still s t (kept_by p) keeps.hand keeps.mblks keeps.dblks) Slave e.head (only-kept s t p.slave.head.queue e.head.queue keeps) (readable-kept s t p.slave.head.queue e.head.queue beside.slave.head keeps) in
+    record { master = all.master; slave = as-side t 4 p.slave e same stays all.slave }
+
+-- what a renewed side stands for: its head alone, and whether it was opened
+module _ (s t : StoreValue) (p : Streams) (e : End) (beside : AreBeside s p) where
+  as-stream : (e' : End) → e.driver ≡ e'.driver → e.stack ≡ e'.stack → stream_in t e ≡ record (stream_in t (record e' { head = e.head })) { opened = e.opened }
+  as-stream e' same stays =
+      ap (λ d. record { opened = e.opened; head = head_in t e.head; modules = modules_in t e.stack; driver = record { queue = queue_in t d } }) same
+      ∙ ap (λ x. record { opened = e.opened; head = head_in t e.head; modules = modules_in t x; driver = record { queue = queue_in t e'.driver } }) stays
+
+  pub renewed-state : (side : Side) → e.driver ≡ (end_at side p).driver → e.stack ≡ (end_at side p).stack → Keeps s t (end_at side p).head.queue e.head.queue
+      → state_in t (with_end side e p) ≡ with_stream side (record (stream side (state_in s p)) { opened = e.opened; head = head_in t e.head }) (state_in s p)
+  renewed-state Master same stays keeps =
+      ap (λ m. state_with p m (stream_in t p.slave)) (as-stream p.master same stays)
+      ∙ ap (λ (v : State ℕ). record v { master = record v.master { opened = e.opened } })
+        (head-state s t p beside (still s t (kept_by p) keeps.hand keeps.mblks keeps.dblks) Master e.head (only-kept s t p.master.head.queue e.head.queue keeps))
+  renewed-state Slave same stays keeps =
+      ap (λ m. state_with p (stream_in t p.master) m) (as-stream p.slave same stays)
+      ∙ ap (λ (v : State ℕ). record v { slave = record v.slave { opened = e.opened } })
+        (head-state s t p beside (still s t (kept_by p) keeps.hand keeps.mblks keeps.dblks) Slave e.head (only-kept s t p.slave.head.queue e.head.queue keeps))
+
+-- the queue of a side's head, or of its driver, once messages went from it, and a writer before it
+module _ (s t : StoreValue) (p : Streams) (beside : AreBeside s p) (q q' : Queue) (plain : state.Queue ℕ) (goes goes' : Bool) (changes : Changes s t q q') where
+  keeps-all : Stays s t (kept_by p)
+  keeps-all = still s t (kept_by p) changes.hand changes.mblks changes.dblks
+
+  pub head-went : (side : Side) → q ≡ (end_at side p).head.queue → queue_in t q' ≡ plain → goes ≡ goes'
+      → let e = end_at side p in let st = state_in s p in
+        record (state_in t (with_end side (record e { head = record e.head { queue = q' } }) p)) { enabled = enable_some goes (before_head side st) p.enabled }
+        ≡ record (with_stream side (with_head_queue plain (stream side st)) st) { enabled = enable_some goes' (before_head side st) st.enabled }
+  head-went side there is same =
+      let e = end_at side p in
+      let st = state_in s p in
+      let only : OnlyQueue s t e.head.queue q' = subst (λ x. OnlyQueue s t x q') there (only-changed s t q q' changes) in
+      ap (λ (v : State ℕ). record v { enabled = enable_some goes (before_head side st) p.enabled }) (head-state s t p beside keeps-all side (record e.head { queue = q' }) only)
+      ∙ ap (λ (v : state.Queue ℕ). record (with_stream side (record (stream side st) { head = record (head_in s e.head) { queue = v } }) st) { enabled = enable_some goes (before_head side st) p.enabled }) is
+      ∙ at side same
+    where
+      at : (side : Side) → goes ≡ goes' → let e = end_at side p in let st = state_in s p in
+        record (with_stream side (record (stream side st) { head = record (head_in s e.head) { queue = plain } }) st) { enabled = enable_some goes (before_head side st) p.enabled }
+        ≡ record (with_stream side (with_head_queue plain (stream side st)) st) { enabled = enable_some goes' (before_head side st) st.enabled }
+      at Master same = let st = state_in s p in ap (λ b. record (with_stream Master (with_head_queue plain (stream Master st)) st) { enabled = enable_some b (before_head Master st) st.enabled }) same
+      at Slave same = let st = state_in s p in ap (λ b. record (with_stream Slave (with_head_queue plain (stream Slave st)) st) { enabled = enable_some b (before_head Slave st) st.enabled }) same
+
+  pub driver-went : (side : Side) → q ≡ (end_at side p).driver → queue_in t q' ≡ plain → goes ≡ goes'
+      → let st = state_in s p in
+        record (state_in t (with_end side (record (end_at side p) { driver = q' }) p)) { enabled = enable_some goes (before_driver side st) p.enabled }
+        ≡ record (with_stream side (with_driver_queue plain (stream side st)) st) { enabled = enable_some goes' (before_driver side st) st.enabled }
+  driver-went side there is same =
+      let e = end_at side p in
+      let st = state_in s p in
+      let only : OnlyQueue s t e.driver q' = subst (λ x. OnlyQueue s t x q') there (only-changed s t q q' changes) in
+      ap (λ (v : State ℕ). record v { enabled = enable_some goes (before_driver side st) p.enabled }) (driver-state s t p beside keeps-all side q' only)
+      ∙ ap (λ (v : state.Queue ℕ). record (with_stream side (with_driver_queue v (stream side st)) st) { enabled = enable_some goes (before_driver side st) p.enabled }) is
+      ∙ ap (λ b. record (with_stream side (with_driver_queue plain (stream side st)) st) { enabled = enable_some b (before_driver side st) p.enabled }) same

@@ -17,37 +17,36 @@ use Rattle.strm_pair.specs.declared.streams.Streams.{Streams}
 use Rattle.strm_pair.specs.declared.journal.Journal.{Journal}
 use Rattle.strm_pair.specs.Pairs.{state_in, journal_of, AreHeld, SamePool}
 use Rattle.strm_pair.specs.PairViews.{IsKept, led_to}
-use Rattle.strm_pair.specs.Streams.{View}
 
 -- an empty journal leads nowhere
 pub led-nowhere : (j : Journal) → journal_of j ≡ [] → led_to j ≡ opening
 led-nowhere j empty = ap (λ js. replay plain opening js) empty
 
 -- where the journal has gained an entry, it leads to the state behind the entry
-pub led-on : {S : Type 0} (view : View S) (s : StoreValue) (p : Streams S) (j k : Journal) (limits : Config) (fates : Fates) (entry : PlainEntry) → IsKept view s p j limits fates → journal_of k ≡ journal_of j ++ entry ∷ [] → led_to k ≡ after plain (state_in view.modules s p) entry
-led-on view s p j k limits fates entry kept added =
+pub led-on : (s : StoreValue) (p : Streams) (j k : Journal) (limits : Config) (fates : Fates) (entry : PlainEntry) → IsKept s p j limits fates → journal_of k ≡ journal_of j ++ entry ∷ [] → led_to k ≡ after plain (state_in s p) entry
+led-on s p j k limits fates entry kept added =
     ap (λ js. replay plain opening js) added ∙ replay-append plain opening (journal_of j) (entry ∷ []) ∙ ap (λ t. after plain t entry) (sym kept.replayed)
 
 -- a step to the state behind an entry is one to what the blocks stand for
-pub step-shown : {S : Type 0} (view : View S) (s new : StoreValue) (p q : Streams S) (entry : PlainEntry) → state_in view.modules new q ≡ after plain (state_in view.modules s p) entry
-    → Step plain (state_in view.modules s p) entry (after plain (state_in view.modules s p) entry) → Step plain (state_in view.modules s p) entry (state_in view.modules new q)
-step-shown view s new p q entry stands step = subst (λ t. Step plain (state_in view.modules s p) entry t) (sym stands) step
+pub step-shown : (s new : StoreValue) (p q : Streams) (entry : PlainEntry) → state_in new q ≡ after plain (state_in s p) entry
+    → Step plain (state_in s p) entry (after plain (state_in s p) entry) → Step plain (state_in s p) entry (state_in new q)
+step-shown s new p q entry stands step = subst (λ t. Step plain (state_in s p) entry t) (sym stands) step
 
 -- what the entries of a journal and one more let go
 told-on : (base : State ℕ) (es : List PlainEntry) (e : PlainEntry) (fates : Fates) → told_by plain base (es ++ e ∷ []) fates ≡ tallied (gone plain (replay plain base es) e) (told_by plain base es fates)
 told-on base [] e fates = refl
 told-on base (x ∷ es) e fates = told-on (after plain base x) es e (tallied (gone plain base x) fates)
 
-pub kept-step : {S : Type 0} (view : View S) (s new : StoreValue) (p q : Streams S) (j k : Journal) (limits : Config) (fates fates' : Fates) (entry : PlainEntry) → IsKept view s p j limits fates
-    → Step plain (state_in view.modules s p) entry (after plain (state_in view.modules s p) entry)
-    → state_in view.modules new q ≡ after plain (state_in view.modules s p) entry → AreHeld view new q → SamePool s new → FewBooked (state_in view.modules new q) → fates' ≡ tallied (gone plain (state_in view.modules s p) entry) fates
-    → journal_of k ≡ journal_of j ++ entry ∷ [] → k.most_entries ≡ j.most_entries → k.most_bytes ≡ j.most_bytes → IsKept view new q k limits fates'
-kept-step view s new p q j k limits fates fates' entry kept step stands held pool few told added events bytes = record {
-  replayed = stands ∙ sym (led-on view s p j k limits fates entry kept added);
-  legal = subst (λ js. IsLegal plain opening js) (sym added) (kept-legal plain opening (state_in view.modules s p) (after plain (state_in view.modules s p) entry) (journal_of j) entry kept.replayed step kept.legal);
+pub kept-step : (s new : StoreValue) (p q : Streams) (j k : Journal) (limits : Config) (fates fates' : Fates) (entry : PlainEntry) → IsKept s p j limits fates
+    → Step plain (state_in s p) entry (after plain (state_in s p) entry)
+    → state_in new q ≡ after plain (state_in s p) entry → AreHeld new q → SamePool s new → FewBooked (state_in new q) → fates' ≡ tallied (gone plain (state_in s p) entry) fates
+    → journal_of k ≡ journal_of j ++ entry ∷ [] → k.most_entries ≡ j.most_entries → k.most_bytes ≡ j.most_bytes → IsKept new q k limits fates'
+kept-step s new p q j k limits fates fates' entry kept step stands held pool few told added events bytes = record {
+  replayed = stands ∙ sym (led-on s p j k limits fates entry kept added);
+  legal = subst (λ js. IsLegal plain opening js) (sym added) (kept-legal plain opening (state_in s p) (after plain (state_in s p) entry) (journal_of j) entry kept.replayed step kept.legal);
   few = few;
   told = told
-      ∙ ap (λ f. tallied (gone plain (state_in view.modules s p) entry) f) kept.told
+      ∙ ap (λ f. tallied (gone plain (state_in s p) entry) f) kept.told
       ∙ ap (λ t. tallied (gone plain t entry) (told_by plain opening (journal_of j) no_fates)) kept.replayed
       ∙ sym (told-on opening (journal_of j) entry no_fates)
       ∙ ap (λ js. told_by plain opening js no_fates) (sym added);
@@ -63,5 +62,5 @@ journal-idle : (s : State ℕ) (es : List PlainEntry) → AreIdle s → IsLegal 
 journal-idle s [] idle legal = idle
 journal-idle s (e ∷ es) idle legal = journal-idle (after plain s e) es (step-idle plain s (after plain s e) e idle legal.0) legal.1
 
-pub led-idle : {S : Type 0} (view : View S) (s : StoreValue) (p : Streams S) (j : Journal) (limits : Config) (fates : Fates) → IsKept view s p j limits fates → AreIdle (state_in view.modules s p)
-led-idle view s p j limits fates kept = subst AreIdle (sym kept.replayed) (journal-idle opening (journal_of j) opening-idle kept.legal)
+pub led-idle : (s : StoreValue) (p : Streams) (j : Journal) (limits : Config) (fates : Fates) → IsKept s p j limits fates → AreIdle (state_in s p)
+led-idle s p j limits fates kept = subst AreIdle (sym kept.replayed) (journal-idle opening (journal_of j) opening-idle kept.legal)

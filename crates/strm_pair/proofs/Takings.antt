@@ -23,9 +23,10 @@ use Rattle.strm_pair.specs.declared.stacks.Taken.{Taken}
 use Rattle.strm_pair.specs.declared.streams.Streams.{Streams}
 use Rattle.strm_pair.specs.Framing.{stays-master, stays-slave, still}
 use Rattle.strm_pair.specs.Pairs.{state_in, end_at, with_end, AreBeside, AreHeld, kept_by}
-use Rattle.strm_pair.specs.Streams.{View, stream_in, IsSide, AreApart}
+use Rattle.strm_pair.specs.Streams.{stream_in, IsSide, AreApart}
 use Rattle.strm_pair.specs.Taken.{TookTop, WithoutTop, let_go_of}
 use Rattle.strm_pair.proofs.Sides.{both, queue-same, side-stays, stream-stays, stream_of}
+use Rattle.strm_pair.specs.Stacks.{modules_in, stack_owns, Stack}
 
 -- what was let go first, and then the rest
 pub tallied-both : (a b : List (Fate ℕ)) (f : Fates) → tallied (a ++ b) f ≡ tallied b (tallied a f)
@@ -36,30 +37,30 @@ zero-if : (n : ℕ) → (0 < n → 1 ≤ 0) → n ≡ 0
 zero-if zero never = refl
 zero-if (suc n) never = absurd (let one : 0 < suc n = omega arith in omega (arith, never one))
 
-module _ {S : Type 0} (view : View S) (s t : StoreValue) where
-  module _ (first : ℕ) (e : End S) (is : IsSide view s first e) where
+module _ (s t : StoreValue) where
+  module _ (first : ℕ) (e : End) (is : IsSide s first e) where
     -- a stack owns no list but its two
-    pub unowned-below : (k : ℕ) → k < first + 2 → view.owns e.stack k ≡ 0
-    unowned-below k low = zero-if (view.owns e.stack k) (λ some. let own = is.owned k some in omega (arith, low, own.0))
+    pub unowned-below : (k : ℕ) → k < first + 2 → stack_owns e.stack k ≡ 0
+    unowned-below k low = zero-if (stack_owns e.stack k) (λ some. let own = is.owned k some in omega (arith, low, own.0))
 
-    pub unowned-beyond : (k : ℕ) → first + 4 ≤ k → view.owns e.stack k ≡ 0
-    unowned-beyond k high = zero-if (view.owns e.stack k) (λ some. let own = is.owned k some in omega (arith, high, own.1))
+    pub unowned-beyond : (k : ℕ) → first + 4 ≤ k → stack_owns e.stack k ≡ 0
+    unowned-beyond k high = zero-if (stack_owns e.stack k) (λ some. let own = is.owned k some in omega (arith, high, own.1))
 
-    module _ (side : Side) (rule : Rule) (told told' : Fates) (taken : Taken) (y : S) (took : TookTop view side rule s t e.stack y told told' taken) where
+    module _ (side : Side) (rule : Rule) (told told' : Fates) (taken : Taken) (y : Stack) (took : TookTop side rule s t e.stack y told told' taken) where
       head-beside : list_at t e.head.queue.list ≡ list_at s e.head.queue.list
       head-beside = took.others e.head.queue.list (unowned-below e.head.queue.list (omega (arith, is.head_list)))
 
       driver-beside : list_at t e.driver.list ≡ list_at s e.driver.list
       driver-beside = took.others e.driver.list (unowned-below e.driver.list (omega (arith, is.driver_list)))
 
-      took-spare : (k : ℕ) → first + 2 ≤ k → k < first + 4 → view.owns y k ≡ 0 → list_at t k ≡ []
-      took-spare k low high none = by (view.owns e.stack k) refl
+      took-spare : (k : ℕ) → first + 2 ≤ k → k < first + 4 → stack_owns y k ≡ 0 → list_at t k ≡ []
+      took-spare k low high none = by (stack_owns e.stack k) refl
         where
-          by : (n : ℕ) → view.owns e.stack k ≡ n → list_at t k ≡ []
+          by : (n : ℕ) → stack_owns e.stack k ≡ n → list_at t k ≡ []
           by zero was = took.others k was ∙ is.spare k low high was
           by (suc n) was = took.emptied k (omega (arith, was)) none
 
-      pub took-side : IsSide view t first (record e { stack = y })
+      pub took-side : IsSide t first (record e { stack = y })
       took-side = record {
         head_list = is.head_list;
         driver_list = is.driver_list;
@@ -71,63 +72,63 @@ module _ {S : Type 0} (view : View S) (s t : StoreValue) where
         spare = took-spare;
       }
 
-      pub took-stream : stream_in view.modules t (record e { stack = y }) ≡ record (stream_in view.modules s e) { modules = took.rest }
+      pub took-stream : stream_in t (record e { stack = y }) ≡ record (stream_in s e) { modules = took.rest }
       took-stream =
-          ap (λ h. stream_of e h (view.modules t y) (queue_in t e.driver)) (queue-same s t e.head.queue head-beside)
+          ap (λ h. stream_of e h (modules_in t y) (queue_in t e.driver)) (queue-same s t e.head.queue head-beside)
           ∙ ap (λ ms. stream_of e (queue_in s e.head.queue) ms (queue_in t e.driver)) took.stays
           ∙ ap (λ d. stream_of e (queue_in s e.head.queue) took.rest d) (queue-same s t e.driver driver-beside)
 
-  module _ (p : Streams S) (beside : AreBeside view s p) (rule : Rule) (told told' : Fates) (taken : Taken) where
-    took-beside : (side : Side) (y : S) → TookTop view side rule s t (end_at side p).stack y told told' taken → AreBeside view t (with_end side (record (end_at side p) { stack = y }) p)
+  module _ (p : Streams) (beside : AreBeside s p) (rule : Rule) (told told' : Fates) (taken : Taken) where
+    took-beside : (side : Side) (y : Stack) → TookTop side rule s t (end_at side p).stack y told told' taken → AreBeside t (with_end side (record (end_at side p) { stack = y }) p)
     took-beside Master y took = record {
       master = took-side 0 p.master beside.master Master rule told told' taken y took;
-      slave = side-stays view s t 4 p.slave beside.slave (stays-slave view s t p (still s t (kept_by view p) took.hand.hand took.hand.mblks took.hand.dblks)) (λ k low high. took.others k (unowned-beyond 0 p.master beside.master k low));
+      slave = side-stays s t 4 p.slave beside.slave (stays-slave s t p (still s t (kept_by p) took.hand.hand took.hand.mblks took.hand.dblks)) (λ k low high. took.others k (unowned-beyond 0 p.master beside.master k low));
     }
     took-beside Slave y took = record {
-      master = side-stays view s t 0 p.master beside.master (stays-master view s t p (still s t (kept_by view p) took.hand.hand took.hand.mblks took.hand.dblks)) (λ k low high. took.others k (unowned-below 4 p.slave beside.slave k (omega (arith, high))));
+      master = side-stays s t 0 p.master beside.master (stays-master s t p (still s t (kept_by p) took.hand.hand took.hand.mblks took.hand.dblks)) (λ k low high. took.others k (unowned-below 4 p.slave beside.slave k (omega (arith, high))));
       slave = took-side 4 p.slave beside.slave Slave rule told told' taken y took;
     }
 
-    took-state : (side : Side) (y : S) (took : TookTop view side rule s t (end_at side p).stack y told told' taken) → state_in view.modules t (with_end side (record (end_at side p) { stack = y }) p) ≡ with_modules side took.rest (state_in view.modules s p)
+    took-state : (side : Side) (y : Stack) (took : TookTop side rule s t (end_at side p).stack y told told' taken) → state_in t (with_end side (record (end_at side p) { stack = y }) p) ≡ with_modules side took.rest (state_in s p)
     took-state Master y took =
-        both p (stream_in view.modules t (record p.master { stack = y })) (record (stream_in view.modules s p.master) { modules = took.rest }) (stream_in view.modules t p.slave) (stream_in view.modules s p.slave)
+        both p (stream_in t (record p.master { stack = y })) (record (stream_in s p.master) { modules = took.rest }) (stream_in t p.slave) (stream_in s p.slave)
         (took-stream 0 p.master beside.master Master rule told told' taken y took)
-        (stream-stays view s t 4 p.slave beside.slave (stays-slave view s t p (still s t (kept_by view p) took.hand.hand took.hand.mblks took.hand.dblks)) (λ k low high. took.others k (unowned-beyond 0 p.master beside.master k low)))
+        (stream-stays s t 4 p.slave beside.slave (stays-slave s t p (still s t (kept_by p) took.hand.hand took.hand.mblks took.hand.dblks)) (λ k low high. took.others k (unowned-beyond 0 p.master beside.master k low)))
     took-state Slave y took =
-        both p (stream_in view.modules t p.master) (stream_in view.modules s p.master) (stream_in view.modules t (record p.slave { stack = y })) (record (stream_in view.modules s p.slave) { modules = took.rest })
-        (stream-stays view s t 0 p.master beside.master (stays-master view s t p (still s t (kept_by view p) took.hand.hand took.hand.mblks took.hand.dblks)) (λ k low high. took.others k (unowned-below 4 p.slave beside.slave k (omega (arith, high)))))
+        both p (stream_in t p.master) (stream_in s p.master) (stream_in t (record p.slave { stack = y })) (record (stream_in s p.slave) { modules = took.rest })
+        (stream-stays s t 0 p.master beside.master (stays-master s t p (still s t (kept_by p) took.hand.hand took.hand.mblks took.hand.dblks)) (λ k low high. took.others k (unowned-below 4 p.slave beside.slave k (omega (arith, high)))))
         (took-stream 4 p.slave beside.slave Slave rule told told' taken y took)
 
 -- the modules of a side, as its stack stands for them
-pub modules-are : {S : Type 0} (view : View S) (s : StoreValue) (p : Streams S) (side : Side) → (stream side (state_in view.modules s p)).modules ≡ view.modules s (end_at side p).stack
-modules-are view s p Master = refl
-modules-are view s p Slave = refl
+pub modules-are : (s : StoreValue) (p : Streams) (side : Side) → (stream side (state_in s p)).modules ≡ modules_in s (end_at side p).stack
+modules-are s p Master = refl
+modules-are s p Slave = refl
 
 -- the same queues are enabled where only a stack changed
-same-enabled : {S : Type 0} (p : Streams S) (side : Side) (e : End S) → (with_end side e p).enabled ≡ p.enabled
+same-enabled : (p : Streams) (side : Side) (e : End) → (with_end side e p).enabled ≡ p.enabled
 same-enabled p Master e = refl
 same-enabled p Slave e = refl
 
-pub enabled-stays : {S : Type 0} (p q : Streams S) (side : Side) → q ≡ with_end side (record (end_at side p) { stack = (end_at side q).stack }) p → q.enabled ≡ p.enabled
-enabled-stays p q side same = ap (λ (r : Streams _). r.enabled) same ∙ same-enabled p side (record (end_at side p) { stack = (end_at side q).stack })
+pub enabled-stays : (p q : Streams) (side : Side) → q ≡ with_end side (record (end_at side p) { stack = (end_at side q).stack }) p → q.enabled ≡ p.enabled
+enabled-stays p q side same = ap (λ (r : Streams). r.enabled) same ∙ same-enabled p side (record (end_at side p) { stack = (end_at side q).stack })
 
 -- another order of enabled queues
-abbrev with_enabled : {S : Type 0} → List QueueName → Streams S → Streams S
+abbrev with_enabled : List QueueName → Streams → Streams
 with_enabled names p = record p { enabled = names }
 
-enabled-beside : {S : Type 0} (view : View S) (t : StoreValue) (names : List QueueName) (p : Streams S) → AreBeside view t p → AreBeside view t (with_enabled names p)
-enabled-beside view t names p beside = record { master = beside.master; slave = beside.slave }
+enabled-beside : (t : StoreValue) (names : List QueueName) (p : Streams) → AreBeside t p → AreBeside t (with_enabled names p)
+enabled-beside t names p beside = record { master = beside.master; slave = beside.slave }
 
-module _ {S : Type 0} (view : View S) (side : Side) (rule : Rule) (s : StoreValue) (p : Streams S) (held : AreHeld view s p) (told : Fates) where
+module _ (side : Side) (rule : Rule) (s : StoreValue) (p : Streams) (held : AreHeld s p) (told : Fates) where
   -- the module on top went, and these queues are enabled behind it
-  pub top-went : (t : StoreValue) (q : Streams S) (told' : Fates) (taken : Taken) (names : List QueueName) → q ≡ with_end side (record (end_at side p) { stack = (end_at side q).stack }) p → TookTop view side rule s t (end_at side p).stack (end_at side q).stack told told' taken
-      → names ≡ without_module side taken.name (noted side (place_of taken.name) (earlier_at side 1 (state_in view.modules s p)) taken.notes.items p.enabled)
-      → WithoutTop view side rule s t p (record q { enabled = names }) told told' (Some taken.name)
+  pub top-went : (t : StoreValue) (q : Streams) (told' : Fates) (taken : Taken) (names : List QueueName) → q ≡ with_end side (record (end_at side p) { stack = (end_at side q).stack }) p → TookTop side rule s t (end_at side p).stack (end_at side q).stack told told' taken
+      → names ≡ without_module side taken.name (noted side (place_of taken.name) (earlier_at side 1 (state_in s p)) taken.notes.items p.enabled)
+      → WithoutTop side rule s t p (record q { enabled = names }) told told' (Some taken.name)
   top-went t q told' taken names same took are =
-      let st = state_in view.modules s p in
+      let st = state_in s p in
       let y = (end_at side q).stack in
       let p' = with_end side (record (end_at side p) { stack = y }) p in
-      let these : (stream side st).modules ≡ took.top ∷ took.rest = modules-are view s p side ∙ took.was in
+      let these : (stream side st).modules ≡ took.top ∷ took.rest = modules-are s p side ∙ took.was in
       let earlier = earlier_at side 1 st in
       let enabled : names ≡ without_module side (module_name took.top) (noted side (place_of (module_name took.top)) earlier (let_go_of side rule took.top).notes p.enabled) =
       are ∙ ap (λ n. without_module side n (noted side (place_of n) earlier taken.notes.items p.enabled)) took.name
@@ -135,14 +136,14 @@ module _ {S : Type 0} (view : View S) (side : Side) (rule : Rule) (s : StoreValu
       record {
         name_is = ap (λ n. Some n) took.name ∙ sym (ap (λ ms. top_name module_name ms) these);
         state =
-            ap (λ (r : Streams S). state_in view.modules t (record r { enabled = names })) same
-            ∙ ap (λ (x : State ℕ). record x { enabled = names }) (took-state view s t p held.beside rule told told' taken side y took)
+            ap (λ (r : Streams). state_in t (record r { enabled = names })) same
+            ∙ ap (λ (x : State ℕ). record x { enabled = names }) (took-state s t p held.beside rule told told' taken side y took)
             ∙ ap (λ (ns : List QueueName). record (with_modules side took.rest st) { enabled = ns }) enabled
             ∙ sym (ap (λ ms. (top_taken rule side ms st).state) these);
         tells = took.tells ∙ sym (ap (λ ms. tallied (top_taken rule side ms st).gone told) these);
         held = record {
           hand = took.hand.hand ∙ held.hand;
-          beside = enabled-beside view t names q (subst (AreBeside view t) (sym same) (took-beside view s t p held.beside rule told told' taken side y took));
+          beside = enabled-beside t names q (subst (AreBeside t) (sym same) (took-beside s t p held.beside rule told told' taken side y took));
         };
         frees = took.frees;
         pool = record { mblks = took.hand.mblks; dblks = took.hand.dblks };

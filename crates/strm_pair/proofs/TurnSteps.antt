@@ -26,9 +26,10 @@ use Rattle.strm_laws.specs.TurnOutcomes.{stayed_put}
 use Rattle.strm_laws.specs.Turns.{is_stopped_across, held_back, with_driver, moved_across, driver_serves, driver_turned, turn_ended}
 use Rattle.strm_laws.proofs.StackSpares.{same-spare}
 use Rattle.strm_laws.proofs.StepBooks.{driver-books, end-books, waits-books}
-use Rattle.strm_blocks.specs.Blocks.{Block, StoreValue, block_at}
+use Rattle.strm_blocks.specs.Blocks.{Block, StoreValue, block_at, token}
 use Rattle.strm_blocks.specs.Outcomes.{PeekedFirst}
 use Rattle.strm_blocks.specs.declared.asked.Peek.{Peek}
+use Rattle.strm_blocks.specs.declared.in_hand.InHand.{InHand}
 use Rattle.strm_msg.specs.Messages.{message_of}
 use Rattle.strm_queue.specs.declared.queue.Queue.{Queue}
 use Rattle.strm_queue.specs.Stored.{messages_on, Dequeued}
@@ -42,22 +43,21 @@ use Rattle.strm_pair.specs.Pairs.{state_in, end_at, with_end, AreBeside, Stays, 
 use Rattle.strm_pair.specs.Took.{TookFirst}
 use Rattle.strm_pair.proofs.Sides.{driver-changed, driver-state, driver-is}
 use Rattle.strm_pair.proofs.Peeked.{seen-before}
-use Rattle.strm_pair.specs.Streams.{View}
 
 pub only-dequeued : (s t : StoreValue) (q q' : Queue) (i : ℕ) → Dequeued s t q q' i → OnlyQueue s t q q'
 only-dequeued s t q q' i d = record { ready = d.ready; list = d.list; others = d.others }
 
-took-first : {S : Type 0} (view : View S) (side : Side) (s t : StoreValue) (p : Streams S) (q : Queue) (i : ℕ) → AreBeside view s p → AreIdle (state_in view.modules s p) → Dequeued s t (end_at side p).driver q i → TookFirst view side s t p (with_end side (record (end_at side p) { driver = q }) p) i
-took-first view side s t p q i beside idle d =
-    let stays : Stays s t (kept_by view p) = record { mblks = d.mblks; dblks = d.dblks; kept = λ j some. absurd (omega (arith, some, rests view s p beside idle j)) } in
+took-first : (side : Side) (s t : StoreValue) (p : Streams) (q : Queue) (i : ℕ) → AreBeside s p → AreIdle (state_in s p) → Dequeued s t (end_at side p).driver q i → TookFirst side s t p (with_end side (record (end_at side p) { driver = q }) p) i
+took-first side s t p q i beside idle d =
+    let stays : Stays s t (kept_by p) = record { mblks = d.mblks; dblks = d.dblks; kept = λ j some. absurd (omega (arith, some, rests s p beside idle j)) } in
     let only = only-dequeued s t (end_at side p).driver q i d in
-    let is = driver-is view s p side in
+    let is = driver-is s p side in
     record {
       rest = messages_on t q.list;
       first = ap (λ (x : plain.Queue ℕ). x.messages) is ∙ d.first;
-      state = driver-state view s t p beside stays side q only
-          ∙ ap (λ x. with_driver side x (state_in view.modules s p)) (d.queue ∙ ap (λ x. left_with (messages_on t q.list) x) (sym is));
-      beside = driver-changed view s t p beside stays side q only;
+      state = driver-state s t p beside stays side q only
+          ∙ ap (λ x. with_driver side x (state_in s p)) (d.queue ∙ ap (λ x. left_with (messages_on t q.list) x) (sym is));
+      beside = driver-changed s t p beside stays side q only;
       hand = d.hand;
       chain = d.chain;
       mblks = d.mblks;
@@ -70,11 +70,11 @@ pub taken-idle : (side : Side) (q : plain.Queue ℕ) (s : State ℕ) → AreIdle
 taken-idle Master q s idle = record { master = idle.master; slave = idle.slave }
 taken-idle Slave q s idle = record { master = idle.master; slave = idle.slave }
 
-pub took : {A S : Type 0} (view : View S) (name : A → ℕ) (side : Side) (s t : StoreValue) (p : Streams S) (q : Queue) (result : Option A) → AreBeside view s p → AreIdle (state_in view.modules s p)
-    → MatchOption result (messages_on s (end_at side p).driver.list ≡ []) (λ m. Dequeued s t (end_at side p).driver q (name m))
-    → MatchOption result (messages_on s (end_at side p).driver.list ≡ []) (λ m. TookFirst view side s t p (with_end side (record (end_at side p) { driver = q }) p) (name m))
-took view name side s t p q None beside idle none = none
-took view name side s t p q (Some m) beside idle d = took-first view side s t p q (name m) beside idle d
+pub took : (side : Side) (s t : StoreValue) (p : Streams) (q : Queue) (result : Option InHand) → AreBeside s p → AreIdle (state_in s p)
+    → MatchOption result (messages_on s (end_at side p).driver.list ≡ []) (λ m. Dequeued s t (end_at side p).driver q (token m))
+    → MatchOption result (messages_on s (end_at side p).driver.list ≡ []) (λ m. TookFirst side s t p (with_end side (record (end_at side p) { driver = q }) p) (token m))
+took side s t p q None beside idle none = none
+took side s t p q (Some m) beside idle d = took-first side s t p q (token m) beside idle d
 
 abbrev first_message : List (Message ℕ) → Message ℕ → Message ℕ
 first_message [] m = m
@@ -161,34 +161,34 @@ serves-moved : (side : Side) (m : Message ℕ) (rest : List (Message ℕ)) (st :
 serves-moved side m rest st opened goes = rw (opened, goes) refl
 
 -- what is seen of both ends is what the state has
-opened-at : {S : Type 0} (view : View S) (s : StoreValue) (p : Streams S) (side : Side) → (stream side (state_in view.modules s p)).opened ≡ (end_at side p).opened
-opened-at view s p Master = refl
-opened-at view s p Slave = refl
+opened-at : (s : StoreValue) (p : Streams) (side : Side) → (stream side (state_in s p)).opened ≡ (end_at side p).opened
+opened-at s p Master = refl
+opened-at s p Slave = refl
 
 -- whether the next queue above a driver has no room for a band
 abbrev full_above : Side → State ℕ → ℕ → Bool
 full_above side st band = not (has_room_past (other side) Up (driver_place (other side) st) band st)
 
-module _ {S : Type 0} (view : View S) (s : StoreValue) (p : Streams S) (side : Side) (e x : End S) (e_is : e ≡ end_at side p) (x_is : x ≡ end_at (other side) p) (opened : is_open x.opened ≡ true)
-    (peek : Peek) (seen : PeekedFirst s e.driver.list peek) (stops : Bool) (asked : stops ≡ (is_held peek.kind && full_above side (state_in view.modules s p) peek.band.0)) where
-  is-open-there : is_open (stream (other side) (state_in view.modules s p)).opened ≡ true
-  is-open-there = ap is_open (opened-at view s p (other side) ∙ ap (λ (y : End S). y.opened) (sym x_is)) ∙ opened
+module _ (s : StoreValue) (p : Streams) (side : Side) (e x : End) (e_is : e ≡ end_at side p) (x_is : x ≡ end_at (other side) p) (opened : is_open x.opened ≡ true)
+    (peek : Peek) (seen : PeekedFirst s e.driver.list peek) (stops : Bool) (asked : stops ≡ (is_held peek.kind && full_above side (state_in s p) peek.band.0)) where
+  is-open-there : is_open (stream (other side) (state_in s p)).opened ≡ true
+  is-open-there = ap is_open (opened-at s p (other side) ∙ ap (λ (y : End). y.opened) (sym x_is)) ∙ opened
 
-  stands : (stream side (state_in view.modules s p)).driver.queue.messages ≡ message_of seen.message ∷ map message_of seen.rest
-  stands = ap (λ (q : plain.Queue ℕ). q.messages) (driver-is view s p side) ∙ ap (λ (y : End S). messages_on s y.driver.list) (sym e_is) ∙ seen-before s e.driver.list peek seen
+  stands : (stream side (state_in s p)).driver.queue.messages ≡ message_of seen.message ∷ map message_of seen.rest
+  stands = ap (λ (q : plain.Queue ℕ). q.messages) (driver-is s p side) ∙ ap (λ (y : End). messages_on s y.driver.list) (sym e_is) ∙ seen-before s e.driver.list peek seen
 
-  stopped-is : is_stopped_across side (message_of seen.message) (state_in view.modules s p) ≡ stops
-  stopped-is = sym (seen-stopped s e.driver.list peek seen (full_above side (state_in view.modules s p))) ∙ sym asked
+  stopped-is : is_stopped_across side (message_of seen.message) (state_in s p) ≡ stops
+  stopped-is = sym (seen-stopped s e.driver.list peek seen (full_above side (state_in s p))) ∙ sym asked
 
-  pub turned-stopped : stops ≡ true → driver_turned cells.plain side (state_in view.modules s p) ≡ stayed_put Blocked (kept_back side peek.band.0 (state_in view.modules s p))
+  pub turned-stopped : stops ≡ true → driver_turned cells.plain side (state_in s p) ≡ stayed_put Blocked (kept_back side peek.band.0 (state_in s p))
   turned-stopped stop =
-      let held = seen-held s e.driver.list peek seen (full_above side (state_in view.modules s p)) (sym asked ∙ stop) in
-      ap (λ ms. driver_serves cells.plain side ms (state_in view.modules s p)) stands
-      ∙ serves-stopped side (message_of seen.message) (map message_of seen.rest) (state_in view.modules s p) is-open-there (stopped-is ∙ stop)
-      ∙ ap (λ b. stayed_put Blocked (kept_back side b (state_in view.modules s p))) (held-band seen.message held ∙ sym seen.seen.band)
+      let held = seen-held s e.driver.list peek seen (full_above side (state_in s p)) (sym asked ∙ stop) in
+      ap (λ ms. driver_serves cells.plain side ms (state_in s p)) stands
+      ∙ serves-stopped side (message_of seen.message) (map message_of seen.rest) (state_in s p) is-open-there (stopped-is ∙ stop)
+      ∙ ap (λ b. stayed_put Blocked (kept_back side b (state_in s p))) (held-band seen.message held ∙ sym seen.seen.band)
 
-  pub turned-moved : stops ≡ false → (m : Message ℕ) (rest : List (Message ℕ)) → (stream side (state_in view.modules s p)).driver.queue.messages ≡ m ∷ rest → driver_turned cells.plain side (state_in view.modules s p) ≡ moved_across cells.plain side m rest (state_in view.modules s p)
+  pub turned-moved : stops ≡ false → (m : Message ℕ) (rest : List (Message ℕ)) → (stream side (state_in s p)).driver.queue.messages ≡ m ∷ rest → driver_turned cells.plain side (state_in s p) ≡ moved_across cells.plain side m rest (state_in s p)
   turned-moved goes m rest first =
       let same : message_of seen.message ≡ m = ap (λ ms. first_message ms m) (sym stands ∙ first) in
-      ap (λ ms. driver_serves cells.plain side ms (state_in view.modules s p)) first
-      ∙ serves-moved side m rest (state_in view.modules s p) is-open-there (ap (λ y. is_stopped_across side y (state_in view.modules s p)) (sym same) ∙ stopped-is ∙ goes)
+      ap (λ ms. driver_serves cells.plain side ms (state_in s p)) first
+      ∙ serves-moved side m rest (state_in s p) is-open-there (ap (λ y. is_stopped_across side y (state_in s p)) (sym same) ∙ stopped-is ∙ goes)

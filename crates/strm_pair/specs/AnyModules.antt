@@ -25,7 +25,7 @@ use Rattle.strm_pair.specs.declared.modules.AnyModule.{AnyModule}
 use Rattle.strm_pair.specs.declared.modules.AnyModule.TheVariants as kinds
 
 -- the lists of the store that are its own: ptem and pckt have none
-abbrev pub owns : {M : Type 0} → AnyModule M → ℕ → ℕ
+abbrev pub owns : AnyModule → ℕ → ℕ
 owns (kinds.Ldterm x) k = stands.owns x k
 owns (kinds.Ptem x) k = 0
 owns (kinds.Pckt x) k = 0
@@ -40,45 +40,44 @@ MayServe way again (OfPckt p) = Unit {0}
 abbrev pub turn_cost : Spot → Bool → Module ℕ → ℕ
 turn_cost here again p = bounds.turn_cost here again (ldterm_of p)
 
-module _ {M : Type 0} (name : M → ℕ) where
-  -- what it stands for
-  abbrev pub module_in : StoreValue → AnyModule M → Module ℕ
-  module_in s (kinds.Ldterm x) = OfLdterm (ldterm_in name s x)
-  module_in s (kinds.Ptem x) = OfPtem (ptem_in x)
-  module_in s (kinds.Pckt x) = OfPckt pckt_in
+-- what it stands for
+abbrev pub module_in : StoreValue → AnyModule → Module ℕ
+module_in s (kinds.Ldterm x) = OfLdterm (ldterm_in s x)
+module_in s (kinds.Ptem x) = OfPtem (ptem_in x)
+module_in s (kinds.Pckt x) = OfPckt pckt_in
 
-  abbrev pub IsHeld : StoreValue → AnyModule M → Type 0
-  IsHeld s (kinds.Ldterm x) = stands.IsHeld name s x
-  IsHeld s (kinds.Ptem x) = Unit {0}
-  IsHeld s (kinds.Pckt x) = Unit {0}
+abbrev pub IsHeld : StoreValue → AnyModule → Type 0
+IsHeld s (kinds.Ldterm x) = stands.IsHeld s x
+IsHeld s (kinds.Ptem x) = Unit {0}
+IsHeld s (kinds.Pckt x) = Unit {0}
 
-  -- how often it keeps a message of a name in hand
-  abbrev pub keeps : AnyModule M → ℕ → ℕ
-  keeps (kinds.Ldterm x) i = stands.keeps name x i
-  keeps (kinds.Ptem x) i = 0
-  keeps (kinds.Pckt x) i = 0
+-- how often it keeps a message of a name in hand
+abbrev pub keeps : AnyModule → ℕ → ℕ
+keeps (kinds.Ldterm x) i = stands.keeps x i
+keeps (kinds.Ptem x) i = 0
+keeps (kinds.Pckt x) i = 0
 
-  -- It stands for the same, and fits, where its lists are the same and what it keeps is.
-  pub module-frame : (s t : StoreValue) (x : AnyModule M) → SameOwn s t (owns x) (keeps x) → IsHeld s x → (module_in t x ≡ module_in s x) × IsHeld t x
-  module-frame s t (kinds.Ldterm x) same held =
-      let r = ldterm-frame name s t x (record { lists = same.lists; mblks = same.mblks; dblks = same.dblks; kept = same.kept }) held in (ap OfLdterm r.0, r.1)
-  module-frame s t (kinds.Ptem x) same held = (refl, held)
-  module-frame s t (kinds.Pckt x) same held = (refl, held)
+-- It stands for the same, and fits, where its lists are the same and what it keeps is.
+pub module-frame : (s t : StoreValue) (x : AnyModule) → SameOwn s t (owns x) (keeps x) → IsHeld s x → (module_in t x ≡ module_in s x) × IsHeld t x
+module-frame s t (kinds.Ldterm x) same held =
+    let r = ldterm-frame s t x (record { lists = same.lists; mblks = same.mblks; dblks = same.dblks; kept = same.kept }) held in (ap OfLdterm r.0, r.1)
+module-frame s t (kinds.Ptem x) same held = (refl, held)
+module-frame s t (kinds.Pckt x) same held = (refl, held)
 
-  -- where a turn may begin it keeps nothing
-  pub serves-rests : (s : StoreValue) (x : AnyModule M) (way : Way) (i : ℕ) → IsHeld s x → MayServe way false (module_in s x) → keeps x i ≡ 0
-  serves-rests s (kinds.Ldterm x) way i held may = served-rests name s x way i held may
-  serves-rests s (kinds.Ptem x) way i held may = refl
-  serves-rests s (kinds.Pckt x) way i held may = refl
+-- where a turn may begin it keeps nothing
+pub serves-rests : (s : StoreValue) (x : AnyModule) (way : Way) (i : ℕ) → IsHeld s x → MayServe way false (module_in s x) → keeps x i ≡ 0
+serves-rests s (kinds.Ldterm x) way i held may = served-rests s x way i held may
+serves-rests s (kinds.Ptem x) way i held may = refl
+serves-rests s (kinds.Pckt x) way i held may = refl
 
 -- A module as its name makes it, while nothing stands on the lists of its own: they are among two from a number on. It keeps nothing in hand.
-pub record IsMade {M : Type 0} (first : ℕ) (kind : ModuleName) (x : AnyModule M) : Type 0 where
-  pub named : (name : M → ℕ) (s : StoreValue) → module_name (module_in name s x) ≡ kind
-  pub state : (name : M → ℕ) (s : StoreValue) → ((k : ℕ) → 0 < owns x k → list_at s k ≡ []) → named_by (Some kind) ≡ Some (module_in name s x)
-  pub held : (name : M → ℕ) (s : StoreValue) → ((k : ℕ) → 0 < owns x k → list_at s k ≡ []) → IsHeld name s x
+pub record IsMade (first : ℕ) (kind : ModuleName) (x : AnyModule) : Type 0 where
+  pub named : (s : StoreValue) → module_name (module_in s x) ≡ kind
+  pub state : (s : StoreValue) → ((k : ℕ) → 0 < owns x k → list_at s k ≡ []) → named_by (Some kind) ≡ Some (module_in s x)
+  pub held : (s : StoreValue) → ((k : ℕ) → 0 < owns x k → list_at s k ≡ []) → IsHeld s x
   pub within : (k : ℕ) → 0 < owns x k → (first ≤ k) × (k < first + 2)
   pub apart : (k : ℕ) → owns x k ≤ 1
-  pub rests : (name : M → ℕ) (i : ℕ) → keeps name x i ≡ 0
+  pub rests : (i : ℕ) → keeps x i ≡ 0
 
 -- A turn of either queue may begin where none is under way; behind a call one may begin, or the call is made again; and a put, another queue or a
 -- line that is gone leave it so.

@@ -21,14 +21,16 @@ use Rattle.strm_queue.proofs.Placed.{ready-same}
 use Rattle.strm_pair.specs.declared.ends.End.{End}
 use Rattle.strm_pair.specs.declared.streams.Streams.{Streams}
 use Rattle.strm_pair.specs.Pairs.{state_in, AreBeside, Stays, kept_by}
-use Rattle.strm_pair.specs.Streams.{View, stream_in, IsSide, AreApart}
+use Rattle.strm_pair.specs.Streams.{stream_in, IsSide, AreApart}
+use Rattle.strm_pair.specs.Stacks.{modules_in, IsStackHeld, stack_keeps}
+use Rattle.strm_pair.specs.ModuleStacks.{stack-frame, stack-idle}
 
 -- what is kept stays where all in hand does
 pub still : (s t : StoreValue) (keeps : ℕ → ℕ) → t.hand ≡ s.hand → t.mblks ≡ s.mblks → t.dblks ≡ s.dblks → Stays s t keeps
 still s t keeps hand mblks dblks = record { mblks = mblks; dblks = dblks; kept = λ i some. ap (λ h. in_hand (record s { hand = h }) i) hand }
 
 -- a stream with these modules
-abbrev pub stream_with : {S : Type 0} → StoreValue → End S → List (plain.Module ℕ) → state.Stream ℕ
+abbrev pub stream_with : StoreValue → End → List (plain.Module ℕ) → state.Stream ℕ
 stream_with s e modules = record {
   opened = e.opened;
   head = head_in s e.head;
@@ -37,7 +39,7 @@ stream_with s e modules = record {
 }
 
 -- a state by its two streams
-abbrev pub state_with : {S : Type 0} → Streams S → state.Stream ℕ → state.Stream ℕ → State ℕ
+abbrev pub state_with : Streams → state.Stream ℕ → state.Stream ℕ → State ℕ
 state_with p m sl = record {
   master = m;
   slave = sl;
@@ -48,63 +50,62 @@ state_with p m sl = record {
   from_slave = p.from_slave;
 }
 
-module _ {S : Type 0} (view : View S) where
-  -- a stack that rests keeps nothing
-  none-kept : (s : StoreValue) (first : ℕ) (e : End S) → IsSide view s first e → AllByRecursion (λ p. IsAtRest p) (view.modules s e.stack) → (i : ℕ) → view.keeps e.stack i ≡ 0
-  none-kept s first e is idle i = view.idle s e.stack is.stack idle i
+-- a stack that rests keeps nothing
+none-kept : (s : StoreValue) (first : ℕ) (e : End) → IsSide s first e → AllByRecursion (λ p. IsAtRest p) (modules_in s e.stack) → (i : ℕ) → stack_keeps e.stack i ≡ 0
+none-kept s first e is idle i = stack-idle s e.stack is.stack idle i
 
-  pub rests : (s : StoreValue) (p : Streams S) → AreBeside view s p → AreIdle (state_in view.modules s p) → (i : ℕ) → kept_by view p i ≡ 0
-  rests s p beside idle i = omega (arith, none-kept s 0 p.master beside.master idle.master i, none-kept s 4 p.slave beside.slave idle.slave i)
+pub rests : (s : StoreValue) (p : Streams) → AreBeside s p → AreIdle (state_in s p) → (i : ℕ) → kept_by p i ≡ 0
+rests s p beside idle i = omega (arith, none-kept s 0 p.master beside.master idle.master i, none-kept s 4 p.slave beside.slave idle.slave i)
 
-  module _ (s t : StoreValue) where
-    pub stays-master : (p : Streams S) → Stays s t (kept_by view p) → Stays s t (view.keeps p.master.stack)
-    stays-master p stays = record { mblks = stays.mblks; dblks = stays.dblks; kept = λ i some. stays.kept i (omega (arith, some)) }
+module _ (s t : StoreValue) where
+  pub stays-master : (p : Streams) → Stays s t (kept_by p) → Stays s t (stack_keeps p.master.stack)
+  stays-master p stays = record { mblks = stays.mblks; dblks = stays.dblks; kept = λ i some. stays.kept i (omega (arith, some)) }
 
-    pub stays-slave : (p : Streams S) → Stays s t (kept_by view p) → Stays s t (view.keeps p.slave.stack)
-    stays-slave p stays = record { mblks = stays.mblks; dblks = stays.dblks; kept = λ i some. stays.kept i (omega (arith, some)) }
+  pub stays-slave : (p : Streams) → Stays s t (kept_by p) → Stays s t (stack_keeps p.slave.stack)
+  stays-slave p stays = record { mblks = stays.mblks; dblks = stays.dblks; kept = λ i some. stays.kept i (omega (arith, some)) }
 
-    -- a stack stands for the same, and fits, where its lists are the same and what it keeps is
-    pub stack-same : (first : ℕ) (e : End S) → IsSide view s first e → Stays s t (view.keeps e.stack) → ((k : ℕ) → first + 2 ≤ k → k < first + 4 → list_at t k ≡ list_at s k) → (view.modules t e.stack ≡ view.modules s e.stack) × view.IsHeld t e.stack
-    stack-same first e is stays same = view.frame s t e.stack (record {
-      lists = λ k some. let own = is.owned k some in same k own.0 own.1;
-      mblks = stays.mblks;
-      dblks = stays.dblks;
-      kept = stays.kept;
-    }) is.stack
+  -- a stack stands for the same, and fits, where its lists are the same and what it keeps is
+  pub stack-same : (first : ℕ) (e : End) → IsSide s first e → Stays s t (stack_keeps e.stack) → ((k : ℕ) → first + 2 ≤ k → k < first + 4 → list_at t k ≡ list_at s k) → (modules_in t e.stack ≡ modules_in s e.stack) × IsStackHeld t e.stack
+  stack-same first e is stays same = stack-frame s t e.stack (record {
+    lists = λ k some. let own = is.owned k some in same k own.0 own.1;
+    mblks = stays.mblks;
+    dblks = stays.dblks;
+    kept = stays.kept;
+  }) is.stack
 
-    module _ (same : t.lists ≡ s.lists) where
-      at : (k : ℕ) → list_at t k ≡ list_at s k
-      at k = ap (λ ls. slice_index_or ls k []) same
+  module _ (same : t.lists ≡ s.lists) where
+    at : (k : ℕ) → list_at t k ≡ list_at s k
+    at k = ap (λ ls. slice_index_or ls k []) same
 
-      side-fits : (first : ℕ) (e : End S) → IsSide view s first e → Stays s t (view.keeps e.stack) → IsSide view t first e
-      side-fits first e is stays = record {
-        head_list = is.head_list;
-        driver_list = is.driver_list;
-        head = record { ready = ready-same s t e.head.queue (at e.head.queue.list) is.head.ready; readable = subst HoldsReadable (sym (at e.head.queue.list)) is.head.readable };
-        driver = ready-same s t e.driver (at e.driver.list) is.driver;
-        stack = (stack-same first e is stays (λ k low high. at k)).1;
-        once = subst AreApart (sym (stack-same first e is stays (λ k low high. at k)).0) is.once;
-        owned = is.owned;
-        spare = λ k low high none. at k ∙ is.spare k low high none;
-      }
+    side-fits : (first : ℕ) (e : End) → IsSide s first e → Stays s t (stack_keeps e.stack) → IsSide t first e
+    side-fits first e is stays = record {
+      head_list = is.head_list;
+      driver_list = is.driver_list;
+      head = record { ready = ready-same s t e.head.queue (at e.head.queue.list) is.head.ready; readable = subst HoldsReadable (sym (at e.head.queue.list)) is.head.readable };
+      driver = ready-same s t e.driver (at e.driver.list) is.driver;
+      stack = (stack-same first e is stays (λ k low high. at k)).1;
+      once = subst AreApart (sym (stack-same first e is stays (λ k low high. at k)).0) is.once;
+      owned = is.owned;
+      spare = λ k low high none. at k ∙ is.spare k low high none;
+    }
 
-      side-same : (first : ℕ) (e : End S) → IsSide view s first e → Stays s t (view.keeps e.stack) → stream_in view.modules t e ≡ stream_in view.modules s e
-      side-same first e is stays =
-          ap (λ ls. stream_with (record s { lists = ls }) e (view.modules t e.stack)) same
-          ∙ ap (stream_with s e) (stack-same first e is stays (λ k low high. at k)).0
+    side-same : (first : ℕ) (e : End) → IsSide s first e → Stays s t (stack_keeps e.stack) → stream_in t e ≡ stream_in s e
+    side-same first e is stays =
+        ap (λ ls. stream_with (record s { lists = ls }) e (modules_in t e.stack)) same
+        ∙ ap (stream_with s e) (stack-same first e is stays (λ k low high. at k)).0
 
-      pub same-state : (p : Streams S) → AreBeside view s p → Stays s t (kept_by view p) → state_in view.modules t p ≡ state_in view.modules s p
-      same-state p beside stays =
-          ap (λ m. state_with p m (stream_in view.modules t p.slave)) (side-same 0 p.master beside.master (stays-master p stays))
-          ∙ ap (state_with p (stream_in view.modules s p.master)) (side-same 4 p.slave beside.slave (stays-slave p stays))
+    pub same-state : (p : Streams) → AreBeside s p → Stays s t (kept_by p) → state_in t p ≡ state_in s p
+    same-state p beside stays =
+        ap (λ m. state_with p m (stream_in t p.slave)) (side-same 0 p.master beside.master (stays-master p stays))
+        ∙ ap (state_with p (stream_in s p.master)) (side-same 4 p.slave beside.slave (stays-slave p stays))
 
-      pub same-beside : (p : Streams S) → AreBeside view s p → Stays s t (kept_by view p) → AreBeside view t p
-      same-beside p beside stays = record { master = side-fits 0 p.master beside.master (stays-master p stays); slave = side-fits 4 p.slave beside.slave (stays-slave p stays) }
+    pub same-beside : (p : Streams) → AreBeside s p → Stays s t (kept_by p) → AreBeside t p
+    same-beside p beside stays = record { master = side-fits 0 p.master beside.master (stays-master p stays); slave = side-fits 4 p.slave beside.slave (stays-slave p stays) }
 
-  pub streams-frame : (s t : StoreValue) (p : Streams S) → SameFor s t (kept_by view p) → AreBeside view s p → (state_in view.modules t p ≡ state_in view.modules s p) × AreBeside view t p
-  streams-frame s t p same beside =
-      let stays : Stays s t (kept_by view p) = record { mblks = same.mblks; dblks = same.dblks; kept = same.kept } in
-      (same-state s t same.lists p beside stays, same-beside s t same.lists p beside stays)
+pub streams-frame : (s t : StoreValue) (p : Streams) → SameFor s t (kept_by p) → AreBeside s p → (state_in t p ≡ state_in s p) × AreBeside t p
+streams-frame s t p same beside =
+    let stays : Stays s t (kept_by p) = record { mblks = same.mblks; dblks = same.dblks; kept = same.kept } in
+    (same-state s t same.lists p beside stays, same-beside s t same.lists p beside stays)
 
 -- No put changes what messages cost, as the modules stay.
 pub costs-stay : (to : Spot) (m : Message ℕ) (s : State ℕ)

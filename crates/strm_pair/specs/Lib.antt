@@ -1,5 +1,6 @@
 pub mod Alone
 pub mod AnyModules
+pub mod Stacks
 pub mod PutBy
 pub mod Took
 pub mod Taken

@@ -16,6 +16,7 @@ use Rattle.strm_types.specs.Ranked as ranked
 use Rattle.strm_laws.specs.Stacked.{IsAtRest, queues_of_modules}
 use Rattle.strm_blocks.specs.Blocks as blocks
 use Rattle.strm_blocks.specs.Blocks.{Block, StoreValue, list_at}
+use Rattle.strm_blocks.specs.declared.in_hand.InHand.{InHand}
 use Rattle.strm_msg.specs.Messages.{message_of}
 use Rattle.strm_msg.proofs.Chains.{rank-same}
 use Rattle.strm_queue.specs.Stored.{messages_on}
@@ -49,24 +50,24 @@ either-once a k low high = at (a == k) refl
     at true is = let no : (a + 1 == k) ≡ false = grind (arith, nat_tests) in rw no refl
     at false is = let yes : (a + 1 == k) ≡ true = grind (arith, nat_tests) in rw yes refl
 
-module _ {M : Type 0} (name : M → ℕ) (s : StoreValue) (first : ℕ) where
+module _ (s : StoreValue) (first : ℕ) where
   -- what an idle ldterm has on its write queue stands on its list
-  no-echo : (o : Option M) → is_some o ≡ false → option_to_list (kept_in name s o) ≡ []
+  no-echo : (o : Option InHand) → is_some o ≡ false → option_to_list (kept_in s o) ≡ []
   no-echo None none = refl
   no-echo (Some m) none = absurd (false≢true (sym none))
 
-  writes : (x : Ldterm M) → IsIdle (ldterm_in name s x) → (ldterm_in name s x).write_queue.messages ≡ messages_on s x.write_queue.list
+  writes : (x : Ldterm) → IsIdle (ldterm_in s x) → (ldterm_in s x).write_queue.messages ≡ messages_on s x.write_queue.list
   writes x idle = ap (λ last. messages_on s x.write_queue.list ++ last) (no-echo x.echo idle.2) ∙ append-nil (messages_on s x.write_queue.list)
 
   -- modules without lists of their own have no queues
-  none-queue : (xs : List (AnyModule M)) → ((k : ℕ) → all_of owns xs k ≡ 0) → queues_of_modules (map (module_in name s) xs) ≡ []
+  none-queue : (xs : List AnyModule) → ((k : ℕ) → all_of owns xs k ≡ 0) → queues_of_modules (map (module_in s) xs) ≡ []
   none-queue [] none = refl
   none-queue (kinds.Ldterm x ∷ xs) none =
       let k = x.read_queue.list in absurd (omega (arith, none k, once-self k, sum_by-cons (λ y. owns y k) (kinds.Ldterm x) xs))
   none-queue (kinds.Ptem x ∷ xs) none = none-queue xs (λ k. omega (arith, none k, sum_by-cons (λ y. owns y k) (kinds.Ptem x) xs))
   none-queue (kinds.Pckt x ∷ xs) none = none-queue xs (λ k. omega (arith, none k, sum_by-cons (λ y. owns y k) (kinds.Pckt x) xs))
 
-  none-queued : (way : Way) (xs : List (AnyModule M)) → ((k : ℕ) → all_of owns xs k ≡ 0) → messages_queued way (map (module_in name s) xs) ≡ []
+  none-queued : (way : Way) (xs : List AnyModule) → ((k : ℕ) → all_of owns xs k ≡ 0) → messages_queued way (map (module_in s) xs) ≡ []
   none-queued way [] none = refl
   none-queued way (kinds.Ldterm x ∷ xs) none =
       let k = x.read_queue.list in absurd (omega (arith, none k, once-self k, sum_by-cons (λ y. owns y k) (kinds.Ldterm x) xs))
@@ -74,14 +75,14 @@ module _ {M : Type 0} (name : M → ℕ) (s : StoreValue) (first : ℕ) where
   none-queued way (kinds.Pckt x ∷ xs) none = none-queued way xs (λ k. omega (arith, none k, sum_by-cons (λ y. owns y k) (kinds.Pckt x) xs))
 
   -- where an ldterm's lists stand
-  module _ (x : Ldterm M) (xs : List (AnyModule M)) (are : AreFor s first (all_of owns (kinds.Ldterm x ∷ xs))) where
+  module _ (x : Ldterm) (xs : List AnyModule) (are : AreFor s first (all_of owns (kinds.Ldterm x ∷ xs))) where
     reads-within : (first ≤ x.read_queue.list) × (x.read_queue.list < first + 2)
     reads-within = are.owned x.read_queue.list (omega (arith, once-self x.read_queue.list, sum_by-cons (λ y. owns y x.read_queue.list) (kinds.Ldterm x) xs))
 
     writes-within : (first ≤ x.write_queue.list) × (x.write_queue.list < first + 2)
     writes-within = are.owned x.write_queue.list (omega (arith, once-self x.write_queue.list, sum_by-cons (λ y. owns y x.write_queue.list) (kinds.Ldterm x) xs))
 
-    module _ (held : stands.IsHeld name s x) where
+    module _ (held : stands.IsHeld s x) where
       reads-first : x.read_queue.list ≡ first
       reads-first = omega (arith, reads-within.0, reads-within.1, writes-within.0, writes-within.1, held.apart)
 
@@ -107,11 +108,11 @@ module _ {M : Type 0} (name : M → ℕ) (s : StoreValue) (first : ℕ) where
               absurd (omega (arith, all, is, both, few))
 
   -- below a module without lists of its own
-  module _ (x : AnyModule M) (xs : List (AnyModule M)) (none : (k : ℕ) → owns x k ≡ 0) where
+  module _ (x : AnyModule) (xs : List AnyModule) (none : (k : ℕ) → owns x k ≡ 0) where
     same-below : (k : ℕ) → all_of owns (x ∷ xs) k ≡ all_of owns xs k
     same-below k = omega (arith, sum_by-cons (λ y. owns y k) x xs, none k)
 
-    held-below : AreHeld (IsHeld name) owns s (x ∷ xs) → AreHeld (IsHeld name) owns s xs
+    held-below : AreHeld IsHeld owns s (x ∷ xs) → AreHeld IsHeld owns s xs
     held-below held = record { each = held.each.1; apart = λ k. omega (arith, held.apart k, same-below k) }
 
     for-below : AreFor s first (all_of owns (x ∷ xs)) → AreFor s first (all_of owns xs)
@@ -120,7 +121,7 @@ module _ {M : Type 0} (name : M → ℕ) (s : StoreValue) (first : ℕ) where
       spare = λ k low high none. are.spare k low high (omega (arith, none, same-below k));
     }
 
-  pub stack-shown : (xs : List (AnyModule M)) → AreHeld (IsHeld name) owns s xs → AllByRecursion (λ p. IsAtRest p) (map (module_in name s) xs) → AreFor s first (all_of owns xs) → AreShown s first (map (module_in name s) xs)
+  pub stack-shown : (xs : List AnyModule) → AreHeld IsHeld owns s xs → AllByRecursion (λ p. IsAtRest p) (map (module_in s) xs) → AreFor s first (all_of owns xs) → AreShown s first (map (module_in s) xs)
   stack-shown [] held idle are =
       let none = are.spare first (omega arith) (omega arith) refl in
       let last = are.spare (first + 1) (omega arith) (omega arith) refl in
@@ -136,7 +137,7 @@ module _ {M : Type 0} (name : M → ℕ) (s : StoreValue) (first : ℕ) where
       let down = writes x idle.0 in
       let none = others-none x xs are held.each.0 held.apart in
       let rest = none-queue xs none in
-      let p = ldterm_in name s x in
+      let p = ldterm_in s x in
       record {
         up = ap (messages_on s) (sym r) ∙ sym (append-nil p.read_queue.messages) ∙ ap (λ ms. p.read_queue.messages ++ ms) (sym (none-queued Up xs none));
         down = ap (messages_on s) (sym w) ∙ sym down ∙ sym (append-nil p.write_queue.messages) ∙ ap (λ ms. p.write_queue.messages ++ ms) (sym (none-queued Down xs none));
@@ -162,6 +163,6 @@ module _ {M : Type 0} (name : M → ℕ) (s : StoreValue) (first : ℕ) where
       record { up = r.up; down = r.down; ordered = r.ordered; many = r.many }
 
 -- without a module no list is owned
-pub none-own : {M : Type 0} (name : M → ℕ) (s : StoreValue) (xs : List (AnyModule M)) → map (module_in name s) xs ≡ [] → (k : ℕ) → all_of owns xs k ≡ 0
-none-own name s [] none k = refl
-none-own name s (x ∷ xs) none k = absurd (cc)
+pub none-own : (s : StoreValue) (xs : List AnyModule) → map (module_in s) xs ≡ [] → (k : ℕ) → all_of owns xs k ≡ 0
+none-own s [] none k = refl
+none-own s (x ∷ xs) none k = absurd (cc)

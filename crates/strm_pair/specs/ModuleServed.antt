@@ -28,7 +28,7 @@ use Rattle.strm_pair.specs.AnyModules.{turn_cost}
 use Rattle.strm_pair.specs.declared.calling.Call.{Call}
 use Rattle.strm_pair.specs.declared.streams.Streams.{Streams}
 use Rattle.strm_pair.specs.Pairs.{state_in, AreBeside, kept_by}
-use Rattle.strm_pair.specs.Streams.{View}
+use Rattle.strm_pair.specs.Stacks.{modules_in, IsStackHeld, stack_owns, stack_keeps, Stack}
 
 -- at how many bytes a call stopped for want of blocks, where it did
 abbrev pub stop_in : Call → Option ℕ
@@ -70,55 +70,55 @@ pub record TellsAs (here : Spot) (again : Bool) (call : Call) (s : State ℕ) : 
   pub made : made_of (called here again (stop_in call) (stream here.side s).modules).gone ≤ most_made call.bytes
 
 -- A stack of modules served a call at a place.
-pub record StackServes {M S : Type 0} (name : M → ℕ) (view : View S) (old new : StoreValue) (x y : S) (here : Spot) (again : Bool) (served : Served M) (told told' : Fates) : Type 0 where
-  pub state : view.modules new y ≡ (called here again (stop_of served) (view.modules old x)).state
-  pub notes : served.acts.notes.items ≡ (called here again (stop_of served) (view.modules old x)).notes
-  pub sent : parcels_in name new (sent_of served.acts.sent) ≡ (called here again (stop_of served) (view.modules old x)).sent
-  pub tells : told' ≡ tallied (called here again (stop_of served) (view.modules old x)).gone told
-  pub bytes : served.bytes ≡ treated here again (stop_of served) (view.modules old x)
-  pub asks : served.again ≡ asks_on here again (stop_of served) (view.modules old x)
+pub record StackServes (old new : StoreValue) (x y : Stack) (here : Spot) (again : Bool) (served : Served) (told told' : Fates) : Type 0 where
+  pub state : modules_in new y ≡ (called here again (stop_of served) (modules_in old x)).state
+  pub notes : served.acts.notes.items ≡ (called here again (stop_of served) (modules_in old x)).notes
+  pub sent : parcels_in new (sent_of served.acts.sent) ≡ (called here again (stop_of served) (modules_in old x)).sent
+  pub tells : told' ≡ tallied (called here again (stop_of served) (modules_in old x)).gone told
+  pub bytes : served.bytes ≡ treated here again (stop_of served) (modules_in old x)
+  pub asks : served.again ≡ asks_on here again (stop_of served) (modules_in old x)
   pub over : OnTrue served.stopped (served.again ≡ false)
-  pub ends : OnTrue served.stopped (HoldsAt (λ p. Ends here.way again (ldterm_of p) served.bytes) (view.modules old x) (here.at - 1))
-  pub made : made_of (called here again (stop_of served) (view.modules old x)).gone ≤ most_made served.bytes
-  pub held : view.IsHeld new y
-  pub own : OnlyOwn old new (view.owns x) (view.owns y)
-  pub chains : AreChains name new (sent_of served.acts.sent)
-  pub falls : AreLower far (turn_height here) (parcels_in name new (sent_of served.acts.sent))
-  pub hands : Handles old new (λ _. 0) (view.keeps x) (view.keeps y) (λ i. times_sent name i (sent_of served.acts.sent))
-  pub room : HasRoom new (later_cost most_cost served.again (at_place (turn_cost here true) 0 here.at (view.modules new y)) (parcels_in name new (sent_of served.acts.sent)))
+  pub ends : OnTrue served.stopped (HoldsAt (λ p. Ends here.way again (ldterm_of p) served.bytes) (modules_in old x) (here.at - 1))
+  pub made : made_of (called here again (stop_of served) (modules_in old x)).gone ≤ most_made served.bytes
+  pub held : IsStackHeld new y
+  pub own : OnlyOwn old new (stack_owns x) (stack_owns y)
+  pub chains : AreChains new (sent_of served.acts.sent)
+  pub falls : AreLower far (turn_height here) (parcels_in new (sent_of served.acts.sent))
+  pub hands : Handles old new (λ _. 0) (stack_keeps x) (stack_keeps y) (λ i. times_sent i (sent_of served.acts.sent))
+  pub room : HasRoom new (later_cost most_cost served.again (at_place (turn_cost here true) 0 here.at (modules_in new y)) (parcels_in new (sent_of served.acts.sent)))
   pub pool : SamePool old new
 
 -- what a served call tells of itself
-abbrev pub call_of : {M : Type 0} → Served M → Call
+abbrev pub call_of : Served → Call
 call_of served = record { bytes = served.bytes; stopped = served.stopped; again = served.again }
 
 -- The module at a place did what a call says. What it sent is in hand, beside what the stacks keep, and there are blocks enough for that and
 -- for one more call, where it asks for one.
-pub record ActsAs {M S : Type 0} (name : M → ℕ) (view : View S) (old new : StoreValue) (p q : Streams S) (here : Spot) (again : Bool) (call : Call) (sent_on : List (Sent M)) (told told' : Fates) : Type 0 where
-  pub state : state_in view.modules new q ≡ (acts_in here again call (state_in view.modules old p)).state
-  pub sent : parcels_in name new sent_on ≡ (acts_in here again call (state_in view.modules old p)).sent
-  pub tells : told' ≡ tallied (acts_in here again call (state_in view.modules old p)).gone told
-  pub itself : TellsAs here again call (state_in view.modules old p)
-  pub beside : AreBeside view new q
-  pub chains : AreChains name new sent_on
-  pub falls : AreLower far (turn_height here) (parcels_in name new sent_on)
-  pub hands : Handles old new (λ _. 0) (kept_by view p) (kept_by view q) (λ i. times_sent name i sent_on)
-  pub room : HasRoom new (later_cost most_cost call.again (next_cost here (state_in view.modules new q)) (parcels_in name new sent_on))
+pub record ActsAs (old new : StoreValue) (p q : Streams) (here : Spot) (again : Bool) (call : Call) (sent_on : List Sent) (told told' : Fates) : Type 0 where
+  pub state : state_in new q ≡ (acts_in here again call (state_in old p)).state
+  pub sent : parcels_in new sent_on ≡ (acts_in here again call (state_in old p)).sent
+  pub tells : told' ≡ tallied (acts_in here again call (state_in old p)).gone told
+  pub itself : TellsAs here again call (state_in old p)
+  pub beside : AreBeside new q
+  pub chains : AreChains new sent_on
+  pub falls : AreLower far (turn_height here) (parcels_in new sent_on)
+  pub hands : Handles old new (λ _. 0) (kept_by p) (kept_by q) (λ i. times_sent i sent_on)
+  pub room : HasRoom new (later_cost most_cost call.again (next_cost here (state_in new q)) (parcels_in new sent_on))
   pub pool : SamePool old new
 
 -- all that is in hand is kept by the stacks
-abbrev pub IsKeptAll : {S : Type 0} → View S → StoreValue → Streams S → Type 0
-IsKeptAll view s p = (i : ℕ) → times_in i s.hand ≡ kept_by view p i
+abbrev pub IsKeptAll : StoreValue → Streams → Type 0
+IsKeptAll s p = (i : ℕ) → times_in i s.hand ≡ kept_by p i
 
 -- A call did what it says, and what it sent is delivered.
-pub record CallsAs {S : Type 0} (view : View S) (old new : StoreValue) (p q : Streams S) (here : Spot) (again : Bool) (call : Call) (told told' : Fates) : Type 0 where
-  pub state : state_in view.modules new q ≡ (led here again (stop_in call) (state_in view.modules old p)).state
-  pub tells : told' ≡ tallied (led here again (stop_in call) (state_in view.modules old p)).gone told
-  pub itself : TellsAs here again call (state_in view.modules old p)
-  pub beside : AreBeside view new q
-  pub hand : IsKeptAll view new q
-  pub room : OnTrue call.again (HasRoom new (next_cost here (state_in view.modules new q)))
-  pub left : spare (state_in view.modules old p) ≤ spare (state_in view.modules new q) + call_units call.bytes
+pub record CallsAs (old new : StoreValue) (p q : Streams) (here : Spot) (again : Bool) (call : Call) (told told' : Fates) : Type 0 where
+  pub state : state_in new q ≡ (led here again (stop_in call) (state_in old p)).state
+  pub tells : told' ≡ tallied (led here again (stop_in call) (state_in old p)).gone told
+  pub itself : TellsAs here again call (state_in old p)
+  pub beside : AreBeside new q
+  pub hand : IsKeptAll new q
+  pub room : OnTrue call.again (HasRoom new (next_cost here (state_in new q)))
+  pub left : spare (state_in old p) ≤ spare (state_in new q) + call_units call.bytes
   pub pool : SamePool old new
 
 -- Calls treated so many bytes of a turn, which would end here, and so much of the books was taken at most.

@@ -13,7 +13,6 @@ use Rattle.strm_blocks.specs.Blocks.{StoreValue}
 use Rattle.strm_pair.specs.declared.streams.Streams.{Streams}
 use Rattle.strm_pair.specs.declared.journal.Journal.{Journal}
 use Rattle.strm_pair.specs.Pairs.{state_in, free_in, journal_of, AreHeld}
-use Rattle.strm_pair.specs.Streams.{View}
 
 -- the state to which a journal leads from the opening
 abbrev pub led_to : Journal → State ℕ
@@ -24,9 +23,9 @@ abbrev pub sizes_over : StoreValue → Config → Config
 sizes_over s sizes = record sizes { mblks = s.mblks; dblks = s.dblks }
 
 -- the pair that the store, the streams and the journal stand for
-abbrev pub pair_of : {S : Type 0} → View S → StoreValue → Streams S → Journal → Config → Fates → PairState
-pair_of view s streams journal limits fates = record {
-  state = state_in view.modules s streams;
+abbrev pub pair_of : StoreValue → Streams → Journal → Config → Fates → PairState
+pair_of s streams journal limits fates = record {
+  state = state_in s streams;
   base = opening;
   journal = journal_of journal;
   limits = limits;
@@ -37,12 +36,12 @@ pair_of view s streams journal limits fates = record {
 -- The blocks stand for the state to which the journal leads from the opening, each entry of it is a legal step; no more is booked than a ledger can hold; the
 -- numbers that are kept beside the blocks are those of the blocks, and nothing is in hand; what has gone is told by its rules; and the sizes are those that
 -- the pair was made with.
-pub record IsKept {S : Type 0} (view : View S) (s : StoreValue) (streams : Streams S) (journal : Journal) (limits : Config) (fates : Fates) : Type 0 where
-  pub replayed : state_in view.modules s streams ≡ led_to journal
+pub record IsKept (s : StoreValue) (streams : Streams) (journal : Journal) (limits : Config) (fates : Fates) : Type 0 where
+  pub replayed : state_in s streams ≡ led_to journal
   pub legal : IsLegal plain opening (journal_of journal)
-  pub few : FewBooked (state_in view.modules s streams)
+  pub few : FewBooked (state_in s streams)
   pub told : fates ≡ told_by plain opening (journal_of journal) no_fates
-  pub held : AreHeld view s streams
+  pub held : AreHeld s streams
   pub mblks : s.mblks ≡ limits.mblks
   pub dblks : s.dblks ≡ limits.dblks
   pub events : journal.most_entries ≡ limits.journal_events

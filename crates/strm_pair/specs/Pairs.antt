@@ -9,13 +9,14 @@ use Rattle.strm_blocks.specs.Blocks.{StoreValue, free_m, free_d, in_hand}
 use Rattle.strm_pair.specs.declared.streams.Streams.{Streams}
 use Rattle.strm_pair.specs.declared.ends.End.{End}
 use Rattle.strm_pair.specs.declared.journal.Journal.{Journal}
-use Rattle.strm_pair.specs.Streams.{Modules, View, stream_in, AreSides}
+use Rattle.strm_pair.specs.Streams.{stream_in, AreSides}
+use Rattle.strm_pair.specs.Stacks.{stack_keeps}
 
 -- the plain state
-abbrev pub state_in : {S : Type 0} → Modules S → StoreValue → Streams S → State ℕ
-state_in modules s p = record {
-  master = stream_in modules s p.master;
-  slave = stream_in modules s p.slave;
+abbrev pub state_in : StoreValue → Streams → State ℕ
+state_in s p = record {
+  master = stream_in s p.master;
+  slave = stream_in s p.slave;
   locked = p.locked;
   enabled = p.enabled;
   next_ioctl = p.next_ioctl;
@@ -24,27 +25,27 @@ state_in modules s p = record {
 }
 
 -- the stream of a side
-abbrev pub end_at : {S : Type 0} → Side → Streams S → End S
+abbrev pub end_at : Side → Streams → End
 end_at Master p = p.master
 end_at Slave p = p.slave
 
 -- the streams with another stream on a side
-abbrev pub with_end : {S : Type 0} → Side → End S → Streams S → Streams S
+abbrev pub with_end : Side → End → Streams → Streams
 with_end Master e p = record p { master = e }
 with_end Slave e p = record p { slave = e }
 
 -- the store and the streams beside it fit, whatever is in hand
-abbrev pub AreBeside : {S : Type 0} → View S → StoreValue → Streams S → Type 0
-AreBeside view s p = AreSides view s p.master p.slave
+abbrev pub AreBeside : StoreValue → Streams → Type 0
+AreBeside s p = AreSides s p.master p.slave
 
 -- how often the stacks of both sides keep a message of a name in hand
-abbrev pub kept_by : {S : Type 0} → View S → Streams S → ℕ → ℕ
-kept_by view p i = view.keeps p.master.stack i + view.keeps p.slave.stack i
+abbrev pub kept_by : Streams → ℕ → ℕ
+kept_by p i = stack_keeps p.master.stack i + stack_keeps p.slave.stack i
 
 -- the same while nobody is in a call: nothing is in hand
-pub record AreHeld {S : Type 0} (view : View S) (s : StoreValue) (p : Streams S) : Type 0 where
+pub record AreHeld (s : StoreValue) (p : Streams) : Type 0 where
   pub hand : s.hand ≡ []
-  pub beside : AreBeside view s p
+  pub beside : AreBeside s p
 
 -- how many blocks of each kind are free in the store
 abbrev pub free_in : StoreValue → Free

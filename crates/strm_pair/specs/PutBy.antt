@@ -17,32 +17,32 @@ use Rattle.strm_frame.specs.Hands.{once, Handles, OnlyOwn, SamePool, Shifts, Spe
 use Rattle.strm_frame.specs.Outboxes.{message_in, sent_of, times_sent, parcels_in, AreChains}
 use Rattle.strm_pair.specs.declared.streams.Streams.{Streams}
 use Rattle.strm_pair.specs.Pairs.{state_in, AreBeside, kept_by}
-use Rattle.strm_pair.specs.Streams.{View}
+use Rattle.strm_pair.specs.Stacks.{modules_in, IsStackHeld, stack_owns, stack_keeps, Stack}
 
 -- A put did what a definition says: the message has gone, and what is sent on has come in hand, beside what the stacks keep. No more
 -- blocks of each kind were taken than `most`, and where that many were free, `later` are free behind it.
-pub record PutAs {M S : Type 0} (name : M → ℕ) (view : View S) (old new : StoreValue) (p q : Streams S) (message most later : ℕ) (sent_on : List (Sent M)) (told told' : Fates) (is : Took ℕ (State ℕ)) : Type 0 where
-  pub state : state_in view.modules new q ≡ is.state
-  pub sent : parcels_in name new sent_on ≡ is.sent
+pub record PutAs (old new : StoreValue) (p q : Streams) (message most later : ℕ) (sent_on : List Sent) (told told' : Fates) (is : Took ℕ (State ℕ)) : Type 0 where
+  pub state : state_in new q ≡ is.state
+  pub sent : parcels_in new sent_on ≡ is.sent
   pub tells : told' ≡ tallied is.gone told
-  pub beside : AreBeside view new q
-  pub chains : AreChains name new sent_on
-  pub hands : Handles old new (once message) (kept_by view p) (kept_by view q) (λ i. times_sent name i sent_on)
+  pub beside : AreBeside new q
+  pub chains : AreChains new sent_on
+  pub hands : Handles old new (once message) (kept_by p) (kept_by q) (λ i. times_sent i sent_on)
   pub spends : Spends old new most later
   pub pool : SamePool old new
 
 -- the same where no more were taken than `takes`
-abbrev pub PutBy : {M S : Type 0} → (M → ℕ) → View S → (old new : StoreValue) → (p q : Streams S) → (message takes : ℕ) → List (Sent M) → (told told' : Fates) → Took ℕ (State ℕ) → Type 0
-PutBy name view old new p q message takes sent_on told told' is = PutAs name view old new p q message takes 0 sent_on told told' is
+abbrev pub PutBy : (old new : StoreValue) → (p q : Streams) → (message takes : ℕ) → List Sent → (told told' : Fates) → Took ℕ (State ℕ) → Type 0
+PutBy old new p q message takes sent_on told told' is = PutAs old new p q message takes 0 sent_on told told' is
 
 -- A put at an open head did what a definition says: the message has gone, and this is to be sent down. No block was taken, and the
 -- stacks keep what they did.
-pub record CameBy {S : Type 0} (view : View S) (old new : StoreValue) (p q : Streams S) (message : ℕ) (down : List (Parcel ℕ)) (told told' : Fates) (is : Took ℕ (State ℕ)) : Type 0 where
-  pub state : state_in view.modules new q ≡ is.state
+pub record CameBy (old new : StoreValue) (p q : Streams) (message : ℕ) (down : List (Parcel ℕ)) (told told' : Fates) (is : Took ℕ (State ℕ)) : Type 0 where
+  pub state : state_in new q ≡ is.state
   pub down_is : down ≡ is.sent
   pub tells : told' ≡ tallied is.gone told
-  pub beside : AreBeside view new q
-  pub keeps : (i : ℕ) → kept_by view q i ≡ kept_by view p i
+  pub beside : AreBeside new q
+  pub keeps : (i : ℕ) → kept_by q i ≡ kept_by p i
   pub hands : Shifts old new (once message) (λ _. 0) 0
 
 -- what the modules of a stack do with a message that is put at one of them
@@ -50,14 +50,14 @@ abbrev pub taken_at : Spot → Message ℕ → List (Module ℕ) → Acted ℕ (
 taken_at to m ms = put_among (module_puts plain 0) (to.at - 1) to m ms
 
 -- A stack of modules took a message at a place.
-pub record StackTakes {M S : Type 0} (name : M → ℕ) (view : View S) (old new : StoreValue) (x y : S) (message : ℕ) (to : Spot) (acts : Acts M) (told told' : Fates) : Type 0 where
-  pub state : view.modules new y ≡ (taken_at to (message_in old message) (view.modules old x)).state
-  pub notes : acts.notes.items ≡ (taken_at to (message_in old message) (view.modules old x)).notes
-  pub sent : parcels_in name new (sent_of acts.sent) ≡ (taken_at to (message_in old message) (view.modules old x)).sent
-  pub tells : told' ≡ tallied (taken_at to (message_in old message) (view.modules old x)).gone told
-  pub held : view.IsHeld new y
-  pub own : OnlyOwn old new (view.owns x) (view.owns y)
-  pub chains : AreChains name new (sent_of acts.sent)
-  pub hands : Handles old new (once message) (view.keeps x) (view.keeps y) (λ i. times_sent name i (sent_of acts.sent))
-  pub spends : Spends old new (at_place (module_takes to (message_in old message)) 0 to.at (view.modules old x)) (at_place (module_leaves to (message_in old message)) 0 to.at (view.modules old x))
+pub record StackTakes (old new : StoreValue) (x y : Stack) (message : ℕ) (to : Spot) (acts : Acts) (told told' : Fates) : Type 0 where
+  pub state : modules_in new y ≡ (taken_at to (message_in old message) (modules_in old x)).state
+  pub notes : acts.notes.items ≡ (taken_at to (message_in old message) (modules_in old x)).notes
+  pub sent : parcels_in new (sent_of acts.sent) ≡ (taken_at to (message_in old message) (modules_in old x)).sent
+  pub tells : told' ≡ tallied (taken_at to (message_in old message) (modules_in old x)).gone told
+  pub held : IsStackHeld new y
+  pub own : OnlyOwn old new (stack_owns x) (stack_owns y)
+  pub chains : AreChains new (sent_of acts.sent)
+  pub hands : Handles old new (once message) (stack_keeps x) (stack_keeps y) (λ i. times_sent i (sent_of acts.sent))
+  pub spends : Spends old new (at_place (module_takes to (message_in old message)) 0 to.at (modules_in old x)) (at_place (module_leaves to (message_in old message)) 0 to.at (modules_in old x))
   pub pool : SamePool old new

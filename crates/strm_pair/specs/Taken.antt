@@ -15,41 +15,41 @@ use Rattle.strm_frame.specs.Serves.{SameHand}
 use Rattle.strm_pair.specs.declared.stacks.Taken.{Taken}
 use Rattle.strm_pair.specs.declared.streams.Streams.{Streams}
 use Rattle.strm_pair.specs.Pairs.{state_in, AreHeld, SamePool}
-use Rattle.strm_pair.specs.Streams.{View}
+use Rattle.strm_pair.specs.Stacks.{modules_in, IsStackHeld, stack_owns, stack_keeps, Stack}
 
 -- what a module lets go by a rule that is taken off a side's stream
 abbrev pub let_go_of : Side → Rule → Module ℕ → Acted ℕ (Module ℕ)
 let_go_of side rule p = cleared module_queue with_module_queue module_line without_module_line side rule p
 
 -- No module stood there, and nothing changed.
-pub record TookNone {S : Type 0} (view : View S) (old new : StoreValue) (x y : S) (told told' : Fates) : Type 0 where
-  pub none : view.modules old x ≡ []
+pub record TookNone (old new : StoreValue) (x y : Stack) (told told' : Fates) : Type 0 where
+  pub none : modules_in old x ≡ []
   pub store : new ≡ old
   pub stack : y ≡ x
   pub tells : told' ≡ told
 
 -- It was on top of the others, which stay. Its lists are empty now, and the lists that weren't the stack's are as they were.
-pub record TookTop {S : Type 0} (view : View S) (side : Side) (rule : Rule) (old new : StoreValue) (x y : S) (told told' : Fates) (taken : Taken) : Type 0 where
+pub record TookTop (side : Side) (rule : Rule) (old new : StoreValue) (x y : Stack) (told told' : Fates) (taken : Taken) : Type 0 where
   pub top : Module ℕ
   pub rest : List (Module ℕ)
-  pub was : view.modules old x ≡ top ∷ rest
+  pub was : modules_in old x ≡ top ∷ rest
   pub name : taken.name ≡ module_name top
   pub notes : taken.notes.items ≡ (let_go_of side rule top).notes
   pub tells : told' ≡ tallied (let_go_of side rule top).gone told
-  pub stays : view.modules new y ≡ rest
-  pub held : view.IsHeld new y
-  pub rests : (i : ℕ) → view.keeps y i ≡ 0
-  pub owns : (k : ℕ) → view.owns y k ≤ view.owns x k
-  pub others : (k : ℕ) → view.owns x k ≡ 0 → list_at new k ≡ list_at old k
-  pub emptied : (k : ℕ) → 0 < view.owns x k → view.owns y k ≡ 0 → list_at new k ≡ []
+  pub stays : modules_in new y ≡ rest
+  pub held : IsStackHeld new y
+  pub rests : (i : ℕ) → stack_keeps y i ≡ 0
+  pub owns : (k : ℕ) → stack_owns y k ≤ stack_owns x k
+  pub others : (k : ℕ) → stack_owns x k ≡ 0 → list_at new k ≡ list_at old k
+  pub emptied : (k : ℕ) → 0 < stack_owns x k → stack_owns y k ≡ 0 → list_at new k ≡ []
   pub hand : SameHand old new
   pub frees : FreesBlocks old new
 
 -- The module on top of a side's stream has gone, and its name is told, where one stood there. No block was taken.
-pub record WithoutTop {S : Type 0} (view : View S) (side : Side) (rule : Rule) (old new : StoreValue) (p q : Streams S) (told told' : Fates) (name : Option ModuleName) : Type 0 where
-  pub name_is : name ≡ top_on side (state_in view.modules old p)
-  pub state : state_in view.modules new q ≡ (top_taken rule side (stream side (state_in view.modules old p)).modules (state_in view.modules old p)).state
-  pub tells : told' ≡ tallied (top_taken rule side (stream side (state_in view.modules old p)).modules (state_in view.modules old p)).gone told
-  pub held : AreHeld view new q
+pub record WithoutTop (side : Side) (rule : Rule) (old new : StoreValue) (p q : Streams) (told told' : Fates) (name : Option ModuleName) : Type 0 where
+  pub name_is : name ≡ top_on side (state_in old p)
+  pub state : state_in new q ≡ (top_taken rule side (stream side (state_in old p)).modules (state_in old p)).state
+  pub tells : told' ≡ tallied (top_taken rule side (stream side (state_in old p)).modules (state_in old p)).gone told
+  pub held : AreHeld new q
   pub frees : FreesBlocks old new
   pub pool : SamePool old new

@@ -14,7 +14,6 @@ use Rattle.strm_msg.specs.Messages.{message_of, IsChain}
 use Rattle.strm_queue.specs.Stored.{FreesBlocks}
 use Rattle.strm_pair.specs.declared.streams.Streams.{Streams}
 use Rattle.strm_pair.specs.Pairs.{state_in, AreBeside}
-use Rattle.strm_pair.specs.Streams.{View}
 
 -- a queue behind a turn that took a message of this size, and whether that lets a writer go
 abbrev pub settled : ℕ → Queue ℕ → Queue ℕ
@@ -24,11 +23,11 @@ abbrev pub settling_relieves : ℕ → Queue ℕ → Bool
 settling_relieves size q = not (size == 0) && relieves (turned_queue q)
 
 -- It is in hand, and as many blocks are free as before.
-pub record TookFirst {S : Type 0} (view : View S) (side : Side) (old new : StoreValue) (p q : Streams S) (i : ℕ) : Type 0 where
+pub record TookFirst (side : Side) (old new : StoreValue) (p q : Streams) (i : ℕ) : Type 0 where
   pub rest : List (Message ℕ)
-  pub first : (stream side (state_in view.modules old p)).driver.queue.messages ≡ message_of (in_hand new i) ∷ rest
-  pub state : state_in view.modules new q ≡ with_driver side (left_with rest (stream side (state_in view.modules old p)).driver.queue) (state_in view.modules old p)
-  pub beside : AreBeside view new q
+  pub first : (stream side (state_in old p)).driver.queue.messages ≡ message_of (in_hand new i) ∷ rest
+  pub state : state_in new q ≡ with_driver side (left_with rest (stream side (state_in old p)).driver.queue) (state_in old p)
+  pub beside : AreBeside new q
   pub hand : new.hand ≡ record { name = i; chain = in_hand new i } ∷ old.hand
   pub chain : IsChain (in_hand new i)
   pub mblks : new.mblks ≡ old.mblks

@@ -15,8 +15,9 @@ ghost use Rattle.strm_frame.specs.Outboxes.{sent_of};
 ghost use Rattle.strm_pair.specs.ModuleServed.{ActsAs, BookTakes, CallsAs, IsKeptAll, MayBook, StackServes, TreatsAs, between, call_cost, call_of};
 
 use crate::earlier::note;
-use crate::stacks::Stacks;
+use crate::stacks::place_at;
 use crate::streams::Streams;
+use strm_blocks::Blocks;
 use strm_frame::{Served, deliver_all};
 use strm_types::{Fates, HOPS, Side, Spot};
 
@@ -65,7 +66,7 @@ pub(crate) struct Call {
     again: bool,
 }
 
-impl<S: Drop> Streams<S> {
+impl Streams {
     ghost use Rattle.strm_pair.specs.Pairs.{state_in, end_at, with_end, AreBeside, AreHeld, SamePool};
 
     // How many bytes are booked as made in each direction.
@@ -92,51 +93,51 @@ impl<S: Drop> Streams<S> {
     }
 
     // The stack of a side serves a call of a turn, and nothing else of the streams changes.
-    fn serve_at<B: Stacks<Stack = S>>(
+    fn serve_at<B: Blocks>(
         &mut self,
         store: &mut B,
         here: Spot,
         again: bool,
         told: &mut Fates,
-    ) -> Served<B::Mp>
-        requires beside { AreBeside B.view (B.value store.old) self.old }
+    ) -> Served
+        requires beside { AreBeside (B.value store.old) self.old }
         requires inside { 0 < here.at }
-        requires within { here.at ≤ length (stream here.side (state_in B.view.modules (B.value store.old) self.old)).modules }
-        requires begins { Begins here.way again (ldterm_of (module_at here (state_in B.view.modules (B.value store.old) self.old))) }
-        requires hand { IsKeptAll B.view (B.value store.old) self.old }
-        requires room { HasRoom (B.value store.old) (call_cost here again (state_in B.view.modules (B.value store.old) self.old)) }
+        requires within { here.at ≤ length (stream here.side (state_in (B.value store.old) self.old)).modules }
+        requires begins { Begins here.way again (ldterm_of (module_at here (state_in (B.value store.old) self.old))) }
+        requires hand { IsKeptAll (B.value store.old) self.old }
+        requires room { HasRoom (B.value store.old) (call_cost here again (state_in (B.value store.old) self.old)) }
         ensures streams { self.new ≡ with_end here.side (record (end_at here.side self.old) { stack = (end_at here.side self.new).stack }) self.old }
-        ensures serves { StackServes B.name B.view (B.value store.old) (B.value store.new) (end_at here.side self.old).stack (end_at here.side self.new).stack
+        ensures serves { StackServes (B.value store.old) (B.value store.new) (end_at here.side self.old).stack (end_at here.side self.new).stack
             here again result told.old told.new }
     {
         match here.side {
-            Side::Master => B::serve(&mut self.master.stack, store, here, again, told),
-            Side::Slave => B::serve(&mut self.slave.stack, store, here, again, told),
+            Side::Master => self.master.stack.serve(store, here, again, told),
+            Side::Slave => self.slave.stack.serve(store, here, again, told),
         }
     }
 
     // The module at a place serves a call of a turn: what it says of its queues goes by how the stream was before, and what it made is
     // booked.
-    fn act<B: Stacks<Stack = S>>(
+    fn act<B: Blocks>(
         &mut self,
         store: &mut B,
         here: Spot,
         again: bool,
         told: &mut Fates,
-    ) -> Served<B::Mp>
-        requires beside { AreBeside B.view (B.value store.old) self.old }
+    ) -> Served
+        requires beside { AreBeside (B.value store.old) self.old }
         requires inside { 0 < here.at }
-        requires within { here.at ≤ length (stream here.side (state_in B.view.modules (B.value store.old) self.old)).modules }
-        requires begins { Begins here.way again (ldterm_of (module_at here (state_in B.view.modules (B.value store.old) self.old))) }
-        requires hand { IsKeptAll B.view (B.value store.old) self.old }
-        requires room { HasRoom (B.value store.old) (call_cost here again (state_in B.view.modules (B.value store.old) self.old)) }
-        requires books { MayBook here again (state_in B.view.modules (B.value store.old) self.old) }
-        ensures { ActsAs B.name B.view (B.value store.old) (B.value store.new) self.old self.new here again
+        requires within { here.at ≤ length (stream here.side (state_in (B.value store.old) self.old)).modules }
+        requires begins { Begins here.way again (ldterm_of (module_at here (state_in (B.value store.old) self.old))) }
+        requires hand { IsKeptAll (B.value store.old) self.old }
+        requires room { HasRoom (B.value store.old) (call_cost here again (state_in (B.value store.old) self.old)) }
+        requires books { MayBook here again (state_in (B.value store.old) self.old) }
+        ensures { ActsAs (B.value store.old) (B.value store.new) self.old self.new here again
             (call_of result) (sent_of result.acts.sent) told.old told.new }
     {
         store.audit();
-        let place = B::place(&self.end(here.side).stack, here.at);
-        let earlier = self.earlier::<B>(here.side, here.at);
+        let place = place_at(&self.end(here.side).stack, here.at);
+        let earlier = self.earlier(here.side, here.at);
         let before = Made::of(told);
         let served = self.serve_at(store, here, again, told);
         note(
@@ -151,22 +152,22 @@ impl<S: Drop> Streams<S> {
     }
 
     // A call of a turn, and the delivery of what it sent.
-    fn call_module<B: Stacks<Stack = S>>(
+    fn call_module<B: Blocks>(
         &mut self,
         store: &mut B,
         here: Spot,
         again: bool,
         told: &mut Fates,
     ) -> Call
-        requires beside { AreBeside B.view (B.value store.old) self.old }
+        requires beside { AreBeside (B.value store.old) self.old }
         requires inside { 0 < here.at }
         requires low { here.at ≤ MODULES }
-        requires within { here.at ≤ length (stream here.side (state_in B.view.modules (B.value store.old) self.old)).modules }
-        requires begins { Begins here.way again (ldterm_of (module_at here (state_in B.view.modules (B.value store.old) self.old))) }
-        requires hand { IsKeptAll B.view (B.value store.old) self.old }
-        requires room { HasRoom (B.value store.old) (call_cost here again (state_in B.view.modules (B.value store.old) self.old)) }
-        requires books { MayBook here again (state_in B.view.modules (B.value store.old) self.old) }
-        ensures { CallsAs B.view (B.value store.old) (B.value store.new) self.old self.new here again result told.old told.new }
+        requires within { here.at ≤ length (stream here.side (state_in (B.value store.old) self.old)).modules }
+        requires begins { Begins here.way again (ldterm_of (module_at here (state_in (B.value store.old) self.old))) }
+        requires hand { IsKeptAll (B.value store.old) self.old }
+        requires room { HasRoom (B.value store.old) (call_cost here again (state_in (B.value store.old) self.old)) }
+        requires books { MayBook here again (state_in (B.value store.old) self.old) }
+        ensures { CallsAs (B.value store.old) (B.value store.new) self.old self.new here again result told.old told.new }
     {
         let served = self.act(store, here, again, told);
         store.audit();
@@ -180,24 +181,24 @@ impl<S: Drop> Streams<S> {
     }
 
     /// The calls of a turn, until one asks for no other: how many bytes they treated.
-    pub(crate) fn call_on<B: Stacks<Stack = S>>(
+    pub(crate) fn call_on<B: Blocks>(
         &mut self,
         store: &mut B,
         here: Spot,
         told: &mut Fates,
     ) -> usize
-        requires held { AreHeld B.view (B.value store.old) self.old }
-        requires rests { AreIdle (state_in B.view.modules (B.value store.old) self.old) }
+        requires held { AreHeld (B.value store.old) self.old }
+        requires rests { AreIdle (state_in (B.value store.old) self.old) }
         requires inside { 0 < here.at }
         requires low { here.at ≤ MODULES }
-        requires within { here.at ≤ length (stream here.side (state_in B.view.modules (B.value store.old) self.old)).modules }
-        requires few { bytes_left here.way false (ldterm_of (module_at here (state_in B.view.modules (B.value store.old) self.old))) ≤ 16777216 }
+        requires within { here.at ≤ length (stream here.side (state_in (B.value store.old) self.old)).modules }
+        requires few { bytes_left here.way false (ldterm_of (module_at here (state_in (B.value store.old) self.old))) ≤ 16777216 }
         requires room { HasRoom (B.value store.old) 25 }
-        requires range { in_range (state_in B.view.modules (B.value store.old) self.old) ≡ true }
-        ensures treats { TreatsAs here result (state_in B.view.modules (B.value store.old) self.old)
-            (state_in B.view.modules (B.value store.new) self.new) told.old told.new }
-        ensures beside { AreBeside B.view (B.value store.new) self.new }
-        ensures hand { IsKeptAll B.view (B.value store.new) self.new }
+        requires range { in_range (state_in (B.value store.old) self.old) ≡ true }
+        ensures treats { TreatsAs here result (state_in (B.value store.old) self.old)
+            (state_in (B.value store.new) self.new) told.old told.new }
+        ensures beside { AreBeside (B.value store.new) self.new }
+        ensures hand { IsKeptAll (B.value store.new) self.new }
         ensures pool { SamePool (B.value store.old) (B.value store.new) }
     {
         let mut call = self.call_module(store, here, false, told);

@@ -17,8 +17,9 @@ ghost use Rattle.strm_pair.specs.Parts.{longest_part};
 ghost use Rattle.strm_pair.specs.Taken.{TookNone, TookTop, WithoutTop};
 
 use crate::earlier::note;
-use crate::stacks::{Stacks, Taken};
+use crate::stacks::{Taken, module_count, push_named, take_top};
 use crate::streams::Streams;
+use strm_blocks::Blocks;
 use strm_pty::make;
 use strm_types::{Answer, Fates, ModuleName, MsgKind, ReadMode, Rule, Side, Spot, Way};
 
@@ -61,13 +62,13 @@ pub(crate) struct TakenOff {
     pub met: bool,
 }
 
-impl<S: Drop> Streams<S> {
+impl Streams {
     ghost use Rattle.strm_blocks.specs.Blocks.{StoreValue};
     ghost use Rattle.strm_pair.specs.Pairs.{state_in, end_at, with_end, AreHeld, SamePool};
 
     // Takes the module on top off the stack of a side, and changes nothing else of the streams. It tells whether the M_IOCTL of a number
     // went with it, where one is sought.
-    fn take_off<B: Stacks<Stack = S>>(
+    fn take_off<B: Blocks>(
         &mut self,
         store: &mut B,
         side: Side,
@@ -75,25 +76,25 @@ impl<S: Drop> Streams<S> {
         seeking: Option<u32>,
         told: &mut Fates,
     ) -> Option<Taken>
-        requires held { AreHeld B.view (B.value store.old) self.old }
-        requires idle { AreIdle (state_in B.view.modules (B.value store.old) self.old) }
+        requires held { AreHeld (B.value store.old) self.old }
+        requires idle { AreIdle (state_in (B.value store.old) self.old) }
         ensures streams { self.new ≡ with_end side (record (end_at side self.old) { stack = (end_at side self.new).stack }) self.old }
         ensures took { let s = B.value store.old in let t = B.value store.new in
             let x = (end_at side self.old).stack in let y = (end_at side self.new).stack in
-            MatchOption result (TookNone B.view s t x y told.old told.new) (λ taken. TookTop B.view side rule s t x y told.old told.new taken) }
+            MatchOption result (TookNone s t x y told.old told.new) (λ taken. TookTop side rule s t x y told.old told.new taken) }
         ensures met { IfSome result
-            (λ taken. taken.met ≡ is_met seeking (below_top (stream side (state_in B.view.modules (B.value store.old) self.old)).modules)) }
+            (λ taken. taken.met ≡ is_met seeking (below_top (stream side (state_in (B.value store.old) self.old)).modules)) }
     {
         match side {
-            Side::Master => B::take_top(&mut self.master.stack, store, side, rule, seeking, told),
-            Side::Slave => B::take_top(&mut self.slave.stack, store, side, rule, seeking, told),
+            Side::Master => take_top(&mut self.master.stack, store, side, rule, seeking, told),
+            Side::Slave => take_top(&mut self.slave.stack, store, side, rule, seeking, told),
         }
     }
 
     /// Takes the module off that is on top of a side's stream, and tells its name, where one stands there: what stands on its
     /// queues and in its line goes by a rule, its queues aren't enabled any more, and queues before them have room again where
     /// that lets a writer go. It tells whether the M_IOCTL of a number went with it, where one is sought.
-    pub(crate) fn take_top<B: Stacks<Stack = S>>(
+    pub(crate) fn take_top<B: Blocks>(
         &mut self,
         store: &mut B,
         side: Side,
@@ -101,13 +102,13 @@ impl<S: Drop> Streams<S> {
         seeking: Option<u32>,
         told: &mut Fates,
     ) -> TakenOff
-        requires held { AreHeld B.view (B.value store.old) self.old }
-        requires idle { AreIdle (state_in B.view.modules (B.value store.old) self.old) }
-        ensures taken { WithoutTop B.view side rule (B.value store.old) (B.value store.new) self.old self.new told.old told.new result.name }
+        requires held { AreHeld (B.value store.old) self.old }
+        requires idle { AreIdle (state_in (B.value store.old) self.old) }
+        ensures taken { WithoutTop side rule (B.value store.old) (B.value store.new) self.old self.new told.old told.new result.name }
         ensures met { result.met
-            ≡ is_met seeking (below_top (stream side (state_in B.view.modules (B.value store.old) self.old)).modules) }
+            ≡ is_met seeking (below_top (stream side (state_in (B.value store.old) self.old)).modules) }
     {
-        let earlier = self.earlier::<B>(side, 1);
+        let earlier = self.earlier(side, 1);
         let Some(taken) = self.take_off(store, side, rule, seeking, told) else {
             return TakenOff {
                 name: None,
@@ -130,7 +131,7 @@ impl<S: Drop> Streams<S> {
     }
 
     // Takes all modules off a side's stream, which are so many.
-    fn take_all<B: Stacks<Stack = S>>(
+    fn take_all<B: Blocks>(
         &mut self,
         store: &mut B,
         side: Side,
@@ -138,14 +139,14 @@ impl<S: Drop> Streams<S> {
         told: &mut Fates,
         count: usize,
     )
-        requires held { AreHeld B.view (B.value store.old) self.old }
-        requires idle { AreIdle (state_in B.view.modules (B.value store.old) self.old) }
-        requires count { count ≡ length (stream side (state_in B.view.modules (B.value store.old) self.old)).modules }
-        ensures state { let s = state_in B.view.modules (B.value store.old) self.old in
-            state_in B.view.modules (B.value store.new) self.new ≡ (all_taken rule side (stream side s).modules s).state }
-        ensures told { let s = state_in B.view.modules (B.value store.old) self.old in
+        requires held { AreHeld (B.value store.old) self.old }
+        requires idle { AreIdle (state_in (B.value store.old) self.old) }
+        requires count { count ≡ length (stream side (state_in (B.value store.old) self.old)).modules }
+        ensures state { let s = state_in (B.value store.old) self.old in
+            state_in (B.value store.new) self.new ≡ (all_taken rule side (stream side s).modules s).state }
+        ensures told { let s = state_in (B.value store.old) self.old in
             told.new ≡ tallied (all_taken rule side (stream side s).modules s).gone told.old }
-        ensures held { AreHeld B.view (B.value store.new) self.new }
+        ensures held { AreHeld (B.value store.new) self.new }
         ensures pool { SamePool (B.value store.old) (B.value store.new) }
     {
         if count == 0 {
@@ -156,39 +157,39 @@ impl<S: Drop> Streams<S> {
     }
 
     /// Takes all modules off a side's stream, from the top: what each has goes by a rule.
-    pub(crate) fn clear_modules<B: Stacks<Stack = S>>(
+    pub(crate) fn clear_modules<B: Blocks>(
         &mut self,
         store: &mut B,
         side: Side,
         rule: Rule,
         told: &mut Fates,
     )
-        requires held { AreHeld B.view (B.value store.old) self.old }
-        requires idle { AreIdle (state_in B.view.modules (B.value store.old) self.old) }
-        ensures state { state_in B.view.modules (B.value store.new) self.new
-            ≡ (modules_emptied rule side (state_in B.view.modules (B.value store.old) self.old)).state }
-        ensures told { told.new ≡ tallied (modules_emptied rule side (state_in B.view.modules (B.value store.old) self.old)).gone told.old }
-        ensures held { AreHeld B.view (B.value store.new) self.new }
+        requires held { AreHeld (B.value store.old) self.old }
+        requires idle { AreIdle (state_in (B.value store.old) self.old) }
+        ensures state { state_in (B.value store.new) self.new
+            ≡ (modules_emptied rule side (state_in (B.value store.old) self.old)).state }
+        ensures told { told.new ≡ tallied (modules_emptied rule side (state_in (B.value store.old) self.old)).gone told.old }
+        ensures held { AreHeld (B.value store.new) self.new }
         ensures pool { SamePool (B.value store.old) (B.value store.new) }
     {
-        let count = B::count(&self.end(side).stack);
+        let count = module_count(&self.end(side).stack);
         self.take_all(store, side, rule, told, count);
     }
 
     // A side's head is told its read mode, where there is one to tell, by an M_SETOPTS that comes up to it.
-    fn put_mode<B: Stacks<Stack = S>>(
+    fn put_mode<B: Blocks>(
         &mut self,
         store: &mut B,
         side: Side,
         mode: Option<ReadMode>,
         told: &mut Fates,
     )
-        requires held { AreHeld B.view (B.value store.old) self.old }
-        requires idle { AreIdle (state_in B.view.modules (B.value store.old) self.old) }
+        requires held { AreHeld (B.value store.old) self.old }
+        requires idle { AreIdle (state_in (B.value store.old) self.old) }
         requires room { HasRoom (B.value store.old) 1 }
-        ensures state { state_in B.view.modules (B.value store.new) self.new ≡ (mode_put side mode (state_in B.view.modules (B.value store.old) self.old)).state }
-        ensures told { told.new ≡ tallied (mode_put side mode (state_in B.view.modules (B.value store.old) self.old)).gone told.old }
-        ensures held { AreHeld B.view (B.value store.new) self.new }
+        ensures state { state_in (B.value store.new) self.new ≡ (mode_put side mode (state_in (B.value store.old) self.old)).state }
+        ensures told { told.new ≡ tallied (mode_put side mode (state_in (B.value store.old) self.old)).gone told.old }
+        ensures held { AreHeld (B.value store.new) self.new }
         ensures pool { SamePool (B.value store.old) (B.value store.new) }
     {
         let Some(mode) = mode else {
@@ -206,65 +207,65 @@ impl<S: Drop> Streams<S> {
     /// Pops the module that is on top of a side's stream: what it has goes, and the head is told its read mode. The ioctl under way ends as
     /// refused where its M_IOCTL went with the module, as nobody will answer it any more. Nothing where no module stands (streamio(7I): I_POP).
     #[inline(never)]
-    pub fn pop<B: Stacks<Stack = S>>(
+    pub fn pop<B: Blocks>(
         &mut self,
         store: &mut B,
         side: Side,
         told: &mut Fates,
     ) -> Answer<usize>
-        requires held { AreHeld B.view (B.value store.old) self.old }
-        requires idle { AreIdle (state_in B.view.modules (B.value store.old) self.old) }
+        requires held { AreHeld (B.value store.old) self.old }
+        requires idle { AreIdle (state_in (B.value store.old) self.old) }
         requires room { HasRoom (B.value store.old) 1 }
         ensures answer { result ≡ Done }
-        ensures state { state_in B.view.modules (B.value store.new) self.new ≡ (popped side (state_in B.view.modules (B.value store.old) self.old)).state }
-        ensures told { told.new ≡ tallied (popped side (state_in B.view.modules (B.value store.old) self.old)).gone told.old }
-        ensures held { AreHeld B.view (B.value store.new) self.new }
+        ensures state { state_in (B.value store.new) self.new ≡ (popped side (state_in (B.value store.old) self.old)).state }
+        ensures told { told.new ≡ tallied (popped side (state_in (B.value store.old) self.old)).gone told.old }
+        ensures held { AreHeld (B.value store.new) self.new }
         ensures pool { SamePool (B.value store.old) (B.value store.new) }
     {
         let seeking = self.end(side).head.number_sought();
         let taken = self.take_top(store, side, Rule::ModulePopped, seeking, told);
         self.put_mode(store, side, mode_behind(taken.name), told);
-        self.drop_ioctl::<B>(side, taken.met);
+        self.drop_ioctl(side, taken.met);
         Answer::Done
     }
 
     /// The name of the module on top of a side's stream, if one stands there.
-    pub(crate) fn top<B: Stacks<Stack = S>>(&self, side: Side) -> Option<ModuleName>
-        ensures { (s : StoreValue) → result ≡ top_on side (state_in B.view.modules s self.now) }
+    pub(crate) fn top(&self, side: Side) -> Option<ModuleName>
+        ensures { (s : StoreValue) → result ≡ top_on side (state_in s self.now) }
     {
-        B::look(&self.end(side).stack)
+        self.end(side).stack.look()
     }
 
     /// Tells the name of the module on top of a side's stream (streamio(7I): I_LOOK).
-    pub fn look<B: Stacks<Stack = S>>(&self, side: Side) -> Answer<usize>
-        ensures answer { (s : StoreValue) (bytes : List ℕ) → reply_in result bytes ≡ (looked side (state_in B.view.modules s self.now)).answer }
+    pub fn look(&self, side: Side) -> Answer<usize>
+        ensures answer { (s : StoreValue) (bytes : List ℕ) → reply_in result bytes ≡ (looked side (state_in s self.now)).answer }
         ensures empty { answer_len result ≡ 0 }
         ensures no_part { longest_part result ≡ 0 }
     {
-        match self.top::<B>(side) {
+        match self.top(side) {
             Some(name) => Answer::Name(name),
             None => Answer::Done,
         }
     }
 
     // Pushes a module on the stack of a side, as its name makes it: one that may stand there.
-    fn put_on<B: Stacks<Stack = S>>(&mut self, store: &B, side: Side, name: ModuleName)
-        requires held { AreHeld B.view (B.value store.now) self.old }
-        requires may_stand { may_stand (named_by (Some name)) (stream side (state_in B.view.modules (B.value store.now) self.old)).modules ≡ true }
-        ensures state { let s = state_in B.view.modules (B.value store.now) self.old in IfSome (named_by (Some name))
-            (λ p. state_in B.view.modules (B.value store.now) self.new ≡ with_modules side (p ∷ (stream side s).modules) s) }
-        ensures held { AreHeld B.view (B.value store.now) self.new }
+    fn put_on<B: Blocks>(&mut self, store: &B, side: Side, name: ModuleName)
+        requires held { AreHeld (B.value store.now) self.old }
+        requires may_stand { may_stand (named_by (Some name)) (stream side (state_in (B.value store.now) self.old)).modules ≡ true }
+        ensures state { let s = state_in (B.value store.now) self.old in IfSome (named_by (Some name))
+            (λ p. state_in (B.value store.now) self.new ≡ with_modules side (p ∷ (stream side s).modules) s) }
+        ensures held { AreHeld (B.value store.now) self.new }
     {
         match side {
-            Side::Master => B::push(&mut self.master.stack, store, name, 0),
-            Side::Slave => B::push(&mut self.slave.stack, store, name, 4),
+            Side::Master => push_named(&mut self.master.stack, store, name, 0),
+            Side::Slave => push_named(&mut self.slave.stack, store, name, 4),
         }
     }
 
     // What the other side's driver has may come to the read queue of the module on top, which has this name, where it has one: no other module of the
     // stream has one then.
-    fn come_from_driver<B: Stacks<Stack = S>>(&mut self, store: &B, side: Side, name: ModuleName)
-        ensures { let s = state_in B.view.modules (B.value store.now) self.old in self.new ≡ record self.old {
+    fn come_from_driver<B: Blocks>(&mut self, store: &B, side: Side, name: ModuleName)
+        ensures { let s = state_in (B.value store.now) self.old in self.new ≡ record self.old {
           enabled = enable_if (is_some (place_of name) && not (is_none_left (stream (other side) s).driver.queue.messages)) (driver_of (other side)) s.enabled;
         } }
     {
@@ -276,22 +277,22 @@ impl<S: Drop> Streams<S> {
     /// Pushes a module on a side's stream, one that may stand there: the head is told its read mode, and what waits before the
     /// module may come to it (streamio(7I): I_PUSH).
     #[inline(never)]
-    pub fn push<B: Stacks<Stack = S>>(
+    pub fn push<B: Blocks>(
         &mut self,
         store: &mut B,
         side: Side,
         name: Option<ModuleName>,
         told: &mut Fates,
     ) -> Answer<usize>
-        requires held { AreHeld B.view (B.value store.old) self.old }
-        requires idle { AreIdle (state_in B.view.modules (B.value store.old) self.old) }
-        requires may_stand { may_stand (named_by name) (stream side (state_in B.view.modules (B.value store.old) self.old)).modules ≡ true }
+        requires held { AreHeld (B.value store.old) self.old }
+        requires idle { AreIdle (state_in (B.value store.old) self.old) }
+        requires may_stand { may_stand (named_by name) (stream side (state_in (B.value store.old) self.old)).modules ≡ true }
         requires room { HasRoom (B.value store.old) 1 }
         ensures answer { result ≡ Done }
-        ensures state { state_in B.view.modules (B.value store.new) self.new
-            ≡ (pushed_named side (named_by name) (state_in B.view.modules (B.value store.old) self.old)).state }
-        ensures told { told.new ≡ tallied (pushed_named side (named_by name) (state_in B.view.modules (B.value store.old) self.old)).gone told.old }
-        ensures held { AreHeld B.view (B.value store.new) self.new }
+        ensures state { state_in (B.value store.new) self.new
+            ≡ (pushed_named side (named_by name) (state_in (B.value store.old) self.old)).state }
+        ensures told { told.new ≡ tallied (pushed_named side (named_by name) (state_in (B.value store.old) self.old)).gone told.old }
+        ensures held { AreHeld (B.value store.new) self.new }
         ensures pool { SamePool (B.value store.old) (B.value store.new) }
     {
         let Some(name) = name else {

@@ -12,22 +12,21 @@ ghost use Rattle.strm_laws.specs.Puts.{flushed_on};
 ghost use Rattle.strm_laws.specs.Refusals.{in_range};
 ghost use Rattle.strm_laws.specs.Spares.{spare};
 ghost use Rattle.strm_frame.specs.Hands.{HasRoom};
-ghost use Rattle.strm_pair.specs.Streams.{Modules};
 
-use crate::stacks::Stacks;
 use crate::streams::Streams;
+use strm_blocks::Blocks;
 use strm_frame::clear_queue;
 use strm_head::make_flush;
 use strm_types::{Answer, Band, Fates, FlushAsked, FlushQueues, Rule, Side, Spot, Way};
 
-impl<S: Drop> Streams<S> {
+impl Streams {
     ghost use Rattle.strm_blocks.specs.Blocks.{StoreValue};
     ghost use Rattle.strm_types.specs.declared.names.Side.TheVariants.{Slave};
     ghost use Rattle.strm_pair.specs.Pairs.{state_in, AreHeld, AreBeside, SamePool};
 
     /// Flushes a side's stream: an M_FLUSH goes down from its head, with all that it gives rise to.
     #[inline(never)]
-    pub fn flush<B: Stacks<Stack = S>>(
+    pub fn flush<B: Blocks>(
         &mut self,
         store: &mut B,
         side: Side,
@@ -35,18 +34,18 @@ impl<S: Drop> Streams<S> {
         band: Option<Band>,
         told: &mut Fates,
     ) -> Answer<usize>
-        requires held { AreHeld B.view (B.value store.old) self.old }
-        requires idle { AreIdle (state_in B.view.modules (B.value store.old) self.old) }
+        requires held { AreHeld (B.value store.old) self.old }
+        requires idle { AreIdle (state_in (B.value store.old) self.old) }
         requires room { HasRoom (B.value store.old) 6 }
-        requires range { in_range (state_in B.view.modules (B.value store.old) self.old) ≡ true }
+        requires range { in_range (state_in (B.value store.old) self.old) ≡ true }
         ensures answer { result ≡ Done }
-        ensures state { state_in B.view.modules (B.value store.new) self.new
-            ≡ (flushed_on plain band side what (state_in B.view.modules (B.value store.old) self.old)).state }
-        ensures held { AreHeld B.view (B.value store.new) self.new }
+        ensures state { state_in (B.value store.new) self.new
+            ≡ (flushed_on plain band side what (state_in (B.value store.old) self.old)).state }
+        ensures held { AreHeld (B.value store.new) self.new }
         ensures pool { SamePool (B.value store.old) (B.value store.new) }
         ensures told { told.new ≡ tallied (flushed_on plain band side what
-            (state_in B.view.modules (B.value store.old) self.old)).gone told.old }
-        ensures left { spare (state_in B.view.modules (B.value store.old) self.old) ≤ spare (state_in B.view.modules (B.value store.new) self.new) + 5 }
+            (state_in (B.value store.old) self.old)).gone told.old }
+        ensures left { spare (state_in (B.value store.old) self.old) ≤ spare (state_in (B.value store.new) self.new) + 5 }
     {
         let message = make_flush(store, FlushAsked::of(what, band));
         let below = Spot {
@@ -59,12 +58,12 @@ impl<S: Drop> Streams<S> {
     }
 
     // Lets all go that stands at a side's head.
-    fn clear_head<B: Stacks<Stack = S>>(&mut self, store: &mut B, side: Side, told: &mut Fates)
-        requires { AreHeld B.view (B.value store.old) self.old }
-        ensures state { state_in B.view.modules (B.value store.new) self.new
-            ≡ (head_emptied EndClosed of_all side (state_in B.view.modules (B.value store.old) self.old)).state }
-        ensures told { told.new ≡ tallied (head_emptied EndClosed of_all side (state_in B.view.modules (B.value store.old) self.old)).gone told.old }
-        ensures held { AreHeld B.view (B.value store.new) self.new }
+    fn clear_head<B: Blocks>(&mut self, store: &mut B, side: Side, told: &mut Fates)
+        requires { AreHeld (B.value store.old) self.old }
+        ensures state { state_in (B.value store.new) self.new
+            ≡ (head_emptied EndClosed of_all side (state_in (B.value store.old) self.old)).state }
+        ensures told { told.new ≡ tallied (head_emptied EndClosed of_all side (state_in (B.value store.old) self.old)).gone told.old }
+        ensures held { AreHeld (B.value store.new) self.new }
         ensures pool { SamePool (B.value store.old) (B.value store.new) }
     {
         let direction = side.head().direction();
@@ -86,20 +85,20 @@ impl<S: Drop> Streams<S> {
                 told,
             ),
         };
-        self.let_go::<B>(side, Way::Up, 0, gone.room);
+        self.let_go(side, Way::Up, 0, gone.room);
     }
 
     // Lets all go that stands at a side's driver.
-    fn clear_driver<B: Stacks<Stack = S>>(&mut self, store: &mut B, side: Side, told: &mut Fates)
-        requires { AreHeld B.view (B.value store.old) self.old }
-        ensures state { state_in B.view.modules (B.value store.new) self.new
-            ≡ (driver_emptied EndClosed of_all side (state_in B.view.modules (B.value store.old) self.old)).state }
-        ensures told { told.new ≡ tallied (driver_emptied EndClosed of_all side (state_in B.view.modules (B.value store.old) self.old)).gone told.old }
-        ensures held { AreHeld B.view (B.value store.new) self.new }
+    fn clear_driver<B: Blocks>(&mut self, store: &mut B, side: Side, told: &mut Fates)
+        requires { AreHeld (B.value store.old) self.old }
+        ensures state { state_in (B.value store.new) self.new
+            ≡ (driver_emptied EndClosed of_all side (state_in (B.value store.old) self.old)).state }
+        ensures told { told.new ≡ tallied (driver_emptied EndClosed of_all side (state_in (B.value store.old) self.old)).gone told.old }
+        ensures held { AreHeld (B.value store.new) self.new }
         ensures pool { SamePool (B.value store.old) (B.value store.new) }
     {
         let direction = side.driver().direction();
-        let at = self.driver_place::<B>(side);
+        let at = self.driver_place(side);
         let gone = match side {
             Side::Master => clear_queue(
                 store,
@@ -118,14 +117,14 @@ impl<S: Drop> Streams<S> {
                 told,
             ),
         };
-        self.let_go::<B>(side, Way::Down, at, gone.room);
+        self.let_go(side, Way::Down, at, gone.room);
     }
 
     // A side is closed, with a head as new.
-    fn end_side<B: Stacks<Stack = S>>(&mut self, store: &mut B, side: Side)
-        requires { AreHeld B.view (B.value store.old) self.old }
-        ensures state { state_in B.view.modules (B.value store.new) self.new ≡ ended side (state_in B.view.modules (B.value store.old) self.old) }
-        ensures held { AreHeld B.view (B.value store.new) self.new }
+    fn end_side<B: Blocks>(&mut self, store: &mut B, side: Side)
+        requires { AreHeld (B.value store.old) self.old }
+        ensures state { state_in (B.value store.new) self.new ≡ ended side (state_in (B.value store.old) self.old) }
+        ensures held { AreHeld (B.value store.new) self.new }
         ensures pool { SamePool (B.value store.old) (B.value store.new) }
     {
         match side {
@@ -135,9 +134,9 @@ impl<S: Drop> Streams<S> {
     }
 
     // An M_HANGUP goes up the slave's stream, where that is open.
-    fn hang_up<B: Stacks<Stack = S>>(&mut self)
-        ensures state { (modules : Modules S) (s : StoreValue) → state_in modules s self.new ≡ hung_up_at Slave (state_in modules s self.old) }
-        ensures held { (s : StoreValue) → AreHeld B.view s self.old → AreHeld B.view s self.new }
+    fn hang_up(&mut self)
+        ensures state { (s : StoreValue) → state_in s self.new ≡ hung_up_at Slave (state_in s self.old) }
+        ensures held { (s : StoreValue) → AreHeld s self.old → AreHeld s self.new }
     {
         if self.slave.opened.is_open() {
             self.slave.head.hung_up = true;
@@ -147,20 +146,20 @@ impl<S: Drop> Streams<S> {
     /// Closes a side. What stands for its readers goes, then its modules from the top with all that they have, and with the
     /// master what both drivers have; the slave's driver keeps what it has for the master. The slave is hung up where the master goes.
     #[inline(never)]
-    pub fn shut<B: Stacks<Stack = S>>(
+    pub fn shut<B: Blocks>(
         &mut self,
         store: &mut B,
         side: Side,
         told: &mut Fates,
     ) -> Answer<usize>
-        requires held { AreHeld B.view (B.value store.old) self.old }
-        requires idle { AreIdle (state_in B.view.modules (B.value store.old) self.old) }
+        requires held { AreHeld (B.value store.old) self.old }
+        requires idle { AreIdle (state_in (B.value store.old) self.old) }
         ensures answer { result ≡ Done }
-        ensures state { state_in B.view.modules (B.value store.new) self.new
-            ≡ (closed_at side (state_in B.view.modules (B.value store.old) self.old)).state }
-        ensures held { AreHeld B.view (B.value store.new) self.new }
+        ensures state { state_in (B.value store.new) self.new
+            ≡ (closed_at side (state_in (B.value store.old) self.old)).state }
+        ensures held { AreHeld (B.value store.new) self.new }
         ensures pool { SamePool (B.value store.old) (B.value store.new) }
-        ensures told { told.new ≡ tallied (closed_at side (state_in B.view.modules (B.value store.old) self.old)).gone told.old }
+        ensures told { told.new ≡ tallied (closed_at side (state_in (B.value store.old) self.old)).gone told.old }
     {
         self.clear_head(store, side, told);
         self.clear_modules(store, side, Rule::EndClosed, told);
@@ -169,7 +168,7 @@ impl<S: Drop> Streams<S> {
                 self.clear_driver(store, Side::Master, told);
                 self.clear_driver(store, Side::Slave, told);
                 self.end_side(store, Side::Master);
-                self.hang_up::<B>();
+                self.hang_up();
                 Answer::Done
             }
             Side::Slave => {

@@ -11,35 +11,36 @@ ghost use Rattle.strm_types.specs.Costs.{most_cost};
 ghost use Rattle.strm_frame.specs.Hands.{MayTake, Takes};
 ghost use Rattle.strm_frame.specs.Outboxes.{message_in};
 ghost use Rattle.strm_pair.specs.Alone.{IsAlone};
+ghost use Rattle.strm_blocks.specs.Blocks.{token};
 
-use crate::stacks::Stacks;
 use crate::streams::Streams;
+use strm_blocks::{Blocks, InHand};
 use strm_frame::deliver;
 use strm_types::{Fates, HOPS, Spot};
 
-impl<S: Drop> Streams<S> {
+impl Streams {
     ghost use Rattle.strm_pair.specs.Pairs.{state_in, AreHeld, SamePool};
 
     /// Delivers the one message in hand to a spot, with all that it gives rise to. Nothing is in hand behind it. As each module stands on a
     /// stream once at most, it takes few blocks, and little of the books.
-    pub(crate) fn deliver_alone<B: Stacks<Stack = S>>(
+    pub(crate) fn deliver_alone<B: Blocks>(
         &mut self,
         store: &mut B,
         to: Spot,
-        message: B::Mp,
+        message: InHand,
         told: &mut Fates,
     )
-        requires alone { IsAlone B.view (B.value store.old) self.old (B.name message) }
-        requires low { far to (message_in (B.value store.old) (B.name message)) < HOPS }
+        requires alone { IsAlone (B.value store.old) self.old (token message) }
+        requires low { far to (message_in (B.value store.old) (token message)) < HOPS }
         requires room { let s = B.value store.old in
-            MayTake s (spare (state_in B.view.modules s self.old)) (most_cost to (message_in s (B.name message))) }
-        ensures state { let s = B.value store.old in state_in B.view.modules (B.value store.new) self.new
-            ≡ (delivered plain to (message_in s (B.name message)) (state_in B.view.modules s self.old)).state }
+            MayTake s (spare (state_in s self.old)) (most_cost to (message_in s (token message))) }
+        ensures state { let s = B.value store.old in state_in (B.value store.new) self.new
+            ≡ (delivered plain to (message_in s (token message)) (state_in s self.old)).state }
         ensures told { let s = B.value store.old in told.new
-            ≡ tallied (delivered plain to (message_in s (B.name message)) (state_in B.view.modules s self.old)).gone told.old }
-        ensures held { AreHeld B.view (B.value store.new) self.new }
+            ≡ tallied (delivered plain to (message_in s (token message)) (state_in s self.old)).gone told.old }
+        ensures held { AreHeld (B.value store.new) self.new }
         ensures takes { let s = B.value store.old in let t = B.value store.new in
-            Takes s t (spare (state_in B.view.modules s self.old)) (spare (state_in B.view.modules t self.new)) (most_cost to (message_in s (B.name message))) 0 }
+            Takes s t (spare (state_in s self.old)) (spare (state_in t self.new)) (most_cost to (message_in s (token message))) 0 }
         ensures pool { SamePool (B.value store.old) (B.value store.new) }
     {
         deliver(store, self, HOPS, to, message, told);

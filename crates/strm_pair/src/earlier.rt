@@ -9,8 +9,9 @@ ghost use Rattle.strm_types.specs.Names.{enable_some};
 ghost use Rattle.strm_laws.specs.Puts.{earlier_at, noted};
 ghost use Rattle.strm_pair.specs.Nearest.{earlier_of};
 
-use crate::stacks::Stacks;
+use crate::stacks::{module_count, place_at};
 use crate::streams::Streams;
+use strm_blocks::Blocks;
 use strm_frame::Enabled;
 use strm_types::{MODULES, Note, Place, QueueName, Side, Way};
 
@@ -73,45 +74,45 @@ fn before_modules(side: Side, way: Way, count: usize, at: usize) -> Option<Queue
     }
 }
 
-impl<S: Drop> Streams<S> {
+impl Streams {
     ghost use Rattle.strm_blocks.specs.Blocks.{StoreValue};
     ghost use Rattle.strm_pair.specs.Pairs.{state_in};
 
     /// How many modules have a place on a side's stream.
-    pub(crate) fn modules_on<B: Stacks<Stack = S>>(&self, side: Side) -> usize
-        ensures on { (s : StoreValue) → result ≡ modules_on side (state_in B.view.modules s self.now) }
+    pub(crate) fn modules_on(&self, side: Side) -> usize
+        ensures on { (s : StoreValue) → result ≡ modules_on side (state_in s self.now) }
         ensures few { result ≤ MODULES }
     {
-        B::count(&self.end(side).stack).min(MODULES)
+        module_count(&self.end(side).stack).min(MODULES)
     }
 
     /// The place of a side's driver, behind the modules.
-    pub(crate) fn driver_place<B: Stacks<Stack = S>>(&self, side: Side) -> usize
-        ensures place { (s : StoreValue) → result ≡ driver_place side (state_in B.view.modules s self.now) }
+    pub(crate) fn driver_place(&self, side: Side) -> usize
+        ensures place { (s : StoreValue) → result ≡ driver_place side (state_in s self.now) }
         ensures inside { 0 < result }
         ensures small { result ≤ MODULES + 1 }
     {
-        self.modules_on::<B>(side) + 1
+        self.modules_on(side) + 1
     }
 
     /// The nearest earlier queue with service before a place of a side's stream, as messages of a way go.
-    pub(crate) fn before<B: Stacks<Stack = S>>(
+    pub(crate) fn before(
         &self,
         side: Side,
         way: Way,
         at: usize,
     ) -> Option<QueueName>
-        ensures { (s : StoreValue) → result ≡ before_at side way at (state_in B.view.modules s self.now) }
+        ensures { (s : StoreValue) → result ≡ before_at side way at (state_in s self.now) }
     {
         let stack = &self.end(side).stack;
-        match B::place_before(stack, way, at) {
-            Some(place) => queue_named(side, way, B::place(stack, place)),
-            None => before_modules(side, way, B::count(stack).min(MODULES), at),
+        match stack.place_before(way, at) {
+            Some(place) => queue_named(side, way, place_at(stack, place)),
+            None => before_modules(side, way, module_count(stack).min(MODULES), at),
         }
     }
 
     /// Enables that queue, where a waiting writer is let go.
-    pub(crate) fn let_go<B: Stacks<Stack = S>>(
+    pub(crate) fn let_go(
         &mut self,
         side: Side,
         way: Way,
@@ -120,27 +121,27 @@ impl<S: Drop> Streams<S> {
     )
         ensures { (s : StoreValue) → self.new ≡ record self.old {
           enabled =
-              enable_some lets_go (before_at side way at (state_in B.view.modules s self.old)) self.old.enabled;
+              enable_some lets_go (before_at side way at (state_in s self.old)) self.old.enabled;
         } }
     {
         if lets_go {
-            let earlier = self.before::<B>(side, way, at);
+            let earlier = self.before(side, way, at);
             self.enabled.enable_found(earlier);
         }
     }
 
     /// The nearest earlier queues of a place.
-    pub(crate) fn earlier<B: Stacks<Stack = S>>(&self, side: Side, at: usize) -> Earlier
-        ensures { (s : StoreValue) (way : Way) → earlier_of result way ≡ before_at side way at (state_in B.view.modules s self.now) }
+    pub(crate) fn earlier(&self, side: Side, at: usize) -> Earlier
+        ensures { (s : StoreValue) (way : Way) → earlier_of result way ≡ before_at side way at (state_in s self.now) }
     {
         Earlier {
-            up: self.before::<B>(side, Way::Up, at),
-            down: self.before::<B>(side, Way::Down, at),
+            up: self.before(side, Way::Up, at),
+            down: self.before(side, Way::Down, at),
         }
     }
 
     /// Does what a put says of the queues of a place of a side's stream.
-    pub(crate) fn note<B: Stacks<Stack = S>>(
+    pub(crate) fn note(
         &mut self,
         side: Side,
         place: Option<Place>,
@@ -148,10 +149,10 @@ impl<S: Drop> Streams<S> {
         notes: &[Note],
     )
         ensures { (s : StoreValue) → self.new ≡ record self.old {
-          enabled = noted side place (earlier_at side at (state_in B.view.modules s self.old)) notes.now self.old.enabled;
+          enabled = noted side place (earlier_at side at (state_in s self.old)) notes.now self.old.enabled;
         } }
     {
-        let earlier = self.earlier::<B>(side, at);
+        let earlier = self.earlier(side, at);
         note(&mut self.enabled, side, place, earlier, notes);
     }
 }

@@ -6,21 +6,22 @@ ghost use Rattle.strm_types.specs.Heads.{new_head};
 ghost use Rattle.strm_queue.specs.Stored.{IsReady, Keeps};
 ghost use Rattle.strm_head.specs.Heads.{head_in};
 
-use strm_blocks::Blocks;
+use crate::stacks::Stack;
+use strm_blocks::{Blocks};
 use strm_head::Head;
 use strm_queue::{Flush, HEAD_HIGH, HEAD_LOW, Queue};
 use strm_types::Openness;
 
 /// The stream of one side: its head, its modules and its driver's queue, and whether it was opened.
 #[derive(Drop)]
-pub(crate) struct End<S> {
+pub(crate) struct End {
     pub opened: Openness,
     pub head: Head,
-    pub stack: S,
+    pub stack: Stack,
     pub driver: Queue,
 }
 
-impl<S: Drop> End<S> {
+impl End {
     // Makes the head as new, with nothing on its queue.
     fn renew_head<B: Blocks>(&mut self, store: &mut B)
         requires { IsReady (B.value store.old) self.old.head.queue }

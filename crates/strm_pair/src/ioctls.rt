@@ -16,21 +16,20 @@ ghost use Rattle.strm_laws.specs.State.{stream};
 ghost use Rattle.strm_blocks.specs.Blocks.{StoreValue};
 ghost use Rattle.strm_frame.specs.Hands.{HasRoom};
 ghost use Rattle.strm_pair.specs.Parts.{longest_part};
-ghost use Rattle.strm_pair.specs.Streams.{Modules};
 
-use crate::stacks::Stacks;
 use crate::streams::Streams;
+use strm_blocks::Blocks;
 use strm_head::make_ioctl;
 use strm_types::{Answer, Content, Fates, Ioc, Side, Spot, Way};
 
-impl<S: Drop> Streams<S> {
+impl Streams {
     ghost use Rattle.strm_pair.specs.Pairs.{state_in, AreHeld, SamePool};
 
     // The ioctl of the next number is under way on a side's stream, and waits for its answer.
-    fn begin_ioctl<B: Stacks<Stack = S>>(&mut self, side: Side, command: u32)
+    fn begin_ioctl(&mut self, side: Side, command: u32)
         requires { self.old.next_ioctl < IOCTL_END }
-        ensures state { (modules : Modules S) (s : StoreValue) → state_in modules s self.new ≡ ioctl_begun side command (state_in modules s self.old) }
-        ensures held { (s : StoreValue) → AreHeld B.view s self.old → AreHeld B.view s self.new }
+        ensures state { (s : StoreValue) → state_in s self.new ≡ ioctl_begun side command (state_in s self.old) }
+        ensures held { (s : StoreValue) → AreHeld s self.old → AreHeld s self.new }
     {
         let number = self.next_ioctl;
         self.next_ioctl = number + 1;
@@ -41,10 +40,10 @@ impl<S: Drop> Streams<S> {
     }
 
     // The ioctl that waits on a side's stream ends as refused, where its M_IOCTL was met among messages that go with a module.
-    pub(crate) fn drop_ioctl<B: Stacks<Stack = S>>(&mut self, side: Side, met: bool)
-        ensures state { (s : StoreValue) (ms : List (Message ℕ)) → met ≡ is_met (number_sought (stream side (state_in B.view.modules s self.old)).head.ioctl) ms →
-            state_in B.view.modules s self.new ≡ ioctl_dropped side ms (state_in B.view.modules s self.old) }
-        ensures held { (s : StoreValue) → AreHeld B.view s self.old → AreHeld B.view s self.new }
+    pub(crate) fn drop_ioctl(&mut self, side: Side, met: bool)
+        ensures state { (s : StoreValue) (ms : List (Message ℕ)) → met ≡ is_met (number_sought (stream side (state_in s self.old)).head.ioctl) ms →
+            state_in s self.new ≡ ioctl_dropped side ms (state_in s self.old) }
+        ensures held { (s : StoreValue) → AreHeld s self.old → AreHeld s self.new }
     {
         match side {
             Side::Master => self.master.head.drop_ioctl(met),
@@ -53,7 +52,7 @@ impl<S: Drop> Streams<S> {
     }
 
     // An ioctl of the next number is under way, and its M_IOCTL goes down from a side's head, with all that it gives rise to.
-    fn send_ioctl<B: Stacks<Stack = S>>(
+    fn send_ioctl<B: Blocks>(
         &mut self,
         store: &mut B,
         side: Side,
@@ -61,20 +60,20 @@ impl<S: Drop> Streams<S> {
         body: &[u8],
         told: &mut Fates,
     )
-        requires held { AreHeld B.view (B.value store.old) self.old }
-        requires idle { AreIdle (state_in B.view.modules (B.value store.old) self.old) }
-        requires may_ask { may_ask body.now (state_in B.view.modules (B.value store.old) self.old) ≡ true }
+        requires held { AreHeld (B.value store.old) self.old }
+        requires idle { AreIdle (state_in (B.value store.old) self.old) }
+        requires may_ask { may_ask body.now (state_in (B.value store.old) self.old) ≡ true }
         requires room { HasRoom (B.value store.old) IOCTL_BLOCKS }
-        requires range { in_range (state_in B.view.modules (B.value store.old) self.old) ≡ true }
-        ensures state { state_in B.view.modules (B.value store.new) self.new
-            ≡ (ioctl_sent plain side command body.now (state_in B.view.modules (B.value store.old) self.old)).state }
-        ensures held { AreHeld B.view (B.value store.new) self.new }
+        requires range { in_range (state_in (B.value store.old) self.old) ≡ true }
+        ensures state { state_in (B.value store.new) self.new
+            ≡ (ioctl_sent plain side command body.now (state_in (B.value store.old) self.old)).state }
+        ensures held { AreHeld (B.value store.new) self.new }
         ensures pool { SamePool (B.value store.old) (B.value store.new) }
-        ensures told { told.new ≡ tallied (ioctl_sent plain side command body.now (state_in B.view.modules (B.value store.old) self.old)).gone told.old }
-        ensures left { spare (state_in B.view.modules (B.value store.old) self.old) ≤ spare (state_in B.view.modules (B.value store.new) self.new) + 30 }
+        ensures told { told.new ≡ tallied (ioctl_sent plain side command body.now (state_in (B.value store.old) self.old)).gone told.old }
+        ensures left { spare (state_in (B.value store.old) self.old) ≤ spare (state_in (B.value store.new) self.new) + 30 }
     {
         let message = make_ioctl(store, Ioc::asking(command, self.next_ioctl), body);
-        self.begin_ioctl::<B>(side, command);
+        self.begin_ioctl(side, command);
         let below = Spot {
             side,
             at: 1,
@@ -86,17 +85,17 @@ impl<S: Drop> Streams<S> {
     /// Tells what became of the ioctl under way on a side's stream, once: its answer, with its bytes in `out`, or its number
     /// while it waits.
     #[inline(never)]
-    pub fn tell_ioctl<B: Stacks<Stack = S>>(
+    pub fn tell_ioctl(
         &mut self,
         side: Side,
         out: &mut Content,
     ) -> Answer<usize>
         requires fresh { out.old.items ≡ [] }
-        ensures answer { (modules : Modules S) (s : StoreValue) → reply_in result out.new.items ≡ (ioctl_told side (state_in modules s self.old)).answer }
+        ensures answer { (s : StoreValue) → reply_in result out.new.items ≡ (ioctl_told side (state_in s self.old)).answer }
         ensures filled { answer_len result ≡ length out.new.items }
         ensures content { length out.new.items ≤ IOCTL_MAX }
-        ensures state { (modules : Modules S) (s : StoreValue) → state_in modules s self.new ≡ (ioctl_told side (state_in modules s self.old)).state }
-        ensures held { (s : StoreValue) → AreHeld B.view s self.old → AreHeld B.view s self.new }
+        ensures state { (s : StoreValue) → state_in s self.new ≡ (ioctl_told side (state_in s self.old)).state }
+        ensures held { (s : StoreValue) → AreHeld s self.old → AreHeld s self.new }
     {
         match side {
             Side::Master => self.master.head.tell_ioctl(out),
@@ -107,7 +106,7 @@ impl<S: Drop> Streams<S> {
     /// Sends a command down from a side's head, with these bytes, and tells the answer if it came at once, else the number of the
     /// ioctl.
     #[inline(never)]
-    pub fn ioctl<B: Stacks<Stack = S>>(
+    pub fn ioctl<B: Blocks>(
         &mut self,
         store: &mut B,
         side: Side,
@@ -116,40 +115,40 @@ impl<S: Drop> Streams<S> {
         out: &mut Content,
         told: &mut Fates,
     ) -> Answer<usize>
-        requires held { AreHeld B.view (B.value store.old) self.old }
-        requires idle { AreIdle (state_in B.view.modules (B.value store.old) self.old) }
-        requires may_ask { may_ask body.now (state_in B.view.modules (B.value store.old) self.old) ≡ true }
+        requires held { AreHeld (B.value store.old) self.old }
+        requires idle { AreIdle (state_in (B.value store.old) self.old) }
+        requires may_ask { may_ask body.now (state_in (B.value store.old) self.old) ≡ true }
         requires room { HasRoom (B.value store.old) IOCTL_BLOCKS }
-        requires range { in_range (state_in B.view.modules (B.value store.old) self.old) ≡ true }
+        requires range { in_range (state_in (B.value store.old) self.old) ≡ true }
         requires fresh { out.old.items ≡ [] }
         ensures answer { reply_in result out.new.items
-            ≡ (ioctl_told side (ioctl_sent plain side command body.now (state_in B.view.modules (B.value store.old) self.old)).state).answer }
+            ≡ (ioctl_told side (ioctl_sent plain side command body.now (state_in (B.value store.old) self.old)).state).answer }
         ensures filled { answer_len result ≡ length out.new.items }
         ensures content { length out.new.items ≤ IOCTL_MAX }
-        ensures state { state_in B.view.modules (B.value store.new) self.new
-            ≡ (ioctl_told side (ioctl_sent plain side command body.now (state_in B.view.modules (B.value store.old) self.old)).state).state }
-        ensures held { AreHeld B.view (B.value store.new) self.new }
+        ensures state { state_in (B.value store.new) self.new
+            ≡ (ioctl_told side (ioctl_sent plain side command body.now (state_in (B.value store.old) self.old)).state).state }
+        ensures held { AreHeld (B.value store.new) self.new }
         ensures pool { SamePool (B.value store.old) (B.value store.new) }
-        ensures told { told.new ≡ tallied (ioctl_sent plain side command body.now (state_in B.view.modules (B.value store.old) self.old)).gone told.old }
-        ensures left { spare (state_in B.view.modules (B.value store.old) self.old) ≤ spare (state_in B.view.modules (B.value store.new) self.new) + 30 }
+        ensures told { told.new ≡ tallied (ioctl_sent plain side command body.now (state_in (B.value store.old) self.old)).gone told.old }
+        ensures left { spare (state_in (B.value store.old) self.old) ≤ spare (state_in (B.value store.new) self.new) + 30 }
     {
         self.send_ioctl(store, side, command, body, told);
-        self.tell_ioctl::<B>(side, out)
+        self.tell_ioctl(side, out)
     }
 
     /// Hands out the signals that wait at a side's head, in `out`.
     #[inline(never)]
-    pub fn take_signals<B: Stacks<Stack = S>>(
+    pub fn take_signals(
         &mut self,
         side: Side,
         out: &mut Content,
     ) -> Answer<usize>
         requires fresh { out.old.items ≡ [] }
-        ensures answer { (modules : Modules S) (s : StoreValue) → reply_in result out.new.items ≡ (signals_told side (state_in modules s self.old)).answer }
+        ensures answer { (s : StoreValue) → reply_in result out.new.items ≡ (signals_told side (state_in s self.old)).answer }
         ensures filled { answer_len result ≡ length out.new.items }
         ensures content { length out.new.items ≤ SIGNALS_MAX }
-        ensures state { (modules : Modules S) (s : StoreValue) → state_in modules s self.new ≡ (signals_told side (state_in modules s self.old)).state }
-        ensures held { (s : StoreValue) → AreHeld B.view s self.old → AreHeld B.view s self.new }
+        ensures state { (s : StoreValue) → state_in s self.new ≡ (signals_told side (state_in s self.old)).state }
+        ensures held { (s : StoreValue) → AreHeld s self.old → AreHeld s self.new }
     {
         match side {
             Side::Master => self.master.head.take_signals(out),

@@ -4,8 +4,8 @@ ghost use Rattle.std.specs.Prelude.{ℕ, ◌≡◌, ◌<◌, ◌≤◌, ◌^◌,
 ghost use Rattle.strm_laws.specs.Ledgers.{inline};
 ghost use Rattle.strm_laws.specs.State.{book};
 
-use crate::stacks::Stacks;
 use crate::streams::Streams;
+use strm_blocks::Blocks;
 use strm_types::{Book, Dir, Side};
 
 /// The sum of counts.
@@ -19,14 +19,13 @@ pub(crate) fn sum(counts: &[u64]) -> u64
     *first + sum(rest)
 }
 
-impl<S: Drop> Streams<S> {
+impl Streams {
     ghost use Rattle.strm_blocks.specs.Blocks.{StoreValue};
     ghost use Rattle.strm_pair.specs.Pairs.{state_in};
-    ghost use Rattle.strm_pair.specs.Streams.{Modules};
 
     /// What was booked of a direction.
     pub(crate) fn book(&self, direction: Dir) -> Book
-        ensures { (modules : Modules S) (s : StoreValue) → result ≡ book direction (state_in modules s self.now) }
+        ensures { (s : StoreValue) → result ≡ book direction (state_in s self.now) }
     {
         match direction {
             Dir::MasterToSlave => self.from_master,
@@ -35,12 +34,12 @@ impl<S: Drop> Streams<S> {
     }
 
     /// How many bytes stand in the unfinished lines of a direction, which are its reader's.
-    pub(crate) fn line_lens<B: Stacks<Stack = S>>(&self, direction: Dir) -> usize
-        ensures { (s : StoreValue) → result ≡ inline direction (state_in B.view.modules s self.now) }
+    pub(crate) fn line_lens(&self, direction: Dir) -> usize
+        ensures { (s : StoreValue) → result ≡ inline direction (state_in s self.now) }
     {
         match direction {
-            Dir::MasterToSlave => B::line_lens(&self.end(Side::Slave).stack),
-            Dir::SlaveToMaster => B::line_lens(&self.end(Side::Master).stack),
+            Dir::MasterToSlave => self.end(Side::Slave).stack.line_lens(),
+            Dir::SlaveToMaster => self.end(Side::Master).stack.line_lens(),
         }
     }
 }

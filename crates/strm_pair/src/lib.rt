@@ -28,7 +28,6 @@ mod turning;
 mod writing;
 
 pub use pair::{Pair, Recorded};
-pub use stacks::Stacks;
 
 #[cfg(test)]
 mod tests;

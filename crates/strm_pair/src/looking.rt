@@ -5,19 +5,19 @@ ghost use Rattle.strm_types.specs.Queue.{bytes_of};
 ghost use Rattle.strm_pair.specs.Shows.{count_at, first_at, full_at, messages_at};
 
 use crate::naming::{count_named, first_size_named, is_full_named, sizes_named};
-use crate::stacks::Stacks;
 use crate::streams::Streams;
+use strm_blocks::Blocks;
 use strm_queue::standing::{count, first_size, is_full, sizes};
 use strm_types::{BANDS, Band, Place, QueueName, Way};
 
-impl<S: Drop> Streams<S> {
+impl Streams {
     ghost use Rattle.strm_pair.specs.Pairs.{state_in, AreHeld};
 
     /// How many bytes count in a band of a queue.
-    pub fn count<B: Stacks<Stack = S>>(&self, store: &B, queue: QueueName, band: Band) -> usize
-        requires held { AreHeld B.view (B.value store.now) self.now }
+    pub fn count<B: Blocks>(&self, store: &B, queue: QueueName, band: Band) -> usize
+        requires held { AreHeld (B.value store.now) self.now }
         requires band { band.0 < BANDS }
-        ensures { result ≡ count_at queue band.0 (state_in B.view.modules (B.value store.now) self.now) }
+        ensures { result ≡ count_at queue band.0 (state_in (B.value store.now) self.now) }
     {
         let end = self.end(queue.side);
         match queue.place {
@@ -29,15 +29,15 @@ impl<S: Drop> Streams<S> {
                 Way::Up => 0,
                 Way::Down => count(store, &end.driver, band),
             },
-            Place::Ldterm => count_named::<B>(&end.stack, store, queue.place, queue.way, band),
+            Place::Ldterm => count_named(&end.stack, store, queue.place, queue.way, band),
         }
     }
 
     /// How many messages stand on a queue, and how many bytes they have.
-    pub fn sizes<B: Stacks<Stack = S>>(&self, store: &B, queue: QueueName) -> (usize, usize)
-        requires { AreHeld B.view (B.value store.now) self.now }
-        ensures messages { result.0 ≡ length (messages_at queue (state_in B.view.modules (B.value store.now) self.now)) }
-        ensures bytes { result.1 ≡ bytes_of (messages_at queue (state_in B.view.modules (B.value store.now) self.now)) }
+    pub fn sizes<B: Blocks>(&self, store: &B, queue: QueueName) -> (usize, usize)
+        requires { AreHeld (B.value store.now) self.now }
+        ensures messages { result.0 ≡ length (messages_at queue (state_in (B.value store.now) self.now)) }
+        ensures bytes { result.1 ≡ bytes_of (messages_at queue (state_in (B.value store.now) self.now)) }
     {
         let end = self.end(queue.side);
         match queue.place {
@@ -49,14 +49,14 @@ impl<S: Drop> Streams<S> {
                 Way::Up => (0, 0),
                 Way::Down => sizes(store, &end.driver),
             },
-            Place::Ldterm => sizes_named::<B>(&end.stack, store, queue.place, queue.way),
+            Place::Ldterm => sizes_named(&end.stack, store, queue.place, queue.way),
         }
     }
 
     /// How many bytes the first message on a queue has.
-    pub fn first_size<B: Stacks<Stack = S>>(&self, store: &B, queue: QueueName) -> usize
-        requires { AreHeld B.view (B.value store.now) self.now }
-        ensures { result ≡ first_at queue (state_in B.view.modules (B.value store.now) self.now) }
+    pub fn first_size<B: Blocks>(&self, store: &B, queue: QueueName) -> usize
+        requires { AreHeld (B.value store.now) self.now }
+        ensures { result ≡ first_at queue (state_in (B.value store.now) self.now) }
     {
         let end = self.end(queue.side);
         match queue.place {
@@ -68,15 +68,15 @@ impl<S: Drop> Streams<S> {
                 Way::Up => 0,
                 Way::Down => first_size(store, &end.driver),
             },
-            Place::Ldterm => first_size_named::<B>(&end.stack, store, queue.place, queue.way),
+            Place::Ldterm => first_size_named(&end.stack, store, queue.place, queue.way),
         }
     }
 
     /// Whether a band of a queue is full.
-    pub fn is_full<B: Stacks<Stack = S>>(&self, store: &B, queue: QueueName, band: Band) -> bool
-        requires held { AreHeld B.view (B.value store.now) self.now }
+    pub fn is_full<B: Blocks>(&self, store: &B, queue: QueueName, band: Band) -> bool
+        requires held { AreHeld (B.value store.now) self.now }
         requires band { band.0 < BANDS }
-        ensures { result ≡ full_at queue band.0 (state_in B.view.modules (B.value store.now) self.now) }
+        ensures { result ≡ full_at queue band.0 (state_in (B.value store.now) self.now) }
     {
         let end = self.end(queue.side);
         match queue.place {
@@ -88,7 +88,7 @@ impl<S: Drop> Streams<S> {
                 Way::Up => false,
                 Way::Down => is_full(store, &end.driver, band),
             },
-            Place::Ldterm => is_full_named::<B>(&end.stack, store, queue.place, queue.way, band),
+            Place::Ldterm => is_full_named(&end.stack, store, queue.place, queue.way, band),
         }
     }
 }

@@ -18,11 +18,10 @@ ghost use Rattle.strm_laws.specs.Spares.{spare};
 ghost use Rattle.strm_laws.specs.State.{book, stream, with_book};
 ghost use Rattle.strm_blocks.specs.Blocks.{StoreValue, free_m, free_d};
 ghost use Rattle.strm_pair.specs.Parts.{longest_part};
-ghost use Rattle.strm_pair.specs.Streams.{Modules};
 
-use crate::stacks::Stacks;
 use crate::streams::Streams;
 use crate::writing::with_written;
+use strm_blocks::Blocks;
 use strm_head::{getmsg, make_message};
 use strm_types::{Answer, Book, Content, Fates, Prio, READ_MAX, Side, Spot, Wanted, Way};
 
@@ -37,13 +36,13 @@ fn len_of(lent: Option<&[u8]>) -> usize
     }
 }
 
-impl<S: Drop> Streams<S> {
+impl Streams {
     ghost use Rattle.strm_pair.specs.Pairs.{state_in, AreHeld, SamePool};
 
     /// Keeps a book of what comes from a side.
-    pub(crate) fn keep_book<B: Stacks<Stack = S>>(&mut self, side: Side, book: Book)
-        ensures state { (modules : Modules S) (s : StoreValue) → state_in modules s self.new ≡ with_book (direction_from side) book (state_in modules s self.old) }
-        ensures held { (s : StoreValue) → AreHeld B.view s self.old → AreHeld B.view s self.new }
+    pub(crate) fn keep_book(&mut self, side: Side, book: Book)
+        ensures state { (s : StoreValue) → state_in s self.new ≡ with_book (direction_from side) book (state_in s self.old) }
+        ensures held { (s : StoreValue) → AreHeld s self.old → AreHeld s self.new }
     {
         match side {
             Side::Master => self.from_master = book,
@@ -54,7 +53,7 @@ impl<S: Drop> Streams<S> {
     /// Sends a message of these parts down from a side's head, with all that it gives rise to, and books their bytes as written.
     /// Without either part nothing is sent.
     #[inline(never)]
-    pub fn putmsg<B: Stacks<Stack = S>>(
+    pub fn putmsg<B: Blocks>(
         &mut self,
         store: &mut B,
         side: Side,
@@ -63,20 +62,20 @@ impl<S: Drop> Streams<S> {
         body: Option<&[u8]>,
         told: &mut Fates,
     ) -> Answer<usize>
-        requires held { AreHeld B.view (B.value store.old) self.old }
-        requires idle { AreIdle (state_in B.view.modules (B.value store.old) self.old) }
+        requires held { AreHeld (B.value store.old) self.old }
+        requires idle { AreIdle (state_in (B.value store.old) self.old) }
         requires allowed { put_refusal prio (option_map (λ bytes. bytes.now) control) (option_map (λ bytes. bytes.now) body) ≡ None }
-        requires in_range { in_range (state_in B.view.modules (B.value store.old) self.old) ≡ true }
+        requires in_range { in_range (state_in (B.value store.old) self.old) ≡ true }
         requires room_m { WRITE_BLOCKS + put_blocks (option_map (λ bytes. bytes.now) control) (option_map (λ bytes. bytes.now) body) ≤ free_m (B.value store.old) }
         requires room_d { WRITE_BLOCKS + put_blocks (option_map (λ bytes. bytes.now) control) (option_map (λ bytes. bytes.now) body) ≤ free_d (B.value store.old) }
         ensures answer { result ≡ Done }
         ensures state { let c = option_map (λ bytes. bytes.now) control.entry in let b = option_map (λ bytes. bytes.now) body.entry in
-            state_in B.view.modules (B.value store.new) self.new ≡ (put_at plain side prio c b (state_in B.view.modules (B.value store.old) self.old)).state }
-        ensures held { AreHeld B.view (B.value store.new) self.new }
+            state_in (B.value store.new) self.new ≡ (put_at plain side prio c b (state_in (B.value store.old) self.old)).state }
+        ensures held { AreHeld (B.value store.new) self.new }
         ensures pool { SamePool (B.value store.old) (B.value store.new) }
         ensures told { let c = option_map (λ bytes. bytes.now) control.entry in let b = option_map (λ bytes. bytes.now) body.entry in
-            told.new ≡ tallied (put_at plain side prio c b (state_in B.view.modules (B.value store.old) self.old)).gone told.old }
-        ensures left { spare (state_in B.view.modules (B.value store.old) self.old) ≤ spare (state_in B.view.modules (B.value store.new) self.new) }
+            told.new ≡ tallied (put_at plain side prio c b (state_in (B.value store.old) self.old)).gone told.old }
+        ensures left { spare (state_in (B.value store.old) self.old) ≤ spare (state_in (B.value store.new) self.new) }
     {
         let Some(message) = make_message(store, prio, control, body) else {
             return Answer::Done;
@@ -88,14 +87,14 @@ impl<S: Drop> Streams<S> {
         };
         self.deliver_alone(store, below, message, told);
         let book = with_written(self.book_of(side), len_of(control) + len_of(body));
-        self.keep_book::<B>(side, book);
+        self.keep_book(side, book);
         Answer::Done
     }
 
     /// Takes up to `cmax` bytes of the control part and up to `dmax` of the data part of the first message off a side's head into
     /// `out`, where that message is the one that is asked for.
     #[inline(never)]
-    pub fn getmsg<B: Stacks<Stack = S>>(
+    pub fn getmsg<B: Blocks>(
         &mut self,
         store: &mut B,
         side: Side,
@@ -105,18 +104,18 @@ impl<S: Drop> Streams<S> {
         out: &mut Content,
         told: &mut Fates,
     ) -> Answer<usize>
-        requires held { AreHeld B.view (B.value store.old) self.old }
+        requires held { AreHeld (B.value store.old) self.old }
         requires fresh { out.old.items ≡ [] }
-        ensures answer { reply_in result out.new.items ≡ (get_at plain side wanted cmax dmax (state_in B.view.modules (B.value store.old) self.old)).answer }
+        ensures answer { reply_in result out.new.items ≡ (get_at plain side wanted cmax dmax (state_in (B.value store.old) self.old)).answer }
         ensures filled { answer_len result ≡ length out.new.items }
         ensures parts { longest_part result ≤ READ_MAX }
         ensures most { length out.new.items ≤ min cmax READ_MAX + min dmax READ_MAX }
-        ensures state { state_in B.view.modules (B.value store.new) self.new
-            ≡ (get_at plain side wanted cmax dmax (state_in B.view.modules (B.value store.old) self.old)).state }
-        ensures held { AreHeld B.view (B.value store.new) self.new }
+        ensures state { state_in (B.value store.new) self.new
+            ≡ (get_at plain side wanted cmax dmax (state_in (B.value store.old) self.old)).state }
+        ensures held { AreHeld (B.value store.new) self.new }
         ensures pool { SamePool (B.value store.old) (B.value store.new) }
         ensures told { told.new ≡ tallied (get_gone (direction_of (head_of side)) wanted (min cmax READ_MAX) (min dmax READ_MAX)
-            (stream side (state_in B.view.modules (B.value store.old) self.old)).head.queue.messages) told.old }
+            (stream side (state_in (B.value store.old) self.old)).head.queue.messages) told.old }
     {
         let most = (cmax as usize).min(READ_MAX);
         let most_data = (dmax as usize).min(READ_MAX);
@@ -143,7 +142,7 @@ impl<S: Drop> Streams<S> {
                 told,
             ),
         };
-        self.let_go::<B>(side, Way::Up, 0, got.lets_go);
+        self.let_go(side, Way::Up, 0, got.lets_go);
         Answer::Msg {
             prio: got.prio,
             control: got.control,
@@ -155,9 +154,9 @@ impl<S: Drop> Streams<S> {
 
     /// How many bytes of data the first message at a side's head has, and how many messages stand there.
     #[inline(never)]
-    pub fn nread<B: Stacks<Stack = S>>(&self, store: &B, side: Side) -> Answer<usize>
-        requires { AreHeld B.view (B.value store.now) self.now }
-        ensures answer { (out : List ℕ) → reply_in result out ≡ (sizes_at side (state_in B.view.modules (B.value store.now) self.now)).answer }
+    pub fn nread<B: Blocks>(&self, store: &B, side: Side) -> Answer<usize>
+        requires { AreHeld (B.value store.now) self.now }
+        ensures answer { (out : List ℕ) → reply_in result out ≡ (sizes_at side (state_in (B.value store.now) self.now)).answer }
         ensures filled { answer_len result ≡ 0 }
         ensures parts { longest_part result ≡ 0 }
     {

@@ -6,7 +6,7 @@ ghost use Rattle.strm_laws.specs.Stacked.{OfPtem};
 ghost use Rattle.strm_blocks.specs.Blocks.{StoreValue};
 ghost use Rattle.strm_pair.specs.AnyModules.{IsMade, module_in};
 
-use strm_blocks::Blocks;
+use strm_blocks::{Blocks, InHand};
 use strm_frame::{Acts, LetGo, Module, Served, TurnEnd};
 use strm_ldterm::Ldterm;
 use strm_pty::{Pckt, Ptem};
@@ -14,24 +14,24 @@ use strm_types::{Asks, Band, Fates, ModuleName, Rule, Side, Spot, Way};
 
 /// A module of any kind.
 #[derive(Drop)]
-pub enum AnyModule<Mp> {
-    Ldterm(Ldterm<Mp>),
+pub enum AnyModule {
+    Ldterm(Ldterm),
     Ptem(Ptem),
     Pckt(Pckt),
 }
 
-impl<Mp: Drop> Default for AnyModule<Mp> {
-    ghost is_default = { λ x. (name : Mp → ℕ) (s : StoreValue) → module_in name s x ≡ OfPtem new_ptem };
+impl Default for AnyModule {
+    ghost is_default = { λ x. (s : StoreValue) → module_in s x ≡ OfPtem new_ptem };
 
     /// What stands in the unused places of an array.
-    fn default() -> AnyModule<Mp> {
+    fn default() -> AnyModule {
         AnyModule::Ptem(Ptem::new())
     }
 }
 
-impl<Mp: Drop> AnyModule<Mp> {
+impl AnyModule {
     /// One as its name makes it, with two lists of its own from a number on, where it has queues.
-    pub(crate) fn made(name: ModuleName, first: usize) -> AnyModule<Mp>
+    pub(crate) fn made(name: ModuleName, first: usize) -> AnyModule
         requires { first ≤ 6 }
         ensures { IsMade first name result }
     {
@@ -43,7 +43,7 @@ impl<Mp: Drop> AnyModule<Mp> {
     }
 }
 
-impl<B: Blocks> Module<B> for AnyModule<B::Mp> {
+impl Module for AnyModule {
     ghost use Rattle.strm_types.specs.Cells as cells;
     ghost use Rattle.strm_types.specs.Costs.{most_cost};
     ghost use Rattle.strm_laws.specs.StackCosts as costs;
@@ -56,15 +56,15 @@ impl<B: Blocks> Module<B> for AnyModule<B::Mp> {
 
     ghost Plain = { plain.Module ℕ };
 
-    ghost plain = { λ s x. any.module_in B.name s x };
+    ghost plain = { λ s x. any.module_in s x };
 
     ghost name_of = { plain.module_name };
 
-    ghost IsHeld = { λ s x. any.IsHeld B.name s x };
+    ghost IsHeld = { λ s x. any.IsHeld s x };
 
     ghost owns = { λ x. any.owns x };
 
-    ghost keeps = { λ x. any.keeps B.name x };
+    ghost keeps = { λ x. any.keeps x };
 
     ghost puts = { λ here m p. plain.module_puts cells.plain 0 here m p };
 
@@ -98,13 +98,13 @@ impl<B: Blocks> Module<B> for AnyModule<B::Mp> {
 
     fn name(&self) -> ModuleName {
         match self {
-            AnyModule::Ldterm(ldterm) => Module::<B>::name(ldterm),
-            AnyModule::Ptem(ptem) => Module::<B>::name(ptem),
-            AnyModule::Pckt(pckt) => Module::<B>::name(pckt),
+            AnyModule::Ldterm(ldterm) => Module::name(ldterm),
+            AnyModule::Ptem(ptem) => Module::name(ptem),
+            AnyModule::Pckt(pckt) => Module::name(pckt),
         }
     }
 
-    fn put(&mut self, store: &mut B, here: Spot, message: B::Mp, told: &mut Fates) -> Acts<B::Mp> {
+    fn put<B: Blocks>(&mut self, store: &mut B, here: Spot, message: InHand, told: &mut Fates) -> Acts {
         match self {
             AnyModule::Ldterm(ldterm) => ldterm.put(store, here, message, told),
             AnyModule::Ptem(ptem) => ptem.put(store, here, message, told),
@@ -114,13 +114,13 @@ impl<B: Blocks> Module<B> for AnyModule<B::Mp> {
 
     fn has_queue(&self, way: Way) -> bool {
         match self {
-            AnyModule::Ldterm(ldterm) => Module::<B>::has_queue(ldterm, way),
-            AnyModule::Ptem(ptem) => Module::<B>::has_queue(ptem, way),
-            AnyModule::Pckt(pckt) => Module::<B>::has_queue(pckt, way),
+            AnyModule::Ldterm(ldterm) => Module::has_queue(ldterm, way),
+            AnyModule::Ptem(ptem) => Module::has_queue(ptem, way),
+            AnyModule::Pckt(pckt) => Module::has_queue(pckt, way),
         }
     }
 
-    fn is_full(&self, store: &B, way: Way, band: Band) -> bool {
+    fn is_full<B: Blocks>(&self, store: &B, way: Way, band: Band) -> bool {
         match self {
             AnyModule::Ldterm(ldterm) => ldterm.is_full(store, way, band),
             AnyModule::Ptem(ptem) => ptem.is_full(store, way, band),
@@ -128,7 +128,7 @@ impl<B: Blocks> Module<B> for AnyModule<B::Mp> {
         }
     }
 
-    fn count(&self, store: &B, way: Way, band: Band) -> usize {
+    fn count<B: Blocks>(&self, store: &B, way: Way, band: Band) -> usize {
         match self {
             AnyModule::Ldterm(ldterm) => ldterm.count(store, way, band),
             AnyModule::Ptem(ptem) => ptem.count(store, way, band),
@@ -136,7 +136,7 @@ impl<B: Blocks> Module<B> for AnyModule<B::Mp> {
         }
     }
 
-    fn sizes(&self, store: &B, way: Way) -> (usize, usize) {
+    fn sizes<B: Blocks>(&self, store: &B, way: Way) -> (usize, usize) {
         match self {
             AnyModule::Ldterm(ldterm) => ldterm.sizes(store, way),
             AnyModule::Ptem(ptem) => ptem.sizes(store, way),
@@ -144,7 +144,7 @@ impl<B: Blocks> Module<B> for AnyModule<B::Mp> {
         }
     }
 
-    fn first_size(&self, store: &B, way: Way) -> usize {
+    fn first_size<B: Blocks>(&self, store: &B, way: Way) -> usize {
         match self {
             AnyModule::Ldterm(ldterm) => ldterm.first_size(store, way),
             AnyModule::Ptem(ptem) => ptem.first_size(store, way),
@@ -152,7 +152,7 @@ impl<B: Blocks> Module<B> for AnyModule<B::Mp> {
         }
     }
 
-    fn none_waits_up(&self, store: &B) -> bool {
+    fn none_waits_up<B: Blocks>(&self, store: &B) -> bool {
         match self {
             AnyModule::Ldterm(ldterm) => ldterm.none_waits_up(store),
             AnyModule::Ptem(ptem) => ptem.none_waits_up(store),
@@ -162,21 +162,21 @@ impl<B: Blocks> Module<B> for AnyModule<B::Mp> {
 
     fn line_len(&self) -> usize {
         match self {
-            AnyModule::Ldterm(ldterm) => Module::<B>::line_len(ldterm),
-            AnyModule::Ptem(ptem) => Module::<B>::line_len(ptem),
-            AnyModule::Pckt(pckt) => Module::<B>::line_len(pckt),
+            AnyModule::Ldterm(ldterm) => Module::line_len(ldterm),
+            AnyModule::Ptem(ptem) => Module::line_len(ptem),
+            AnyModule::Pckt(pckt) => Module::line_len(pckt),
         }
     }
 
     fn let_wait(&mut self, way: Way, band: Band) {
         match self {
-            AnyModule::Ldterm(ldterm) => Module::<B>::let_wait(ldterm, way, band),
-            AnyModule::Ptem(ptem) => Module::<B>::let_wait(ptem, way, band),
-            AnyModule::Pckt(pckt) => Module::<B>::let_wait(pckt, way, band),
+            AnyModule::Ldterm(ldterm) => Module::let_wait(ldterm, way, band),
+            AnyModule::Ptem(ptem) => Module::let_wait(ptem, way, band),
+            AnyModule::Pckt(pckt) => Module::let_wait(pckt, way, band),
         }
     }
 
-    fn asks(&self, store: &B, way: Way) -> Asks {
+    fn asks<B: Blocks>(&self, store: &B, way: Way) -> Asks {
         match self {
             AnyModule::Ldterm(ldterm) => ldterm.asks(store, way),
             AnyModule::Ptem(ptem) => ptem.asks(store, way),
@@ -184,7 +184,7 @@ impl<B: Blocks> Module<B> for AnyModule<B::Mp> {
         }
     }
 
-    fn serve(&mut self, store: &mut B, here: Spot, again: bool, told: &mut Fates) -> Served<B::Mp> {
+    fn serve<B: Blocks>(&mut self, store: &mut B, here: Spot, again: bool, told: &mut Fates) -> Served {
         match self {
             AnyModule::Ldterm(ldterm) => ldterm.serve(store, here, again, told),
             AnyModule::Ptem(ptem) => ptem.serve(store, here, false, told),
@@ -192,7 +192,7 @@ impl<B: Blocks> Module<B> for AnyModule<B::Mp> {
         }
     }
 
-    fn end_turn(&mut self, store: &B, way: Way, took: bool) -> TurnEnd {
+    fn end_turn<B: Blocks>(&mut self, store: &B, way: Way, took: bool) -> TurnEnd {
         match self {
             AnyModule::Ldterm(ldterm) => ldterm.end_turn(store, way, took),
             AnyModule::Ptem(ptem) => ptem.end_turn(store, way, took),
@@ -200,7 +200,7 @@ impl<B: Blocks> Module<B> for AnyModule<B::Mp> {
         }
     }
 
-    fn clear(
+    fn clear<B: Blocks>(
         &mut self,
         store: &mut B,
         side: Side,
@@ -215,9 +215,9 @@ impl<B: Blocks> Module<B> for AnyModule<B::Mp> {
         }
     }
 
-    ghost frame = { λ s t x same held. any.module-frame B.name s t x same held };
+    ghost frame = { λ s t x same held. any.module-frame s t x same held };
 
-    ghost rests = { λ s x way i held may. any.serves-rests B.name s x way i held may };
+    ghost rests = { λ s x way i held may. any.serves-rests s x way i held may };
 
     ghost either_way = { λ way other p may. any.either-serves way other p may };
 

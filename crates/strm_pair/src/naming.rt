@@ -10,8 +10,10 @@ ghost use Rattle.strm_laws.specs.Stacked.{module_queue};
 ghost use Rattle.strm_blocks.specs.Blocks.{StoreValue};
 ghost use Rattle.strm_frame.specs.Stacks.{IsPlace};
 ghost use Rattle.strm_pair.specs.Named.{at_named, messages_named};
+ghost use Rattle.strm_pair.specs.Stacks.{modules_in, IsStackHeld};
 
-use crate::stacks::Stacks;
+use crate::stacks::{Stack, module_count, place_at};
+use strm_blocks::Blocks;
 use strm_types::{Band, MODULES, Place, Way};
 
 // Whether queues of a place are these.
@@ -27,13 +29,13 @@ fn is_there(place: Place, found: Option<Place>) -> bool
 }
 
 /// The place of the module of a stack whose queues have a name, where one stands there.
-pub(crate) fn place_named<B: Stacks>(stack: &B::Stack, place: Place) -> Option<usize>
-    ensures place { (s : StoreValue) → result ≡ place_named place (B.view.modules s stack.now) }
-    ensures inside { (s : StoreValue) → IsPlace (length (B.view.modules s stack.now)) result }
+pub(crate) fn place_named(stack: &Stack, place: Place) -> Option<usize>
+    ensures place { (s : StoreValue) → result ≡ place_named place (modules_in s stack.now) }
+    ensures inside { (s : StoreValue) → IsPlace (length (modules_in s stack.now)) result }
 {
-    let count = B::count(stack).min(MODULES);
+    let count = module_count(stack).min(MODULES);
     for index in 0..count {
-        if is_there(place, B::place(stack, index + 1)) {
+        if is_there(place, place_at(stack, index + 1)) {
             return Some(index + 1);
         }
     }
@@ -41,70 +43,70 @@ pub(crate) fn place_named<B: Stacks>(stack: &B::Stack, place: Place) -> Option<u
 }
 
 /// How many messages stand on a queue of that module, and how many bytes they have.
-pub(crate) fn sizes_named<B: Stacks>(
-    stack: &B::Stack,
+pub(crate) fn sizes_named<B: Blocks>(
+    stack: &Stack,
     store: &B,
     place: Place,
     way: Way,
 ) -> (usize, usize)
-    requires { B.view.IsHeld (B.value store.now) stack.now }
-    ensures messages { result.0 ≡ length (messages_named place way (B.view.modules (B.value store.now) stack.now)) }
-    ensures bytes { result.1 ≡ bytes_of (messages_named place way (B.view.modules (B.value store.now) stack.now)) }
+    requires { IsStackHeld (B.value store.now) stack.now }
+    ensures messages { result.0 ≡ length (messages_named place way (modules_in (B.value store.now) stack.now)) }
+    ensures bytes { result.1 ≡ bytes_of (messages_named place way (modules_in (B.value store.now) stack.now)) }
 {
-    match place_named::<B>(stack, place) {
-        Some(at) => B::sizes(stack, store, at, way),
+    match place_named(stack, place) {
+        Some(at) => stack.sizes(store, at, way),
         None => (0, 0),
     }
 }
 
 /// How many bytes the first message on a queue of that module has.
-pub(crate) fn first_size_named<B: Stacks>(
-    stack: &B::Stack,
+pub(crate) fn first_size_named<B: Blocks>(
+    stack: &Stack,
     store: &B,
     place: Place,
     way: Way,
 ) -> usize
-    requires { B.view.IsHeld (B.value store.now) stack.now }
-    ensures { result ≡ first_size (messages_named place way (B.view.modules (B.value store.now) stack.now)) }
+    requires { IsStackHeld (B.value store.now) stack.now }
+    ensures { result ≡ first_size (messages_named place way (modules_in (B.value store.now) stack.now)) }
 {
-    match place_named::<B>(stack, place) {
-        Some(at) => B::first_size(stack, store, at, way),
+    match place_named(stack, place) {
+        Some(at) => stack.first_size(store, at, way),
         None => 0,
     }
 }
 
 /// How many bytes count in a band of a queue of that module.
-pub(crate) fn count_named<B: Stacks>(
-    stack: &B::Stack,
+pub(crate) fn count_named<B: Blocks>(
+    stack: &Stack,
     store: &B,
     place: Place,
     way: Way,
     band: Band,
 ) -> usize
-    requires held { B.view.IsHeld (B.value store.now) stack.now }
+    requires held { IsStackHeld (B.value store.now) stack.now }
     requires band { band.0 < BANDS }
-    ensures { result ≡ count_of band.0 (messages_named place way (B.view.modules (B.value store.now) stack.now)) }
+    ensures { result ≡ count_of band.0 (messages_named place way (modules_in (B.value store.now) stack.now)) }
 {
-    match place_named::<B>(stack, place) {
-        Some(at) => B::count_in_band(stack, store, at, way, band),
+    match place_named(stack, place) {
+        Some(at) => stack.count(store, at, way, band),
         None => 0,
     }
 }
 
 /// Whether a band of a queue of that module is full.
-pub(crate) fn is_full_named<B: Stacks>(
-    stack: &B::Stack,
+pub(crate) fn is_full_named<B: Blocks>(
+    stack: &Stack,
     store: &B,
     place: Place,
     way: Way,
     band: Band,
 ) -> bool
-    requires held { B.view.IsHeld (B.value store.now) stack.now }
+    requires held { IsStackHeld (B.value store.now) stack.now }
     requires band { band.0 < BANDS }
-    ensures { result ≡ at_named place (full_at module_queue way band.0) false (B.view.modules (B.value store.now) stack.now) }
+    ensures { result ≡ at_named place (full_at module_queue way band.0) false (modules_in (B.value store.now) stack.now) }
 {
-    match place_named::<B>(stack, place) {
-        Some(at) => B::is_full(stack, store, at, way, band),
+    match place_named(stack, place) {
+        Some(at) => stack.is_full(store, at, way, band),
         None => false,
     }
 }

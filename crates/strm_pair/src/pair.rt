@@ -24,8 +24,8 @@ use crate::answers::own;
 use crate::journal::Journal;
 use crate::ledgers::sum;
 use crate::refusals::{blocks_asked, content_most, or_else, unless};
-use crate::stacks::Stacks;
 use crate::streams::Streams;
+use strm_blocks::Blocks;
 use std::alloc::Global;
 use std::marker::Model;
 use strm_types::{
@@ -36,9 +36,9 @@ use strm_types::{
 /// A pair of a master and a slave, whose messages stand in a store of its own. Contracts see it as its plain state, its
 /// journal with the state that it began at, the sizes that it was made with, and the numbers of free blocks.
 #[derive(Drop)]
-pub struct Pair<B: Stacks + Drop> {
+pub struct Pair<B: Blocks + Drop> {
     store: B,
-    streams: Streams<B::Stack>,
+    streams: Streams,
     journal: Journal,
     limits: Config,
     fates: Fates,
@@ -51,19 +51,19 @@ pub struct Recorded<'a> {
     pub bytes: &'a [u8],
 }
 
-impl<B: Stacks + Drop> Model for Pair<B> {
+impl<B: Blocks + Drop> Model for Pair<B> {
     ghost use Rattle.strm_laws.specs.Pair.{PairState};
 
     ghost Value = { PairState };
 
     ghost use Rattle.strm_pair.specs.PairViews.{pair_of, IsKept};
 
-    ghost view = { λ p. pair_of B.view (B.value p.store) p.streams p.journal p.limits p.fates };
+    ghost view = { λ p. pair_of (B.value p.store) p.streams p.journal p.limits p.fates };
 
-    ghost invariant = { λ p. IsKept B.view (B.value p.store) p.streams p.journal p.limits p.fates };
+    ghost invariant = { λ p. IsKept (B.value p.store) p.streams p.journal p.limits p.fates };
 }
 
-impl<B: Stacks + Drop> Pair<B> {
+impl<B: Blocks + Drop> Pair<B> {
     /// A pair which nobody opened, over a store that holds nothing: its lists are empty, and nothing is in hand. The
     /// sizes of its journal are those of `sizes`, its numbers of blocks are the store's. The memory of the journal is
     /// reserved here, and no later call takes any; where that is refused, the store comes back.
@@ -85,7 +85,7 @@ impl<B: Stacks + Drop> Pair<B> {
         };
         Ok(Pair {
             store,
-            streams: Streams::new::<B>(),
+            streams: Streams::new(),
             journal,
             limits,
             fates: Fates::none(),
@@ -98,7 +98,7 @@ impl<B: Stacks + Drop> Pair<B> {
         ensures { self.new ≡ new_pair self.old.limits }
     {
         self.store.reset();
-        self.streams = Streams::new::<B>();
+        self.streams = Streams::new();
         self.journal.clear();
         self.fates = Fates::none();
     }
@@ -147,7 +147,7 @@ impl<B: Stacks + Drop> Pair<B> {
         ensures own { (o : Origin) → own_places_of o self.now.journal ≡ (if is_booked o (replay tagged opening self.now.journal) then 1 else 0) }
     {
         let book = self.streams.book(direction);
-        let inline = self.streams.line_lens::<B>(direction) as u64;
+        let inline = self.streams.line_lens(direction) as u64;
         let fates = self.fates.of(direction);
         let elsewhere = inline + sum(fates);
         Ledger {
@@ -197,14 +197,14 @@ impl<B: Stacks + Drop> Pair<B> {
     pub fn modules(&self, side: Side) -> usize
         ensures { result ≡ modules_on side self.now.state }
     {
-        self.streams.modules_on::<B>(side)
+        self.streams.modules_on(side)
     }
 
     /// Whether a module with queues of a place stands on a side's stream.
     pub fn has_queues(&self, side: Side, place: Place) -> bool
         ensures { result ≡ is_some (place_named place (stream side self.now.state).modules) }
     {
-        self.streams.module_named::<B>(side, place).is_some()
+        self.streams.module_named(side, place).is_some()
     }
 
     /// Whether a band, from 0 to 7, of a queue is full: its count is at or above its high-water mark. A queue that

@@ -12,7 +12,7 @@ ghost use Rattle.strm_types.specs.Names.{is_open};
 ghost use Rattle.strm_laws.specs.Puts.{across_of, put_at_head, put_at_module, put_at_driver, passed_up, put_behind, put_in};
 ghost use Rattle.strm_types.specs.Far.{far};
 ghost use Rattle.strm_laws.specs.State.{stream};
-ghost use Rattle.strm_blocks.specs.Blocks.{in_hand, block_at};
+ghost use Rattle.strm_blocks.specs.Blocks.{in_hand, block_at, token};
 ghost use Rattle.strm_msg.specs.Messages.{IsChain};
 ghost use Rattle.strm_frame.specs.Hands.{CanPut, HasRoom, MayTake, Shifts, once};
 ghost use Rattle.strm_frame.specs.Outboxes.{message_in, sent_of, times_sent, parcels_in, AreChains};
@@ -24,13 +24,12 @@ ghost use Rattle.strm_types.specs.ModuleQueues.{at_place};
 ghost use Rattle.strm_laws.specs.Spares.{module_packs, spare};
 ghost use Rattle.strm_laws.specs.StackCosts.{module_leaves, module_takes, stack_cost, stands_of};
 ghost use Rattle.strm_pair.specs.PutBy.{PutAs, PutBy, CameBy, StackTakes};
-ghost use Rattle.strm_pair.specs.Streams.{Modules};
 
 use crate::calling::Made;
 use crate::earlier::note;
-use crate::stacks::Stacks;
+use crate::stacks::place_at;
 use crate::streams::Streams;
-use strm_blocks::Blocks;
+use strm_blocks::{Blocks, InHand};
 use strm_frame::{Acts, Outbox, Sent, Stations};
 use strm_head::{Down, make_flush};
 use strm_msg::booked_size;
@@ -38,9 +37,9 @@ use strm_pty::{make, put};
 use strm_types::{Across, Fates, MODULES, MsgKind, Place, Rule, Side, Spot, Way};
 
 // Makes what a head sends down, in one block of each kind.
-fn make_down<B: Blocks>(store: &mut B, down: Down) -> B::Mp
+fn make_down<B: Blocks>(store: &mut B, down: Down) -> InHand
     requires { HasRoom (B.value store.old) 1 }
-    ensures { MadeOne (B.value store.old) (B.value store.new) (B.name result) (down_message down).kind (down_message down).plain }
+    ensures { MadeOne (B.value store.old) (B.value store.new) (token result) (down_message down).kind (down_message down).plain }
 {
     match down {
         Down::Flush(asked) => make_flush(store, asked),
@@ -49,10 +48,10 @@ fn make_down<B: Blocks>(store: &mut B, down: Down) -> B::Mp
 }
 
 // Makes what a head sends down, if anything.
-fn send_down<B: Blocks>(store: &mut B, here: Spot, down: Option<Down>) -> Outbox<B::Mp>
+fn send_down<B: Blocks>(store: &mut B, here: Spot, down: Option<Down>) -> Outbox
     requires room { HasRoom (B.value store.old) (if is_there down then 1 else 0) }
     requires top { here.at ≡ 0 }
-    ensures { Makes B.name (B.value store.old) (B.value store.new) (if is_there down then 1 else 0) (sent_of result) (sent_down here down) }
+    ensures { Makes (B.value store.old) (B.value store.new) (if is_there down then 1 else 0) (sent_of result) (sent_down here down) }
 {
     let Some(down) = down else {
         return Outbox::none();
@@ -75,37 +74,37 @@ fn is_flush(kind: MsgKind) -> bool
     matches!(kind, MsgKind::Flush)
 }
 
-impl<S: Drop> Streams<S> {
+impl Streams {
     ghost use Rattle.strm_pair.specs.Pairs.{state_in, end_at, with_end, AreBeside, kept_by};
     ghost use Rattle.strm_blocks.specs.Blocks.{StoreValue};
 
     // What the driver of a side is told of the other one.
-    fn across<B: Stacks<Stack = S>>(&self, side: Side) -> Across
-        ensures { (s : StoreValue) → result ≡ across_of side (state_in B.view.modules s self.now) }
+    fn across(&self, side: Side) -> Across
+        ensures { (s : StoreValue) → result ≡ across_of side (state_in s self.now) }
     {
         let other = side.other();
         Across {
             is_open: self.end(other).opened.is_open(),
-            bottom: self.modules_on::<B>(other),
+            bottom: self.modules_on(other),
             ended: self.master.opened.is_closed(),
         }
     }
 
     // A message that comes to the head of a side that isn't open, where nobody reads: its bytes go.
-    fn lose<B: Stacks<Stack = S>>(
+    fn lose<B: Blocks>(
         &self,
         store: &mut B,
         to: Spot,
-        message: B::Mp,
+        message: InHand,
         told: &mut Fates,
-    ) -> Outbox<B::Mp>
-        requires beside { AreBeside B.view (B.value store.old) self.now }
-        requires can_put { CanPut (B.value store.old) (B.name message) (kept_by B.view self.now) }
-        requires chain { IsChain (in_hand (B.value store.old) (B.name message)) }
-        requires closed { is_open (stream to.side (state_in B.view.modules (B.value store.old) self.now)).opened ≡ false }
+    ) -> Outbox
+        requires beside { AreBeside (B.value store.old) self.now }
+        requires can_put { CanPut (B.value store.old) (token message) (kept_by self.now) }
+        requires chain { IsChain (in_hand (B.value store.old) (token message)) }
+        requires closed { is_open (stream to.side (state_in (B.value store.old) self.now)).opened ≡ false }
         ensures { let s = B.value store.old in
-            PutBy B.name B.view s (B.value store.new) self.now self.now (B.name message) 0 (sent_of result) told.old told.new
-            (put_at_head to.side to (message_in s (B.name message)) (state_in B.view.modules s self.now)) }
+            PutBy s (B.value store.new) self.now self.now (token message) 0 (sent_of result) told.old told.new
+            (put_at_head to.side to (message_in s (token message)) (state_in s self.now)) }
     {
         store.audit();
         let bytes = booked_size(store, &message);
@@ -115,46 +114,46 @@ impl<S: Drop> Streams<S> {
     }
 
     // A message that comes to the head of an open side. What is to go down comes back.
-    fn come<B: Stacks<Stack = S>>(
+    fn come<B: Blocks>(
         &mut self,
         store: &mut B,
         to: Spot,
-        message: B::Mp,
+        message: InHand,
         told: &mut Fates,
     ) -> Option<Down>
-        requires beside { AreBeside B.view (B.value store.old) self.old }
-        requires can_put { CanPut (B.value store.old) (B.name message) (kept_by B.view self.old) }
-        requires chain { IsChain (in_hand (B.value store.old) (B.name message)) }
-        requires opened { is_open (stream to.side (state_in B.view.modules (B.value store.old) self.old)).opened ≡ true }
+        requires beside { AreBeside (B.value store.old) self.old }
+        requires can_put { CanPut (B.value store.old) (token message) (kept_by self.old) }
+        requires chain { IsChain (in_hand (B.value store.old) (token message)) }
+        requires opened { is_open (stream to.side (state_in (B.value store.old) self.old)).opened ≡ true }
         ensures { let s = B.value store.old in
-            CameBy B.view s (B.value store.new) self.old self.new (B.name message) (sent_down to result) told.old told.new
-            (put_at_head to.side to (message_in s (B.name message)) (state_in B.view.modules s self.old)) }
+            CameBy s (B.value store.new) self.old self.new (token message) (sent_down to result) told.old told.new
+            (put_at_head to.side to (message_in s (token message)) (state_in s self.old)) }
     {
         store.audit();
         let came = match to.side {
             Side::Master => self.master.head.put(store, to, message, told),
             Side::Slave => self.slave.head.put(store, to, message, told),
         };
-        self.let_go::<B>(to.side, Way::Up, 0, came.lets_go);
+        self.let_go(to.side, Way::Up, 0, came.lets_go);
         came.down
     }
 
     // A message that comes to the head of a side.
-    fn put_head<B: Stacks<Stack = S>>(
+    fn put_head<B: Blocks>(
         &mut self,
         store: &mut B,
         to: Spot,
-        message: B::Mp,
+        message: InHand,
         told: &mut Fates,
-    ) -> Outbox<B::Mp>
-        requires beside { AreBeside B.view (B.value store.old) self.old }
-        requires can_put { CanPut (B.value store.old) (B.name message) (kept_by B.view self.old) }
-        requires chain { IsChain (in_hand (B.value store.old) (B.name message)) }
-        requires room { HasRoom (B.value store.old) (head_takes (message_in (B.value store.old) (B.name message))) }
+    ) -> Outbox
+        requires beside { AreBeside (B.value store.old) self.old }
+        requires can_put { CanPut (B.value store.old) (token message) (kept_by self.old) }
+        requires chain { IsChain (in_hand (B.value store.old) (token message)) }
+        requires room { HasRoom (B.value store.old) (head_takes (message_in (B.value store.old) (token message))) }
         requires top { to.at ≡ 0 }
-        ensures { let s = B.value store.old in let m = message_in s (B.name message) in
-            PutBy B.name B.view s (B.value store.new) self.old self.new (B.name message) (head_takes m)
-            (sent_of result) told.old told.new (put_at_head to.side to m (state_in B.view.modules s self.old)) }
+        ensures { let s = B.value store.old in let m = message_in s (token message) in
+            PutBy s (B.value store.new) self.old self.new (token message) (head_takes m)
+            (sent_of result) told.old told.new (put_at_head to.side to m (state_in s self.old)) }
     {
         if !self.end(to.side).opened.is_open() {
             return self.lose(store, to, message, told);
@@ -164,56 +163,56 @@ impl<S: Drop> Streams<S> {
     }
 
     // The stack of a side takes a message, and nothing else of the streams changes.
-    fn put_on_stack<B: Stacks<Stack = S>>(
+    fn put_on_stack<B: Blocks>(
         &mut self,
         store: &mut B,
         to: Spot,
-        message: B::Mp,
+        message: InHand,
         told: &mut Fates,
-    ) -> Acts<B::Mp>
-        requires beside { AreBeside B.view (B.value store.old) self.old }
-        requires can_put { CanPut (B.value store.old) (B.name message) (kept_by B.view self.old) }
-        requires chain { IsChain (in_hand (B.value store.old) (B.name message)) }
-        requires room { let s = B.value store.old in let m = message_in s (B.name message) in
-            HasRoom s (at_place (module_takes to m) 0 to.at (stream to.side (state_in B.view.modules s self.old)).modules) }
+    ) -> Acts
+        requires beside { AreBeside (B.value store.old) self.old }
+        requires can_put { CanPut (B.value store.old) (token message) (kept_by self.old) }
+        requires chain { IsChain (in_hand (B.value store.old) (token message)) }
+        requires room { let s = B.value store.old in let m = message_in s (token message) in
+            HasRoom s (at_place (module_takes to m) 0 to.at (stream to.side (state_in s self.old)).modules) }
         requires inside { 0 < to.at }
-        requires within { to.at ≤ modules_on to.side (state_in B.view.modules (B.value store.old) self.old) }
+        requires within { to.at ≤ modules_on to.side (state_in (B.value store.old) self.old) }
         ensures streams { self.new ≡ with_end to.side (record (end_at to.side self.old) { stack = (end_at to.side self.new).stack }) self.old }
-        ensures takes { StackTakes B.name B.view (B.value store.old) (B.value store.new) (end_at to.side self.old).stack (end_at to.side self.new).stack
-            (B.name message) to result told.old told.new }
+        ensures takes { StackTakes (B.value store.old) (B.value store.new) (end_at to.side self.old).stack (end_at to.side self.new).stack
+            (token message) to result told.old told.new }
     {
         match to.side {
-            Side::Master => B::put(&mut self.master.stack, store, to, message, told),
-            Side::Slave => B::put(&mut self.slave.stack, store, to, message, told),
+            Side::Master => self.master.stack.put(store, to, message, told),
+            Side::Slave => self.slave.stack.put(store, to, message, told),
         }
     }
 
     // A message that comes to a module of a side's stream. What it says of its queues goes by how the stream was before, and what it made
     // is booked.
-    fn put_module<B: Stacks<Stack = S>>(
+    fn put_module<B: Blocks>(
         &mut self,
         store: &mut B,
         to: Spot,
-        message: B::Mp,
+        message: InHand,
         told: &mut Fates,
-    ) -> Outbox<B::Mp>
-        requires beside { AreBeside B.view (B.value store.old) self.old }
-        requires can_put { CanPut (B.value store.old) (B.name message) (kept_by B.view self.old) }
-        requires chain { IsChain (in_hand (B.value store.old) (B.name message)) }
-        requires room { let s = B.value store.old in let m = message_in s (B.name message) in
-            HasRoom s (at_place (module_takes to m) 0 to.at (stream to.side (state_in B.view.modules s self.old)).modules) }
-        requires books { let s = B.value store.old in let m = message_in s (B.name message) in let st = state_in B.view.modules s self.old in
+    ) -> Outbox
+        requires beside { AreBeside (B.value store.old) self.old }
+        requires can_put { CanPut (B.value store.old) (token message) (kept_by self.old) }
+        requires chain { IsChain (in_hand (B.value store.old) (token message)) }
+        requires room { let s = B.value store.old in let m = message_in s (token message) in
+            HasRoom s (at_place (module_takes to m) 0 to.at (stream to.side (state_in s self.old)).modules) }
+        requires books { let s = B.value store.old in let m = message_in s (token message) in let st = state_in s self.old in
             at_place (module_packs to m) 0 to.at (stream to.side st).modules ≤ spare st }
         requires inside { 0 < to.at }
-        requires within { (s : StoreValue) → to.at ≤ modules_on to.side (state_in B.view.modules s self.old) }
-        ensures { let s = B.value store.old in let m = message_in s (B.name message) in let st = state_in B.view.modules s self.old in
+        requires within { (s : StoreValue) → to.at ≤ modules_on to.side (state_in s self.old) }
+        ensures { let s = B.value store.old in let m = message_in s (token message) in let st = state_in s self.old in
             let ms = (stream to.side st).modules in
-            PutAs B.name B.view s (B.value store.new) self.old self.new (B.name message) (at_place (module_takes to m) 0 to.at ms)
+            PutAs s (B.value store.new) self.old self.new (token message) (at_place (module_takes to m) 0 to.at ms)
             (at_place (module_leaves to m) 0 to.at ms) (sent_of result) told.old told.new (put_at_module plain to m st) }
     {
         store.audit();
-        let place = B::place(&self.end(to.side).stack, to.at);
-        let earlier = self.earlier::<B>(to.side, to.at);
+        let place = place_at(&self.end(to.side).stack, to.at);
+        let earlier = self.earlier(to.side, to.at);
         let before = Made::of(told);
         let acts = self.put_on_stack(store, to, message, told);
         note(
@@ -228,43 +227,43 @@ impl<S: Drop> Streams<S> {
     }
 
     // A message that comes to the driver of a side.
-    fn put_driver<B: Stacks<Stack = S>>(
+    fn put_driver<B: Blocks>(
         &mut self,
         store: &mut B,
         to: Spot,
-        message: B::Mp,
+        message: InHand,
         told: &mut Fates,
-    ) -> Outbox<B::Mp>
-        requires beside { AreBeside B.view (B.value store.old) self.old }
-        requires can_put { CanPut (B.value store.old) (B.name message) (kept_by B.view self.old) }
-        requires chain { IsChain (in_hand (B.value store.old) (B.name message)) }
-        requires room { HasRoom (B.value store.old) (below_takes to.way (has_parts (message_in (B.value store.old) (B.name message))) true) }
-        ensures { let s = B.value store.old in let m = message_in s (B.name message) in
-            PutBy B.name B.view s (B.value store.new) self.old self.new (B.name message) (below_takes to.way (has_parts m) true)
-            (sent_of result) told.old told.new (put_at_driver to.side to m (state_in B.view.modules s self.old)) }
+    ) -> Outbox
+        requires beside { AreBeside (B.value store.old) self.old }
+        requires can_put { CanPut (B.value store.old) (token message) (kept_by self.old) }
+        requires chain { IsChain (in_hand (B.value store.old) (token message)) }
+        requires room { HasRoom (B.value store.old) (below_takes to.way (has_parts (message_in (B.value store.old) (token message))) true) }
+        ensures { let s = B.value store.old in let m = message_in s (token message) in
+            PutBy s (B.value store.new) self.old self.new (token message) (below_takes to.way (has_parts m) true)
+            (sent_of result) told.old told.new (put_at_driver to.side to m (state_in s self.old)) }
     {
         store.audit();
-        let across = self.across::<B>(to.side);
-        let at = self.driver_place::<B>(to.side);
+        let across = self.across(to.side);
+        let at = self.driver_place(to.side);
         let here = Spot { at, ..to };
         let acts = match to.side {
             Side::Master => put(store, &mut self.master.driver, across, here, message, told),
             Side::Slave => put(store, &mut self.slave.driver, across, here, message, told),
         };
-        self.note::<B>(to.side, Some(Place::Driver), at, acts.notes.as_slice());
+        self.note(to.side, Some(Place::Driver), at, acts.notes.as_slice());
         acts.sent
     }
 
     // A message at a place where nothing stands goes on to the lowest module, and where there is none to the head.
-    fn pass_up<B: Stacks<Stack = S>>(&self, store: &B, to: Spot, message: B::Mp) -> Outbox<B::Mp>
-        requires beside { AreBeside B.view (B.value store.now) self.now }
-        requires chain { IsChain (in_hand (B.value store.now) (B.name message)) }
+    fn pass_up<B: Blocks>(&self, store: &B, to: Spot, message: InHand) -> Outbox
+        requires beside { AreBeside (B.value store.now) self.now }
+        requires chain { IsChain (in_hand (B.value store.now) (token message)) }
         ensures { (told : Fates) → let s = B.value store.now in
-            PutBy B.name B.view s s self.now self.now (B.name message) 0 (sent_of result) told told
-            (passed_up to (message_in s (B.name message)) (state_in B.view.modules s self.now)) }
+            PutBy s s self.now self.now (token message) 0 (sent_of result) told told
+            (passed_up to (message_in s (token message)) (state_in s self.now)) }
     {
         let _ = store;
-        let at = self.modules_on::<B>(to.side);
+        let at = self.modules_on(to.side);
         Outbox::one(Sent {
             to: Spot { at, ..to },
             message,
@@ -272,22 +271,22 @@ impl<S: Drop> Streams<S> {
     }
 
     // A message on its way up, behind the head: the driver's place takes what was sent across.
-    fn put_up<B: Stacks<Stack = S>>(
+    fn put_up<B: Blocks>(
         &mut self,
         store: &mut B,
         to: Spot,
-        message: B::Mp,
+        message: InHand,
         told: &mut Fates,
-    ) -> Outbox<B::Mp>
-        requires beside { AreBeside B.view (B.value store.old) self.old }
-        requires can_put { CanPut (B.value store.old) (B.name message) (kept_by B.view self.old) }
-        requires chain { IsChain (in_hand (B.value store.old) (B.name message)) }
-        requires room { let m = message_in (B.value store.old) (B.name message) in
+    ) -> Outbox
+        requires beside { AreBeside (B.value store.old) self.old }
+        requires can_put { CanPut (B.value store.old) (token message) (kept_by self.old) }
+        requires chain { IsChain (in_hand (B.value store.old) (token message)) }
+        requires room { let m = message_in (B.value store.old) (token message) in
             HasRoom (B.value store.old) (below_takes Up (has_parts m) (is_across to m)) }
         requires up { to.way ≡ Up }
-        ensures { let s = B.value store.old in let m = message_in s (B.name message) in
-            PutBy B.name B.view s (B.value store.new) self.old self.new (B.name message) (below_takes Up (has_parts m) (is_across to m))
-            (sent_of result) told.old told.new (put_behind Up to m (state_in B.view.modules s self.old)) }
+        ensures { let s = B.value store.old in let m = message_in s (token message) in
+            PutBy s (B.value store.new) self.old self.new (token message) (below_takes Up (has_parts m) (is_across to m))
+            (sent_of result) told.old told.new (put_behind Up to m (state_in s self.old)) }
     {
         store.audit();
         if to.at == MODULES + 1 && is_flush(store.kind(&message, 0)) {
@@ -297,27 +296,27 @@ impl<S: Drop> Streams<S> {
     }
 
     // A message that is put at a spot.
-    fn put<B: Stacks<Stack = S>>(
+    fn put<B: Blocks>(
         &mut self,
         store: &mut B,
         to: Spot,
-        message: B::Mp,
+        message: InHand,
         told: &mut Fates,
-    ) -> Outbox<B::Mp>
-        requires beside { AreBeside B.view (B.value store.old) self.old }
-        requires can_put { CanPut (B.value store.old) (B.name message) (kept_by B.view self.old) }
-        requires chain { IsChain (in_hand (B.value store.old) (B.name message)) }
-        requires room { let s = B.value store.old in let st = state_in B.view.modules s self.old in
-            MayTake s (spare st) (stack_cost (stands_of st) to (message_in s (B.name message))) }
-        ensures { let s = B.value store.old in let m = message_in s (B.name message) in let st = state_in B.view.modules s self.old in
+    ) -> Outbox
+        requires beside { AreBeside (B.value store.old) self.old }
+        requires can_put { CanPut (B.value store.old) (token message) (kept_by self.old) }
+        requires chain { IsChain (in_hand (B.value store.old) (token message)) }
+        requires room { let s = B.value store.old in let st = state_in s self.old in
+            MayTake s (spare st) (stack_cost (stands_of st) to (message_in s (token message))) }
+        ensures { let s = B.value store.old in let m = message_in s (token message) in let st = state_in s self.old in
             let is = put_in plain to m st in
-            PutAs B.name B.view s (B.value store.new) self.old self.new (B.name message) (stack_cost (stands_of st) to m)
+            PutAs s (B.value store.new) self.old self.new (token message) (stack_cost (stands_of st) to m)
             (cost_of (stack_cost (stands_of st)) is.sent) (sent_of result) told.old told.new is }
     {
         if to.at == 0 {
             return self.put_head(store, to, message, told);
         }
-        if to.at <= self.modules_on::<B>(to.side) {
+        if to.at <= self.modules_on(to.side) {
             return self.put_module(store, to, message, told);
         }
         match to.way {
@@ -327,7 +326,7 @@ impl<S: Drop> Streams<S> {
     }
 }
 
-impl<B: Stacks> Stations<B> for Streams<B::Stack> {
+impl<B: Blocks> Stations<B> for Streams {
     ghost use Rattle.std.specs.Prelude.{ℕ};
     ghost use Rattle.strm_laws.specs.State.{State};
     ghost use Rattle.strm_pair.specs.Pairs.{state_in, AreBeside, kept_by};
@@ -335,11 +334,11 @@ impl<B: Stacks> Stations<B> for Streams<B::Stack> {
 
     ghost Plain = { State ℕ };
 
-    ghost plain = { state_in B.view.modules };
+    ghost plain = { state_in };
 
-    ghost IsHeld = { AreBeside B.view };
+    ghost IsHeld = { AreBeside };
 
-    ghost keeps = { kept_by B.view };
+    ghost keeps = { kept_by };
 
     ghost puts = { put_in plain };
 
@@ -353,14 +352,14 @@ impl<B: Stacks> Stations<B> for Streams<B::Stack> {
         &mut self,
         store: &mut B,
         to: Spot,
-        message: B::Mp,
+        message: InHand,
         told: &mut Fates,
-    ) -> Outbox<B::Mp> {
+    ) -> Outbox {
         store.audit();
         self.put(store, to, message, told)
     }
 
-    ghost frame = { streams-frame B.view };
+    ghost frame = { streams-frame };
 
     ghost cost_stays = { λ to m p. costs-stay to m p };
 }

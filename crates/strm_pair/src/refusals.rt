@@ -12,11 +12,11 @@ ghost use Rattle.strm_pair.specs.Parts.{IsLow, is_held_back};
 ghost use Rattle.strm_types.specs.declared.refusals.Refusal.TheVariants.{Eagain, Einval, Enxio, Erange};
 ghost use Rattle.strm_types.specs.Names.{is_never, is_open};
 ghost use Rattle.strm_laws.specs.State.{stream};
-ghost use Rattle.strm_pair.specs.Streams.{Modules};
 
 use crate::ends::End;
-use crate::stacks::Stacks;
+use crate::stacks::module_count;
 use crate::streams::Streams;
+use strm_blocks::Blocks;
 use strm_head::put_refusal;
 use strm_queue::standing::has_no_data;
 use strm_types::{
@@ -113,15 +113,15 @@ pub(crate) fn content_most(event: &Event<&[u8]>) -> usize
     }
 }
 
-impl<S: Drop> Streams<S> {
+impl Streams {
     ghost use Rattle.strm_blocks.specs.Blocks.{StoreValue};
     ghost use Rattle.strm_pair.specs.Streams.{stream_in};
     ghost use Rattle.strm_pair.specs.Pairs.{state_in, end_at, AreHeld};
 
     /// The stream of a side.
-    pub(crate) fn end(&self, side: Side) -> &End<S>
+    pub(crate) fn end(&self, side: Side) -> &End
         ensures end { result.now ≡ end_at side self.now }
-        ensures stream { (modules : Modules S) (s : StoreValue) → stream_in modules s result.now ≡ stream side (state_in modules s self.now) }
+        ensures stream { (s : StoreValue) → stream_in s result.now ≡ stream side (state_in s self.now) }
     {
         match side {
             Side::Master => &self.master,
@@ -131,15 +131,15 @@ impl<S: Drop> Streams<S> {
 
     // ENXIO where a side isn't open.
     fn unopened(&self, side: Side) -> Option<Refusal>
-        ensures { (modules : Modules S) (s : StoreValue) →
-            result ≡ unless (is_open (stream side (state_in modules s self.now)).opened) Enxio }
+        ensures { (s : StoreValue) →
+            result ≡ unless (is_open (stream side (state_in s self.now)).opened) Enxio }
     {
         unless(self.end(side).opened.is_open(), Refusal::Enxio)
     }
 
     // ENXIO where a side isn't open, or its other end is gone.
     fn unreached(&self, side: Side) -> Option<Refusal>
-        ensures { (modules : Modules S) (s : StoreValue) → result ≡ unless (goes_down side (state_in modules s self.now)) Enxio }
+        ensures { (s : StoreValue) → result ≡ unless (goes_down side (state_in s self.now)) Enxio }
     {
         let end = self.end(side);
         unless(end.opened.is_open() && !end.head.hung_up, Refusal::Enxio)
@@ -147,7 +147,7 @@ impl<S: Drop> Streams<S> {
 
     /// ERANGE where the books of a direction are full.
     pub(crate) fn beyond(&self) -> Option<Refusal>
-        ensures { (modules : Modules S) (s : StoreValue) → result ≡ unless (in_range (state_in modules s self.now)) Erange }
+        ensures { (s : StoreValue) → result ≡ unless (in_range (state_in s self.now)) Erange }
     {
         unless(
             self.from_master.has_room() && self.from_slave.has_room(),
@@ -157,8 +157,8 @@ impl<S: Drop> Streams<S> {
 
     // ERANGE where an ioctl sends more than it may, there is no number left for it, or the books of a direction are full.
     fn unasked(&self, body: &[u8]) -> Option<Refusal>
-        ensures { (modules : Modules S) (s : StoreValue) →
-            result ≡ unless (may_ask body.now (state_in modules s self.now) && in_range (state_in modules s self.now)) Erange }
+        ensures { (s : StoreValue) →
+            result ≡ unless (may_ask body.now (state_in s self.now) && in_range (state_in s self.now)) Erange }
     {
         let may_ask = body.len() <= IOCTL_MAX && self.next_ioctl < IOCTL_END;
         unless(
@@ -169,7 +169,7 @@ impl<S: Drop> Streams<S> {
 
     // EINVAL where the master was opened before.
     fn opened_before(&self) -> Option<Refusal>
-        ensures { (modules : Modules S) (s : StoreValue) → result ≡ unless (is_never (state_in modules s self.now).master.opened) Einval }
+        ensures { (s : StoreValue) → result ≡ unless (is_never (state_in s self.now).master.opened) Einval }
     {
         unless(
             matches!(self.master.opened, Openness::Never),
@@ -179,7 +179,7 @@ impl<S: Drop> Streams<S> {
 
     // EINVAL where the slave is open, EAGAIN where it is locked.
     fn unready(&self) -> Option<Refusal>
-        ensures { (modules : Modules S) (s : StoreValue) → let state = state_in modules s self.now in
+        ensures { (s : StoreValue) → let state = state_in s self.now in
             result ≡ or_else (unless (not (is_open state.slave.opened)) Einval) (unless (not state.locked) Eagain) }
     {
         or_else(
@@ -189,9 +189,9 @@ impl<S: Drop> Streams<S> {
     }
 
     // Whether a side's head is at the end of its input, where nothing is to be read there.
-    fn is_at_end<B: Stacks<Stack = S>>(&self, store: &B, side: Side) -> bool
-        requires { AreHeld B.view (B.value store.now) self.now }
-        ensures { result ≡ at_end side (state_in B.view.modules (B.value store.now) self.now) }
+    fn is_at_end<B: Blocks>(&self, store: &B, side: Side) -> bool
+        requires { AreHeld (B.value store.now) self.now }
+        ensures { result ≡ at_end side (state_in (B.value store.now) self.now) }
     {
         match side {
             Side::Slave => self.slave.head.hung_up,
@@ -199,7 +199,7 @@ impl<S: Drop> Streams<S> {
                 self.master.head.hung_up
                     || (self.slave.opened.is_closed()
                         && has_no_data(store, &self.slave.driver)
-                        && B::none_waits_up(&self.master.stack, store)
+                        && self.master.stack.none_waits_up(store)
                         && has_no_data(store, &self.master.head.queue))
             }
         }
@@ -207,10 +207,10 @@ impl<S: Drop> Streams<S> {
 
     // Whether a message of this priority finds the first queue below a side's head full in its band. One of high priority waits for
     // nothing.
-    fn is_held_back<B: Stacks<Stack = S>>(&self, store: &B, side: Side, prio: Prio) -> bool
-        requires held { AreHeld B.view (B.value store.now) self.now }
+    fn is_held_back<B: Blocks>(&self, store: &B, side: Side, prio: Prio) -> bool
+        requires held { AreHeld (B.value store.now) self.now }
         requires low { IsLow prio }
-        ensures { let state = state_in B.view.modules (B.value store.now) self.now in
+        ensures { let state = state_in (B.value store.now) self.now in
             result ≡ is_held_back prio (λ band. is_full_below band side state) }
     {
         match prio {
@@ -222,8 +222,8 @@ impl<S: Drop> Streams<S> {
     /// What a call is refused for before all else: its side, and then its arguments.
     #[inline(always)]
     pub fn refused_at_once(&self, caller: Caller, event: &Event<&[u8]>) -> Option<Refusal>
-        ensures { (modules : Modules S) (s : StoreValue) →
-            result ≡ refused_at_once (state_in modules s self.now) caller (request event.now) }
+        ensures { (s : StoreValue) →
+            result ≡ refused_at_once (state_in s self.now) caller (request event.now) }
     {
         match event {
             Event::OpenMaster => None,
@@ -260,27 +260,27 @@ impl<S: Drop> Streams<S> {
     }
 
     // Whether a module of a name may be pushed on a side's stream: there is room, and none of its name stands there.
-    fn may_push<B: Stacks<Stack = S>>(&self, side: Side, name: Option<ModuleName>) -> bool
-        ensures { (s : StoreValue) → result ≡ may_stand (named_by name) (stream side (state_in B.view.modules s self.now)).modules }
+    fn may_push(&self, side: Side, name: Option<ModuleName>) -> bool
+        ensures { (s : StoreValue) → result ≡ may_stand (named_by name) (stream side (state_in s self.now)).modules }
     {
         let Some(kind) = name else {
             return false;
         };
         let stack = &self.end(side).stack;
-        is_known(name) && B::count(stack) < MODULES && !B::has(stack, kind)
+        module_count(stack) < MODULES && !stack.has(kind)
     }
 
     /// What a call that isn't refused at once is refused for after all else: what the state says.
     #[inline(always)]
-    pub fn refused_by_state<B: Stacks<Stack = S>>(
+    pub fn refused_by_state<B: Blocks>(
         &self,
         store: &B,
         caller: Caller,
         event: &Event<&[u8]>,
     ) -> Option<Refusal>
-        requires held { AreHeld B.view (B.value store.now) self.now }
-        requires allowed { refused_at_once (state_in B.view.modules (B.value store.now) self.now) caller (request event.now) ≡ None }
-        ensures { result ≡ refused_by_state (state_in B.view.modules (B.value store.now) self.now) caller (request event.now) }
+        requires held { AreHeld (B.value store.now) self.now }
+        requires allowed { refused_at_once (state_in (B.value store.now) self.now) caller (request event.now) ≡ None }
+        ensures { result ≡ refused_by_state (state_in (B.value store.now) self.now) caller (request event.now) }
     {
         match event {
             Event::OpenMaster => self.opened_before(),
@@ -313,10 +313,10 @@ impl<S: Drop> Streams<S> {
             Event::Ioctl { .. } => unless(self.end(caller.side).head.is_idle(), Refusal::Eagain),
             Event::IoctlResult { number } => self.end(caller.side).head.result_refusal(*number),
             Event::Push { name } => {
-                unless(self.may_push::<B>(caller.side, *name), Refusal::Einval)
+                unless(self.may_push(caller.side, *name), Refusal::Einval)
             }
             Event::Pop | Event::Look => {
-                unless(self.top::<B>(caller.side).is_some(), Refusal::Einval)
+                unless(self.top(caller.side).is_some(), Refusal::Einval)
             }
             Event::Unlock | Event::Shut | Event::Flush { .. } => None,
             Event::Mode { .. } | Event::Nread | Event::Signals => None,

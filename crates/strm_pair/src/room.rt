@@ -12,20 +12,21 @@ ghost use Rattle.strm_laws.specs.Writes.{is_full_below};
 ghost use Rattle.strm_blocks.specs.Blocks.{StoreValue};
 ghost use Rattle.strm_queue.specs.Stored.{IsReady};
 ghost use Rattle.strm_pair.specs.Streams.{IsSide, stream_in};
+ghost use Rattle.strm_pair.specs.Stacks.{IsStackHeld};
 
 use crate::ends::End;
-use crate::stacks::Stacks;
 use crate::streams::Streams;
+use strm_blocks::Blocks;
 use strm_queue::standing::is_full;
 use strm_types::{Band, Side, Way};
 
-impl<S: Drop> End<S> {
+impl End {
     // Whether a band is full of the queue at the end of a way: the head's, and the driver's.
-    fn is_end_full<B: Stacks<Stack = S>>(&self, store: &B, way: Way, band: Band) -> bool
+    fn is_end_full<B: Blocks>(&self, store: &B, way: Way, band: Band) -> bool
         requires head { IsReady (B.value store.now) self.now.head.queue }
         requires driver { IsReady (B.value store.now) self.now.driver }
         requires band { band.0 < BANDS }
-        ensures { result ≡ is_full band.0 (end_queue way (stream_in B.view.modules (B.value store.now) self.now)) }
+        ensures { result ≡ is_full band.0 (end_queue way (stream_in (B.value store.now) self.now)) }
     {
         match way {
             Way::Up => is_full(store, &self.head.queue, band),
@@ -34,25 +35,25 @@ impl<S: Drop> End<S> {
     }
 
     // Whether a message of a band may go on past a place of the stream.
-    fn may_pass<B: Stacks<Stack = S>>(&self, store: &B, way: Way, at: usize, band: Band) -> bool
+    fn may_pass<B: Blocks>(&self, store: &B, way: Way, at: usize, band: Band) -> bool
         requires head { IsReady (B.value store.now) self.now.head.queue }
         requires driver { IsReady (B.value store.now) self.now.driver }
-        requires stack { B.view.IsHeld (B.value store.now) self.now.stack }
+        requires stack { IsStackHeld (B.value store.now) self.now.stack }
         requires band { band.0 < BANDS }
-        ensures { result ≡ may_pass way at band.0 (stream_in B.view.modules (B.value store.now) self.now) }
+        ensures { result ≡ may_pass way at band.0 (stream_in (B.value store.now) self.now) }
     {
-        match B::can_pass(&self.stack, store, way, band, at) {
+        match self.stack.can_pass(store, way, band, at) {
             Some(room) => room,
             None => !self.is_end_full(store, way, band),
         }
     }
 
     // Has a writer wait for room in a band of the queue at the end of a way.
-    fn wait_at_end<B: Stacks<Stack = S>>(&mut self, way: Way, band: Band)
+    fn wait_at_end(&mut self, way: Way, band: Band)
         requires { band.0 < BANDS }
-        ensures stream { (s : StoreValue) → let t = stream_in B.view.modules s self.old in
-            stream_in B.view.modules s self.new ≡ with_end_queue way (with_waiting band.0 (end_queue way t)) t }
-        ensures side { (s : StoreValue) (first : ℕ) → IsSide B.view s first self.old → IsSide B.view s first self.new }
+        ensures stream { (s : StoreValue) → let t = stream_in s self.old in
+            stream_in s self.new ≡ with_end_queue way (with_waiting band.0 (end_queue way t)) t }
+        ensures side { (s : StoreValue) (first : ℕ) → IsSide s first self.old → IsSide s first self.new }
     {
         match way {
             Way::Up => self.head.queue.let_wait(band),
@@ -61,24 +62,24 @@ impl<S: Drop> End<S> {
     }
 
     // Has a writer wait for room in a band of the nearest queue past a place.
-    fn wait_past<B: Stacks<Stack = S>>(&mut self, way: Way, at: usize, band: Band)
+    fn wait_past(&mut self, way: Way, at: usize, band: Band)
         requires { band.0 < BANDS }
-        ensures stream { (s : StoreValue) → let t = stream_in B.view.modules s self.old in
-            stream_in B.view.modules s self.new ≡ waits_on way band.0 (place_past module_queue way at t.modules) t }
-        ensures side { (s : StoreValue) (first : ℕ) → IsSide B.view s first self.old → IsSide B.view s first self.new }
+        ensures stream { (s : StoreValue) → let t = stream_in s self.old in
+            stream_in s self.new ≡ waits_on way band.0 (place_past module_queue way at t.modules) t }
+        ensures side { (s : StoreValue) (first : ℕ) → IsSide s first self.old → IsSide s first self.new }
     {
-        match B::place_past(&self.stack, way, at) {
-            Some(_) => B::let_wait_past(&mut self.stack, way, band, at),
-            None => self.wait_at_end::<B>(way, band),
+        match self.stack.place_past(way, at) {
+            Some(_) => self.stack.let_wait_past(way, band, at),
+            None => self.wait_at_end(way, band),
         }
     }
 }
 
-impl<S: Drop> Streams<S> {
+impl Streams {
     ghost use Rattle.strm_pair.specs.Pairs.{AreBeside, AreHeld, state_in};
 
     /// Whether a message of a band may go on past a place of a side's stream, as messages of a way go. Nobody waits by this.
-    pub(crate) fn has_room_past<B: Stacks<Stack = S>>(
+    pub(crate) fn has_room_past<B: Blocks>(
         &self,
         store: &B,
         side: Side,
@@ -86,9 +87,9 @@ impl<S: Drop> Streams<S> {
         at: usize,
         band: Band,
     ) -> bool
-        requires beside { AreBeside B.view (B.value store.now) self.now }
+        requires beside { AreBeside (B.value store.now) self.now }
         requires band { band.0 < BANDS }
-        ensures { result ≡ has_room_past side way at band.0 (state_in B.view.modules (B.value store.now) self.now) }
+        ensures { result ≡ has_room_past side way at band.0 (state_in (B.value store.now) self.now) }
     {
         match side {
             Side::Master => self.master.may_pass(store, way, at, band),
@@ -97,22 +98,22 @@ impl<S: Drop> Streams<S> {
     }
 
     /// Whether a band is full of the first queue below a side's head (canput(9F)).
-    pub(crate) fn is_full_below<B: Stacks<Stack = S>>(
+    pub(crate) fn is_full_below<B: Blocks>(
         &self,
         store: &B,
         side: Side,
         band: Band,
     ) -> bool
-        requires beside { AreBeside B.view (B.value store.now) self.now }
+        requires beside { AreBeside (B.value store.now) self.now }
         requires band { band.0 < BANDS }
-        ensures { result ≡ is_full_below band.0 side (state_in B.view.modules (B.value store.now) self.now) }
+        ensures { result ≡ is_full_below band.0 side (state_in (B.value store.now) self.now) }
     {
         !self.has_room_past(store, side, Way::Down, 0, band)
     }
 
     /// Has a writer wait for room in a band past a place of a side's stream, as messages of a way go: want-write is set on the nearest
     /// queue there.
-    pub(crate) fn wait_past<B: Stacks<Stack = S>>(
+    pub(crate) fn wait_past(
         &mut self,
         side: Side,
         way: Way,
@@ -120,13 +121,13 @@ impl<S: Drop> Streams<S> {
         band: Band,
     )
         requires { band.0 < BANDS }
-        ensures state { (s : StoreValue) → state_in B.view.modules s self.new
-            ≡ writer_waits side way at band.0 (state_in B.view.modules s self.old) }
-        ensures held { (s : StoreValue) → AreHeld B.view s self.old → AreHeld B.view s self.new }
+        ensures state { (s : StoreValue) → state_in s self.new
+            ≡ writer_waits side way at band.0 (state_in s self.old) }
+        ensures held { (s : StoreValue) → AreHeld s self.old → AreHeld s self.new }
     {
         match side {
-            Side::Master => self.master.wait_past::<B>(way, at, band),
-            Side::Slave => self.slave.wait_past::<B>(way, at, band),
+            Side::Master => self.master.wait_past(way, at, band),
+            Side::Slave => self.slave.wait_past(way, at, band),
         }
     }
 }

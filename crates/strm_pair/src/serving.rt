@@ -18,8 +18,8 @@ ghost use Rattle.strm_pair.specs.declared.serving.Begun.TheVariants.{Over};
 ghost use Rattle.strm_pair.specs.ModuleTurned.{BeginsAs};
 
 use crate::naming::place_named;
-use crate::stacks::Stacks;
 use crate::streams::Streams;
+use strm_blocks::Blocks;
 use strm_frame::TurnEnd;
 use strm_types::{Asks, Fates, Place, QueueName, Side, Spot, Turn};
 
@@ -30,49 +30,49 @@ pub(crate) enum Begun {
     Serves(Spot),
 }
 
-impl<S: Drop> Streams<S> {
+impl Streams {
     ghost use Rattle.strm_pair.specs.Pairs.{state_in, AreBeside, AreHeld, SamePool, kept_by};
 
     /// The place of the module on a side's stream whose queues have a name.
-    pub(crate) fn module_named<B: Stacks<Stack = S>>(
+    pub(crate) fn module_named(
         &self,
         side: Side,
         name: Place,
     ) -> Option<usize>
-        ensures { (s : StoreValue) → result ≡ place_named name (stream side (state_in B.view.modules s self.now)).modules }
+        ensures { (s : StoreValue) → result ≡ place_named name (stream side (state_in s self.now)).modules }
     {
-        place_named::<B>(&self.end(side).stack, name)
+        place_named(&self.end(side).stack, name)
     }
 
     // The queue of the module at a place comes to the end of a turn, in which bytes were taken of it or not.
-    fn end_queue<B: Stacks<Stack = S>>(&mut self, store: &B, here: Spot, took: bool) -> TurnEnd
-        requires beside { AreBeside B.view (B.value store.now) self.old }
+    fn end_queue<B: Blocks>(&mut self, store: &B, here: Spot, took: bool) -> TurnEnd
+        requires beside { AreBeside (B.value store.now) self.old }
         requires inside { 0 < here.at }
-        requires within { here.at ≤ length (stream here.side (state_in B.view.modules (B.value store.now) self.old)).modules }
-        ensures state { let s = state_in B.view.modules (B.value store.now) self.old in state_in B.view.modules (B.value store.now) self.new
+        requires within { here.at ≤ length (stream here.side (state_in (B.value store.now) self.old)).modules }
+        ensures state { let s = state_in (B.value store.now) self.old in state_in (B.value store.now) self.new
             ≡ with_stream here.side (queue_ended here took (stream here.side s)) s }
         ensures room { result.room ≡ at_place (end_relieves module_queue took here.way) false here.at
-            (stream here.side (state_in B.view.modules (B.value store.now) self.old)).modules }
+            (stream here.side (state_in (B.value store.now) self.old)).modules }
         ensures more { result.more ≡ at_place (has_more module_queue here.way) false here.at
-            (stream here.side (state_in B.view.modules (B.value store.now) self.old)).modules }
-        ensures beside { AreBeside B.view (B.value store.now) self.new }
-        ensures keeps { (i : ℕ) → kept_by B.view self.new i ≡ kept_by B.view self.old i }
+            (stream here.side (state_in (B.value store.now) self.old)).modules }
+        ensures beside { AreBeside (B.value store.now) self.new }
+        ensures keeps { (i : ℕ) → kept_by self.new i ≡ kept_by self.old i }
     {
         match here.side {
-            Side::Master => B::end_turn(&mut self.master.stack, store, here.at, here.way, took),
-            Side::Slave => B::end_turn(&mut self.slave.stack, store, here.at, here.way, took),
+            Side::Master => self.master.stack.end_turn(store, here.at, here.way, took),
+            Side::Slave => self.slave.stack.end_turn(store, here.at, here.way, took),
         }
     }
 
     // A turn that treats nothing is over: the queue wants to be read where it is empty, and else it doesn't.
-    fn stay<B: Stacks<Stack = S>>(&mut self, store: &B, here: Spot, turn: Turn) -> Begun
-        requires held { AreHeld B.view (B.value store.now) self.old }
+    fn stay<B: Blocks>(&mut self, store: &B, here: Spot, turn: Turn) -> Begun
+        requires held { AreHeld (B.value store.now) self.old }
         requires inside { 0 < here.at }
-        requires within { here.at ≤ length (stream here.side (state_in B.view.modules (B.value store.now) self.old)).modules }
+        requires within { here.at ≤ length (stream here.side (state_in (B.value store.now) self.old)).modules }
         ensures over { result ≡ Over turn }
-        ensures state { state_in B.view.modules (B.value store.now) self.new
-            ≡ (stayed_at turn here (state_in B.view.modules (B.value store.now) self.old)).state }
-        ensures held { AreHeld B.view (B.value store.now) self.new }
+        ensures state { state_in (B.value store.now) self.new
+            ≡ (stayed_at turn here (state_in (B.value store.now) self.old)).state }
+        ensures held { AreHeld (B.value store.now) self.new }
     {
         self.end_queue(store, here, false);
         Begun::Over(turn)
@@ -81,18 +81,18 @@ impl<S: Drop> Streams<S> {
     /// Begins a turn of a module's queue, which is off the list of enabled queues. Where no module has such a queue, or nothing stands
     /// there, the turn is over as an idle one; where its first message may not go on, as a blocked one, and a writer waits for room
     /// where that is what it asks for. Nothing of a turn is under way.
-    pub(crate) fn begin_module_turn<B: Stacks<Stack = S>>(
+    pub(crate) fn begin_module_turn<B: Blocks>(
         &mut self,
         store: &B,
         name: QueueName,
     ) -> Begun
-        requires held { AreHeld B.view (B.value store.now) self.old }
-        requires rests { AreIdle (state_in B.view.modules (B.value store.now) self.old) }
-        ensures begins { BeginsAs (state_in B.view.modules (B.value store.now) self.old) (state_in B.view.modules (B.value store.now) self.new)
+        requires held { AreHeld (B.value store.now) self.old }
+        requires rests { AreIdle (state_in (B.value store.now) self.old) }
+        ensures begins { BeginsAs (state_in (B.value store.now) self.old) (state_in (B.value store.now) self.new)
             name result }
-        ensures held { AreHeld B.view (B.value store.now) self.new }
+        ensures held { AreHeld (B.value store.now) self.new }
     {
-        let Some(at) = self.module_named::<B>(name.side, name.place) else {
+        let Some(at) = self.module_named(name.side, name.place) else {
             return Begun::Over(Turn::Idle);
         };
         let here = Spot {
@@ -100,7 +100,7 @@ impl<S: Drop> Streams<S> {
             at,
             way: name.way,
         };
-        match B::asks(&self.end(name.side).stack, store, at, name.way) {
+        match self.end(name.side).stack.asks(store, at, name.way) {
             Asks::Empty => self.stay(store, here, Turn::Idle),
             Asks::Held => self.stay(store, here, Turn::Blocked),
             Asks::Free => Begun::Serves(here),
@@ -108,29 +108,29 @@ impl<S: Drop> Streams<S> {
                 if self.has_room_past(store, name.side, name.way, at, band) {
                     return Begun::Serves(here);
                 }
-                self.wait_past::<B>(name.side, name.way, at, band);
+                self.wait_past(name.side, name.way, at, band);
                 self.stay(store, here, Turn::Blocked)
             }
         }
     }
 
     // The end of a turn in which messages were treated.
-    fn end_module_turn<B: Stacks<Stack = S>>(
+    fn end_module_turn<B: Blocks>(
         &mut self,
         store: &B,
         name: QueueName,
         here: Spot,
         took: bool,
     )
-        requires beside { AreBeside B.view (B.value store.now) self.old }
+        requires beside { AreBeside (B.value store.now) self.old }
         requires inside { 0 < here.at }
-        requires within { here.at ≤ length (stream here.side (state_in B.view.modules (B.value store.now) self.old)).modules }
-        ensures state { state_in B.view.modules (B.value store.now) self.new
-            ≡ module_turn_ended name here took (state_in B.view.modules (B.value store.now) self.old) }
-        ensures beside { AreBeside B.view (B.value store.now) self.new }
-        ensures keeps { (i : ℕ) → kept_by B.view self.new i ≡ kept_by B.view self.old i }
+        requires within { here.at ≤ length (stream here.side (state_in (B.value store.now) self.old)).modules }
+        ensures state { state_in (B.value store.now) self.new
+            ≡ module_turn_ended name here took (state_in (B.value store.now) self.old) }
+        ensures beside { AreBeside (B.value store.now) self.new }
+        ensures keeps { (i : ℕ) → kept_by self.new i ≡ kept_by self.old i }
     {
-        let earlier = self.before::<B>(here.side, here.way, here.at);
+        let earlier = self.before(here.side, here.way, here.at);
         let end = self.end_queue(store, here, took);
         if end.room {
             self.enabled.enable_found(earlier);
@@ -140,22 +140,22 @@ impl<S: Drop> Streams<S> {
 
     /// A turn of a module's queue, which is off the list of enabled queues: its first message is treated, as far as the blocks that are
     /// free allow, unless it may not go on.
-    pub(crate) fn turn_module<B: Stacks<Stack = S>>(
+    pub(crate) fn turn_module<B: Blocks>(
         &mut self,
         store: &mut B,
         name: QueueName,
         told: &mut Fates,
     ) -> Turn
-        requires held { AreHeld B.view (B.value store.old) self.old }
-        requires rests { AreIdle (state_in B.view.modules (B.value store.old) self.old) }
+        requires held { AreHeld (B.value store.old) self.old }
+        requires rests { AreIdle (state_in (B.value store.old) self.old) }
         requires room { HasRoom (B.value store.old) 25 }
-        requires range { in_range (state_in B.view.modules (B.value store.old) self.old) ≡ true }
-        ensures turn { result ≡ (module_turned plain name result (state_in B.view.modules (B.value store.old) self.old)).turn }
-        ensures state { state_in B.view.modules (B.value store.new) self.new
-            ≡ (module_turned plain name result (state_in B.view.modules (B.value store.old) self.old)).state }
-        ensures told { told.new ≡ tallied (module_turned plain name result (state_in B.view.modules (B.value store.old) self.old)).gone told.old }
-        ensures few { FewBooked (state_in B.view.modules (B.value store.new) self.new) }
-        ensures held { AreHeld B.view (B.value store.new) self.new }
+        requires range { in_range (state_in (B.value store.old) self.old) ≡ true }
+        ensures turn { result ≡ (module_turned plain name result (state_in (B.value store.old) self.old)).turn }
+        ensures state { state_in (B.value store.new) self.new
+            ≡ (module_turned plain name result (state_in (B.value store.old) self.old)).state }
+        ensures told { told.new ≡ tallied (module_turned plain name result (state_in (B.value store.old) self.old)).gone told.old }
+        ensures few { FewBooked (state_in (B.value store.new) self.new) }
+        ensures held { AreHeld (B.value store.new) self.new }
         ensures pool { SamePool (B.value store.old) (B.value store.new) }
     {
         match self.begin_module_turn(store, name) {

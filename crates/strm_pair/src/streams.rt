@@ -20,12 +20,12 @@ ghost use Rattle.strm_types.specs.Refused.{turn_blocks};
 ghost use Rattle.strm_laws.specs.Spares.{spare};
 ghost use Rattle.strm_types.specs.Journal.{reply_in, answer_len, content_max};
 ghost use Rattle.strm_blocks.specs.Blocks.{StoreValue, free_m, free_d, empty_store};
-ghost use Rattle.strm_pair.specs.Streams.{Modules, IsBlank, IsSide, stream_in};
+ghost use Rattle.strm_pair.specs.Streams.{IsBlank, IsSide, stream_in};
 ghost use Rattle.strm_pair.specs.Parts.{longest_part};
 
 use crate::ends::End;
-use crate::stacks::Stacks;
-use strm_frame::Enabled;
+use strm_blocks::Blocks;
+use strm_frame::{Enabled, Stream};
 use strm_head::Head;
 use strm_queue::{HEAD_HIGH, HEAD_LOW, OTHER_HIGH, OTHER_LOW, Queue};
 use strm_types::{
@@ -36,9 +36,9 @@ use strm_types::{
 /// The streams of a pair, whether its slave is locked, the queues that are enabled, the number that the next ioctl gets,
 /// and what was booked of each direction.
 #[derive(Drop)]
-pub(crate) struct Streams<S> {
-    pub master: End<S>,
-    pub slave: End<S>,
+pub(crate) struct Streams {
+    pub master: End,
+    pub slave: End,
     pub locked: bool,
     pub enabled: Enabled,
     pub next_ioctl: u32,
@@ -48,30 +48,30 @@ pub(crate) struct Streams<S> {
 
 // A stream that nobody opened, whose queues stand on the lists from a number on: the head's, the driver's, and two that
 // are kept for the queues of a module.
-fn new_end<B: Stacks>(first: usize) -> End<B::Stack>
+fn new_end(first: usize) -> End
     requires { first ≤ 4 }
-    ensures side { (s : StoreValue) → IsBlank s first → IsSide B.view s first result }
-    ensures stream { (s : StoreValue) → IsBlank s first → stream_in B.view.modules s result ≡ new_stream }
+    ensures side { (s : StoreValue) → IsBlank s first → IsSide s first result }
+    ensures stream { (s : StoreValue) → IsBlank s first → stream_in s result ≡ new_stream }
 {
     End {
         opened: Openness::Never,
         head: Head::new(Queue::new(first, HEAD_HIGH, HEAD_LOW)),
-        stack: B::no_module(),
+        stack: Stream::new(),
         driver: Queue::new(first + 1, OTHER_HIGH, OTHER_LOW),
     }
 }
 
-impl<S: Drop> Streams<S> {
+impl Streams {
     ghost use Rattle.strm_pair.specs.Pairs.{state_in, AreHeld, SamePool};
 
     /// The streams of a new pair.
-    pub fn new<B: Stacks<Stack = S>>() -> Streams<S>
-        ensures state { (mblks dblks : ℕ) → state_in B.view.modules (empty_store mblks dblks) result ≡ opening }
-        ensures held { (mblks dblks : ℕ) → AreHeld B.view (empty_store mblks dblks) result }
+    pub fn new() -> Streams
+        ensures state { (mblks dblks : ℕ) → state_in (empty_store mblks dblks) result ≡ opening }
+        ensures held { (mblks dblks : ℕ) → AreHeld (empty_store mblks dblks) result }
     {
         Streams {
-            master: new_end::<B>(0),
-            slave: new_end::<B>(4),
+            master: new_end(0),
+            slave: new_end(4),
             locked: true,
             enabled: Enabled::new(),
             next_ioctl: 1,
@@ -100,11 +100,11 @@ impl<S: Drop> Streams<S> {
 
     /// Opens the slave: its head is as new, and what waits for it may come.
     #[inline(never)]
-    pub fn open_slave<B: Stacks<Stack = S>>(&mut self, store: &mut B) -> Answer<usize>
-        requires { AreHeld B.view (B.value store.old) self.old }
+    pub fn open_slave<B: Blocks>(&mut self, store: &mut B) -> Answer<usize>
+        requires { AreHeld (B.value store.old) self.old }
         ensures answer { result ≡ Done }
-        ensures state { state_in B.view.modules (B.value store.new) self.new ≡ opened_slave (state_in B.view.modules (B.value store.old) self.old) }
-        ensures held { AreHeld B.view (B.value store.new) self.new }
+        ensures state { state_in (B.value store.new) self.new ≡ opened_slave (state_in (B.value store.old) self.old) }
+        ensures held { AreHeld (B.value store.new) self.new }
         ensures pool { SamePool (B.value store.old) (B.value store.new) }
     {
         self.slave.open(store);
@@ -116,9 +116,9 @@ impl<S: Drop> Streams<S> {
 
     // Sets a mode of a side's head.
     #[inline(never)]
-    fn set_mode<B: Stacks<Stack = S>>(&mut self, side: Side, mode: Mode)
-        ensures state { (modules : Modules S) (s : StoreValue) → state_in modules s self.new ≡ mode_set side mode (state_in modules s self.old) }
-        ensures held { (s : StoreValue) → AreHeld B.view s self.old → AreHeld B.view s self.new }
+    fn set_mode(&mut self, side: Side, mode: Mode)
+        ensures state { (s : StoreValue) → state_in s self.new ≡ mode_set side mode (state_in s self.old) }
+        ensures held { (s : StoreValue) → AreHeld s self.old → AreHeld s self.new }
     {
         match side {
             Side::Master => self.master.head.set_mode(mode),
@@ -128,7 +128,7 @@ impl<S: Drop> Streams<S> {
 
     /// Reads up to `n` bytes from a side's head into `out`, as its modes say.
     #[inline(always)]
-    pub fn read<B: Stacks<Stack = S>>(
+    pub fn read<B: Blocks>(
         &mut self,
         store: &mut B,
         side: Side,
@@ -136,15 +136,15 @@ impl<S: Drop> Streams<S> {
         out: &mut Content,
         told: &mut Fates,
     )
-        requires held { AreHeld B.view (B.value store.old) self.old }
+        requires held { AreHeld (B.value store.old) self.old }
         requires fresh { out.old.items ≡ [] }
-        ensures answer { Bytes out.new.items ≡ (read_at plain side n (state_in B.view.modules (B.value store.old) self.old)).answer }
+        ensures answer { Bytes out.new.items ≡ (read_at plain side n (state_in (B.value store.old) self.old)).answer }
         ensures most { length out.new.items ≤ min n READ_MAX }
-        ensures state { state_in B.view.modules (B.value store.new) self.new
-            ≡ (read_at plain side n (state_in B.view.modules (B.value store.old) self.old)).state }
-        ensures held { AreHeld B.view (B.value store.new) self.new }
+        ensures state { state_in (B.value store.new) self.new
+            ≡ (read_at plain side n (state_in (B.value store.old) self.old)).state }
+        ensures held { AreHeld (B.value store.new) self.new }
         ensures pool { SamePool (B.value store.old) (B.value store.new) }
-        ensures told { told.new ≡ tallied (read_loses side n (state_in B.view.modules (B.value store.old) self.old)) told.old }
+        ensures told { told.new ≡ tallied (read_loses side n (state_in (B.value store.old) self.old)) told.old }
     {
         let wanted = (n as usize).min(READ_MAX);
         let direction = side.head().direction();
@@ -152,12 +152,12 @@ impl<S: Drop> Streams<S> {
             Side::Master => self.master.head.read(store, wanted, out, direction, told),
             Side::Slave => self.slave.head.read(store, wanted, out, direction, told),
         };
-        self.let_go::<B>(side, Way::Up, 0, goes);
+        self.let_go(side, Way::Up, 0, goes);
     }
 
     /// Carries out a call that nothing refuses. What a read or a get gives stands in `out`, which is empty else.
     #[inline(always)]
-    pub fn carry_out<B: Stacks<Stack = S>>(
+    pub fn carry_out<B: Blocks>(
         &mut self,
         store: &mut B,
         caller: Caller,
@@ -165,24 +165,24 @@ impl<S: Drop> Streams<S> {
         out: &mut Content,
         told: &mut Fates,
     ) -> Answer<usize>
-        requires held { AreHeld B.view (B.value store.old) self.old }
-        requires allowed { refused_at_once (state_in B.view.modules (B.value store.old) self.old) caller (request event.now) ≡ None }
-        requires allowed_by_state { refused_by_state (state_in B.view.modules (B.value store.old) self.old) caller (request event.now) ≡ None }
-        requires idle { AreIdle (state_in B.view.modules (B.value store.old) self.old) }
+        requires held { AreHeld (B.value store.old) self.old }
+        requires allowed { refused_at_once (state_in (B.value store.old) self.old) caller (request event.now) ≡ None }
+        requires allowed_by_state { refused_by_state (state_in (B.value store.old) self.old) caller (request event.now) ≡ None }
+        requires idle { AreIdle (state_in (B.value store.old) self.old) }
         requires room_m { blocks_asked (request event.now) ≤ free_m (B.value store.old) }
         requires room_d { blocks_asked (request event.now) ≤ free_d (B.value store.old) }
         ensures answer { reply_in result out.new.items
-            ≡ (called plain caller (request event.now) (state_in B.view.modules (B.value store.old) self.old)).answer }
+            ≡ (called plain caller (request event.now) (state_in (B.value store.old) self.old)).answer }
         ensures filled { answer_len result ≡ length out.new.items }
         ensures content { length out.new.items ≤ content_max (request event.now) }
         ensures parts { longest_part result ≤ READ_MAX }
-        ensures state { state_in B.view.modules (B.value store.new) self.new
-            ≡ (called plain caller (request event.now) (state_in B.view.modules (B.value store.old) self.old)).state }
-        ensures held { AreHeld B.view (B.value store.new) self.new }
-        ensures told { (answer : Reply) → told.new ≡ tallied (gone plain (state_in B.view.modules (B.value store.old) self.old)
+        ensures state { state_in (B.value store.new) self.new
+            ≡ (called plain caller (request event.now) (state_in (B.value store.old) self.old)).state }
+        ensures held { AreHeld (B.value store.new) self.new }
+        ensures told { (answer : Reply) → told.new ≡ tallied (gone plain (state_in (B.value store.old) self.old)
             (Called caller (request event.now) answer)) told.old }
         ensures left { OnTrue (delivers (request event.now))
-            (spare (state_in B.view.modules (B.value store.old) self.old) ≤ spare (state_in B.view.modules (B.value store.new) self.new) + 30) }
+            (spare (state_in (B.value store.old) self.old) ≤ spare (state_in (B.value store.new) self.new) + 30) }
         ensures pool { SamePool (B.value store.old) (B.value store.new) }
     {
         out.clear();
@@ -195,7 +195,7 @@ impl<S: Drop> Streams<S> {
             Event::Flush { what, band } => self.flush(store, side, *what, *band, told),
             Event::Push { name } => self.push(store, side, *name, told),
             Event::Pop => self.pop(store, side, told),
-            Event::Look => self.look::<B>(side),
+            Event::Look => self.look(side),
             Event::Write { bytes } => Answer::Count(self.write(store, side, bytes, told)),
             Event::Read { n } => {
                 self.read(store, side, *n, out, told);
@@ -210,34 +210,34 @@ impl<S: Drop> Streams<S> {
                 self.getmsg(store, side, *wanted, *cmax, *dmax, out, told)
             }
             Event::Mode { mode } => {
-                self.set_mode::<B>(side, *mode);
+                self.set_mode(side, *mode);
                 Answer::Done
             }
             Event::Nread => self.nread(store, side),
             Event::Ioctl { command, body } => self.ioctl(store, side, *command, body, out, told),
-            Event::IoctlResult { .. } => self.tell_ioctl::<B>(side, out),
-            Event::Signals => self.take_signals::<B>(side, out),
+            Event::IoctlResult { .. } => self.tell_ioctl(side, out),
+            Event::Signals => self.take_signals(side, out),
         }
     }
 
     /// A turn of an enabled queue.
-    pub fn turn<B: Stacks<Stack = S>>(
+    pub fn turn<B: Blocks>(
         &mut self,
         store: &mut B,
         name: QueueName,
         told: &mut Fates,
     ) -> Turn
-        requires held { AreHeld B.view (B.value store.old) self.old }
-        requires idle { AreIdle (state_in B.view.modules (B.value store.old) self.old) }
+        requires held { AreHeld (B.value store.old) self.old }
+        requires idle { AreIdle (state_in (B.value store.old) self.old) }
         requires room { HasRoom (B.value store.old) (turn_blocks name.place) }
-        requires range { in_range (state_in B.view.modules (B.value store.old) self.old) ≡ true }
-        ensures turn { result ≡ (turned plain name result (state_in B.view.modules (B.value store.old) self.old)).turn }
-        ensures state { state_in B.view.modules (B.value store.new) self.new
-            ≡ (turned plain name result (state_in B.view.modules (B.value store.old) self.old)).state }
-        ensures few { FewBooked (state_in B.view.modules (B.value store.new) self.new) }
-        ensures held { AreHeld B.view (B.value store.new) self.new }
+        requires range { in_range (state_in (B.value store.old) self.old) ≡ true }
+        ensures turn { result ≡ (turned plain name result (state_in (B.value store.old) self.old)).turn }
+        ensures state { state_in (B.value store.new) self.new
+            ≡ (turned plain name result (state_in (B.value store.old) self.old)).state }
+        ensures few { FewBooked (state_in (B.value store.new) self.new) }
+        ensures held { AreHeld (B.value store.new) self.new }
         ensures pool { SamePool (B.value store.old) (B.value store.new) }
-        ensures told { told.new ≡ tallied (turned plain name result (state_in B.view.modules (B.value store.old) self.old)).gone told.old }
+        ensures told { told.new ≡ tallied (turned plain name result (state_in (B.value store.old) self.old)).gone told.old }
     {
         self.enabled.remove(name);
         match name.place {

@@ -6,11 +6,11 @@ mod messages;
 mod recount;
 mod walk;
 
-use crate::{Pair, Stacks};
+use crate::Pair;
 use std::alloc::{AllocError, Global};
 use std::process::Abort;
 use std::test::Fail;
-use strm_blocks::TableStore;
+use strm_blocks::{Blocks, TableStore};
 use strm_types::{
     Answer, Band, Caller, Config, Content, Event, FlushQueues, ModuleName, Place, QueueName,
     Refusal, Rule, Side, Turn, Way,
@@ -81,14 +81,14 @@ enum Step<'a> {
     Reset,
 }
 
-fn gives<B: Stacks + Drop>(pair: &mut Pair<B>, caller: Caller, n: u32, bytes: &[u8]) -> bool {
+fn gives<B: Blocks + Drop>(pair: &mut Pair<B>, caller: Caller, n: u32, bytes: &[u8]) -> bool {
     match pair.apply(caller, &Event::Read { n }) {
         Ok(Answer::Bytes(given)) => given.as_slice() == bytes,
         _ => false,
     }
 }
 
-fn answers<B: Stacks + Drop>(
+fn answers<B: Blocks + Drop>(
     pair: &mut Pair<B>,
     caller: Caller,
     event: &Event<&[u8]>,
@@ -98,32 +98,32 @@ fn answers<B: Stacks + Drop>(
     pair.call(caller, event, &mut out) == came
 }
 
-fn enables<B: Stacks + Drop>(pair: &Pair<B>, count: usize, first: Option<QueueName>) -> bool {
+fn enables<B: Blocks + Drop>(pair: &Pair<B>, count: usize, first: Option<QueueName>) -> bool {
     pair.enabled().len() == count && pair.first_enabled() == first
 }
 
-fn counts<B: Stacks + Drop>(pair: &Pair<B>, queue: QueueName, bytes: usize, full: bool) -> bool {
+fn counts<B: Blocks + Drop>(pair: &Pair<B>, queue: QueueName, bytes: usize, full: bool) -> bool {
     pair.count(queue, Band(0)) == bytes && pair.is_full(queue, Band(0)) == full
 }
 
-fn stored<B: Stacks + Drop>(pair: &Pair<B>) -> Option<usize> {
+fn stored<B: Blocks + Drop>(pair: &Pair<B>) -> Option<usize> {
     pair.store().peek(1)?.body
 }
 
 // How many bytes have gone by a rule, from the master and from the slave.
-fn gone<B: Stacks + Drop>(pair: &Pair<B>, rule: Rule) -> (u64, u64) {
+fn gone<B: Blocks + Drop>(pair: &Pair<B>, rule: Rule) -> (u64, u64) {
     let fates = pair.fates();
     let at = rule.number();
     (fates.from_master[at], fates.from_slave[at])
 }
 
-fn has_entered<B: Stacks + Drop>(pair: &Pair<B>, count: usize, bytes: &[u8]) -> bool {
+fn has_entered<B: Blocks + Drop>(pair: &Pair<B>, count: usize, bytes: &[u8]) -> bool {
     let journal = pair.journal();
     journal.entries.len() == count && journal.bytes == bytes
 }
 
 // Whether what must come of a step comes of it.
-fn goes<B: Stacks + Drop>(pair: &mut Pair<B>, step: &Step<'_>) -> bool {
+fn goes<B: Blocks + Drop>(pair: &mut Pair<B>, step: &Step<'_>) -> bool {
     match step {
         Step::Call(caller, event, came) => answers(pair, *caller, event, *came),
         Step::Read(caller, n, bytes) => gives(pair, *caller, *n, bytes),
@@ -137,7 +137,7 @@ fn goes<B: Stacks + Drop>(pair: &mut Pair<B>, step: &Step<'_>) -> bool {
 }
 
 // Whether the pair shows what a step says.
-fn shows<B: Stacks + Drop>(pair: &Pair<B>, step: &Step<'_>) -> bool {
+fn shows<B: Blocks + Drop>(pair: &Pair<B>, step: &Step<'_>) -> bool {
     match step {
         Step::Enabled(count, first) => enables(pair, *count, *first),
         Step::Free(mblks, dblks) => pair.free_blocks() == (*mblks, *dblks),
@@ -151,7 +151,7 @@ fn shows<B: Stacks + Drop>(pair: &Pair<B>, step: &Step<'_>) -> bool {
 }
 
 // Goes through the steps of a run.
-fn follow<B: Stacks + Drop>(rt: &impl Abort, pair: &mut Pair<B>, steps: &[Step<'_>]) {
+fn follow<B: Blocks + Drop>(rt: &impl Abort, pair: &mut Pair<B>, steps: &[Step<'_>]) {
     for index in 0..steps.len() {
         assert!(rt; goes(pair, &steps[index]), "at step {index}");
     }

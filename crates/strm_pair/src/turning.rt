@@ -18,11 +18,9 @@ ghost use Rattle.strm_frame.specs.Hands.{HasRoom};
 ghost use Rattle.strm_queue.specs.Stored.{messages_on, queue_in, IsReady};
 ghost use Rattle.strm_pty.specs.Does.{OnlyQueue};
 ghost use Rattle.strm_pair.specs.Took.{settled, settling_relieves, TookFirst, MovesAcross};
-ghost use Rattle.strm_pair.specs.Streams.{Modules};
 
-use crate::stacks::Stacks;
 use crate::streams::Streams;
-use strm_blocks::Blocks;
+use strm_blocks::{Blocks, InHand};
 use strm_frame::TurnEnd;
 use strm_msg::message_size;
 use strm_queue::Queue;
@@ -50,17 +48,17 @@ fn settle<B: Blocks>(store: &B, queue: &mut Queue, size: usize) -> TurnEnd
     }
 }
 
-impl<S: Drop> Streams<S> {
-    ghost use Rattle.strm_blocks.specs.Blocks.{StoreValue};
+impl Streams {
+    ghost use Rattle.strm_blocks.specs.Blocks.{StoreValue, token};
     ghost use Rattle.strm_pair.specs.Pairs.{state_in, end_at, AreBeside, AreHeld, SamePool};
 
     // Takes the first message off the queue of a side's driver.
-    fn take_first<B: Stacks<Stack = S>>(&mut self, store: &mut B, side: Side) -> Option<B::Mp>
-        requires held { AreHeld B.view (B.value store.old) self.old }
-        requires idle { AreIdle (state_in B.view.modules (B.value store.old) self.old) }
+    fn take_first<B: Blocks>(&mut self, store: &mut B, side: Side) -> Option<InHand>
+        requires held { AreHeld (B.value store.old) self.old }
+        requires idle { AreIdle (state_in (B.value store.old) self.old) }
         ensures { MatchOption result
             (messages_on (B.value store.old) (end_at side self.old).driver.list ≡ [])
-            (λ m. TookFirst B.view side (B.value store.old) (B.value store.new) self.old self.new (B.name m)) }
+            (λ m. TookFirst side (B.value store.old) (B.value store.new) self.old self.new (token m)) }
     {
         match side {
             Side::Master => dequeue(store, &mut self.master.driver),
@@ -69,37 +67,37 @@ impl<S: Drop> Streams<S> {
     }
 
     // The end of a turn that took a message of this size off the queue of a side's driver.
-    fn end_turn<B: Stacks<Stack = S>>(&mut self, store: &B, side: Side, size: usize)
-        requires { AreHeld B.view (B.value store.now) self.old }
-        ensures state { state_in B.view.modules (B.value store.now) self.new ≡ turn_ended side size (state_in B.view.modules (B.value store.now) self.old) }
-        ensures held { AreHeld B.view (B.value store.now) self.new }
+    fn end_turn<B: Blocks>(&mut self, store: &B, side: Side, size: usize)
+        requires { AreHeld (B.value store.now) self.old }
+        ensures state { state_in (B.value store.now) self.new ≡ turn_ended side size (state_in (B.value store.now) self.old) }
+        ensures held { AreHeld (B.value store.now) self.new }
     {
         let end = match side {
             Side::Master => settle(store, &mut self.master.driver, size),
             Side::Slave => settle(store, &mut self.slave.driver, size),
         };
-        let at = self.driver_place::<B>(side);
-        self.let_go::<B>(side, Way::Down, at, end.room);
+        let at = self.driver_place(side);
+        self.let_go(side, Way::Down, at, end.room);
         self.enabled.enable_if(end.more, side.driver());
     }
 
     // A driver's first message goes up the other side's stream, with all that it gives rise to.
-    fn move_across<B: Stacks<Stack = S>>(
+    fn move_across<B: Blocks>(
         &mut self,
         store: &mut B,
         side: Side,
         told: &mut Fates,
     ) -> Turn
-        requires held { AreHeld B.view (B.value store.old) self.old }
-        requires idle { AreIdle (state_in B.view.modules (B.value store.old) self.old) }
+        requires held { AreHeld (B.value store.old) self.old }
+        requires idle { AreIdle (state_in (B.value store.old) self.old) }
         requires room { HasRoom (B.value store.old) 8 }
-        requires range { in_range (state_in B.view.modules (B.value store.old) self.old) ≡ true }
+        requires range { in_range (state_in (B.value store.old) self.old) ≡ true }
         requires some { is_none_left (messages_on (B.value store.old) (end_at side self.old).driver.list) ≡ false }
-        ensures moves { MovesAcross side (state_in B.view.modules (B.value store.old) self.old) result
-            (state_in B.view.modules (B.value store.new) self.new) told.old told.new }
-        ensures held { AreHeld B.view (B.value store.new) self.new }
+        ensures moves { MovesAcross side (state_in (B.value store.old) self.old) result
+            (state_in (B.value store.new) self.new) told.old told.new }
+        ensures held { AreHeld (B.value store.new) self.new }
         ensures pool { SamePool (B.value store.old) (B.value store.new) }
-        ensures left { spare (state_in B.view.modules (B.value store.old) self.old) ≤ spare (state_in B.view.modules (B.value store.new) self.new) + 8 }
+        ensures left { spare (state_in (B.value store.old) self.old) ≤ spare (state_in (B.value store.new) self.new) + 8 }
     {
         let Some(message) = self.take_first(store, side) else {
             return Turn::Idle;
@@ -107,7 +105,7 @@ impl<S: Drop> Streams<S> {
         store.audit();
         let size = message_size(store, &message);
         let above = side.other();
-        let at = self.modules_on::<B>(above);
+        let at = self.modules_on(above);
         let up = Spot {
             side: above,
             at,
@@ -119,10 +117,10 @@ impl<S: Drop> Streams<S> {
     }
 
     // A driver's queue keeps what it has, and wants to be read or not.
-    fn keep<B: Stacks<Stack = S>>(&mut self, side: Side, want_read: bool)
-        ensures state { (modules : Modules S) (s : StoreValue) → state_in modules s self.new
-            ≡ with_driver side (record (stream side (state_in modules s self.old)).driver.queue { want_read = want_read }) (state_in modules s self.old) }
-        ensures held { (s : StoreValue) → AreHeld B.view s self.old → AreHeld B.view s self.new }
+    fn keep(&mut self, side: Side, want_read: bool)
+        ensures state { (s : StoreValue) → state_in s self.new
+            ≡ with_driver side (record (stream side (state_in s self.old)).driver.queue { want_read = want_read }) (state_in s self.old) }
+        ensures held { (s : StoreValue) → AreHeld s self.old → AreHeld s self.new }
     {
         match side {
             Side::Master => self.master.driver.want_read = want_read,
@@ -131,56 +129,56 @@ impl<S: Drop> Streams<S> {
     }
 
     // Whether flow control stops a message of this kind and band at the nearest queue past a side's driver, on the way up.
-    fn is_stopped<B: Stacks<Stack = S>>(
+    fn is_stopped<B: Blocks>(
         &self,
         store: &B,
         side: Side,
         kind: MsgKind,
         band: Band,
     ) -> bool
-        requires beside { AreBeside B.view (B.value store.now) self.now }
+        requires beside { AreBeside (B.value store.now) self.now }
         requires band { band.0 < BANDS }
-        ensures { let st = state_in B.view.modules (B.value store.now) self.now in
+        ensures { let st = state_in (B.value store.now) self.now in
             result ≡ (is_held kind && not (has_room_past side Up (driver_place side st) band.0 st)) }
     {
-        let at = self.driver_place::<B>(side);
+        let at = self.driver_place(side);
         kind.is_held() && !self.has_room_past(store, side, Way::Up, at, band)
     }
 
     /// A turn of a side's driver, which is off the list of enabled queues: its first message goes up the other side's stream,
     /// unless that isn't open or the next queue there is full.
-    pub(crate) fn turn_driver<B: Stacks<Stack = S>>(
+    pub(crate) fn turn_driver<B: Blocks>(
         &mut self,
         store: &mut B,
         side: Side,
         told: &mut Fates,
     ) -> Turn
-        requires held { AreHeld B.view (B.value store.old) self.old }
-        requires idle { AreIdle (state_in B.view.modules (B.value store.old) self.old) }
+        requires held { AreHeld (B.value store.old) self.old }
+        requires idle { AreIdle (state_in (B.value store.old) self.old) }
         requires room { HasRoom (B.value store.old) 8 }
-        requires range { in_range (state_in B.view.modules (B.value store.old) self.old) ≡ true }
-        ensures turn { result ≡ (driver_turned plain side (state_in B.view.modules (B.value store.old) self.old)).turn }
-        ensures state { state_in B.view.modules (B.value store.new) self.new
-            ≡ (driver_turned plain side (state_in B.view.modules (B.value store.old) self.old)).state }
-        ensures told { told.new ≡ tallied (driver_turned plain side (state_in B.view.modules (B.value store.old) self.old)).gone told.old }
-        ensures held { AreHeld B.view (B.value store.new) self.new }
+        requires range { in_range (state_in (B.value store.old) self.old) ≡ true }
+        ensures turn { result ≡ (driver_turned plain side (state_in (B.value store.old) self.old)).turn }
+        ensures state { state_in (B.value store.new) self.new
+            ≡ (driver_turned plain side (state_in (B.value store.old) self.old)).state }
+        ensures told { told.new ≡ tallied (driver_turned plain side (state_in (B.value store.old) self.old)).gone told.old }
+        ensures held { AreHeld (B.value store.new) self.new }
         ensures pool { SamePool (B.value store.old) (B.value store.new) }
-        ensures left { spare (state_in B.view.modules (B.value store.old) self.old) ≤ spare (state_in B.view.modules (B.value store.new) self.new) + 8 }
+        ensures left { spare (state_in (B.value store.old) self.old) ≤ spare (state_in (B.value store.new) self.new) + 8 }
     {
         let Some(first) = store.peek(self.end(side).driver.list) else {
-            self.keep::<B>(side, true);
+            self.keep(side, true);
             return Turn::Idle;
         };
         let above = side.other();
         let across = self.end(above);
         if !across.opened.is_open() {
-            self.keep::<B>(side, false);
+            self.keep(side, false);
             return Turn::Blocked;
         }
         if self.is_stopped(store, above, first.kind, first.band) {
-            self.keep::<B>(side, false);
-            let at = self.driver_place::<B>(above);
-            self.wait_past::<B>(above, Way::Up, at, first.band);
+            self.keep(side, false);
+            let at = self.driver_place(above);
+            self.wait_past(above, Way::Up, at, first.band);
             return Turn::Blocked;
         }
         self.move_across(store, side, told)

@@ -16,10 +16,9 @@ ghost use Rattle.strm_laws.specs.State.{book};
 ghost use Rattle.strm_types.specs.Write.{chunk_count, chunks_of};
 ghost use Rattle.strm_laws.specs.Writes.{below_head, chunks_sent};
 ghost use Rattle.strm_blocks.specs.Blocks.{StoreValue, free_m, free_d};
-ghost use Rattle.strm_pair.specs.Streams.{Modules};
 
-use crate::stacks::Stacks;
 use crate::streams::Streams;
+use strm_blocks::Blocks;
 use strm_head::write;
 use strm_types::{Band, Book, Fates, Side, Spot, Way, chunk_count};
 
@@ -34,12 +33,12 @@ pub(crate) fn with_written(book: Book, count: usize) -> Book
     }
 }
 
-impl<S: Drop> Streams<S> {
+impl Streams {
     ghost use Rattle.strm_pair.specs.Pairs.{state_in, AreHeld, SamePool};
 
     // The book of what comes from a side.
     pub(crate) fn book_of(&self, side: Side) -> Book
-        ensures { (modules : Modules S) (s : StoreValue) → result ≡ book (direction_from side) (state_in modules s self.now) }
+        ensures { (s : StoreValue) → result ≡ book (direction_from side) (state_in s self.now) }
     {
         match side {
             Side::Master => self.from_master,
@@ -48,27 +47,27 @@ impl<S: Drop> Streams<S> {
     }
 
     // Makes an ordinary message of bytes, and delivers it from below a side's head.
-    fn send_chunk<B: Stacks<Stack = S>>(
+    fn send_chunk<B: Blocks>(
         &mut self,
         store: &mut B,
         side: Side,
         chunk: &[u8],
         told: &mut Fates,
     )
-        requires held { AreHeld B.view (B.value store.old) self.old }
-        requires idle { AreIdle (state_in B.view.modules (B.value store.old) self.old) }
+        requires held { AreHeld (B.value store.old) self.old }
+        requires idle { AreIdle (state_in (B.value store.old) self.old) }
         requires small { length chunk.now ≤ 256 }
         requires room_m { 0 < free_m (B.value store.old) }
         requires room_d { 0 < free_d (B.value store.old) }
-        ensures state { state_in B.view.modules (B.value store.new) self.new
-            ≡ (delivered plain (below_head side) (data_message chunk.now) (state_in B.view.modules (B.value store.old) self.old)).state }
+        ensures state { state_in (B.value store.new) self.new
+            ≡ (delivered plain (below_head side) (data_message chunk.now) (state_in (B.value store.old) self.old)).state }
         ensures told { told.new
-            ≡ tallied (delivered plain (below_head side) (data_message chunk.now) (state_in B.view.modules (B.value store.old) self.old)).gone told.old }
+            ≡ tallied (delivered plain (below_head side) (data_message chunk.now) (state_in (B.value store.old) self.old)).gone told.old }
         ensures takes_m { free_m (B.value store.old) ≤ free_m (B.value store.new) + 1 }
         ensures takes_d { free_d (B.value store.old) ≤ free_d (B.value store.new) + 1 }
-        ensures held { AreHeld B.view (B.value store.new) self.new }
+        ensures held { AreHeld (B.value store.new) self.new }
         ensures pool { SamePool (B.value store.old) (B.value store.new) }
-        ensures left { spare (state_in B.view.modules (B.value store.old) self.old) ≤ spare (state_in B.view.modules (B.value store.new) self.new) }
+        ensures left { spare (state_in (B.value store.old) self.old) ≤ spare (state_in (B.value store.new) self.new) }
     {
         let message = write(store, chunk);
         let below = Spot {
@@ -81,7 +80,7 @@ impl<S: Drop> Streams<S> {
 
     // Sends so many chunks of the bytes, of at most 256 each, while band 0 of the first queue below the head isn't full, and says how
     // many bytes have gone. Each takes one block of each kind.
-    fn send_chunks<B: Stacks<Stack = S>>(
+    fn send_chunks<B: Blocks>(
         &mut self,
         store: &mut B,
         side: Side,
@@ -89,20 +88,20 @@ impl<S: Drop> Streams<S> {
         chunks: usize,
         told: &mut Fates,
     ) -> usize
-        requires held { AreHeld B.view (B.value store.old) self.old }
-        requires idle { AreIdle (state_in B.view.modules (B.value store.old) self.old) }
+        requires held { AreHeld (B.value store.old) self.old }
+        requires idle { AreIdle (state_in (B.value store.old) self.old) }
         requires room_m { chunks ≤ free_m (B.value store.old) }
         requires room_d { chunks ≤ free_d (B.value store.old) }
         ensures taken { result
-            ≡ (chunks_sent plain side (chunks_of chunks bytes.now) (state_in B.view.modules (B.value store.old) self.old)).taken }
-        ensures state { state_in B.view.modules (B.value store.new) self.new
-            ≡ (chunks_sent plain side (chunks_of chunks bytes.now) (state_in B.view.modules (B.value store.old) self.old)).state }
+            ≡ (chunks_sent plain side (chunks_of chunks bytes.now) (state_in (B.value store.old) self.old)).taken }
+        ensures state { state_in (B.value store.new) self.new
+            ≡ (chunks_sent plain side (chunks_of chunks bytes.now) (state_in (B.value store.old) self.old)).state }
         ensures told { told.new
-            ≡ tallied (chunks_sent plain side (chunks_of chunks bytes.now) (state_in B.view.modules (B.value store.old) self.old)).gone told.old }
+            ≡ tallied (chunks_sent plain side (chunks_of chunks bytes.now) (state_in (B.value store.old) self.old)).gone told.old }
         ensures fits { result ≤ length bytes.now }
-        ensures held { AreHeld B.view (B.value store.new) self.new }
+        ensures held { AreHeld (B.value store.new) self.new }
         ensures pool { SamePool (B.value store.old) (B.value store.new) }
-        ensures left { spare (state_in B.view.modules (B.value store.old) self.old) ≤ spare (state_in B.view.modules (B.value store.new) self.new) }
+        ensures left { spare (state_in (B.value store.old) self.old) ≤ spare (state_in (B.value store.new) self.new) }
     {
         if chunks == 0 {
             return 0;
@@ -119,30 +118,30 @@ impl<S: Drop> Streams<S> {
     /// Writes bytes down a side's stream, and answers how many were taken: they go down from the head in chunks of at most 256,
     /// each an ordinary message, while band 0 of the first queue below has room.
     #[inline(always)]
-    pub fn write<B: Stacks<Stack = S>>(
+    pub fn write<B: Blocks>(
         &mut self,
         store: &mut B,
         side: Side,
         bytes: &[u8],
         told: &mut Fates,
     ) -> usize
-        requires held { AreHeld B.view (B.value store.old) self.old }
-        requires in_range { in_range (state_in B.view.modules (B.value store.old) self.old) ≡ true }
-        requires idle { AreIdle (state_in B.view.modules (B.value store.old) self.old) }
+        requires held { AreHeld (B.value store.old) self.old }
+        requires in_range { in_range (state_in (B.value store.old) self.old) ≡ true }
+        requires idle { AreIdle (state_in (B.value store.old) self.old) }
         requires room_m { chunk_count (length bytes.now) ≤ free_m (B.value store.old) }
         requires room_d { chunk_count (length bytes.now) ≤ free_d (B.value store.old) }
-        ensures answer { Count result ≡ (wrote plain side bytes.now (state_in B.view.modules (B.value store.old) self.old)).answer }
-        ensures state { state_in B.view.modules (B.value store.new) self.new
-            ≡ (wrote plain side bytes.now (state_in B.view.modules (B.value store.old) self.old)).state }
-        ensures told { told.new ≡ tallied (write_sent plain side bytes.now (state_in B.view.modules (B.value store.old) self.old)).gone told.old }
-        ensures held { AreHeld B.view (B.value store.new) self.new }
+        ensures answer { Count result ≡ (wrote plain side bytes.now (state_in (B.value store.old) self.old)).answer }
+        ensures state { state_in (B.value store.new) self.new
+            ≡ (wrote plain side bytes.now (state_in (B.value store.old) self.old)).state }
+        ensures told { told.new ≡ tallied (write_sent plain side bytes.now (state_in (B.value store.old) self.old)).gone told.old }
+        ensures held { AreHeld (B.value store.new) self.new }
         ensures pool { SamePool (B.value store.old) (B.value store.new) }
-        ensures left { spare (state_in B.view.modules (B.value store.old) self.old) ≤ spare (state_in B.view.modules (B.value store.new) self.new) }
+        ensures left { spare (state_in (B.value store.old) self.old) ≤ spare (state_in (B.value store.new) self.new) }
     {
         let chunks = chunk_count(bytes.len());
         let taken = self.send_chunks(store, side, bytes, chunks, told);
         let book = with_written(self.book_of(side), taken);
-        self.keep_book::<B>(side, book);
+        self.keep_book(side, book);
         taken
     }
 }

@@ -28,24 +28,24 @@ across-is side across asked q =
 pub append-none : {X : Type 0} (a b : List X) → a ++ (b ++ []) ≡ a ++ b
 append-none a b = ap (λ xs. a ++ xs) (append-nil b)
 
-module _ {M : Type 0} (name : M → ℕ) (s t u : StoreValue) (q q' : Queue) (i : ℕ) (side : Side) (across : Across) (asked read : FlushAsked) (f f' : Fates) (notes : List Note) (a : List (Sent M)) (acts : Acts M)
-    (ready : IsReady s q) (free : Swaps name s t i 0 [] []) (same : asked ≡ read) (noted : acts.notes.items ≡ notes) where
+module _ (s t u : StoreValue) (q q' : Queue) (i : ℕ) (side : Side) (across : Across) (asked read : FlushAsked) (f f' : Fates) (notes : List Note) (a : List Sent) (acts : Acts)
+    (ready : IsReady s q) (free : Swaps s t i 0 [] []) (same : asked ≡ read) (noted : acts.notes.items ≡ notes) where
   -- a flush that comes down: the own queue, the readers across, the driver across
-  pub down-does : (v w : StoreValue) (b : List (Sent M)) (to : Spot) → Alters t u q q' notes f f' (cond asked.for_write (own_flushed side asked (queue_in t q)) (freed (queue_in t q)))
-      → Makes name u v 1 a (reader_flush (asked.for_write && across.is_open) asked (bottom_across side across)) → Makes name v w 1 b (reader_flush asked.for_read asked to) → to ≡ driver_across side across
-      → sent_of acts.sent ≡ a ++ b → Does name s w q q' i 2 acts f f' (flush_down side across read (queue_in s q))
+  pub down-does : (v w : StoreValue) (b : List Sent) (to : Spot) → Alters t u q q' notes f f' (cond asked.for_write (own_flushed side asked (queue_in t q)) (freed (queue_in t q)))
+      → Makes u v 1 a (reader_flush (asked.for_write && across.is_open) asked (bottom_across side across)) → Makes v w 1 b (reader_flush asked.for_read asked to) → to ≡ driver_across side across
+      → sent_of acts.sent ≡ a ++ b → Does s w q q' i 2 acts f f' (flush_down side across read (queue_in s q))
   down-does v w b to alters first second place sent =
-      let there = subst (λ x. Makes name v w 1 b (reader_flush asked.for_read asked x)) place second in
-      let both = makes-both name u v w 1 1 a b (reader_flush (asked.for_write && across.is_open) asked (bottom_across side across)) (reader_flush asked.for_read asked (driver_across side across)) first there in
-      subst (λ x. Does name s w q q' i 2 acts f f' (flush_down side across x (queue_in s q))) same
-      (flush-does name s t u w q q' i 2 [] (a ++ b) (reader_flush (asked.for_write && across.is_open) asked (bottom_across side across) ++ reader_flush asked.for_read asked (driver_across side across)) notes f f'
+      let there = subst (λ x. Makes v w 1 b (reader_flush asked.for_read asked x)) place second in
+      let both = makes-both u v w 1 1 a b (reader_flush (asked.for_write && across.is_open) asked (bottom_across side across)) (reader_flush asked.for_read asked (driver_across side across)) first there in
+      subst (λ x. Does s w q q' i 2 acts f f' (flush_down side across x (queue_in s q))) same
+      (flush-does s t u w q q' i 2 [] (a ++ b) (reader_flush (asked.for_write && across.is_open) asked (bottom_across side across) ++ reader_flush asked.for_read asked (driver_across side across)) notes f f'
       (λ p. cond asked.for_write (own_flushed side asked p) (freed p)) acts ready free refl alters both noted sent)
 
   -- one that comes across: the own queue, and the readers across
   pub across-does : (v : StoreValue) → Alters t u q q' notes f f' (cond asked.for_read (own_flushed side asked (queue_in t q)) (freed (queue_in t q)))
-      → Makes name u v 1 a (reader_flush (asked.for_read && across.is_open) asked (bottom_across side across)) → sent_of acts.sent ≡ a → Does name s v q q' i 1 acts f f' (flush_across side across read (queue_in s q))
+      → Makes u v 1 a (reader_flush (asked.for_read && across.is_open) asked (bottom_across side across)) → sent_of acts.sent ≡ a → Does s v q q' i 1 acts f f' (flush_across side across read (queue_in s q))
   across-does v alters first sent =
-      subst (λ x. Does name s v q q' i 1 acts f f' (flush_across side across x (queue_in s q))) same
-      (subst (λ x. Does name s v q q' i 1 acts f f' x) (sym (across-is side across asked (queue_in s q)))
-      (flush-does name s t u v q q' i 1 [] a (reader_flush (asked.for_read && across.is_open) asked (bottom_across side across)) notes f f'
+      subst (λ x. Does s v q q' i 1 acts f f' (flush_across side across x (queue_in s q))) same
+      (subst (λ x. Does s v q q' i 1 acts f f' x) (sym (across-is side across asked (queue_in s q)))
+      (flush-does s t u v q q' i 1 [] a (reader_flush (asked.for_read && across.is_open) asked (bottom_across side across)) notes f f'
       (λ p. cond asked.for_read (own_flushed side asked p) (freed p)) acts ready free refl alters first noted sent))

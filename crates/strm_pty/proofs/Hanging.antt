@@ -9,7 +9,7 @@ use Rattle.strm_types.specs.Flush.{is_data_kind}
 use Rattle.strm_types.specs.Kinds.{is_control_kind}
 use Rattle.strm_types.specs.Message.{Message}
 use Rattle.strm_types.specs.Typing.{bare}
-use Rattle.strm_blocks.specs.Blocks.{Block, StoreValue, IsStore, IsInHand, block_at, changed, copy_of, dropped, filled_block, in_hand, times_in}
+use Rattle.strm_blocks.specs.Blocks.{Block, StoreValue, IsStore, IsInHand, block_at, changed, copy_of, dropped, filled_block, in_hand, times_in, token}
 use Rattle.strm_blocks.specs.Outcomes.{Copied}
 use Rattle.strm_msg.specs.Bytes.{bytes_of}
 use Rattle.strm_msg.specs.Messages.{message_of, IsChain}
@@ -84,9 +84,9 @@ once-two a b j ne = elim (cases_eq a j) [
 ]
 
 -- two of one payload, one after the other
-module _ {M : Type 0} (name : M → ℕ) (t u w : StoreValue) (r c : ℕ) (shared : AreShared t r c) (st : IsStore u) (x y : Sent M) (p q : Parcel ℕ) (first : Swaps name t u r 1 (x ∷ []) (p ∷ [])) (second : Swaps name u w c 1 (y ∷ []) (q ∷ [])) where
+module _ (t u w : StoreValue) (r c : ℕ) (shared : AreShared t r c) (st : IsStore u) (x y : Sent) (p q : Parcel ℕ) (first : Swaps t u r 1 (x ∷ []) (p ∷ [])) (second : Swaps u w c 1 (y ∷ []) (q ∷ [])) where
   -- what was made first isn't the second one
-  other : (j : ℕ) → 0 < times_sent name j (x ∷ []) → (once c j ≡ 0) × (0 < times_in j u.hand)
+  other : (j : ℕ) → 0 < times_sent j (x ∷ []) → (once c j ≡ 0) × (0 < times_in j u.hand)
   other j some =
       let came = first.hands.counts j in
       let one = st.apart j in
@@ -95,30 +95,30 @@ module _ {M : Type 0} (name : M → ℕ) (t u w : StoreValue) (r c : ℕ) (share
       let both = once-two r c j shared.apart in
       (omega (arith, came, one, here, there, both, some), omega (arith, came, here, some))
 
-  stays : (j : ℕ) → 0 < times_sent name j (x ∷ []) → in_hand w j ≡ in_hand u j
+  stays : (j : ℕ) → 0 < times_sent j (x ∷ []) → in_hand w j ≡ in_hand u j
   stays j some = (let o = other j some in second.hands.others j o.0 o.1)
 
-  pub sends-both : SendsBoth name t w r c (x ∷ y ∷ []) (p ∷ q ∷ [])
+  pub sends-both : SendsBoth t w r c (x ∷ y ∷ []) (p ∷ q ∷ [])
   sends-both =
       record {
         lists = second.lists ∙ first.lists;
-        hands = shifts-as t w (λ j. once r j + once c j) (λ j. times_sent name j (x ∷ []) + times_sent name j (y ∷ [])) (λ j. once r j + once c j) (λ j. times_sent name j (x ∷ y ∷ [])) 2 2
-            (shifts-both t u w (once r) (λ j. times_sent name j (x ∷ [])) (once c) (λ j. times_sent name j (y ∷ [])) 1 1 first.hands second.hands) (λ j. refl) (λ j. sym (times-append name j (x ∷ []) (y ∷ []))) (omega arith);
-        sent = parcels-append name w (x ∷ []) (y ∷ []) ∙ ap (λ xs. xs ++ parcels_in name w (y ∷ [])) (parcels-same name u w (x ∷ []) stays ∙ first.sent) ∙ ap (λ xs. (p ∷ []) ++ xs) second.sent;
-        chains = chains-append name w (x ∷ []) (y ∷ []) (chains-same name u w (x ∷ []) stays first.chains) second.chains;
+        hands = shifts-as t w (λ j. once r j + once c j) (λ j. times_sent j (x ∷ []) + times_sent j (y ∷ [])) (λ j. once r j + once c j) (λ j. times_sent j (x ∷ y ∷ [])) 2 2
+            (shifts-both t u w (once r) (λ j. times_sent j (x ∷ [])) (once c) (λ j. times_sent j (y ∷ [])) 1 1 first.hands second.hands) (λ j. refl) (λ j. sym (times-append j (x ∷ []) (y ∷ []))) (omega arith);
+        sent = parcels-append w (x ∷ []) (y ∷ []) ∙ ap (λ xs. xs ++ parcels_in w (y ∷ [])) (parcels-same u w (x ∷ []) stays ∙ first.sent) ∙ ap (λ xs. (p ∷ []) ++ xs) second.sent;
+        chains = chains-append w (x ∷ []) (y ∷ []) (chains-same u w (x ∷ []) stays first.chains) second.chains;
       }
 
   -- behind both stands the payload
-  pub both-carry : drop 1 (in_hand u (name x.message)) ≡ in_hand t r → drop 1 (in_hand w (name y.message)) ≡ in_hand u c → BothCarry name w (in_hand t r) (x ∷ y ∷ [])
+  pub both-carry : drop 1 (in_hand u (token x.message)) ≡ in_hand t r → drop 1 (in_hand w (token y.message)) ≡ in_hand u c → BothCarry w (in_hand t r) (x ∷ y ∷ [])
   unfolding times_sent
   both-carry one two =
-      let o = once-self (name x.message) in
+      let o = once-self (token x.message) in
       let there : 0 < times_in c t.hand = (let is = shared.second_in in omega (arith, is)) in
-      (ap (drop 1) (stays (name x.message) (omega (arith, o))) ∙ one, two ∙ first.hands.others c (once-none r c shared.apart) there ∙ shared.second_is ∙ sym shared.first_is)
+      (ap (drop 1) (stays (token x.message) (omega (arith, o))) ∙ one, two ∙ first.hands.others c (once-none r c shared.apart) there ∙ shared.second_is ∙ sym shared.first_is)
 
 -- an M_IOCTL that was parted has gone, and both others were made
-pub parted-sends : {M : Type 0} (name : M → ℕ) (s t w : StoreValue) (i r c : ℕ) (made : List (Sent M)) (ps qs : List (Parcel ℕ)) → Parts s t i r c → IsStore t → SendsBoth name t w r c made ps → ps ≡ qs → Swaps name s w i 2 made qs
-parted-sends name s t w i r c made ps qs parts st sends is = record {
+pub parted-sends : (s t w : StoreValue) (i r c : ℕ) (made : List Sent) (ps qs : List (Parcel ℕ)) → Parts s t i r c → IsStore t → SendsBoth t w r c made ps → ps ≡ qs → Swaps s w i 2 made qs
+parted-sends s t w i r c made ps qs parts st sends is = record {
   lists = sends.lists ∙ parts.lists;
   hands = record {
     counts = λ j. let a = parts.hands.counts j in let b = sends.hands.counts j in omega (arith, a, b);

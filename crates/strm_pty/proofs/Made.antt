@@ -14,7 +14,7 @@ use Rattle.strm_types.specs.Flush.{is_data_kind}
 use Rattle.strm_types.specs.Flushing.{read_flush}
 use Rattle.strm_types.specs.Ioctls.{ioc_bytes, refused, nak_message}
 use Rattle.strm_types.specs.Write.{chunk_count}
-use Rattle.strm_blocks.specs.Blocks.{StoreValue, in_hand, held, free_m, free_d}
+use Rattle.strm_blocks.specs.Blocks.{StoreValue, in_hand, held, free_m, free_d, token}
 use Rattle.strm_blocks.proofs.Laws.{in_hand-held}
 use Rattle.strm_msg.specs.Made.{MadeOf, TooFew, copies_of, pieces}
 use Rattle.strm_msg.proofs.MadePlain.{made-plain}
@@ -46,14 +46,14 @@ made-one s t i kind bytes none few m =
       shows = plain.is;
     }
 
-module _ {M : Type 0} (name : M → ℕ) (goes : Bool) (asked : FlushAsked) (to : Spot) where
-  pub no-flush : (s : StoreValue) (made : List (Sent M)) → made ≡ [] → goes ≡ false → Makes name s s 1 made (reader_flush goes asked to)
-  no-flush s made none is = rw is (makes-none name s 1 made none)
+module _ (goes : Bool) (asked : FlushAsked) (to : Spot) where
+  pub no-flush : (s : StoreValue) (made : List Sent) → made ≡ [] → goes ≡ false → Makes s s 1 made (reader_flush goes asked to)
+  no-flush s made none is = rw is (makes-none s 1 made none)
 
-  pub one-flush : (s t : StoreValue) (x : Sent M) (bytes : List ℕ) (made : List (Sent M)) → MadeOne s t (name x.message) Flush bytes → made ≡ x ∷ [] → x.to ≡ to → bytes ≡ read_flush asked.band → goes ≡ true
-      → Makes name s t 1 made (reader_flush goes asked to)
+  pub one-flush : (s t : StoreValue) (x : Sent) (bytes : List ℕ) (made : List Sent) → MadeOne s t (token x.message) Flush bytes → made ≡ x ∷ [] → x.to ≡ to → bytes ≡ read_flush asked.band → goes ≡ true
+      → Makes s t 1 made (reader_flush goes asked to)
   one-flush s t x bytes made m one place is so =
-      rw so (makes-one name s t x Flush bytes made _ m one (parcel-same x.to to bytes (read_flush asked.band) place is))
+      rw so (makes-one s t x Flush bytes made _ m one (parcel-same x.to to bytes (read_flush asked.band) place is))
     where
       parcel-same : (a b : Spot) (xs ys : List ℕ) → a ≡ b → xs ≡ ys →
           ◌≡◌ {A = Parcel ℕ} (record { to = a; message = record { kind = Flush; band = 0; control = None; body = None; plain = xs } }) (record { to = b; message = record { kind = Flush; band = 0; control = None; body = None; plain = ys } })
@@ -79,12 +79,12 @@ and-true goes = elim goes as (λ v. (v && true) ≡ v) [ true ↦ refl | false �
 and-false : (goes : Bool) → (goes && false) ≡ false
 and-false goes = elim goes as (λ v. (v && false) ≡ false) [ true ↦ refl | false ↦ refl ]
 
-module _ {M : Type 0} (name : M → ℕ) (s t : StoreValue) (goes open_there : Bool) (asked : FlushAsked) (to there : Spot) (made : List (Sent M)) where
-  pub readers-open : Makes name s t 1 made (reader_flush goes asked to) → to ≡ there → open_there ≡ true → Makes name s t 1 made (reader_flush (goes && open_there) asked there)
+module _ (s t : StoreValue) (goes open_there : Bool) (asked : FlushAsked) (to there : Spot) (made : List Sent) where
+  pub readers-open : Makes s t 1 made (reader_flush goes asked to) → to ≡ there → open_there ≡ true → Makes s t 1 made (reader_flush (goes && open_there) asked there)
   readers-open makes place is = rw (is, and-true goes, sym place) makes
 
-  pub readers-closed : made ≡ [] → open_there ≡ false → Makes name s s 1 made (reader_flush (goes && open_there) asked there)
-  readers-closed none is = rw (is, and-false goes) (makes-none name s 1 made none)
+  pub readers-closed : made ≡ [] → open_there ≡ false → Makes s s 1 made (reader_flush (goes && open_there) asked there)
+  readers-closed none is = rw (is, and-false goes) (makes-none s 1 made none)
 
 -- the answer to an M_IOCTL
 pub nak-parcel : (a : Spot) (xs : List ℕ) (here : Spot) (header ioc : Ioc) → a ≡ toward Up here → xs ≡ ioc_bytes header → header ≡ refused ioc →

@@ -15,18 +15,18 @@ use Rattle.strm_frame.specs.Hands.{Hands, Spends}
 use Rattle.strm_frame.specs.Outboxes.{message_in, parcels_in, sent_of, times_sent}
 use Rattle.strm_pty.specs.Packs.{Packs, pckt_in, puts}
 
-module _ {M : Type 0} (name : M → ℕ) (s t : StoreValue) (i : ℕ) (here : Spot) (acts : Acts M) (f f' : Fates) (some : 0 < here.at) (few : here.at ≤ MODULES)
-    (packs : Packs name s t i (pckt_takes here (message_in s i)) acts f f' (puts here (message_in s i) pckt_in)) where
+module _ (s t : StoreValue) (i : ℕ) (here : Spot) (acts : Acts) (f f' : Fates) (some : 0 < here.at) (few : here.at ≤ MODULES)
+    (packs : Packs s t i (pckt_takes here (message_in s i)) acts f f' (puts here (message_in s i) pckt_in)) where
   abbrev m : Message ℕ
   m = message_in s i
 
   pub packs-spends : Spends s t (pckt_takes here m) 0
   packs-spends = record { mblks = (let h = packs.swaps.hands.mblks in omega arith); dblks = (let h = packs.swaps.hands.dblks in omega arith) }
 
-  pub packs-fall : AreLower far (far here m) (parcels_in name t (sent_of acts.sent))
+  pub packs-fall : AreLower far (far here m) (parcels_in t (sent_of acts.sent))
   packs-fall = subst (AreLower far (far here m)) (sym packs.swaps.sent) (puts-lower plain 0 here m some few)
 
-  pub packs-hands : Hands s t i (λ _. 0) (λ _. 0) (λ j. times_sent name j (sent_of acts.sent))
+  pub packs-hands : Hands s t i (λ _. 0) (λ _. 0) (λ j. times_sent j (sent_of acts.sent))
   packs-hands = record {
     counts = λ j. let c = packs.swaps.hands.counts j in omega arith;
     others = λ j gone kept there. packs.swaps.hands.others j gone there;

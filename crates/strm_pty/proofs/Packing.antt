@@ -18,7 +18,7 @@ use Rattle.strm_types.specs.Message.{Message}
 use Rattle.strm_types.specs.Pckts.{Pckt, flush_passed, is_flush_passed, is_packed, is_stop_or_start, pckt_packs, writers_flush}
 use Rattle.strm_types.specs.Rules.{made_more}
 use Rattle.strm_types.proofs.MadeCells.{made-long}
-use Rattle.strm_blocks.specs.Blocks.{Block, StoreValue, IsStore, IsInHand, block_at, in_hand, dropped, changed, times_in, copy_of, filled_block, names_of, references, total, used}
+use Rattle.strm_blocks.specs.Blocks.{Block, StoreValue, IsStore, IsInHand, block_at, in_hand, dropped, changed, times_in, copy_of, filled_block, names_of, references, total, used, token}
 use Rattle.strm_blocks.specs.Outcomes.{Copied}
 use Rattle.strm_blocks.proofs.Laws.{IsInHand-dropped, in_hand-changed, in_hand-changed_other, in_hand-dropped, total-changed, total-dropped, used-is, free_m-is, free_d-same, references-is}
 use Rattle.strm_msg.specs.Messages.{message_of, IsChain}
@@ -191,27 +191,26 @@ module _ (s t : StoreValue) (i f : ℕ) (is : IsInHand s i) (one : IsChain (in_h
       })
 
 -- it is sent on
-module _ {M : Type 0} (name : M → ℕ) where
-  pub becomes-swaps : (s t : StoreValue) (i : ℕ) (x : Sent M) (p : Parcel ℕ) → Becomes s t i (name x.message) p.message → x.to ≡ p.to → Swaps name s t i 1 (x ∷ []) (p ∷ [])
-  becomes-swaps s t i x p became place = record {
-    lists = became.lists;
-    hands = shifts-as s t (once i) (once (name x.message)) (once i) (λ j. times_sent name j (x ∷ [])) 1 1 became.hands (λ j. refl) (λ j. let o = times-one name j x (x ∷ []) refl in omega arith) (omega arith);
-    sent = one-parts name t x (x ∷ []) refl ∙ ap (λ (m : Message ℕ). record { to = x.to; message = m } ∷ []) became.shows ∙ ap (λ (to : Spot). record { to = to; message = p.message } ∷ []) place;
-    chains = one-chains name t x (x ∷ []) refl became.chain;
-  }
+pub becomes-swaps : (s t : StoreValue) (i : ℕ) (x : Sent) (p : Parcel ℕ) → Becomes s t i (token x.message) p.message → x.to ≡ p.to → Swaps s t i 1 (x ∷ []) (p ∷ [])
+becomes-swaps s t i x p became place = record {
+  lists = became.lists;
+  hands = shifts-as s t (once i) (once (token x.message)) (once i) (λ j. times_sent j (x ∷ [])) 1 1 became.hands (λ j. refl) (λ j. let o = times-one j x (x ∷ []) refl in omega arith) (omega arith);
+  sent = one-parts t x (x ∷ []) refl ∙ ap (λ (m : Message ℕ). record { to = x.to; message = m } ∷ []) became.shows ∙ ap (λ (to : Spot). record { to = to; message = p.message } ∷ []) place;
+  chains = one-chains t x (x ∷ []) refl became.chain;
+}
 
-  -- and so is a message that passes
-  pub passes-swaps : (s : StoreValue) (x : Sent M) (sent : List (Sent M)) (here : Spot) → sent ≡ x ∷ [] → x.to ≡ toward here.way here → IsChain (in_hand s (name x.message))
-      → Swaps name s s (name x.message) 0 sent (onward here.way here (message_in s (name x.message)) ∷ [])
-  passes-swaps s x sent here is place chain = record {
-    lists = refl;
-    hands = record { counts = λ j. let o = times-one name j x sent is in omega arith; others = λ j none some. refl; mblks = omega arith; dblks = omega arith; pool = record { mblks = refl; dblks = refl } };
-    sent = one-parts name s x sent is ∙ ap (λ (to : Spot). record { to = to; message = message_in s (name x.message) } ∷ []) place;
-    chains = one-chains name s x sent is chain;
-  }
+-- and so is a message that passes
+pub passes-swaps : (s : StoreValue) (x : Sent) (sent : List Sent) (here : Spot) → sent ≡ x ∷ [] → x.to ≡ toward here.way here → IsChain (in_hand s (token x.message))
+    → Swaps s s (token x.message) 0 sent (onward here.way here (message_in s (token x.message)) ∷ [])
+passes-swaps s x sent here is place chain = record {
+  lists = refl;
+  hands = record { counts = λ j. let o = times-one j x sent is in omega arith; others = λ j none some. refl; mblks = omega arith; dblks = omega arith; pool = record { mblks = refl; dblks = refl } };
+  sent = one-parts s x sent is ∙ ap (λ (to : Spot). record { to = to; message = message_in s (token x.message) } ∷ []) place;
+  chains = one-chains s x sent is chain;
+}
 
-  swaps-as : (s t : StoreValue) (i n k : ℕ) (a b : List (Sent M)) (ps qs : List (Parcel ℕ)) → Swaps name s t i n a ps → b ≡ a → ps ≡ qs → n ≡ k → Swaps name s t i k b qs
-  swaps-as s t i n k a b ps qs swaps same is takes = subst (λ m. Swaps name s t i m b qs) takes (subst (λ xs. Swaps name s t i n b xs) is (subst (λ xs. Swaps name s t i n xs ps) (sym same) swaps))
+swaps-as : (s t : StoreValue) (i n k : ℕ) (a b : List Sent) (ps qs : List (Parcel ℕ)) → Swaps s t i n a ps → b ≡ a → ps ≡ qs → n ≡ k → Swaps s t i k b qs
+swaps-as s t i n k a b ps qs swaps same is takes = subst (λ m. Swaps s t i m b qs) takes (subst (λ xs. Swaps s t i n b xs) is (subst (λ xs. Swaps s t i n xs ps) (sym same) swaps))
 
 -- what is told of the bytes that are made
 pub told-made : (dir dir' : Dir) (n : ℕ) (bytes : List ℕ) (f f' : Fates) → f' ≡ made_more dir n f → dir ≡ dir' → n ≡ suc (length bytes) → f' ≡ made_more dir' (suc (length (cells_made plain dir' 1 bytes))) f
@@ -254,8 +253,8 @@ module _ (kind : MsgKind) (bytes : List ℕ) (packed : is_packed kind ≡ true) 
   takes-two goes = sym (ap (λ b. cond b (cond (is_flush_passed kind bytes) 2 1) 0) packed ∙ ap (λ b. cond {A = ℕ} b 2 1) goes)
 
 -- The packet is sent, alone or with what is passed of an M_FLUSH.
-module _ {M : Type 0} (name : M → ℕ) (s t : StoreValue) (i : ℕ) (here : Spot) (x : Sent M) (acts : Acts M) (f f' : Fates) (packed : is_packed (message_in s i).kind ≡ true)
-    (sends : Swaps name s t i 1 (x ∷ []) (onward Up here (packet_of here (message_in s i)) ∷ [])) (none : acts.notes.items ≡ []) where
+module _ (s t : StoreValue) (i : ℕ) (here : Spot) (x : Sent) (acts : Acts) (f f' : Fates) (packed : is_packed (message_in s i).kind ≡ true)
+    (sends : Swaps s t i 1 (x ∷ []) (onward Up here (packet_of here (message_in s i)) ∷ [])) (none : acts.notes.items ≡ []) where
   abbrev m : Message ℕ
   m = message_in s i
 
@@ -265,28 +264,27 @@ module _ {M : Type 0} (name : M → ℕ) (s t : StoreValue) (i : ℕ) (here : Sp
   abbrev sent_with : List (Parcel ℕ) → List (Parcel ℕ)
   sent_with passed = onward Up here (packet_of here m) ∷ passed
 
-  pub packs-one : is_flush_passed m.kind m.plain ≡ false → sent_of acts.sent ≡ x ∷ [] → f' ≡ tallied says.gone f → Packs name s t i (packet_blocks m.kind m.plain) acts f f' says
+  pub packs-one : is_flush_passed m.kind m.plain ≡ false → sent_of acts.sent ≡ x ∷ [] → f' ≡ tallied says.gone f → Packs s t i (packet_blocks m.kind m.plain) acts f f' says
   packs-one stays one told = record {
     notes = none;
     told = told;
-    swaps = swaps-as name s t i 1 (packet_blocks m.kind m.plain) (x ∷ []) (sent_of acts.sent) (sent_with []) (sent_with (flush_passed here m.kind m.plain)) sends one
+    swaps = swaps-as s t i 1 (packet_blocks m.kind m.plain) (x ∷ []) (sent_of acts.sent) (sent_with []) (sent_with (flush_passed here m.kind m.plain)) sends one
         (ap (λ b. sent_with (cond b (writers_flush here (asked_by m.plain) ∷ []) [])) (sym stays)) (takes-one m.kind m.plain packed stays);
   }
 
-  pub packs-two : (u : StoreValue) (y : Sent M) → IsInHand s i → Makes name t u 1 (y ∷ []) (writers_flush here (asked_by m.plain) ∷ []) → is_flush_passed m.kind m.plain ≡ true → sent_of acts.sent ≡ x ∷ y ∷ []
-      → f' ≡ tallied says.gone f → Packs name s u i (packet_blocks m.kind m.plain) acts f f' says
+  pub packs-two : (u : StoreValue) (y : Sent) → IsInHand s i → Makes t u 1 (y ∷ []) (writers_flush here (asked_by m.plain) ∷ []) → is_flush_passed m.kind m.plain ≡ true → sent_of acts.sent ≡ x ∷ y ∷ []
+      → f' ≡ tallied says.gone f → Packs s u i (packet_blocks m.kind m.plain) acts f f' says
   packs-two u y is makes goes two told = record {
     notes = none;
     told = told;
-    swaps = swaps-as name s u i (1 + 1) (packet_blocks m.kind m.plain) (x ∷ y ∷ []) (sent_of acts.sent) (sent_with (writers_flush here (asked_by m.plain) ∷ [])) (sent_with (flush_passed here m.kind m.plain))
-        (swaps-both name s t u i 1 1 (x ∷ []) (y ∷ []) (sent_with []) (writers_flush here (asked_by m.plain) ∷ []) is sends makes) two
+    swaps = swaps-as s u i (1 + 1) (packet_blocks m.kind m.plain) (x ∷ y ∷ []) (sent_of acts.sent) (sent_with (writers_flush here (asked_by m.plain) ∷ [])) (sent_with (flush_passed here m.kind m.plain))
+        (swaps-both s t u i 1 1 (x ∷ []) (y ∷ []) (sent_with []) (writers_flush here (asked_by m.plain) ∷ []) is sends makes) two
         (ap (λ b. sent_with (cond b (writers_flush here (asked_by m.plain) ∷ []) [])) (sym goes)) (takes-two m.kind m.plain packed goes);
   }
 
 -- the same in other words
-module _ {M : Type 0} (name : M → ℕ) where
-  pub packs-as : (s t : StoreValue) (i n k : ℕ) (acts : Acts M) (f f' : Fates) (is is' : Acted ℕ Pckt) → Packs name s t i n acts f f' is → n ≡ k → is ≡ is' → Packs name s t i k acts f f' is'
-  packs-as s t i n k acts f f' is is' packs takes same = subst (λ m. Packs name s t i m acts f f' is') takes (subst (λ does. Packs name s t i n acts f f' does) same packs)
+pub packs-as : (s t : StoreValue) (i n k : ℕ) (acts : Acts) (f f' : Fates) (is is' : Acted ℕ Pckt) → Packs s t i n acts f f' is → n ≡ k → is ≡ is' → Packs s t i k acts f f' is'
+packs-as s t i n k acts f f' is is' packs takes same = subst (λ m. Packs s t i m acts f f' is') takes (subst (λ does. Packs s t i n acts f f' does) same packs)
 
 -- what is not packed takes nothing
 pub takes-none : (kind : MsgKind) (bytes : List ℕ) → is_packed kind ≡ false → 0 ≡ packet_blocks kind bytes

@@ -31,7 +31,7 @@ down-is side across here m q is way = rw (is, way) refl
 across-is : (side : Side) (across : Across) (here : Spot) (m : Message ℕ) (q : plain.Queue ℕ) → has_parts m ≡ false → here.way ≡ Up → driver_put side across here m q ≡ put_across side across m.kind m q
 across-is side across here m q is way = rw (is, way) refl
 
-module _ {M : Type 0} (name : M → ℕ) (s t : StoreValue) (q q' : Queue) (i : ℕ) (acts : Acts M) (f f' : Fates) (across : Across) (here : Spot) (kind : MsgKind)
+module _ (s t : StoreValue) (q q' : Queue) (i : ℕ) (acts : Acts) (f f' : Fates) (across : Across) (here : Spot) (kind : MsgKind)
     (chain : IsChain (in_hand s i)) (kind_is : (block_at 0 (in_hand s i)).kind ≡ kind) where
   parts : has_parts (message_in s i) ≡ is_data_kind kind
   parts = parts-same (in_hand s i) chain ∙ ap is_data_kind kind_is
@@ -39,27 +39,27 @@ module _ {M : Type 0} (name : M → ℕ) (s t : StoreValue) (q q' : Queue) (i : 
   same-kind : kind ≡ (message_in s i).kind
   same-kind = sym (kind-is (in_hand s i) ∙ kind_is)
 
-  pub put-data : is_data_kind kind ≡ true → Does name s t q q' i 0 acts f f' (taken_in here.side across (message_in s i) (queue_in s q))
-      → Does name s t q q' i (driver_cost here.way kind) acts f f' (driver_put here.side across here (message_in s i) (queue_in s q))
+  pub put-data : is_data_kind kind ≡ true → Does s t q q' i 0 acts f f' (taken_in here.side across (message_in s i) (queue_in s q))
+      → Does s t q q' i (driver_cost here.way kind) acts f f' (driver_put here.side across here (message_in s i) (queue_in s q))
   put-data is does =
-      does-more name s t q q' i 0 (driver_cost here.way kind) acts f f' _ (omega arith)
-      (subst (λ x. Does name s t q q' i 0 acts f f' x) (sym (data-is here.side across here (message_in s i) (queue_in s q) (parts ∙ is))) does)
+      does-more s t q q' i 0 (driver_cost here.way kind) acts f f' _ (omega arith)
+      (subst (λ x. Does s t q q' i 0 acts f f' x) (sym (data-is here.side across here (message_in s i) (queue_in s q) (parts ∙ is))) does)
 
-  pub put-down : is_data_kind kind ≡ false → here.way ≡ Down → Does name s t q q' i (driver_cost Down kind) acts f f' (put_down here.side across here kind (message_in s i) (queue_in s q))
-      → Does name s t q q' i (driver_cost here.way kind) acts f f' (driver_put here.side across here (message_in s i) (queue_in s q))
+  pub put-down : is_data_kind kind ≡ false → here.way ≡ Down → Does s t q q' i (driver_cost Down kind) acts f f' (put_down here.side across here kind (message_in s i) (queue_in s q))
+      → Does s t q q' i (driver_cost here.way kind) acts f f' (driver_put here.side across here (message_in s i) (queue_in s q))
   put-down is way does =
       let m = message_in s i in
       let p = queue_in s q in
-      subst (λ w. Does name s t q q' i (driver_cost w kind) acts f f' (driver_put here.side across here m p)) (sym way)
-      (subst (λ x. Does name s t q q' i (driver_cost Down kind) acts f f' x) (ap (λ k. put_down here.side across here k m p) same-kind ∙ sym (down-is here.side across here m p (parts ∙ is) way)) does)
+      subst (λ w. Does s t q q' i (driver_cost w kind) acts f f' (driver_put here.side across here m p)) (sym way)
+      (subst (λ x. Does s t q q' i (driver_cost Down kind) acts f f' x) (ap (λ k. put_down here.side across here k m p) same-kind ∙ sym (down-is here.side across here m p (parts ∙ is) way)) does)
 
-  pub put-across : is_data_kind kind ≡ false → here.way ≡ Up → Does name s t q q' i (driver_cost Up kind) acts f f' (put_across here.side across kind (message_in s i) (queue_in s q))
-      → Does name s t q q' i (driver_cost here.way kind) acts f f' (driver_put here.side across here (message_in s i) (queue_in s q))
+  pub put-across : is_data_kind kind ≡ false → here.way ≡ Up → Does s t q q' i (driver_cost Up kind) acts f f' (put_across here.side across kind (message_in s i) (queue_in s q))
+      → Does s t q q' i (driver_cost here.way kind) acts f f' (driver_put here.side across here (message_in s i) (queue_in s q))
   put-across is way does =
       let m = message_in s i in
       let p = queue_in s q in
-      subst (λ w. Does name s t q q' i (driver_cost w kind) acts f f' (driver_put here.side across here m p)) (sym way)
-      (subst (λ x. Does name s t q q' i (driver_cost Up kind) acts f f' x) (ap (λ k. put_across here.side across k m p) same-kind ∙ sym (across-is here.side across here m p (parts ∙ is) way)) does)
+      subst (λ w. Does s t q q' i (driver_cost w kind) acts f f' (driver_put here.side across here m p)) (sym way)
+      (subst (λ x. Does s t q q' i (driver_cost Up kind) acts f f' x) (ap (λ k. put_across here.side across k m p) same-kind ∙ sym (across-is here.side across here m p (parts ∙ is) way)) does)
 
 pub shifts-spends : (s t : StoreValue) (gone come : ℕ → ℕ) (n : ℕ) → Shifts s t gone come n → Spends s t n 0
 shifts-spends s t gone come n shifts = record { mblks = (let m = shifts.mblks in omega arith); dblks = (let d = shifts.dblks in omega arith) }

@@ -19,7 +19,7 @@ use Rattle.strm_types.specs.Costs.{cost, cost_of}
 use Rattle.strm_types.specs.Ptems.{acks, asked_above, asked_below, asked_by_header, asked_on_way, naks, ptem_passes, ptem_puts, ptem_sends, set_above, window_signal}
 use Rattle.strm_types.specs.Winsizes.{same_winsize}
 use Rattle.strm_types.proofs.CostsBounded.{next-cost}
-use Rattle.strm_blocks.specs.Blocks.{StoreValue, in_hand}
+use Rattle.strm_blocks.specs.Blocks.{StoreValue, in_hand, token}
 use Rattle.strm_msg.specs.Messages.{IsChain}
 use Rattle.strm_frame.specs.declared.modules.Acts.{Acts}
 use Rattle.strm_frame.specs.declared.parcels.Sent.{Sent}
@@ -60,49 +60,48 @@ module _ (here : Spot) (m : Message ℕ) (p : plain.Ptem) where
   pub puts-below : (ioc : Ioc) → is_asked m ≡ true → read_ioc m.plain ≡ Some ioc → here.way ≡ Up → ptem_puts here m p ≡ asked_below here ioc (payload m.plain) m p
   puts-below ioc is header way = ap by_asked is ∙ ap (λ o. asked_by_header here o m p) header ∙ ap (λ w. asked_on_way w here ioc (payload m.plain) m p) way
 
-module _ {M : Type 0} (name : M → ℕ) where
-  -- the same messages to the same spots
-  pub makes-as : (s t : StoreValue) (n : ℕ) (a b : List (Sent M)) (ps qs : List (Parcel ℕ)) → Makes name s t n a ps → b ≡ a → ps ≡ qs → Makes name s t n b qs
-  makes-as s t n a b ps qs makes made is = subst (λ xs. Makes name s t n b xs) is (subst (λ xs. Makes name s t n xs ps) (sym made) makes)
+-- the same messages to the same spots
+pub makes-as : (s t : StoreValue) (n : ℕ) (a b : List Sent) (ps qs : List (Parcel ℕ)) → Makes s t n a ps → b ≡ a → ps ≡ qs → Makes s t n b qs
+makes-as s t n a b ps qs makes made is = subst (λ xs. Makes s t n b xs) is (subst (λ xs. Makes s t n xs ps) (sym made) makes)
 
-  pub no-signal : (s : StoreValue) (here : Spot) (v w : Winsize) → same_winsize v w ≡ true → Makes name s s 1 [] (window_signal here v w)
-  no-signal s here v w is = rw is (makes-none name s 1 [] refl)
+pub no-signal : (s : StoreValue) (here : Spot) (v w : Winsize) → same_winsize v w ≡ true → Makes s s 1 [] (window_signal here v w)
+no-signal s here v w is = rw is (makes-none s 1 [] refl)
 
-  -- an M_IOCTL was freed, and what is sent was made
-  pub swaps-answers : (s t : StoreValue) (x : Ptem) (i n most : ℕ) (acts : Acts M) (ps : List (Parcel ℕ)) → acts.notes.items ≡ [] → Swaps name s t i n (sent_of acts.sent) ps
-      → n + cost_of cost ps ≤ most → Answers name s t x i most acts (ptem_sends ps (ptem_in x))
-  swaps-answers s t x i n most acts ps none swaps few = record {
-    state = refl;
-    notes = none;
-    sent = swaps.sent;
-    lists = swaps.lists;
-    chains = swaps.chains;
-    hands = record {
-      counts = λ j. let c = swaps.hands.counts j in omega arith;
-      others = λ j gone kept some. swaps.hands.others j gone some;
-    };
-    spends = record { mblks = (let c = swaps.hands.mblks in omega arith); dblks = (let c = swaps.hands.dblks in omega arith) };
-    pool = swaps.hands.pool;
-  }
+-- an M_IOCTL was freed, and what is sent was made
+pub swaps-answers : (s t : StoreValue) (x : Ptem) (i n most : ℕ) (acts : Acts) (ps : List (Parcel ℕ)) → acts.notes.items ≡ [] → Swaps s t i n (sent_of acts.sent) ps
+    → n + cost_of cost ps ≤ most → Answers s t x i most acts (ptem_sends ps (ptem_in x))
+swaps-answers s t x i n most acts ps none swaps few = record {
+  state = refl;
+  notes = none;
+  sent = swaps.sent;
+  lists = swaps.lists;
+  chains = swaps.chains;
+  hands = record {
+    counts = λ j. let c = swaps.hands.counts j in omega arith;
+    others = λ j gone kept some. swaps.hands.others j gone some;
+  };
+  spends = record { mblks = (let c = swaps.hands.mblks in omega arith); dblks = (let c = swaps.hands.dblks in omega arith) };
+  pool = swaps.hands.pool;
+}
 
-  -- a message goes on
-  pub passes-answers : (s : StoreValue) (x : Ptem) (sent : Sent M) (acts : Acts M) (here : Spot) → acts.notes.items ≡ [] → sent_of acts.sent ≡ sent ∷ [] → sent.to ≡ toward here.way here
-      → IsChain (in_hand s (name sent.message)) → 0 < here.at → here.at ≤ MODULES
-      → Answers name s s x (name sent.message) (cost here (message_in s (name sent.message))) acts (ptem_passes here (message_in s (name sent.message)) (ptem_in x))
-  unfolding cost_of
-  passes-answers s x sent acts here none one place chain some few =
-      let m = message_in s (name sent.message) in
-      let low = next-cost m here some few in
-      record {
-        state = refl;
-        notes = none;
-        sent = one-parts name s sent (sent_of acts.sent) one ∙ ap (λ (to : Spot). record { to = to; message = m } ∷ []) place;
-        lists = refl;
-        chains = one-chains name s sent (sent_of acts.sent) one chain;
-        hands = one-hands name s sent (λ _. 0) (sent_of acts.sent) one;
-        spends = record { mblks = omega arith; dblks = omega arith };
-        pool = record { mblks = refl; dblks = refl };
-      }
+-- a message goes on
+pub passes-answers : (s : StoreValue) (x : Ptem) (sent : Sent) (acts : Acts) (here : Spot) → acts.notes.items ≡ [] → sent_of acts.sent ≡ sent ∷ [] → sent.to ≡ toward here.way here
+    → IsChain (in_hand s (token sent.message)) → 0 < here.at → here.at ≤ MODULES
+    → Answers s s x (token sent.message) (cost here (message_in s (token sent.message))) acts (ptem_passes here (message_in s (token sent.message)) (ptem_in x))
+unfolding cost_of
+passes-answers s x sent acts here none one place chain some few =
+    let m = message_in s (token sent.message) in
+    let low = next-cost m here some few in
+    record {
+      state = refl;
+      notes = none;
+      sent = one-parts s sent (sent_of acts.sent) one ∙ ap (λ (to : Spot). record { to = to; message = m } ∷ []) place;
+      lists = refl;
+      chains = one-chains s sent (sent_of acts.sent) one chain;
+      hands = one-hands s sent (λ _. 0) (sent_of acts.sent) one;
+      spends = record { mblks = omega arith; dblks = omega arith };
+      pool = record { mblks = refl; dblks = refl };
+    }
 
 -- an M_IOCTL that is put may be answered
 module _ (s : StoreValue) (i : ℕ) (here : Spot) (passes : MayPass s i here) (room : HasRoom s (cost here (message_in s i))) (asked : is_asked (message_in s i) ≡ true) where
@@ -131,32 +130,32 @@ module _ {A : Type 0} (read : List ℕ → Option A) (k : ℕ) (p bytes : List �
   read-whole v says = first ∙ all-said read k 36 p v less (ap (read_of read k) (sym first) ∙ sym is ∙ says)
 
 -- an M_IOCTL was freed, and its answer was made
-module _ {M : Type 0} (name : M → ℕ) (s t : StoreValue) (i : ℕ) (here : Spot) (ioc : Ioc) (acts : Acts M) (none : acts.notes.items ≡ []) where
-  pub ack-answers : (x : Ptem) (bytes given : List ℕ) → MayAnswer s i here Down → bytes ≡ given → Swaps name s t i 1 (sent_of acts.sent) (onward Up here (ack_message ioc bytes) ∷ [])
-      → Answers name s t x i (cost here (message_in s i)) acts (acks Up here ioc given (ptem_in x))
+module _ (s t : StoreValue) (i : ℕ) (here : Spot) (ioc : Ioc) (acts : Acts) (none : acts.notes.items ≡ []) where
+  pub ack-answers : (x : Ptem) (bytes given : List ℕ) → MayAnswer s i here Down → bytes ≡ given → Swaps s t i 1 (sent_of acts.sent) (onward Up here (ack_message ioc bytes) ∷ [])
+      → Answers s t x i (cost here (message_in s i)) acts (acks Up here ioc given (ptem_in x))
   ack-answers x bytes given may is swaps =
-      swaps-answers name s t x i 1 (cost here (message_in s i)) acts (onward Up here (ack_message ioc given) ∷ []) none
-      (subst (λ xs. Swaps name s t i 1 (sent_of acts.sent) (onward Up here (ack_message ioc xs) ∷ [])) is swaps)
+      swaps-answers s t x i 1 (cost here (message_in s i)) acts (onward Up here (ack_message ioc given) ∷ []) none
+      (subst (λ xs. Swaps s t i 1 (sent_of acts.sent) (onward Up here (ack_message ioc xs) ∷ [])) is swaps)
       (ack-cost here (message_in s i) may.asked may.passes.inside ioc given may.goes may.passes.small)
 
-  pub refuse-above : (x : Ptem) → MayAnswer s i here Down → Swaps name s t i 1 (sent_of acts.sent) (onward Up here (nak_message ioc) ∷ [])
-      → Answers name s t x i (cost here (message_in s i)) acts (naks Up here ioc (ptem_in x))
+  pub refuse-above : (x : Ptem) → MayAnswer s i here Down → Swaps s t i 1 (sent_of acts.sent) (onward Up here (nak_message ioc) ∷ [])
+      → Answers s t x i (cost here (message_in s i)) acts (naks Up here ioc (ptem_in x))
   refuse-above x may swaps =
-      swaps-answers name s t x i 1 (cost here (message_in s i)) acts (onward Up here (nak_message ioc) ∷ []) none swaps
+      swaps-answers s t x i 1 (cost here (message_in s i)) acts (onward Up here (nak_message ioc) ∷ []) none swaps
       (nak-above-cost here (message_in s i) may.asked may.passes.inside ioc may.goes)
 
-  pub refuse-below : (x : Ptem) → MayAnswer s i here Up → Swaps name s t i 1 (sent_of acts.sent) (onward Down here (nak_message ioc) ∷ [])
-      → Answers name s t x i (cost here (message_in s i)) acts (naks Down here ioc (ptem_in x))
+  pub refuse-below : (x : Ptem) → MayAnswer s i here Up → Swaps s t i 1 (sent_of acts.sent) (onward Down here (nak_message ioc) ∷ [])
+      → Answers s t x i (cost here (message_in s i)) acts (naks Down here ioc (ptem_in x))
   refuse-below x may swaps =
-      swaps-answers name s t x i 1 (cost here (message_in s i)) acts (onward Down here (nak_message ioc) ∷ []) none swaps
+      swaps-answers s t x i 1 (cost here (message_in s i)) acts (onward Down here (nak_message ioc) ∷ []) none swaps
       (nak-below-cost here (message_in s i) may.asked may.passes.inside ioc may.goes)
 
   -- what it set is told, too
   pub set-answers : (x x' : Ptem) (bytes given : List ℕ) → MayAnswer s i here Down → bytes ≡ given
-      → Swaps name s t i 3 (sent_of acts.sent) (onward Up here (ack_message ioc bytes) ∷ (onward Down here (telling_message ioc bytes) ∷ window_signal here x.window x'.window))
-      → Answers name s t x' i (cost here (message_in s i)) acts (set_above here ioc given (ptem_in x) (ptem_in x'))
+      → Swaps s t i 3 (sent_of acts.sent) (onward Up here (ack_message ioc bytes) ∷ (onward Down here (telling_message ioc bytes) ∷ window_signal here x.window x'.window))
+      → Answers s t x' i (cost here (message_in s i)) acts (set_above here ioc given (ptem_in x) (ptem_in x'))
   set-answers x x' bytes given may is swaps =
       let sends = λ (xs : List ℕ). onward Up here (ack_message ioc xs) ∷ (onward Down here (telling_message ioc xs) ∷ window_signal here x.window x'.window) in
-      swaps-answers name s t x' i 3 (cost here (message_in s i)) acts (sends given) none
-      (subst (λ xs. Swaps name s t i 3 (sent_of acts.sent) (sends xs)) is swaps)
+      swaps-answers s t x' i 3 (cost here (message_in s i)) acts (sends given) none
+      (subst (λ xs. Swaps s t i 3 (sent_of acts.sent) (sends xs)) is swaps)
       (set-cost here (message_in s i) may.asked may.passes.inside ioc given x.window x'.window may.goes may.passes.small)

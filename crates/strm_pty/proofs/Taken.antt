@@ -33,17 +33,17 @@ kept m q = record { state = plain.put_on m q; notes = cond (plain.put_enables m 
 pub open-is : (side : Side) (across : Across) (m : Message ℕ) (q : plain.Queue ℕ) → across.ended ≡ false → taken_in side across m q ≡ kept m q
 open-is side across m q is = ap (λ v. cond v (lost side m q) (kept m q)) is
 
-module _ {M : Type 0} (name : M → ℕ) (s t : StoreValue) (i : ℕ) (acts : Acts M) (f : Fates) (side : Side) (across : Across) where
+module _ (s t : StoreValue) (i : ℕ) (acts : Acts) (f : Fates) (side : Side) (across : Across) where
   pub keep-does : (q q' : Queue) (enables : Bool) → IsStore s → IsInHand s i → queue_in t q' ≡ plain.put_on (message_in s i) (queue_in s q) → enables ≡ plain.put_enables (message_in s i) (queue_in s q)
       → Changes (dropped s i) t q q' → FreesBlocks s t → acts.notes.items ≡ cond enables (Enable Down ∷ []) [] → sent_of acts.sent ≡ [] → across.ended ≡ false
-      → Does name s t q q' i 0 acts f f (taken_in side across (message_in s i) (queue_in s q))
+      → Does s t q q' i 0 acts f f (taken_in side across (message_in s i) (queue_in s q))
   keep-does q q' enables st is behind went changes frees noted none still =
       rw (open-is side across (message_in s i) (queue_in s q) still) (record {
         state = behind;
         notes = noted ∙ ap (λ v. cond {A = List Note} v (Enable Down ∷ []) []) went;
-        sent = no-parts name t (sent_of acts.sent) none;
+        sent = no-parts t (sent_of acts.sent) none;
         told = refl;
-        chains = none-chains name t (sent_of acts.sent) none;
+        chains = none-chains t (sent_of acts.sent) none;
         only = record { ready = changes.ready; list = changes.list; others = changes.others };
-        hands = shifts-as s t (once i) (λ _. 0) (once i) (λ j. times_sent name j (sent_of acts.sent)) 0 0 (shifts-joined s t i q q' st (can-of s i is) changes frees) (λ j. refl) (λ j. sym (times-none name j (sent_of acts.sent) none)) (omega arith);
+        hands = shifts-as s t (once i) (λ _. 0) (once i) (λ j. times_sent j (sent_of acts.sent)) 0 0 (shifts-joined s t i q q' st (can-of s i is) changes frees) (λ j. refl) (λ j. sym (times-none j (sent_of acts.sent) none)) (omega arith);
       })

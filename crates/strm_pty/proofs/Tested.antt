@@ -7,7 +7,7 @@ use Rattle.strm_types.specs.declared.names.Way.TheVariants.{Up, Down}
 use Rattle.strm_types.specs.Deliver.{Parcel}
 use Rattle.strm_types.specs.Flush.{is_data_kind}
 use Rattle.strm_types.specs.Kinds.{is_control_kind}
-use Rattle.strm_blocks.specs.Blocks.{StoreValue, IsInHand, IsStore, in_hand, free_m, free_d}
+use Rattle.strm_blocks.specs.Blocks.{StoreValue, IsInHand, IsStore, in_hand, free_m, free_d, token}
 use Rattle.strm_msg.specs.Made.{MadeOf}
 use Rattle.strm_msg.specs.Messages.{IsChain}
 use Rattle.strm_msg.proofs.MadeData.{made-data}
@@ -43,13 +43,13 @@ pub enough : (s : StoreValue) (m d : ℕ) (way : Way) (k : MsgKind) → m ≡ fr
 enough s m d way k ms ds le_m le_d = let few = cost-few way k in record { mblks = omega arith; dblks = omega arith }
 
 -- what is sent first is in hand
-pub first-there : {M : Type 0} (name : M → ℕ) (s t : StoreValue) (i k : ℕ) (x : Sent M) (sent more : List (Sent M)) (ps : List (Parcel ℕ)) → IsInHand s i → IsStore t → Swaps name s t i k sent ps → sent ≡ x ∷ more → IsInHand t (name x.message)
+pub first-there : (s t : StoreValue) (i k : ℕ) (x : Sent) (sent more : List Sent) (ps : List (Parcel ℕ)) → IsInHand s i → IsStore t → Swaps s t i k sent ps → sent ≡ x ∷ more → IsInHand t (token x.message)
 unfolding times_sent
-first-there name s t i k x sent more ps is st swaps first =
-    let n = name x.message in
+first-there s t i k x sent more ps is st swaps first =
+    let n = token x.message in
     let c = swaps.hands.counts n in
     let there = (can-of s i is).apart n in
-    let all = ap (times_sent name n) first in
+    let all = ap (times_sent n) first in
     let o = once-self n in
     let few = st.apart n in
     omega arith

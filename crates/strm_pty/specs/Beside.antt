@@ -23,19 +23,19 @@ ptem_in x = record { termios = x.termios; window = x.window }
 
 -- A put did what a definition says: `message` has gone, and what is sent on has come in hand. No list of the store changed. With what is sent on no more
 -- blocks of each kind are taken than `most`.
-pub record Answers {M : Type 0} (name : M → ℕ) (old new : StoreValue) (x' : Ptem) (message most : ℕ) (acts : Acts M) (is : Acted ℕ plain.Ptem) : Type 0 where
+pub record Answers (old new : StoreValue) (x' : Ptem) (message most : ℕ) (acts : Acts) (is : Acted ℕ plain.Ptem) : Type 0 where
   pub state : ptem_in x' ≡ is.state
   pub notes : acts.notes.items ≡ is.notes
-  pub sent : parcels_in name new (sent_of acts.sent) ≡ is.sent
+  pub sent : parcels_in new (sent_of acts.sent) ≡ is.sent
   pub lists : new.lists ≡ old.lists
-  pub chains : AreChains name new (sent_of acts.sent)
-  pub hands : Hands old new message (λ _. 0) (λ _. 0) (λ i. times_sent name i (sent_of acts.sent))
+  pub chains : AreChains new (sent_of acts.sent)
+  pub hands : Hands old new message (λ _. 0) (λ _. 0) (λ i. times_sent i (sent_of acts.sent))
   pub spends : Spends old new most (cost_of cost is.sent)
   pub pool : SamePool old new
 
 -- that, of a message that is put here, as a definition says of it and of what was set before
-abbrev pub Puts : {M : Type 0} → (M → ℕ) → StoreValue → StoreValue → Ptem → Ptem → ℕ → Spot → Acts M → (Message ℕ → plain.Ptem → Acted ℕ plain.Ptem) → Type 0
-Puts name old new x x' message here acts is = let m = message_in old message in Answers name old new x' message (cost here m) acts (is m (ptem_in x))
+abbrev pub Puts : StoreValue → StoreValue → Ptem → Ptem → ℕ → Spot → Acts → (Message ℕ → plain.Ptem → Acted ℕ plain.Ptem) → Type 0
+Puts old new x x' message here acts is = let m = message_in old message in Answers old new x' message (cost here m) acts (is m (ptem_in x))
 
 -- how many blocks of each kind the answers to an M_IOCTL take at most, by the way that it goes
 abbrev pub answer_blocks : Way → ℕ

@@ -33,14 +33,14 @@ pub record OnlyQueue (old new : StoreValue) (q q' : Queue) : Type 0 where
 
 -- A put did what a definition says: `message` has gone, and what is sent on has come in hand. No more blocks were taken than
 -- `takes`.
-pub record Does {M : Type 0} (name : M → ℕ) (old new : StoreValue) (q q' : Queue) (message takes : ℕ) (acts : Acts M) (t t' : Fates) (is : Acted ℕ (plain.Queue ℕ)) : Type 0 where
+pub record Does (old new : StoreValue) (q q' : Queue) (message takes : ℕ) (acts : Acts) (t t' : Fates) (is : Acted ℕ (plain.Queue ℕ)) : Type 0 where
   pub state : queue_in new q' ≡ is.state
   pub notes : acts.notes.items ≡ is.notes
-  pub sent : parcels_in name new (sent_of acts.sent) ≡ is.sent
+  pub sent : parcels_in new (sent_of acts.sent) ≡ is.sent
   pub told : t' ≡ tallied is.gone t
-  pub chains : AreChains name new (sent_of acts.sent)
+  pub chains : AreChains new (sent_of acts.sent)
   pub only : OnlyQueue old new q q'
-  pub hands : Shifts old new (once message) (λ i. times_sent name i (sent_of acts.sent)) takes
+  pub hands : Shifts old new (once message) (λ i. times_sent i (sent_of acts.sent)) takes
 
 -- Only the queue changed, as a definition says, and what has gone was told.
 pub record Alters (old new : StoreValue) (q q' : Queue) (notes : List Note) (t t' : Fates) (is : Acted ℕ (plain.Queue ℕ)) : Type 0 where
@@ -51,18 +51,18 @@ pub record Alters (old new : StoreValue) (q q' : Queue) (notes : List Note) (t t
   pub hands : Shifts old new (λ _. 0) (λ _. 0) 0
 
 -- Messages were made that go to these spots, and nothing else changed.
-pub record Makes {M : Type 0} (name : M → ℕ) (old new : StoreValue) (takes : ℕ) (made : List (Sent M)) (parcels : List (Parcel ℕ)) : Type 0 where
+pub record Makes (old new : StoreValue) (takes : ℕ) (made : List Sent) (parcels : List (Parcel ℕ)) : Type 0 where
   pub lists : new.lists ≡ old.lists
-  pub hands : Shifts old new (λ _. 0) (λ i. times_sent name i made) takes
-  pub sent : parcels_in name new made ≡ parcels
-  pub chains : AreChains name new made
+  pub hands : Shifts old new (λ _. 0) (λ i. times_sent i made) takes
+  pub sent : parcels_in new made ≡ parcels
+  pub chains : AreChains new made
 
 -- A message has gone, and others were made.
-pub record Swaps {M : Type 0} (name : M → ℕ) (old new : StoreValue) (message takes : ℕ) (made : List (Sent M)) (parcels : List (Parcel ℕ)) : Type 0 where
+pub record Swaps (old new : StoreValue) (message takes : ℕ) (made : List Sent) (parcels : List (Parcel ℕ)) : Type 0 where
   pub lists : new.lists ≡ old.lists
-  pub hands : Shifts old new (once message) (λ i. times_sent name i made) takes
-  pub sent : parcels_in name new made ≡ parcels
-  pub chains : AreChains name new made
+  pub hands : Shifts old new (once message) (λ i. times_sent i made) takes
+  pub sent : parcels_in new made ≡ parcels
+  pub chains : AreChains new made
 
 -- One message was made, of a kind without parts, in one block of each kind.
 pub record MadeOne (old new : StoreValue) (name : ℕ) (kind : MsgKind) (bytes : List ℕ) : Type 0 where

@@ -34,7 +34,7 @@ pub record Becomes (old new : StoreValue) (message packet : ℕ) (is : Message �
 
 -- A put did what a definition says: `message` has gone, and what is sent on has come in hand. No list of the store changed, and no more than so many
 -- blocks of each kind were taken.
-pub record Packs {M : Type 0} (name : M → ℕ) (old new : StoreValue) (message takes : ℕ) (acts : Acts M) (t t' : Fates) (is : Acted ℕ plain.Pckt) : Type 0 where
+pub record Packs (old new : StoreValue) (message takes : ℕ) (acts : Acts) (t t' : Fates) (is : Acted ℕ plain.Pckt) : Type 0 where
   pub notes : acts.notes.items ≡ is.notes
   pub told : t' ≡ tallied is.gone t
-  pub swaps : Swaps name old new message takes (sent_of acts.sent) is.sent
+  pub swaps : Swaps old new message takes (sent_of acts.sent) is.sent

@@ -1,7 +1,7 @@
 -- A payload that two messages show over one data block (dupb(9F)).
 use Rattle.std.specs.Prelude.{ℕ, ◌≡◌, ◌≢◌, ◌<◌, ◌+◌, List, [], ◌∷◌, length, drop}
 use Rattle.strm_types.specs.Deliver.{Parcel}
-use Rattle.strm_blocks.specs.Blocks.{Block, StoreValue, IsInHand, block_at, free_m, in_hand, references}
+use Rattle.strm_blocks.specs.Blocks.{Block, StoreValue, IsInHand, block_at, free_m, in_hand, references, token}
 use Rattle.strm_frame.specs.declared.parcels.Sent.{Sent}
 use Rattle.strm_frame.specs.Hands.{once, Shifts}
 use Rattle.strm_frame.specs.Outboxes.{times_sent, parcels_in, AreChains}
@@ -22,11 +22,11 @@ pub record Unparted (old new : StoreValue) (message same : ℕ) : Type 0 where
 
 -- Where two messages are sent, or more, the first two have these blocks behind their first one: the same message blocks by what they show and by the
 -- data blocks that they name, and no copies.
-abbrev pub BothCarry : {M : Type 0} → (M → ℕ) → StoreValue → List Block → List (Sent M) → Type 0
-BothCarry name s blocks [] = Unit {0}
-BothCarry name s blocks (only ∷ []) = Unit {0}
-BothCarry name s blocks (first ∷ second ∷ more) =
-    (drop 1 (in_hand s (name first.message)) ≡ blocks) × (drop 1 (in_hand s (name second.message)) ≡ blocks)
+abbrev pub BothCarry : StoreValue → List Block → List Sent → Type 0
+BothCarry s blocks [] = Unit {0}
+BothCarry s blocks (only ∷ []) = Unit {0}
+BothCarry s blocks (first ∷ second ∷ more) =
+    (drop 1 (in_hand s (token first.message)) ≡ blocks) × (drop 1 (in_hand s (token second.message)) ≡ blocks)
 
 -- two messages in hand of one block each, the same one
 pub record AreShared (s : StoreValue) (first second : ℕ) : Type 0 where
@@ -47,8 +47,8 @@ pub record Parts (old new : StoreValue) (message first second : ℕ) : Type 0 wh
   pub sixteen : length header.bytes ≡ 16
 
 -- Two messages in hand have gone, and others were made.
-pub record SendsBoth {M : Type 0} (name : M → ℕ) (old new : StoreValue) (first second : ℕ) (made : List (Sent M)) (parcels : List (Parcel ℕ)) : Type 0 where
+pub record SendsBoth (old new : StoreValue) (first second : ℕ) (made : List Sent) (parcels : List (Parcel ℕ)) : Type 0 where
   pub lists : new.lists ≡ old.lists
-  pub hands : Shifts old new (λ i. once first i + once second i) (λ i. times_sent name i made) 2
-  pub sent : parcels_in name new made ≡ parcels
-  pub chains : AreChains name new made
+  pub hands : Shifts old new (λ i. once first i + once second i) (λ i. times_sent i made) 2
+  pub sent : parcels_in new made ≡ parcels
+  pub chains : AreChains new made

@@ -7,7 +7,7 @@ ghost use Rattle.strm_types.specs.Drivers.{ioctl_put};
 ghost use Rattle.strm_types.specs.Flush.{is_data_kind};
 ghost use Rattle.strm_types.specs.Ioctls.{read_ioc, nak_message};
 ghost use Rattle.strm_types.specs.Names.{is_master};
-ghost use Rattle.strm_blocks.specs.Blocks.{IsInHand, in_hand, block_at};
+ghost use Rattle.strm_blocks.specs.Blocks.{IsInHand, in_hand, block_at, token};
 ghost use Rattle.strm_msg.specs.Messages.{IsChain};
 ghost use Rattle.strm_queue.specs.Stored.{queue_in, IsReady};
 ghost use Rattle.strm_frame.specs.Hands.{HasRoom};
@@ -17,20 +17,20 @@ ghost use Rattle.strm_pty.specs.Does.{Does, Swaps};
 use crate::making::make;
 use crate::taking::{let_go, take_in};
 use arrayvec::ArrayVec;
-use strm_blocks::Blocks;
+use strm_blocks::{Blocks, InHand};
 use strm_frame::ioctls::header_of;
 use strm_frame::{Acts, Outbox, Sent};
 use strm_queue::Queue;
 use strm_types::{Across, Fates, Ioc, MsgKind, Side, Spot, Way};
 
 // Frees an M_IOCTL, and answers it with M_IOCNAK, up the stream from which it came.
-fn answer<B: Blocks>(store: &mut B, here: Spot, ioc: Ioc, message: B::Mp) -> Acts<B::Mp>
-    requires in_hand { IsInHand (B.value store.old) (B.name message) }
+fn answer<B: Blocks>(store: &mut B, here: Spot, ioc: Ioc, message: InHand) -> Acts
+    requires in_hand { IsInHand (B.value store.old) (token message) }
     requires room { HasRoom (B.value store.old) 1 }
     requires inside { 0 < here.at }
     requires small { here.at < 2 ^ 63 }
     ensures notes { result.notes.items ≡ [] }
-    ensures swaps { Swaps B.name (B.value store.old) (B.value store.new) (B.name message) 1 (sent_of result.sent)
+    ensures swaps { Swaps (B.value store.old) (B.value store.new) (token message) 1 (sent_of result.sent)
         (record { to = toward Up here; message = nak_message ioc } ∷ []) }
 {
     store.audit();
@@ -63,18 +63,18 @@ pub(crate) fn put_ioctl<B: Blocks>(
     queue: &mut Queue,
     across: Across,
     here: Spot,
-    message: B::Mp,
+    message: InHand,
     told: &mut Fates,
-) -> Acts<B::Mp>
+) -> Acts
     requires ready { IsReady (B.value store.old) queue.old }
-    requires in_hand { IsInHand (B.value store.old) (B.name message) }
-    requires chain { IsChain (in_hand (B.value store.old) (B.name message)) }
-    requires kind { is_data_kind (block_at 0 (in_hand (B.value store.old) (B.name message))).kind ≡ false }
+    requires in_hand { IsInHand (B.value store.old) (token message) }
+    requires chain { IsChain (in_hand (B.value store.old) (token message)) }
+    requires kind { is_data_kind (block_at 0 (in_hand (B.value store.old) (token message))).kind ≡ false }
     requires room { HasRoom (B.value store.old) 1 }
     requires inside { 0 < here.at }
     requires small { here.at < 2 ^ 63 }
-    ensures { let s = B.value store.old in let m = message_in s (B.name message) in
-        Does B.name s (B.value store.new) queue.old queue.new (B.name message) 1 result told.old told.new
+    ensures { let s = B.value store.old in let m = message_in s (token message) in
+        Does s (B.value store.new) queue.old queue.new (token message) 1 result told.old told.new
         (ioctl_put here.side across here (read_ioc m.plain) m (queue_in s queue.old)) }
 {
     let Some(ioc) = header_of(store, &message) else {

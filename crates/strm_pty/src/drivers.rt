@@ -6,7 +6,7 @@ ghost use Rattle.strm_types.specs.declared.names.Way.TheVariants.{Up, Down};
 ghost use Rattle.strm_types.specs.Deliver.{tallied};
 ghost use Rattle.strm_types.specs.Drivers.{crosses, driver_put, put_down, put_across};
 ghost use Rattle.strm_types.specs.Flush.{is_data_kind};
-ghost use Rattle.strm_blocks.specs.Blocks.{IsInHand, in_hand, block_at};
+ghost use Rattle.strm_blocks.specs.Blocks.{IsInHand, in_hand, block_at, token};
 ghost use Rattle.strm_msg.specs.Messages.{IsChain};
 ghost use Rattle.strm_queue.specs.Stored.{queue_in, IsReady};
 ghost use Rattle.strm_frame.specs.Hands.{HasRoom, Hands, Spends, SamePool};
@@ -16,7 +16,7 @@ ghost use Rattle.strm_pty.specs.Does.{Does, OnlyQueue, driver_cost};
 use crate::answering::put_ioctl;
 use crate::flushing::{flush_across, flush_down};
 use crate::taking::{let_go, take_in};
-use strm_blocks::Blocks;
+use strm_blocks::{Blocks, InHand};
 use strm_frame::Acts;
 use strm_queue::Queue;
 use strm_types::{Across, Fates, MsgKind, Spot, Way};
@@ -45,21 +45,21 @@ fn put_down<B: Blocks>(
     across: Across,
     here: Spot,
     kind: MsgKind,
-    message: B::Mp,
+    message: InHand,
     told: &mut Fates,
-) -> Acts<B::Mp>
+) -> Acts
     requires ready { IsReady (B.value store.old) queue.old }
-    requires in_hand { IsInHand (B.value store.old) (B.name message) }
-    requires chain { IsChain (in_hand (B.value store.old) (B.name message)) }
-    requires kind_is { (block_at 0 (in_hand (B.value store.old) (B.name message))).kind ≡ kind }
+    requires in_hand { IsInHand (B.value store.old) (token message) }
+    requires chain { IsChain (in_hand (B.value store.old) (token message)) }
+    requires kind_is { (block_at 0 (in_hand (B.value store.old) (token message))).kind ≡ kind }
     requires kind { is_data_kind kind ≡ false }
     requires room { HasRoom (B.value store.old) (driver_cost Down kind) }
     requires inside { 0 < here.at }
     requires small { here.at ≤ MODULES + 1 }
     ensures { let s = B.value store.old in
-        Does B.name s (B.value store.new) queue.old queue.new (B.name message) (driver_cost Down kind) result
+        Does s (B.value store.new) queue.old queue.new (token message) (driver_cost Down kind) result
         told.old told.new
-        (put_down here.side across here kind (message_in s (B.name message)) (queue_in s queue.old)) }
+        (put_down here.side across here kind (message_in s (token message)) (queue_in s queue.old)) }
 {
     match kind {
         MsgKind::Flush => flush_down(store, queue, across, here.side, message, told),
@@ -76,18 +76,18 @@ fn put_across<B: Blocks>(
     across: Across,
     here: Spot,
     kind: MsgKind,
-    message: B::Mp,
+    message: InHand,
     told: &mut Fates,
-) -> Acts<B::Mp>
+) -> Acts
     requires ready { IsReady (B.value store.old) queue.old }
-    requires in_hand { IsInHand (B.value store.old) (B.name message) }
-    requires kind_is { (block_at 0 (in_hand (B.value store.old) (B.name message))).kind ≡ kind }
+    requires in_hand { IsInHand (B.value store.old) (token message) }
+    requires kind_is { (block_at 0 (in_hand (B.value store.old) (token message))).kind ≡ kind }
     requires kind { is_data_kind kind ≡ false }
     requires room { HasRoom (B.value store.old) (driver_cost Up kind) }
     ensures { let s = B.value store.old in
-        Does B.name s (B.value store.new) queue.old queue.new (B.name message) (driver_cost Up kind) result
+        Does s (B.value store.new) queue.old queue.new (token message) (driver_cost Up kind) result
         told.old told.new
-        (put_across here.side across kind (message_in s (B.name message)) (queue_in s queue.old)) }
+        (put_across here.side across kind (message_in s (token message)) (queue_in s queue.old)) }
 {
     match kind {
         MsgKind::Flush => flush_across(store, queue, across, here.side, message, told),
@@ -102,20 +102,20 @@ fn put_any<B: Blocks>(
     across: Across,
     here: Spot,
     kind: MsgKind,
-    message: B::Mp,
+    message: InHand,
     told: &mut Fates,
-) -> Acts<B::Mp>
+) -> Acts
     requires ready { IsReady (B.value store.old) queue.old }
-    requires in_hand { IsInHand (B.value store.old) (B.name message) }
-    requires chain { IsChain (in_hand (B.value store.old) (B.name message)) }
-    requires kind_is { (block_at 0 (in_hand (B.value store.old) (B.name message))).kind ≡ kind }
+    requires in_hand { IsInHand (B.value store.old) (token message) }
+    requires chain { IsChain (in_hand (B.value store.old) (token message)) }
+    requires kind_is { (block_at 0 (in_hand (B.value store.old) (token message))).kind ≡ kind }
     requires room { HasRoom (B.value store.old) (driver_cost here.way kind) }
     requires inside { 0 < here.at }
     requires small { here.at ≤ MODULES + 1 }
     ensures { let s = B.value store.old in
-        Does B.name s (B.value store.new) queue.old queue.new (B.name message) (driver_cost here.way kind) result
+        Does s (B.value store.new) queue.old queue.new (token message) (driver_cost here.way kind) result
         told.old told.new
-        (driver_put here.side across here (message_in s (B.name message)) (queue_in s queue.old)) }
+        (driver_put here.side across here (message_in s (token message)) (queue_in s queue.old)) }
 {
     if kind.is_data_kind() {
         return take_in(store, queue, across, here.side, message, told);
@@ -142,34 +142,34 @@ pub fn put<B: Blocks>(
     queue: &mut Queue,
     across: Across,
     here: Spot,
-    message: B::Mp,
+    message: InHand,
     told: &mut Fates,
-) -> Acts<B::Mp>
+) -> Acts
     requires ready { IsReady (B.value store.old) queue.old }
-    requires in_hand { IsInHand (B.value store.old) (B.name message) }
-    requires chain { IsChain (in_hand (B.value store.old) (B.name message)) }
+    requires in_hand { IsInHand (B.value store.old) (token message) }
+    requires chain { IsChain (in_hand (B.value store.old) (token message)) }
     requires room { let s = B.value store.old in
-        HasRoom s (driver_cost here.way (message_in s (B.name message)).kind) }
+        HasRoom s (driver_cost here.way (message_in s (token message)).kind) }
     requires inside { 0 < here.at }
     requires small { here.at ≤ MODULES + 1 }
     ensures state { let s = B.value store.old in
         queue_in (B.value store.new) queue.new ≡
-        (driver_put here.side across here (message_in s (B.name message)) (queue_in s queue.old)).state }
+        (driver_put here.side across here (message_in s (token message)) (queue_in s queue.old)).state }
     ensures notes { let s = B.value store.old in
         result.notes.items ≡
-        (driver_put here.side across here (message_in s (B.name message)) (queue_in s queue.old)).notes }
+        (driver_put here.side across here (message_in s (token message)) (queue_in s queue.old)).notes }
     ensures sent { let s = B.value store.old in
-        parcels_in B.name (B.value store.new) (sent_of result.sent) ≡
-        (driver_put here.side across here (message_in s (B.name message)) (queue_in s queue.old)).sent }
+        parcels_in (B.value store.new) (sent_of result.sent) ≡
+        (driver_put here.side across here (message_in s (token message)) (queue_in s queue.old)).sent }
     ensures told { let s = B.value store.old in
         told.new ≡ tallied
-        (driver_put here.side across here (message_in s (B.name message)) (queue_in s queue.old)).gone told.old }
+        (driver_put here.side across here (message_in s (token message)) (queue_in s queue.old)).gone told.old }
     ensures only { OnlyQueue (B.value store.old) (B.value store.new) queue.old queue.new }
-    ensures chains { AreChains B.name (B.value store.new) (sent_of result.sent) }
-    ensures hands { Hands (B.value store.old) (B.value store.new) (B.name message) (λ _. 0) (λ _. 0)
-        (λ i. times_sent B.name i (sent_of result.sent)) }
+    ensures chains { AreChains (B.value store.new) (sent_of result.sent) }
+    ensures hands { Hands (B.value store.old) (B.value store.new) (token message) (λ _. 0) (λ _. 0)
+        (λ i. times_sent i (sent_of result.sent)) }
     ensures spends { let s = B.value store.old in
-        Spends s (B.value store.new) (driver_cost here.way (message_in s (B.name message)).kind) 0 }
+        Spends s (B.value store.new) (driver_cost here.way (message_in s (token message)).kind) 0 }
     ensures pool { SamePool (B.value store.old) (B.value store.new) }
 {
     store.audit();

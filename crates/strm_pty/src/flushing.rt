@@ -7,7 +7,7 @@ ghost use Rattle.strm_types.specs.Drivers.{reader_flush, flush_down, flush_acros
 ghost use Rattle.strm_types.specs.Flush.{is_data_kind};
 ghost use Rattle.strm_types.specs.Flushing.{asked_by};
 ghost use Rattle.strm_types.specs.Refused.{is_a_band};
-ghost use Rattle.strm_blocks.specs.Blocks.{IsInHand, in_hand, block_at};
+ghost use Rattle.strm_blocks.specs.Blocks.{IsInHand, in_hand, block_at, token};
 ghost use Rattle.strm_queue.specs.Stored.{queue_in, IsReady};
 ghost use Rattle.strm_frame.specs.Hands.{HasRoom};
 ghost use Rattle.strm_frame.specs.Outboxes.{message_in};
@@ -16,7 +16,7 @@ ghost use Rattle.strm_pty.specs.Does.{Does, Alters, Makes};
 use crate::making::{asked_of, flush_to};
 use crate::taking::note_if;
 use arrayvec::ArrayVec;
-use strm_blocks::Blocks;
+use strm_blocks::{Blocks, InHand};
 use strm_frame::{Acts, Outbox, Sent};
 use strm_queue::Queue;
 use strm_queue::emptying::{Chosen, empty, going};
@@ -76,9 +76,9 @@ fn flush_readers<B: Blocks>(
     side: Side,
     across: Across,
     asked: FlushAsked,
-) -> Option<Sent<B::Mp>>
+) -> Option<Sent>
     requires { HasRoom (B.value store.old) 1 }
-    ensures { Makes B.name (B.value store.old) (B.value store.new) 1 (option_to_list result)
+    ensures { Makes (B.value store.old) (B.value store.new) 1 (option_to_list result)
         (reader_flush (goes && across.is_open) asked (bottom_across side across)) }
 {
     if across.is_open {
@@ -94,16 +94,16 @@ pub(crate) fn flush_down<B: Blocks>(
     queue: &mut Queue,
     across: Across,
     side: Side,
-    message: B::Mp,
+    message: InHand,
     told: &mut Fates,
-) -> Acts<B::Mp>
+) -> Acts
     requires ready { IsReady (B.value store.old) queue.old }
-    requires in_hand { IsInHand (B.value store.old) (B.name message) }
-    requires kind { is_data_kind (block_at 0 (in_hand (B.value store.old) (B.name message))).kind ≡ false }
+    requires in_hand { IsInHand (B.value store.old) (token message) }
+    requires kind { is_data_kind (block_at 0 (in_hand (B.value store.old) (token message))).kind ≡ false }
     requires room { HasRoom (B.value store.old) 2 }
     ensures { let s = B.value store.old in
-        Does B.name s (B.value store.new) queue.old queue.new (B.name message) 2 result told.old told.new
-        (flush_down side across (asked_by (message_in s (B.name message)).plain) (queue_in s queue.old)) }
+        Does s (B.value store.new) queue.old queue.new (token message) 2 result told.old told.new
+        (flush_down side across (asked_by (message_in s (token message)).plain) (queue_in s queue.old)) }
 {
     let asked = asked_of(store, &message);
     store.audit();
@@ -128,16 +128,16 @@ pub(crate) fn flush_across<B: Blocks>(
     queue: &mut Queue,
     across: Across,
     side: Side,
-    message: B::Mp,
+    message: InHand,
     told: &mut Fates,
-) -> Acts<B::Mp>
+) -> Acts
     requires ready { IsReady (B.value store.old) queue.old }
-    requires in_hand { IsInHand (B.value store.old) (B.name message) }
-    requires kind { is_data_kind (block_at 0 (in_hand (B.value store.old) (B.name message))).kind ≡ false }
+    requires in_hand { IsInHand (B.value store.old) (token message) }
+    requires kind { is_data_kind (block_at 0 (in_hand (B.value store.old) (token message))).kind ≡ false }
     requires room { HasRoom (B.value store.old) 1 }
     ensures { let s = B.value store.old in
-        Does B.name s (B.value store.new) queue.old queue.new (B.name message) 1 result told.old told.new
-        (flush_across side across (asked_by (message_in s (B.name message)).plain) (queue_in s queue.old)) }
+        Does s (B.value store.new) queue.old queue.new (token message) 1 result told.old told.new
+        (flush_across side across (asked_by (message_in s (token message)).plain) (queue_in s queue.old)) }
 {
     let asked = asked_of(store, &message);
     store.audit();

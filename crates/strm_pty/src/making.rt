@@ -6,22 +6,22 @@ ghost use Rattle.strm_types.specs.Drivers.{reader_flush};
 ghost use Rattle.strm_types.specs.Flush.{is_data_kind};
 ghost use Rattle.strm_types.specs.Flushing.{asked_by};
 ghost use Rattle.strm_types.specs.Refused.{is_a_band};
-ghost use Rattle.strm_blocks.specs.Blocks.{IsInHand, in_hand, block_at};
+ghost use Rattle.strm_blocks.specs.Blocks.{IsInHand, in_hand, block_at, token};
 ghost use Rattle.strm_frame.specs.Hands.{HasRoom};
 ghost use Rattle.strm_frame.specs.Outboxes.{message_in};
 ghost use Rattle.strm_pty.specs.Does.{MadeOne, Makes};
 
-use strm_blocks::Blocks;
+use strm_blocks::{Blocks, InHand};
 use strm_frame::Sent;
 use strm_msg::{first_bytes, from_bytes};
 use strm_types::{Band, FlushAsked, MsgKind, Spot};
 
 /// Makes a message of a kind without parts, of band 0, in one block.
-pub fn make<B: Blocks>(store: &mut B, kind: MsgKind, bytes: &[u8]) -> B::Mp
+pub fn make<B: Blocks>(store: &mut B, kind: MsgKind, bytes: &[u8]) -> InHand
     requires kind { is_data_kind kind ≡ false }
     requires few { length bytes.now ≤ 256 }
     requires room { HasRoom (B.value store.old) 1 }
-    ensures { MadeOne (B.value store.old) (B.value store.new) (B.name result) kind bytes.now }
+    ensures { MadeOne (B.value store.old) (B.value store.new) (token result) kind bytes.now }
 {
     let Ok(message) = from_bytes(store, kind, Band(0), bytes) else {
         unreachable!()
@@ -35,9 +35,9 @@ pub(crate) fn flush_to<B: Blocks>(
     goes: bool,
     asked: FlushAsked,
     to: Spot,
-) -> Option<Sent<B::Mp>>
+) -> Option<Sent>
     requires { HasRoom (B.value store.old) 1 }
-    ensures { Makes B.name (B.value store.old) (B.value store.new) 1 (option_to_list result)
+    ensures { Makes (B.value store.old) (B.value store.new) 1 (option_to_list result)
         (reader_flush goes asked to) }
 {
     if goes {
@@ -49,10 +49,10 @@ pub(crate) fn flush_to<B: Blocks>(
 }
 
 /// What an M_FLUSH in hand asks for.
-pub(crate) fn asked_of<B: Blocks>(store: &B, message: &B::Mp) -> FlushAsked
-    requires in_hand { IsInHand (B.value store.now) (B.name message.now) }
-    requires kind { is_data_kind (block_at 0 (in_hand (B.value store.now) (B.name message.now))).kind ≡ false }
-    ensures asked { result ≡ asked_by (message_in (B.value store.now) (B.name message.now)).plain }
+pub(crate) fn asked_of<B: Blocks>(store: &B, message: &InHand) -> FlushAsked
+    requires in_hand { IsInHand (B.value store.now) (token message.now) }
+    requires kind { is_data_kind (block_at 0 (in_hand (B.value store.now) (token message.now))).kind ≡ false }
+    ensures asked { result ≡ asked_by (message_in (B.value store.now) (token message.now)).plain }
     ensures band { is_a_band result.band ≡ true }
 {
     let mut bytes = [0; 2];

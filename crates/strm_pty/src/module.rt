@@ -4,11 +4,11 @@
 use crate::pckt::{self, Pckt};
 use crate::ptem::{self, Ptem};
 use arrayvec::ArrayVec;
-use strm_blocks::Blocks;
+use strm_blocks::{Blocks, InHand};
 use strm_frame::{Acts, LetGo, Module, Outbox, Served, TurnEnd};
 use strm_types::{Asks, Band, Fates, ModuleName, Rule, Side, Spot, Way};
 
-impl<B: Blocks> Module<B> for Pckt {
+impl Module for Pckt {
     ghost use Rattle.std.specs.Prelude.{◌≡◌, refl, None, [], false};
     ghost use Rattle.strm_types.specs.declared.names.ModuleName.TheVariants as names;
     ghost use Rattle.strm_types.specs.declared.spots.Asks.TheVariants.{Empty};
@@ -64,7 +64,7 @@ impl<B: Blocks> Module<B> for Pckt {
         ModuleName::Pckt
     }
 
-    fn put(&mut self, store: &mut B, here: Spot, message: B::Mp, told: &mut Fates) -> Acts<B::Mp> {
+    fn put<B: Blocks>(&mut self, store: &mut B, here: Spot, message: InHand, told: &mut Fates) -> Acts {
         store.audit();
         pckt::put(store, here, message, told)
     }
@@ -73,23 +73,23 @@ impl<B: Blocks> Module<B> for Pckt {
         false
     }
 
-    fn is_full(&self, _store: &B, _way: Way, _band: Band) -> bool {
+    fn is_full<B: Blocks>(&self, _store: &B, _way: Way, _band: Band) -> bool {
         false
     }
 
-    fn count(&self, _store: &B, _way: Way, _band: Band) -> usize {
+    fn count<B: Blocks>(&self, _store: &B, _way: Way, _band: Band) -> usize {
         0
     }
 
-    fn sizes(&self, _store: &B, _way: Way) -> (usize, usize) {
+    fn sizes<B: Blocks>(&self, _store: &B, _way: Way) -> (usize, usize) {
         (0, 0)
     }
 
-    fn first_size(&self, _store: &B, _way: Way) -> usize {
+    fn first_size<B: Blocks>(&self, _store: &B, _way: Way) -> usize {
         0
     }
 
-    fn none_waits_up(&self, _store: &B) -> bool {
+    fn none_waits_up<B: Blocks>(&self, _store: &B) -> bool {
         true
     }
 
@@ -99,17 +99,17 @@ impl<B: Blocks> Module<B> for Pckt {
 
     fn let_wait(&mut self, _way: Way, _band: Band) {}
 
-    fn asks(&self, _store: &B, _way: Way) -> Asks {
+    fn asks<B: Blocks>(&self, _store: &B, _way: Way) -> Asks {
         Asks::Empty
     }
 
-    fn serve(
+    fn serve<B: Blocks>(
         &mut self,
         _store: &mut B,
         _here: Spot,
         _again: bool,
         _told: &mut Fates,
-    ) -> Served<B::Mp> {
+    ) -> Served {
         Served {
             acts: Acts {
                 notes: ArrayVec::new(),
@@ -121,14 +121,14 @@ impl<B: Blocks> Module<B> for Pckt {
         }
     }
 
-    fn end_turn(&mut self, _store: &B, _way: Way, _took: bool) -> TurnEnd {
+    fn end_turn<B: Blocks>(&mut self, _store: &B, _way: Way, _took: bool) -> TurnEnd {
         TurnEnd {
             room: false,
             more: false,
         }
     }
 
-    fn clear(
+    fn clear<B: Blocks>(
         &mut self,
         _store: &mut B,
         _side: Side,
@@ -154,7 +154,7 @@ impl<B: Blocks> Module<B> for Pckt {
     ghost line_stays = { λ p way again may. may };
 }
 
-impl<B: Blocks> Module<B> for Ptem {
+impl Module for Ptem {
     ghost use Rattle.std.specs.Prelude.{◌≡◌, refl, None, [], false};
     ghost use Rattle.strm_types.specs.declared.names.ModuleName.TheVariants as names;
     ghost use Rattle.strm_types.specs.declared.spots.Asks.TheVariants.{Empty};
@@ -209,7 +209,7 @@ impl<B: Blocks> Module<B> for Ptem {
         ModuleName::Ptem
     }
 
-    fn put(&mut self, store: &mut B, here: Spot, message: B::Mp, _told: &mut Fates) -> Acts<B::Mp> {
+    fn put<B: Blocks>(&mut self, store: &mut B, here: Spot, message: InHand, _told: &mut Fates) -> Acts {
         store.audit();
         ptem::put(self, store, here, message)
     }
@@ -218,23 +218,23 @@ impl<B: Blocks> Module<B> for Ptem {
         false
     }
 
-    fn is_full(&self, _store: &B, _way: Way, _band: Band) -> bool {
+    fn is_full<B: Blocks>(&self, _store: &B, _way: Way, _band: Band) -> bool {
         false
     }
 
-    fn count(&self, _store: &B, _way: Way, _band: Band) -> usize {
+    fn count<B: Blocks>(&self, _store: &B, _way: Way, _band: Band) -> usize {
         0
     }
 
-    fn sizes(&self, _store: &B, _way: Way) -> (usize, usize) {
+    fn sizes<B: Blocks>(&self, _store: &B, _way: Way) -> (usize, usize) {
         (0, 0)
     }
 
-    fn first_size(&self, _store: &B, _way: Way) -> usize {
+    fn first_size<B: Blocks>(&self, _store: &B, _way: Way) -> usize {
         0
     }
 
-    fn none_waits_up(&self, _store: &B) -> bool {
+    fn none_waits_up<B: Blocks>(&self, _store: &B) -> bool {
         true
     }
 
@@ -244,17 +244,17 @@ impl<B: Blocks> Module<B> for Ptem {
 
     fn let_wait(&mut self, _way: Way, _band: Band) {}
 
-    fn asks(&self, _store: &B, _way: Way) -> Asks {
+    fn asks<B: Blocks>(&self, _store: &B, _way: Way) -> Asks {
         Asks::Empty
     }
 
-    fn serve(
+    fn serve<B: Blocks>(
         &mut self,
         _store: &mut B,
         _here: Spot,
         _again: bool,
         _told: &mut Fates,
-    ) -> Served<B::Mp> {
+    ) -> Served {
         Served {
             acts: Acts {
                 notes: ArrayVec::new(),
@@ -266,14 +266,14 @@ impl<B: Blocks> Module<B> for Ptem {
         }
     }
 
-    fn end_turn(&mut self, _store: &B, _way: Way, _took: bool) -> TurnEnd {
+    fn end_turn<B: Blocks>(&mut self, _store: &B, _way: Way, _took: bool) -> TurnEnd {
         TurnEnd {
             room: false,
             more: false,
         }
     }
 
-    fn clear(
+    fn clear<B: Blocks>(
         &mut self,
         _store: &mut B,
         _side: Side,

@@ -10,7 +10,7 @@ ghost use Rattle.strm_types.specs.Flushing.{is_flush};
 ghost use Rattle.strm_types.specs.Ldterms.{onward};
 ghost use Rattle.strm_types.specs.Pckts.{is_packed, is_stop_or_start, pckt_on_way, pckt_packs, pckt_passes, plain_packed, writers_flush};
 ghost use Rattle.strm_types.specs.declared.spots.Spot as spots;
-ghost use Rattle.strm_blocks.specs.Blocks.{IsInHand, in_hand};
+ghost use Rattle.strm_blocks.specs.Blocks.{IsInHand, in_hand, token};
 ghost use Rattle.strm_msg.specs.Messages.{IsChain};
 ghost use Rattle.strm_frame.specs.Hands.{HasRoom};
 ghost use Rattle.strm_frame.specs.Outboxes.{message_in};
@@ -20,7 +20,7 @@ ghost use Rattle.strm_pty.specs.Packs.{Becomes, Packs, packet_of, pckt_in, puts}
 
 use crate::making::{asked_of, make};
 use arrayvec::ArrayVec;
-use strm_blocks::Blocks;
+use strm_blocks::{Blocks, InHand};
 use strm_frame::{Acts, Outbox, Sent};
 use strm_msg::{message_size, set_kinds};
 use strm_types::{Fates, FlushAsked, MsgKind, Spot, Way};
@@ -61,10 +61,10 @@ fn is_flush(kind: MsgKind) -> bool
 }
 
 // How many bytes are made for the packet of a message: the number of its kind, and the bytes of it that are in no part.
-fn count_made<B: Blocks>(store: &B, message: &B::Mp) -> usize
-    requires in_hand { IsInHand (B.value store.now) (B.name message.now) }
-    requires chain { IsChain (in_hand (B.value store.now) (B.name message.now)) }
-    ensures { result ≡ suc (length (plain_packed (message_in (B.value store.now) (B.name message.now)))) }
+fn count_made<B: Blocks>(store: &B, message: &InHand) -> usize
+    requires in_hand { IsInHand (B.value store.now) (token message.now) }
+    requires chain { IsChain (in_hand (B.value store.now) (token message.now)) }
+    ensures { result ≡ suc (length (plain_packed (message_in (B.value store.now) (token message.now)))) }
 {
     store.audit();
     let kind = store.kind(message, 0);
@@ -77,12 +77,12 @@ fn count_made<B: Blocks>(store: &B, message: &B::Mp) -> usize
 
 // Makes the packet of a message in hand, in one block more: an M_PROTO block with the number of its kind, behind which the blocks of the message
 // are the data part. An M_STOP or M_START is freed.
-fn pack<B: Blocks>(store: &mut B, message: B::Mp) -> B::Mp
-    requires in_hand { IsInHand (B.value store.old) (B.name message) }
-    requires chain { IsChain (in_hand (B.value store.old) (B.name message)) }
+fn pack<B: Blocks>(store: &mut B, message: InHand) -> InHand
+    requires in_hand { IsInHand (B.value store.old) (token message) }
+    requires chain { IsChain (in_hand (B.value store.old) (token message)) }
     requires room { HasRoom (B.value store.old) 1 }
     ensures { (here : spots.Spot) → let s = B.value store.old in
-        Becomes s (B.value store.new) (B.name message) (B.name result) (packet_of here (message_in s (B.name message))) }
+        Becomes s (B.value store.new) (token message) (token result) (packet_of here (message_in s (token message))) }
 {
     let kind = store.kind(&message, 0);
     let band = store.band(&message);
@@ -103,15 +103,15 @@ fn pack<B: Blocks>(store: &mut B, message: B::Mp) -> B::Mp
 fn send_packet<B: Blocks>(
     store: &mut B,
     here: Spot,
-    message: B::Mp,
+    message: InHand,
     told: &mut Fates,
-) -> Sent<B::Mp>
-    requires passes { MayPass (B.value store.old) (B.name message) here }
+) -> Sent
+    requires passes { MayPass (B.value store.old) (token message) here }
     requires goes { here.way ≡ Up }
     requires room { HasRoom (B.value store.old) 1 }
-    ensures swaps { let s = B.value store.old in Swaps B.name s (B.value store.new) (B.name message) 1 (result ∷ [])
-        (onward Up here (packet_of here (message_in s (B.name message))) ∷ []) }
-    ensures told { told.new ≡ tallied (pckt_packs plain 0 here (message_in (B.value store.old) (B.name message))).gone told.old }
+    ensures swaps { let s = B.value store.old in Swaps s (B.value store.new) (token message) 1 (result ∷ [])
+        (onward Up here (packet_of here (message_in s (token message))) ∷ []) }
+    ensures told { told.new ≡ tallied (pckt_packs plain 0 here (message_in (B.value store.old) (token message))).gone told.old }
 {
     let made = count_made(store, &message);
     told.tell_made(here.direction(), made);
@@ -123,11 +123,11 @@ fn send_packet<B: Blocks>(
 }
 
 // Makes what is passed up of an M_FLUSH.
-fn pass_flush<B: Blocks>(store: &mut B, here: Spot, asked: FlushAsked) -> Sent<B::Mp>
+fn pass_flush<B: Blocks>(store: &mut B, here: Spot, asked: FlushAsked) -> Sent
     requires room { HasRoom (B.value store.old) 1 }
     requires inside { 0 < here.at }
     requires small { here.at ≤ MODULES }
-    ensures { Makes B.name (B.value store.old) (B.value store.new) 1 (result ∷ []) (writers_flush here asked ∷ []) }
+    ensures { Makes (B.value store.old) (B.value store.new) 1 (result ∷ []) (writers_flush here asked ∷ []) }
 {
     let passed = FlushAsked {
         for_read: false,
@@ -141,10 +141,10 @@ fn pass_flush<B: Blocks>(store: &mut B, here: Spot, asked: FlushAsked) -> Sent<B
 }
 
 // Sends a message on to the next place.
-fn pass_on<B: Blocks>(store: &B, here: Spot, message: B::Mp, told: &Fates) -> Acts<B::Mp>
-    requires { MayPass (B.value store.now) (B.name message) here }
+fn pass_on<B: Blocks>(store: &B, here: Spot, message: InHand, told: &Fates) -> Acts
+    requires { MayPass (B.value store.now) (token message) here }
     ensures { let s = B.value store.now in
-        Packs B.name s s (B.name message) 0 result told.now told.now (pckt_passes here (message_in s (B.name message))) }
+        Packs s s (token message) 0 result told.now told.now (pckt_passes here (message_in s (token message))) }
 {
     let _ = store;
     let _ = told;
@@ -158,13 +158,13 @@ fn pass_on<B: Blocks>(store: &B, here: Spot, message: B::Mp, told: &Fates) -> Ac
 }
 
 // Sends the packet of an M_FLUSH up, and behind it what is passed of one with FLUSHW.
-fn pack_flush<B: Blocks>(store: &mut B, here: Spot, message: B::Mp, told: &mut Fates) -> Acts<B::Mp>
-    requires passes { MayPass (B.value store.old) (B.name message) here }
+fn pack_flush<B: Blocks>(store: &mut B, here: Spot, message: InHand, told: &mut Fates) -> Acts
+    requires passes { MayPass (B.value store.old) (token message) here }
     requires goes { here.way ≡ Up }
-    requires flush { is_flush (message_in (B.value store.old) (B.name message)).kind ≡ true }
-    requires room { let m = message_in (B.value store.old) (B.name message) in HasRoom (B.value store.old) (packet_blocks m.kind m.plain) }
-    ensures { let s = B.value store.old in let m = message_in s (B.name message) in
-        Packs B.name s (B.value store.new) (B.name message) (packet_blocks m.kind m.plain) result told.old told.new
+    requires flush { is_flush (message_in (B.value store.old) (token message)).kind ≡ true }
+    requires room { let m = message_in (B.value store.old) (token message) in HasRoom (B.value store.old) (packet_blocks m.kind m.plain) }
+    ensures { let s = B.value store.old in let m = message_in s (token message) in
+        Packs s (B.value store.new) (token message) (packet_blocks m.kind m.plain) result told.old told.new
         (pckt_packs plain 0 here m) }
 {
     let asked = asked_of(store, &message);
@@ -183,13 +183,13 @@ fn pack_flush<B: Blocks>(store: &mut B, here: Spot, message: B::Mp, told: &mut F
 }
 
 // Sends the packet of a message up that comes as one of a kind that is packed.
-fn pack_up<B: Blocks>(store: &mut B, here: Spot, message: B::Mp, told: &mut Fates) -> Acts<B::Mp>
-    requires passes { MayPass (B.value store.old) (B.name message) here }
+fn pack_up<B: Blocks>(store: &mut B, here: Spot, message: InHand, told: &mut Fates) -> Acts
+    requires passes { MayPass (B.value store.old) (token message) here }
     requires goes { here.way ≡ Up }
-    requires packed { is_packed (message_in (B.value store.old) (B.name message)).kind ≡ true }
-    requires room { let m = message_in (B.value store.old) (B.name message) in HasRoom (B.value store.old) (packet_blocks m.kind m.plain) }
-    ensures { let s = B.value store.old in let m = message_in s (B.name message) in
-        Packs B.name s (B.value store.new) (B.name message) (packet_blocks m.kind m.plain) result told.old told.new
+    requires packed { is_packed (message_in (B.value store.old) (token message)).kind ≡ true }
+    requires room { let m = message_in (B.value store.old) (token message) in HasRoom (B.value store.old) (packet_blocks m.kind m.plain) }
+    ensures { let s = B.value store.old in let m = message_in s (token message) in
+        Packs s (B.value store.new) (token message) (packet_blocks m.kind m.plain) result told.old told.new
         (pckt_packs plain 0 here m) }
 {
     if is_flush(store.kind(&message, 0)) {
@@ -203,12 +203,12 @@ fn pack_up<B: Blocks>(store: &mut B, here: Spot, message: B::Mp, told: &mut Fate
 }
 
 // Puts a message that comes up.
-fn put_up<B: Blocks>(store: &mut B, here: Spot, message: B::Mp, told: &mut Fates) -> Acts<B::Mp>
-    requires passes { MayPass (B.value store.old) (B.name message) here }
+fn put_up<B: Blocks>(store: &mut B, here: Spot, message: InHand, told: &mut Fates) -> Acts
+    requires passes { MayPass (B.value store.old) (token message) here }
     requires goes { here.way ≡ Up }
-    requires room { let m = message_in (B.value store.old) (B.name message) in HasRoom (B.value store.old) (packet_blocks m.kind m.plain) }
-    ensures { let s = B.value store.old in let m = message_in s (B.name message) in
-        Packs B.name s (B.value store.new) (B.name message) (packet_blocks m.kind m.plain) result told.old told.new
+    requires room { let m = message_in (B.value store.old) (token message) in HasRoom (B.value store.old) (packet_blocks m.kind m.plain) }
+    ensures { let s = B.value store.old in let m = message_in s (token message) in
+        Packs s (B.value store.new) (token message) (packet_blocks m.kind m.plain) result told.old told.new
         (pckt_on_way plain 0 here Up m) }
 {
     if is_packed(store.kind(&message, 0)) {
@@ -227,14 +227,14 @@ fn put_up<B: Blocks>(store: &mut B, here: Spot, message: B::Mp, told: &mut Fates
 ///
 /// It takes one block of each kind at most for a packet, in which the blocks of the message are kept, and one more for an M_FLUSH that is passed. The
 /// cost is a step for each block of the message.
-pub fn put<B: Blocks>(store: &mut B, here: Spot, message: B::Mp, told: &mut Fates) -> Acts<B::Mp>
-    requires in_hand { IsInHand (B.value store.old) (B.name message) }
-    requires chain { IsChain (in_hand (B.value store.old) (B.name message)) }
-    requires room { let s = B.value store.old in HasRoom s (pckt_takes here (message_in s (B.name message))) }
+pub fn put<B: Blocks>(store: &mut B, here: Spot, message: InHand, told: &mut Fates) -> Acts
+    requires in_hand { IsInHand (B.value store.old) (token message) }
+    requires chain { IsChain (in_hand (B.value store.old) (token message)) }
+    requires room { let s = B.value store.old in HasRoom s (pckt_takes here (message_in s (token message))) }
     requires inside { 0 < here.at }
     requires small { here.at ≤ MODULES }
-    ensures { let s = B.value store.old in let m = message_in s (B.name message) in
-        Packs B.name s (B.value store.new) (B.name message) (pckt_takes here m) result told.old told.new (puts here m pckt_in) }
+    ensures { let s = B.value store.old in let m = message_in s (token message) in
+        Packs s (B.value store.new) (token message) (pckt_takes here m) result told.old told.new (puts here m pckt_in) }
 {
     match here.way {
         Way::Down => pass_on(store, here, message, told),

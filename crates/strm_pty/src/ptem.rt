@@ -10,7 +10,7 @@ ghost use Rattle.strm_types.specs.Ptems.{ptem_passes, ptem_puts, signal_told, te
 ghost use Rattle.strm_types.specs.Signals.{signal_in};
 ghost use Rattle.strm_types.specs.Termios.{read_termios, termios_bytes};
 ghost use Rattle.strm_types.specs.Winsizes.{read_winsize, winsize_bytes};
-ghost use Rattle.strm_blocks.specs.Blocks.{IsInHand, in_hand};
+ghost use Rattle.strm_blocks.specs.Blocks.{IsInHand, in_hand, token};
 ghost use Rattle.strm_msg.specs.Messages.{IsChain};
 ghost use Rattle.strm_frame.specs.Hands.{HasRoom};
 ghost use Rattle.strm_frame.specs.Outboxes.{message_in, sent_of};
@@ -19,7 +19,7 @@ ghost use Rattle.strm_pty.specs.Shares.{BothCarry, CanPart};
 
 use crate::replies::{ack, confirm, hear, nak, raise};
 use arrayvec::ArrayVec;
-use strm_blocks::Blocks;
+use strm_blocks::{Blocks, InHand};
 use strm_frame::ioctls::{header_of, is_ioctl, payload_of, sets_termios};
 use strm_frame::{Acts, Outbox, Sent};
 use strm_types::{
@@ -47,9 +47,9 @@ impl Ptem {
 }
 
 // Sends a message on to the next place.
-fn pass_on<B: Blocks>(ptem: &Ptem, store: &B, here: Spot, message: B::Mp) -> Acts<B::Mp>
-    requires { MayPass (B.value store.now) (B.name message) here }
-    ensures { let s = B.value store.now in Puts B.name s s ptem.now ptem.now (B.name message) here result (ptem_passes here) }
+fn pass_on<B: Blocks>(ptem: &Ptem, store: &B, here: Spot, message: InHand) -> Acts
+    requires { MayPass (B.value store.now) (token message) here }
+    ensures { let s = B.value store.now in Puts s s ptem.now ptem.now (token message) here result (ptem_passes here) }
 {
     let _ = ptem;
     let _ = store;
@@ -68,10 +68,10 @@ fn tell_termios<B: Blocks>(
     store: &mut B,
     here: Spot,
     ioc: Ioc,
-    message: B::Mp,
-) -> Acts<B::Mp>
-    requires { MayAnswer (B.value store.old) (B.name message) here Down }
-    ensures { Puts B.name (B.value store.old) (B.value store.new) ptem.now ptem.now (B.name message) here result
+    message: InHand,
+) -> Acts
+    requires { MayAnswer (B.value store.old) (token message) here Down }
+    ensures { Puts (B.value store.old) (B.value store.new) ptem.now ptem.now (token message) here result
         (λ m. acks Up here ioc (termios_bytes ptem.now.termios)) }
 {
     let bytes = ptem.termios.bytes();
@@ -84,10 +84,10 @@ fn tell_window<B: Blocks>(
     store: &mut B,
     here: Spot,
     ioc: Ioc,
-    message: B::Mp,
-) -> Acts<B::Mp>
-    requires { MayAnswer (B.value store.old) (B.name message) here Down }
-    ensures { Puts B.name (B.value store.old) (B.value store.new) ptem.now ptem.now (B.name message) here result
+    message: InHand,
+) -> Acts
+    requires { MayAnswer (B.value store.old) (token message) here Down }
+    ensures { Puts (B.value store.old) (B.value store.new) ptem.now ptem.now (token message) here result
         (λ m. acks Up here ioc (winsize_bytes ptem.now.window)) }
 {
     let bytes = ptem.window.bytes();
@@ -100,13 +100,13 @@ fn set_termios<B: Blocks>(
     store: &mut B,
     here: Spot,
     ioc: Ioc,
-    message: B::Mp,
-) -> Acts<B::Mp>
-    requires { MayAnswer (B.value store.old) (B.name message) here Down }
-    ensures does { Puts B.name (B.value store.old) (B.value store.new) ptem.old ptem.new (B.name message) here result
+    message: InHand,
+) -> Acts
+    requires { MayAnswer (B.value store.old) (token message) here Down }
+    ensures does { Puts (B.value store.old) (B.value store.new) ptem.old ptem.new (token message) here result
         (λ m. let given = payload m.plain in termios_set here ioc given (read_termios given)) }
-    ensures shared { let s = B.value store.old in CanPart s (B.name message) →
-        BothCarry B.name (B.value store.new) (drop 1 (in_hand s (B.name message))) (sent_of result.sent) }
+    ensures shared { let s = B.value store.old in CanPart s (token message) →
+        BothCarry (B.value store.new) (drop 1 (in_hand s (token message))) (sent_of result.sent) }
 {
     let given = payload_of(store, &message);
     let Some(termios) = Termios::read(given.as_slice()) else {
@@ -123,13 +123,13 @@ fn set_window<B: Blocks>(
     store: &mut B,
     here: Spot,
     ioc: Ioc,
-    message: B::Mp,
-) -> Acts<B::Mp>
-    requires { MayAnswer (B.value store.old) (B.name message) here Down }
-    ensures does { Puts B.name (B.value store.old) (B.value store.new) ptem.old ptem.new (B.name message) here result
+    message: InHand,
+) -> Acts
+    requires { MayAnswer (B.value store.old) (token message) here Down }
+    ensures does { Puts (B.value store.old) (B.value store.new) ptem.old ptem.new (token message) here result
         (λ m. let given = payload m.plain in window_set here ioc given (read_winsize given)) }
-    ensures shared { let s = B.value store.old in CanPart s (B.name message) →
-        BothCarry B.name (B.value store.new) (drop 1 (in_hand s (B.name message))) (sent_of result.sent) }
+    ensures shared { let s = B.value store.old in CanPart s (token message) →
+        BothCarry (B.value store.new) (drop 1 (in_hand s (token message))) (sent_of result.sent) }
 {
     let given = payload_of(store, &message);
     let Some(window) = Winsize::read(given.as_slice()) else {
@@ -146,10 +146,10 @@ fn hear_window<B: Blocks>(
     store: &mut B,
     here: Spot,
     ioc: Ioc,
-    message: B::Mp,
-) -> Acts<B::Mp>
-    requires { MayAnswer (B.value store.old) (B.name message) here Up }
-    ensures { Puts B.name (B.value store.old) (B.value store.new) ptem.old ptem.new (B.name message) here result
+    message: InHand,
+) -> Acts
+    requires { MayAnswer (B.value store.old) (token message) here Up }
+    ensures { Puts (B.value store.old) (B.value store.new) ptem.old ptem.new (token message) here result
         (λ m. window_told here ioc (read_winsize (payload m.plain))) }
 {
     let given = payload_of(store, &message);
@@ -167,10 +167,10 @@ fn hear_signal<B: Blocks>(
     store: &mut B,
     here: Spot,
     ioc: Ioc,
-    message: B::Mp,
-) -> Acts<B::Mp>
-    requires { MayAnswer (B.value store.old) (B.name message) here Up }
-    ensures { Puts B.name (B.value store.old) (B.value store.new) ptem.now ptem.now (B.name message) here result
+    message: InHand,
+) -> Acts
+    requires { MayAnswer (B.value store.old) (token message) here Up }
+    ensures { Puts (B.value store.old) (B.value store.new) ptem.now ptem.now (token message) here result
         (λ m. signal_told here ioc (signal_in (payload m.plain))) }
 {
     let given = payload_of(store, &message);
@@ -186,13 +186,13 @@ fn put_above<B: Blocks>(
     store: &mut B,
     here: Spot,
     ioc: Ioc,
-    message: B::Mp,
-) -> Acts<B::Mp>
-    requires { MayAnswer (B.value store.old) (B.name message) here Down }
-    ensures does { Puts B.name (B.value store.old) (B.value store.new) ptem.old ptem.new (B.name message) here result
+    message: InHand,
+) -> Acts
+    requires { MayAnswer (B.value store.old) (token message) here Down }
+    ensures does { Puts (B.value store.old) (B.value store.new) ptem.old ptem.new (token message) here result
         (λ m. asked_above here ioc (payload m.plain) m) }
-    ensures shared { let s = B.value store.old in CanPart s (B.name message) →
-        BothCarry B.name (B.value store.new) (drop 1 (in_hand s (B.name message))) (sent_of result.sent) }
+    ensures shared { let s = B.value store.old in CanPart s (token message) →
+        BothCarry (B.value store.new) (drop 1 (in_hand s (token message))) (sent_of result.sent) }
 {
     if ioc.command == TCGETS {
         return tell_termios(ptem, store, here, ioc, message);
@@ -215,10 +215,10 @@ fn put_below<B: Blocks>(
     store: &mut B,
     here: Spot,
     ioc: Ioc,
-    message: B::Mp,
-) -> Acts<B::Mp>
-    requires { MayAnswer (B.value store.old) (B.name message) here Up }
-    ensures { Puts B.name (B.value store.old) (B.value store.new) ptem.old ptem.new (B.name message) here result
+    message: InHand,
+) -> Acts
+    requires { MayAnswer (B.value store.old) (token message) here Up }
+    ensures { Puts (B.value store.old) (B.value store.new) ptem.old ptem.new (token message) here result
         (λ m. asked_below here ioc (payload m.plain) m) }
 {
     if ioc.command == TIOCSWINSZ {
@@ -239,16 +239,16 @@ fn put_below<B: Blocks>(
 ///
 /// It takes three blocks of each kind at most for an M_IOCTL that comes down, two for one that comes up, and none for others. The cost is a step for
 /// each block of the message.
-pub fn put<B: Blocks>(ptem: &mut Ptem, store: &mut B, here: Spot, message: B::Mp) -> Acts<B::Mp>
-    requires in_hand { IsInHand (B.value store.old) (B.name message) }
-    requires chain { IsChain (in_hand (B.value store.old) (B.name message)) }
-    requires room { let s = B.value store.old in HasRoom s (cost here (message_in s (B.name message))) }
+pub fn put<B: Blocks>(ptem: &mut Ptem, store: &mut B, here: Spot, message: InHand) -> Acts
+    requires in_hand { IsInHand (B.value store.old) (token message) }
+    requires chain { IsChain (in_hand (B.value store.old) (token message)) }
+    requires room { let s = B.value store.old in HasRoom s (cost here (message_in s (token message))) }
     requires inside { 0 < here.at }
     requires small { here.at ≤ MODULES }
-    ensures does { Puts B.name (B.value store.old) (B.value store.new) ptem.old ptem.new (B.name message) here result
+    ensures does { Puts (B.value store.old) (B.value store.new) ptem.old ptem.new (token message) here result
         (ptem_puts here) }
-    ensures shared { let s = B.value store.old in here.way ≡ Down → CanPart s (B.name message) →
-        BothCarry B.name (B.value store.new) (drop 1 (in_hand s (B.name message))) (sent_of result.sent) }
+    ensures shared { let s = B.value store.old in here.way ≡ Down → CanPart s (token message) →
+        BothCarry (B.value store.new) (drop 1 (in_hand s (token message))) (sent_of result.sent) }
 {
     store.audit();
     let kind = store.kind(&message, 0);

@@ -10,7 +10,7 @@ ghost use Rattle.strm_types.specs.Ioctls.{ioc_bytes, nak_message};
 ghost use Rattle.strm_types.specs.Ldterms.{onward};
 ghost use Rattle.strm_types.specs.Ptems.{signals_up, window_signal};
 ghost use Rattle.strm_types.specs.Typing.{bare};
-ghost use Rattle.strm_blocks.specs.Blocks.{IsInHand, block_at, in_hand};
+ghost use Rattle.strm_blocks.specs.Blocks.{IsInHand, block_at, in_hand, token};
 ghost use Rattle.strm_frame.specs.Hands.{HasRoom};
 ghost use Rattle.strm_frame.specs.Outboxes.{message_in, sent_of};
 ghost use Rattle.strm_pty.specs.Does.{Makes, Swaps};
@@ -19,7 +19,7 @@ ghost use Rattle.strm_pty.specs.Shares.{BothCarry, CanPart};
 use crate::making::make;
 use crate::sharing::{part, share};
 use arrayvec::ArrayVec;
-use strm_blocks::Blocks;
+use strm_blocks::{Blocks, InHand};
 use strm_frame::{Acts, Outbox, Sent};
 use strm_types::{Ioc, MsgKind, Spot, Way, Winsize};
 
@@ -45,13 +45,13 @@ fn framed(ioc: Ioc, given: &[u8]) -> ArrayVec<u8, IOCTL_SIZE>
 }
 
 // Makes a message of a kind without parts, of band 0, that goes on from here.
-fn send<B: Blocks>(store: &mut B, here: Spot, way: Way, kind: MsgKind, bytes: &[u8]) -> Sent<B::Mp>
+fn send<B: Blocks>(store: &mut B, here: Spot, way: Way, kind: MsgKind, bytes: &[u8]) -> Sent
     requires kind { is_data_kind kind ≡ false }
     requires few { length bytes.now ≤ 256 }
     requires room { HasRoom (B.value store.old) 1 }
     requires inside { 0 < here.at }
     requires small { here.at < 2 ^ 63 }
-    ensures { Makes B.name (B.value store.old) (B.value store.new) 1 (result ∷ [])
+    ensures { Makes (B.value store.old) (B.value store.new) 1 (result ∷ [])
         (onward way here (bare kind bytes.now) ∷ []) }
 {
     let message = make(store, kind, bytes);
@@ -62,11 +62,11 @@ fn send<B: Blocks>(store: &mut B, here: Spot, way: Way, kind: MsgKind, bytes: &[
 }
 
 // Makes an M_PCSIG for those who read here.
-fn signal_up<B: Blocks>(store: &mut B, here: Spot, signal: u8) -> Sent<B::Mp>
+fn signal_up<B: Blocks>(store: &mut B, here: Spot, signal: u8) -> Sent
     requires room { HasRoom (B.value store.old) 1 }
     requires inside { 0 < here.at }
     requires small { here.at < 2 ^ 63 }
-    ensures { Makes B.name (B.value store.old) (B.value store.new) 1 (result ∷ []) (signals_up here signal ∷ []) }
+    ensures { Makes (B.value store.old) (B.value store.new) 1 (result ∷ []) (signals_up here signal ∷ []) }
 {
     send(store, here, Way::Up, MsgKind::Pcsig, &[signal])
 }
@@ -77,11 +77,11 @@ fn signal_change<B: Blocks>(
     here: Spot,
     old: Winsize,
     new: Winsize,
-) -> Option<Sent<B::Mp>>
+) -> Option<Sent>
     requires room { HasRoom (B.value store.old) 1 }
     requires inside { 0 < here.at }
     requires small { here.at < 2 ^ 63 }
-    ensures { Makes B.name (B.value store.old) (B.value store.new) 1 (option_to_list result) (window_signal here old new) }
+    ensures { Makes (B.value store.old) (B.value store.new) 1 (option_to_list result) (window_signal here old new) }
 {
     if old.is_same(&new) {
         None
@@ -91,11 +91,11 @@ fn signal_change<B: Blocks>(
 }
 
 // Makes an M_IOCACK that gives nothing, for the other side.
-fn ack_below<B: Blocks>(store: &mut B, here: Spot, ioc: Ioc) -> Sent<B::Mp>
+fn ack_below<B: Blocks>(store: &mut B, here: Spot, ioc: Ioc) -> Sent
     requires room { HasRoom (B.value store.old) 1 }
     requires inside { 0 < here.at }
     requires small { here.at < 2 ^ 63 }
-    ensures { Makes B.name (B.value store.old) (B.value store.new) 1 (result ∷ [])
+    ensures { Makes (B.value store.old) (B.value store.new) 1 (result ∷ [])
         (onward Down here (ack_message ioc []) ∷ []) }
 {
     let answer = framed(ioc.acked(), &[]);
@@ -108,15 +108,15 @@ pub(crate) fn ack<B: Blocks>(
     here: Spot,
     ioc: Ioc,
     given: &[u8],
-    message: B::Mp,
-) -> Acts<B::Mp>
-    requires in_hand { IsInHand (B.value store.old) (B.name message) }
+    message: InHand,
+) -> Acts
+    requires in_hand { IsInHand (B.value store.old) (token message) }
     requires few { length given.now ≤ 35 }
     requires room { HasRoom (B.value store.old) 1 }
     requires inside { 0 < here.at }
     requires small { here.at < 2 ^ 63 }
     ensures notes { result.notes.items ≡ [] }
-    ensures swaps { Swaps B.name (B.value store.old) (B.value store.new) (B.name message) 1 (sent_of result.sent)
+    ensures swaps { Swaps (B.value store.old) (B.value store.new) (token message) 1 (sent_of result.sent)
         (onward Up here (ack_message ioc given.now) ∷ []) }
 {
     store.audit();
@@ -135,14 +135,14 @@ pub(crate) fn nak<B: Blocks>(
     here: Spot,
     back: Way,
     ioc: Ioc,
-    message: B::Mp,
-) -> Acts<B::Mp>
-    requires in_hand { IsInHand (B.value store.old) (B.name message) }
+    message: InHand,
+) -> Acts
+    requires in_hand { IsInHand (B.value store.old) (token message) }
     requires room { HasRoom (B.value store.old) 1 }
     requires inside { 0 < here.at }
     requires small { here.at < 2 ^ 63 }
     ensures notes { result.notes.items ≡ [] }
-    ensures swaps { Swaps B.name (B.value store.old) (B.value store.new) (B.name message) 1 (sent_of result.sent)
+    ensures swaps { Swaps (B.value store.old) (B.value store.new) (token message) 1 (sent_of result.sent)
         (onward back here (nak_message ioc) ∷ []) }
 {
     store.audit();
@@ -161,14 +161,14 @@ fn copy_both<B: Blocks>(
     here: Spot,
     ioc: Ioc,
     given: &[u8],
-    message: B::Mp,
-) -> (Sent<B::Mp>, Sent<B::Mp>)
-    requires in_hand { IsInHand (B.value store.old) (B.name message) }
+    message: InHand,
+) -> (Sent, Sent)
+    requires in_hand { IsInHand (B.value store.old) (token message) }
     requires few { length given.now ≤ 35 }
     requires room { HasRoom (B.value store.old) 2 }
     requires inside { 0 < here.at }
     requires small { here.at < 2 ^ 63 }
-    ensures { Swaps B.name (B.value store.old) (B.value store.new) (B.name message) 2 (result.0 ∷ result.1 ∷ [])
+    ensures { Swaps (B.value store.old) (B.value store.new) (token message) 2 (result.0 ∷ result.1 ∷ [])
         (onward Up here (ack_message ioc given.now) ∷ onward Down here (telling_message ioc given.now) ∷ []) }
 {
     store.audit();
@@ -187,19 +187,19 @@ fn tell_both<B: Blocks>(
     here: Spot,
     ioc: Ioc,
     given: &[u8],
-    message: B::Mp,
-) -> (Sent<B::Mp>, Sent<B::Mp>)
-    requires in_hand { IsInHand (B.value store.old) (B.name message) }
-    requires kind { is_data_kind (block_at 0 (in_hand (B.value store.old) (B.name message))).kind ≡ false }
-    requires given { given.now ≡ payload (message_in (B.value store.old) (B.name message)).plain }
+    message: InHand,
+) -> (Sent, Sent)
+    requires in_hand { IsInHand (B.value store.old) (token message) }
+    requires kind { is_data_kind (block_at 0 (in_hand (B.value store.old) (token message))).kind ≡ false }
+    requires given { given.now ≡ payload (message_in (B.value store.old) (token message)).plain }
     requires few { length given.now ≤ 35 }
     requires room { HasRoom (B.value store.old) 2 }
     requires inside { 0 < here.at }
     requires small { here.at < 2 ^ 63 }
-    ensures swaps { Swaps B.name (B.value store.old) (B.value store.new) (B.name message) 2 (result.0 ∷ result.1 ∷ [])
+    ensures swaps { Swaps (B.value store.old) (B.value store.new) (token message) 2 (result.0 ∷ result.1 ∷ [])
         (onward Up here (ack_message ioc given.now) ∷ onward Down here (telling_message ioc given.now) ∷ []) }
-    ensures shared { let s = B.value store.old in CanPart s (B.name message) →
-        BothCarry B.name (B.value store.new) (drop 1 (in_hand s (B.name message))) (result.0 ∷ result.1 ∷ []) }
+    ensures shared { let s = B.value store.old in CanPart s (token message) →
+        BothCarry (B.value store.new) (drop 1 (in_hand s (token message))) (result.0 ∷ result.1 ∷ []) }
 {
     match part(store, message) {
         Ok(both) => {
@@ -218,21 +218,21 @@ pub(crate) fn confirm<B: Blocks>(
     ioc: Ioc,
     given: &[u8],
     windows: (Winsize, Winsize),
-    message: B::Mp,
-) -> Acts<B::Mp>
-    requires in_hand { IsInHand (B.value store.old) (B.name message) }
-    requires kind { is_data_kind (block_at 0 (in_hand (B.value store.old) (B.name message))).kind ≡ false }
-    requires given { given.now ≡ payload (message_in (B.value store.old) (B.name message)).plain }
+    message: InHand,
+) -> Acts
+    requires in_hand { IsInHand (B.value store.old) (token message) }
+    requires kind { is_data_kind (block_at 0 (in_hand (B.value store.old) (token message))).kind ≡ false }
+    requires given { given.now ≡ payload (message_in (B.value store.old) (token message)).plain }
     requires few { length given.now ≤ 35 }
     requires room { HasRoom (B.value store.old) 3 }
     requires inside { 0 < here.at }
     requires small { here.at < 2 ^ 63 }
     ensures notes { result.notes.items ≡ [] }
-    ensures swaps { Swaps B.name (B.value store.old) (B.value store.new) (B.name message) 3 (sent_of result.sent)
+    ensures swaps { Swaps (B.value store.old) (B.value store.new) (token message) 3 (sent_of result.sent)
         (onward Up here (ack_message ioc given.now) ∷ onward Down here (telling_message ioc given.now)
         ∷ window_signal here windows.0 windows.1) }
-    ensures shared { let s = B.value store.old in CanPart s (B.name message) →
-        BothCarry B.name (B.value store.new) (drop 1 (in_hand s (B.name message))) (sent_of result.sent) }
+    ensures shared { let s = B.value store.old in CanPart s (token message) →
+        BothCarry (B.value store.new) (drop 1 (in_hand s (token message))) (sent_of result.sent) }
 {
     let (first, second) = tell_both(store, here, ioc, given, message);
     let third = signal_change(store, here, windows.0, windows.1);
@@ -254,14 +254,14 @@ pub(crate) fn hear<B: Blocks>(
     here: Spot,
     ioc: Ioc,
     windows: (Winsize, Winsize),
-    message: B::Mp,
-) -> Acts<B::Mp>
-    requires in_hand { IsInHand (B.value store.old) (B.name message) }
+    message: InHand,
+) -> Acts
+    requires in_hand { IsInHand (B.value store.old) (token message) }
     requires room { HasRoom (B.value store.old) 2 }
     requires inside { 0 < here.at }
     requires small { here.at < 2 ^ 63 }
     ensures notes { result.notes.items ≡ [] }
-    ensures swaps { Swaps B.name (B.value store.old) (B.value store.new) (B.name message) 2 (sent_of result.sent)
+    ensures swaps { Swaps (B.value store.old) (B.value store.new) (token message) 2 (sent_of result.sent)
         (window_signal here windows.0 windows.1 ++ onward Down here (ack_message ioc []) ∷ []) }
 {
     store.audit();
@@ -286,14 +286,14 @@ pub(crate) fn raise<B: Blocks>(
     here: Spot,
     ioc: Ioc,
     signal: u8,
-    message: B::Mp,
-) -> Acts<B::Mp>
-    requires in_hand { IsInHand (B.value store.old) (B.name message) }
+    message: InHand,
+) -> Acts
+    requires in_hand { IsInHand (B.value store.old) (token message) }
     requires room { HasRoom (B.value store.old) 2 }
     requires inside { 0 < here.at }
     requires small { here.at < 2 ^ 63 }
     ensures notes { result.notes.items ≡ [] }
-    ensures swaps { Swaps B.name (B.value store.old) (B.value store.new) (B.name message) 2 (sent_of result.sent)
+    ensures swaps { Swaps (B.value store.old) (B.value store.new) (token message) 2 (sent_of result.sent)
         (signals_up here signal ∷ onward Down here (ack_message ioc []) ∷ []) }
 {
     store.audit();

@@ -6,13 +6,13 @@ ghost use Rattle.strm_types.specs.Acks.{ack_message, telling_message};
 ghost use Rattle.strm_types.specs.Flush.{is_data_kind};
 ghost use Rattle.strm_types.specs.Ldterms.{onward};
 ghost use Rattle.strm_types.specs.Typing.{bare};
-ghost use Rattle.strm_blocks.specs.Blocks.{IsInHand, in_hand};
+ghost use Rattle.strm_blocks.specs.Blocks.{IsInHand, in_hand, token};
 ghost use Rattle.strm_msg.specs.Bytes.{bytes_of};
 ghost use Rattle.strm_frame.specs.Hands.{HasRoom};
 ghost use Rattle.strm_pty.specs.Does.{Swaps};
 ghost use Rattle.strm_pty.specs.Shares.{AreShared, BothCarry, Parts, SendsBoth, Unparted};
 
-use strm_blocks::Blocks;
+use strm_blocks::{Blocks, InHand};
 use strm_frame::Sent;
 use strm_types::{Band, Ioc, MsgKind, Spot, Way};
 
@@ -20,11 +20,11 @@ const HEADER_SIZE: usize = 16;
 
 /// Parts a message of two blocks whose first one has 16 bytes, as the header of an ioctl: that block goes, and the other one is there twice,
 /// over one data block. A message of another shape comes back as it is, and so does one of whose payload no more message blocks may be made.
-pub(crate) fn part<B: Blocks>(store: &mut B, message: B::Mp) -> Result<(B::Mp, B::Mp), B::Mp>
-    requires { IsInHand (B.value store.old) (B.name message) }
+pub(crate) fn part<B: Blocks>(store: &mut B, message: InHand) -> Result<(InHand, InHand), InHand>
+    requires { IsInHand (B.value store.old) (token message) }
     ensures { let s = B.value store.old in MatchResult result
-        (λ both. Parts s (B.value store.new) (B.name message) (B.name both.0) (B.name both.1))
-        (λ same. Unparted s (B.value store.new) (B.name message) (B.name same)) }
+        (λ both. Parts s (B.value store.new) (token message) (token both.0) (token both.1))
+        (λ same. Unparted s (B.value store.new) (token message) (token same)) }
 {
     store.audit();
     if store.blocks(&message) != 2 || store.block_len(&message, 0) != HEADER_SIZE {
@@ -49,17 +49,17 @@ pub(crate) fn send_behind<B: Blocks>(
     way: Way,
     kind: MsgKind,
     header: &[u8],
-    message: B::Mp,
-) -> Sent<B::Mp>
-    requires in_hand { IsInHand (B.value store.old) (B.name message) }
+    message: InHand,
+) -> Sent
+    requires in_hand { IsInHand (B.value store.old) (token message) }
     requires kind { is_data_kind kind ≡ false }
     requires few { length header.now ≤ 256 }
     requires room { HasRoom (B.value store.old) 1 }
     requires inside { 0 < here.at }
     requires small { here.at < 2 ^ 63 }
-    ensures swaps { let s = B.value store.old in Swaps B.name s (B.value store.new) (B.name message) 1 (result ∷ [])
-        (onward way here (bare kind (header.now ++ bytes_of (in_hand s (B.name message)))) ∷ []) }
-    ensures carries { drop 1 (in_hand (B.value store.new) (B.name result.message)) ≡ in_hand (B.value store.old) (B.name message) }
+    ensures swaps { let s = B.value store.old in Swaps s (B.value store.new) (token message) 1 (result ∷ [])
+        (onward way here (bare kind (header.now ++ bytes_of (in_hand s (token message)))) ∷ []) }
+    ensures carries { drop 1 (in_hand (B.value store.new) (token result.message)) ≡ in_hand (B.value store.old) (token message) }
 {
     let Ok(front) = store.alloc_with(kind, Band(0), header) else {
         unreachable!()
@@ -77,15 +77,15 @@ pub(crate) fn share<B: Blocks>(
     store: &mut B,
     here: Spot,
     ioc: Ioc,
-    both: (B::Mp, B::Mp),
-) -> (Sent<B::Mp>, Sent<B::Mp>)
-    requires shared { AreShared (B.value store.old) (B.name both.0) (B.name both.1) }
+    both: (InHand, InHand),
+) -> (Sent, Sent)
+    requires shared { AreShared (B.value store.old) (token both.0) (token both.1) }
     requires room { HasRoom (B.value store.old) 2 }
     requires inside { 0 < here.at }
     requires small { here.at < 2 ^ 63 }
-    ensures sends { SendsBoth B.name (B.value store.old) (B.value store.new) (B.name both.0) (B.name both.1) (result.0 ∷ result.1 ∷ []) (let given = bytes_of (in_hand (B.value store.old) (B.name both.0)) in
+    ensures sends { SendsBoth (B.value store.old) (B.value store.new) (token both.0) (token both.1) (result.0 ∷ result.1 ∷ []) (let given = bytes_of (in_hand (B.value store.old) (token both.0)) in
         onward Up here (ack_message ioc given) ∷ onward Down here (telling_message ioc given) ∷ []) }
-    ensures carries { BothCarry B.name (B.value store.new) (in_hand (B.value store.old) (B.name both.0)) (result.0 ∷ result.1 ∷ []) }
+    ensures carries { BothCarry (B.value store.new) (in_hand (B.value store.old) (token both.0)) (result.0 ∷ result.1 ∷ []) }
 {
     let answer = ioc.acked().bytes();
     let first = send_behind(store, here, Way::Up, MsgKind::Iocack, &answer, both.0);

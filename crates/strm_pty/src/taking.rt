@@ -2,14 +2,14 @@
 
 ghost use Rattle.std.specs.Prelude.{◌≡◌, if◌then◌else◌, [], ◌∷◌};
 ghost use Rattle.strm_types.specs.Drivers.{taken_in};
-ghost use Rattle.strm_blocks.specs.Blocks.{IsInHand, in_hand};
+ghost use Rattle.strm_blocks.specs.Blocks.{IsInHand, in_hand, token};
 ghost use Rattle.strm_msg.specs.Messages.{IsChain};
 ghost use Rattle.strm_queue.specs.Stored.{queue_in, IsReady};
 ghost use Rattle.strm_frame.specs.Outboxes.{message_in, sent_of};
 ghost use Rattle.strm_pty.specs.Does.{Does, Swaps};
 
 use arrayvec::ArrayVec;
-use strm_blocks::Blocks;
+use strm_blocks::{Blocks, InHand};
 use strm_frame::{Acts, Outbox};
 use strm_msg::booked_size;
 use strm_queue::Queue;
@@ -28,11 +28,11 @@ pub(crate) fn note_if(holds: bool, note: Note) -> ArrayVec<Note, 4>
 }
 
 /// Frees a message, and nothing comes of it.
-pub(crate) fn let_go<B: Blocks>(store: &mut B, message: B::Mp) -> Acts<B::Mp>
-    requires { IsInHand (B.value store.old) (B.name message) }
+pub(crate) fn let_go<B: Blocks>(store: &mut B, message: InHand) -> Acts
+    requires { IsInHand (B.value store.old) (token message) }
     ensures notes { result.notes.items ≡ [] }
     ensures sent { sent_of result.sent ≡ [] }
-    ensures swaps { Swaps B.name (B.value store.old) (B.value store.new) (B.name message) 0 (sent_of result.sent) [] }
+    ensures swaps { Swaps (B.value store.old) (B.value store.new) (token message) 0 (sent_of result.sent) [] }
 {
     store.audit();
     store.free(message);
@@ -49,15 +49,15 @@ pub(crate) fn take_in<B: Blocks>(
     queue: &mut Queue,
     across: Across,
     side: Side,
-    message: B::Mp,
+    message: InHand,
     told: &mut Fates,
-) -> Acts<B::Mp>
+) -> Acts
     requires ready { IsReady (B.value store.old) queue.old }
-    requires in_hand { IsInHand (B.value store.old) (B.name message) }
-    requires chain { IsChain (in_hand (B.value store.old) (B.name message)) }
+    requires in_hand { IsInHand (B.value store.old) (token message) }
+    requires chain { IsChain (in_hand (B.value store.old) (token message)) }
     ensures { let s = B.value store.old in
-        Does B.name s (B.value store.new) queue.old queue.new (B.name message) 0 result told.old told.new
-        (taken_in side across (message_in s (B.name message)) (queue_in s queue.old)) }
+        Does s (B.value store.new) queue.old queue.new (token message) 0 result told.old told.new
+        (taken_in side across (message_in s (token message)) (queue_in s queue.old)) }
 {
     if across.ended {
         told.tell(

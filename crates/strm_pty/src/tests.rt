@@ -37,7 +37,7 @@ fn fresh<B: Blocks>(store: &B) -> Queue
 }
 
 // Whether messages are sent to these spots, in order, and to no other ones.
-fn goes_to<M: Drop>(mut acts: Acts<M>, spots: &[Spot]) -> bool {
+fn goes_to(mut acts: Acts, spots: &[Spot]) -> bool {
     for spot in spots {
         match acts.sent.take_first() {
             Some(sent) if sent.to == *spot => {}

@@ -1,10 +1,11 @@
 -- The first message of a queue, taken off it.
 use Rattle.std.proofs.Common.{ℕ, ◌≡◌, ◌<◌, false, List, [], ◌∷◌, length, map, refl, sym, ap, subst, ◌∙◌, arith}
 use Rattle.std.specs.Prelude.{sum_by, Option, None, Some, MatchOption}
-use Rattle.strm_blocks.specs.Blocks.{Block, StoreValue, list_at, in_hand, names_of, total}
+use Rattle.strm_blocks.specs.Blocks.{Block, StoreValue, list_at, in_hand, names_of, total, token}
 use Rattle.strm_blocks.specs.Outcomes.{Popped, Unpopped}
 use Rattle.strm_blocks.proofs.Laws.{total-placed, total-held, used-is, references-is, free_m-is, free_d-more}
 use Rattle.std.proofs.lemmas.List.Sums.{sum_by-cons}
+use Rattle.strm_blocks.specs.declared.in_hand.InHand.{InHand}
 use Rattle.strm_msg.specs.Messages.{message_of, IsChain, AreMessages}
 use Rattle.strm_queue.specs.declared.queue.Queue.{Queue}
 use Rattle.strm_queue.specs.Flows.{plain_flows}
@@ -57,8 +58,8 @@ module _ (s t : StoreValue) (q q' : Queue) (i : ℕ) (within : q.list < length s
       }
 
 -- whether something was taken or not
-pub taken-first : {A : Type 0} (name : A → ℕ) (s t : StoreValue) (q q' : Queue) (result : Option A) → q.list < length s.lists → IsReady s q → MatchOption result (Unpopped s t q.list) (λ m. Popped s t q.list (name m))
+pub taken-first : (s t : StoreValue) (q q' : Queue) (result : Option InHand) → q.list < length s.lists → IsReady s q → MatchOption result (Unpopped s t q.list) (λ m. Popped s t q.list (token m))
     → AreCounted q'.flows (list_at t q'.list) → plain_flows q'.flows ≡ plain_flows q.flows → MatchOption result (q'.want_read ≡ q.want_read) (λ m. q'.want_read ≡ false) → q'.list ≡ q.list → q'.no_enable ≡ q.no_enable
-    → MatchOption result (messages_on s q.list ≡ []) (λ m. Dequeued s t q q' (name m))
-taken-first name s t q q' None within ready taken counted flows want_read list no_enable = unpopped s t q.list taken
-taken-first name s t q q' (Some m) within ready taken counted flows want_read list no_enable = dequeued s t q q' (name m) within taken ready counted flows want_read list no_enable
+    → MatchOption result (messages_on s q.list ≡ []) (λ m. Dequeued s t q q' (token m))
+taken-first s t q q' None within ready taken counted flows want_read list no_enable = unpopped s t q.list taken
+taken-first s t q q' (Some m) within ready taken counted flows want_read list no_enable = dequeued s t q q' (token m) within taken ready counted flows want_read list no_enable

@@ -2,7 +2,7 @@
 
 ghost use Rattle.std.specs.Prelude.{◌≡◌, ◌<◌, ◌≤◌, ◌+◌, ◌^◌, ℕ, true, false, List, [], length, MatchOption, Some, None, if◌then◌else◌, slice_set, slice_index_or, sum_by, map};
 ghost use Rattle.strm_types.specs.Message.{is_high_priority};
-ghost use Rattle.strm_blocks.specs.Blocks.{IsInHand, in_hand, list_at, placed, dropped, put, put_back, block_at};
+ghost use Rattle.strm_blocks.specs.Blocks.{IsInHand, in_hand, list_at, placed, dropped, put, put_back, block_at, token};
 ghost use Rattle.strm_blocks.specs.Outcomes.{Popped, Unpopped, flushed};
 ghost use Rattle.strm_queue.specs.Kept.{AreCounted, bytes_of, data_bytes_of, data_share, count_of, band_of, enables, flow_at, is_full, FewBytes};
 ghost use Rattle.strm_blocks.specs.Blocks.{Block};
@@ -18,7 +18,7 @@ ghost use Rattle.std.specs.Bool.{OnFalse};
 use crate::flow::Flow;
 use crate::flush::Flush;
 use crate::share::{Share, share_of};
-use strm_blocks::{Blocks, FlushWhat};
+use strm_blocks::{Blocks, FlushWhat, InHand};
 use strm_types::{BANDS, Band, Marks};
 
 /// A queue: the number of its list in a store, the flow control of its bands from 0 up, and its flags. Want-read says
@@ -86,17 +86,17 @@ impl Queue {
     ///
     /// The cost is a step for each block of the message, and the store's for finding the place.
     #[inline(always)]
-    pub fn putq<B: Blocks>(&mut self, store: &mut B, message: B::Mp) -> bool
+    pub fn putq<B: Blocks>(&mut self, store: &mut B, message: InHand) -> bool
         requires counted { AreCounted self.old.flows (list_at (B.value store.old) self.old.list) }
-        requires in_hand { IsInHand (B.value store.old) (B.name message) }
-        requires band { band_of (in_hand (B.value store.old) (B.name message)) < BANDS }
+        requires in_hand { IsInHand (B.value store.old) (token message) }
+        requires band { band_of (in_hand (B.value store.old) (token message)) < BANDS }
         ensures placed { let s = B.value store.old in
-            B.value store.new ≡ placed (dropped s (B.name message)) self.old.list
-            (put (in_hand s (B.name message)) (list_at s self.old.list)) }
+            B.value store.new ≡ placed (dropped s (token message)) self.old.list
+            (put (in_hand s (token message)) (list_at s self.old.list)) }
         ensures counted { AreCounted self.new.flows (list_at (B.value store.new) self.new.list) }
         ensures flows { plain_flows self.new.flows ≡ plain_flows self.old.flows }
         ensures enables { result
-            ≡ enables (in_hand (B.value store.old) (B.name message)) self.old.want_read self.old.no_enable }
+            ≡ enables (in_hand (B.value store.old) (token message)) self.old.want_read self.old.no_enable }
         ensures others { OnlyCounts self.old self.new }
     {
         store.audit();
@@ -107,13 +107,13 @@ impl Queue {
     }
 
     /// Puts a message in front of all of at most its rank: `putbq(9F)`. It enables nothing. The cost is that of `putq`.
-    pub fn putbq<B: Blocks>(&mut self, store: &mut B, message: B::Mp)
+    pub fn putbq<B: Blocks>(&mut self, store: &mut B, message: InHand)
         requires counted { AreCounted self.old.flows (list_at (B.value store.old) self.old.list) }
-        requires in_hand { IsInHand (B.value store.old) (B.name message) }
-        requires band { band_of (in_hand (B.value store.old) (B.name message)) < BANDS }
+        requires in_hand { IsInHand (B.value store.old) (token message) }
+        requires band { band_of (in_hand (B.value store.old) (token message)) < BANDS }
         ensures placed { let s = B.value store.old in
-            B.value store.new ≡ placed (dropped s (B.name message)) self.old.list
-            (put_back (in_hand s (B.name message)) (list_at s self.old.list)) }
+            B.value store.new ≡ placed (dropped s (token message)) self.old.list
+            (put_back (in_hand s (token message)) (list_at s self.old.list)) }
         ensures counted { AreCounted self.new.flows (list_at (B.value store.new) self.new.list) }
         ensures flows { plain_flows self.new.flows ≡ plain_flows self.old.flows }
         ensures others { OnlyCounts self.old self.new }
@@ -127,10 +127,10 @@ impl Queue {
     /// Takes the first message, if there is one, which clears want-read: `getq(9F)`. Waiting writers are let go by
     /// `back_enable`, once what is left of the message is put back. The cost is a step for each block of the message.
     #[inline(always)]
-    pub fn getq<B: Blocks>(&mut self, store: &mut B) -> Option<B::Mp>
+    pub fn getq<B: Blocks>(&mut self, store: &mut B) -> Option<InHand>
         requires { AreCounted self.old.flows (list_at (B.value store.old) self.old.list) }
         ensures taken { MatchOption result (Unpopped (B.value store.old) (B.value store.new) self.old.list)
-            (λ m. Popped (B.value store.old) (B.value store.new) self.old.list (B.name m)) }
+            (λ m. Popped (B.value store.old) (B.value store.new) self.old.list (token m)) }
         ensures counted { AreCounted self.new.flows (list_at (B.value store.new) self.new.list) }
         ensures flows { plain_flows self.new.flows ≡ plain_flows self.old.flows }
         ensures want_read { MatchOption result (self.new.want_read ≡ self.old.want_read)

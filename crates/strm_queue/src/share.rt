@@ -3,10 +3,10 @@
 ghost use Rattle.std.specs.Prelude.{◌≡◌, ◌<◌, ◌≤◌, ◌+◌, ◌||◌, ◌&&◌, not, nat_lt};
 ghost use Rattle.strm_types.specs.Message.{is_high_priority};
 ghost use Rattle.strm_types.specs.Flush.{is_data_kind, counted_band};
-ghost use Rattle.strm_blocks.specs.Blocks.{IsInHand, in_hand, block_at};
+ghost use Rattle.strm_blocks.specs.Blocks.{IsInHand, in_hand, block_at, token};
 ghost use Rattle.strm_queue.specs.Kept.{bytes_of, band_of, is_data};
 
-use strm_blocks::Blocks;
+use strm_blocks::{Blocks, InHand};
 
 /// The band in which a message counts, how many bytes it has, whether it is of a kind that a flush of data takes, and
 /// whether it is of high priority.
@@ -28,13 +28,13 @@ impl Share {
 }
 
 /// What a message in hand adds to the counts of a queue.
-pub(crate) fn share_of<B: Blocks>(store: &B, message: &B::Mp) -> Share
-    requires { IsInHand (B.value store.now) (B.name message.now) }
-    ensures band { result.band ≡ band_of (in_hand (B.value store.now) (B.name message.now)) }
-    ensures bytes { result.bytes ≡ bytes_of (in_hand (B.value store.now) (B.name message.now)) }
-    ensures kind { result.is_data ≡ is_data (in_hand (B.value store.now) (B.name message.now)) }
+pub(crate) fn share_of<B: Blocks>(store: &B, message: &InHand) -> Share
+    requires { IsInHand (B.value store.now) (token message.now) }
+    ensures band { result.band ≡ band_of (in_hand (B.value store.now) (token message.now)) }
+    ensures bytes { result.bytes ≡ bytes_of (in_hand (B.value store.now) (token message.now)) }
+    ensures kind { result.is_data ≡ is_data (in_hand (B.value store.now) (token message.now)) }
     ensures high { result.is_high
-        ≡ is_high_priority (block_at 0 (in_hand (B.value store.now) (B.name message.now))).kind }
+        ≡ is_high_priority (block_at 0 (in_hand (B.value store.now) (token message.now))).kind }
 {
     let summary = store.summary(message);
     let is_high = summary.kind.is_high_priority();

@@ -7,14 +7,14 @@ ghost use Rattle.strm_types.specs.Message.{is_held};
 ghost use Rattle.strm_types.specs.Emptied.{cells_gone, of_data};
 ghost use Rattle.strm_types.specs.Refused.{has_no_data, is_a_band};
 ghost use Rattle.strm_types.specs.Queue.{put_on, put_enables, bytes_of, count_of, is_full, marked, relieved, relieves, first_size};
-ghost use Rattle.strm_blocks.specs.Blocks.{Block, StoreValue, IsInHand, block_at, in_hand, list_at, dropped};
+ghost use Rattle.strm_blocks.specs.Blocks.{Block, StoreValue, IsInHand, block_at, in_hand, list_at, dropped, token};
 ghost use Rattle.strm_msg.specs.Messages.{message_of, IsChain};
 ghost use Rattle.strm_queue.specs.Kept.{AreCounted};
 ghost use Rattle.strm_queue.specs.Queues.{OnlyCounts};
 ghost use Rattle.strm_queue.specs.Stored.{queue_in, messages_on, Holds, IsReady, Changes, FreesBlocks, Dequeued};
 
 use crate::queue::Queue;
-use strm_blocks::{Blocks, Peek, Visitor};
+use strm_blocks::{Blocks, InHand, Peek, Visitor};
 use strm_types::{BANDS, Band, Marks, MsgKind};
 
 /// How many bytes count in a band of a queue.
@@ -145,17 +145,17 @@ pub fn mark_all(queue: &mut Queue, marks: Marks)
 }
 
 /// Puts a message in hand on a queue, and says whether that enables a queue with a service procedure: `putq(9F)`.
-pub fn enqueue<B: Blocks>(store: &mut B, queue: &mut Queue, message: B::Mp) -> bool
+pub fn enqueue<B: Blocks>(store: &mut B, queue: &mut Queue, message: InHand) -> bool
     requires ready { IsReady (B.value store.old) queue.old }
-    requires in_hand { IsInHand (B.value store.old) (B.name message) }
-    requires chain { IsChain (in_hand (B.value store.old) (B.name message)) }
+    requires in_hand { IsInHand (B.value store.old) (token message) }
+    requires chain { IsChain (in_hand (B.value store.old) (token message)) }
     ensures queue { queue_in (B.value store.new) queue.new
-        ≡ put_on (message_of (in_hand (B.value store.old) (B.name message))) (queue_in (B.value store.old) queue.old) }
+        ≡ put_on (message_of (in_hand (B.value store.old) (token message))) (queue_in (B.value store.old) queue.old) }
     ensures enables { result
-        ≡ put_enables (message_of (in_hand (B.value store.old) (B.name message))) (queue_in (B.value store.old) queue.old) }
-    ensures holds { (test : MsgKind → Bool) → test (block_at 0 (in_hand (B.value store.old) (B.name message))).kind ≡ true →
+        ≡ put_enables (message_of (in_hand (B.value store.old) (token message))) (queue_in (B.value store.old) queue.old) }
+    ensures holds { (test : MsgKind → Bool) → test (block_at 0 (in_hand (B.value store.old) (token message))).kind ≡ true →
         Holds test (list_at (B.value store.old) queue.old.list) → Holds test (list_at (B.value store.new) queue.new.list) }
-    ensures changes { Changes (dropped (B.value store.old) (B.name message)) (B.value store.new) queue.old queue.new }
+    ensures changes { Changes (dropped (B.value store.old) (token message)) (B.value store.new) queue.old queue.new }
     ensures frees { FreesBlocks (B.value store.old) (B.value store.new) }
 {
     store.audit();
@@ -164,10 +164,10 @@ pub fn enqueue<B: Blocks>(store: &mut B, queue: &mut Queue, message: B::Mp) -> b
 
 /// Takes the first message off a queue into the hand, with its chain as it stood there: `getq(9F)`. None where no message
 /// stands there.
-pub fn dequeue<B: Blocks>(store: &mut B, queue: &mut Queue) -> Option<B::Mp>
+pub fn dequeue<B: Blocks>(store: &mut B, queue: &mut Queue) -> Option<InHand>
     requires { IsReady (B.value store.old) queue.old }
     ensures { MatchOption result (messages_on (B.value store.old) queue.old.list ≡ [])
-        (λ m. Dequeued (B.value store.old) (B.value store.new) queue.old queue.new (B.name m)) }
+        (λ m. Dequeued (B.value store.old) (B.value store.new) queue.old queue.new (token m)) }
 {
     store.audit();
     queue.getq(store)

@@ -7,7 +7,7 @@ use Rattle.strm_types.specs.declared.spots.Spot.{Spot}
 use Rattle.strm_types.specs.Message.{Message}
 use Rattle.strm_types.specs.Deliver.{Acted, AreLower}
 use Rattle.strm_types.specs.Modules.{act_among}
-use Rattle.strm_blocks.specs.Blocks.{StoreValue, empty_store, in_hand, list_at, times_in}
+use Rattle.strm_blocks.specs.Blocks.{StoreValue, empty_store, in_hand, list_at, times_in, token}
 use Rattle.strm_msg.specs.Messages.{IsChain, AreMessages}
 use Rattle.strm_queue.specs.declared.queue.Queue.{Queue}
 use Rattle.strm_queue.specs.Kept.{AreCounted}
@@ -50,44 +50,44 @@ act-few acts few i [] = omega arith
 act-few acts few zero (p ∷ ps) = few p
 act-few acts few (suc i) (p ∷ ps) = act-few acts few i ps
 
-module _ {M : Type 0} (name : M → ℕ) (s t : StoreValue) (kept keeps : ℕ → ℕ) (all : List (Sent M)) (empty : s.hand ≡ []) (kept_none : (i : ℕ) → kept i ≡ 0) (keeps_none : (i : ℕ) → keeps i ≡ 0)
-    (hands : Handles s t (λ _. 0) kept keeps (λ i. times_sent name i all)) where
-  times-now : (i : ℕ) → times_in i t.hand ≡ times_sent name i all
+module _ (s t : StoreValue) (kept keeps : ℕ → ℕ) (all : List Sent) (empty : s.hand ≡ []) (kept_none : (i : ℕ) → kept i ≡ 0) (keeps_none : (i : ℕ) → keeps i ≡ 0)
+    (hands : Handles s t (λ _. 0) kept keeps (λ i. times_sent i all)) where
+  times-now : (i : ℕ) → times_in i t.hand ≡ times_sent i all
   times-now i = let c = hands.counts i in let e = ap (times_in i) empty in let k = kept_none i in let z = keeps_none i in omega arith
 
   -- nothing was sent
   pub none-rest : all ≡ [] → t.hand ≡ []
   unfolding times_sent
-  none-rest none = no-hand t.hand (λ i. times-now i ∙ ap (times_sent name i) none)
+  none-rest none = no-hand t.hand (λ i. times-now i ∙ ap (times_sent i) none)
 
-  module _ (x : Sent M) (more : List (Sent M)) (split : all ≡ x ∷ more) where
+  module _ (x : Sent) (more : List Sent) (split : all ≡ x ∷ more) where
     -- one was, and may be put
-    pub sent-can : CanPut t (name x.message) keeps
+    pub sent-can : CanPut t (token x.message) keeps
     unfolding times_sent
-    sent-can = record { apart = λ i. let c = times-now i in let e = ap (times_sent name i) split in let z = keeps_none i in omega arith }
+    sent-can = record { apart = λ i. let c = times-now i in let e = ap (times_sent i) split in let z = keeps_none i in omega arith }
 
-    pub sent-chain : AreChains name t all → IsChain (in_hand t (name x.message))
+    pub sent-chain : AreChains t all → IsChain (in_hand t (token x.message))
     unfolding AreChains
-    sent-chain chains = (subst (AreChains name t) split chains).0
+    sent-chain chains = (subst (AreChains t) split chains).0
 
-    pub sent-low : (here : Spot) → AreLower (far {C = ℕ}) (far_at Down here.at) (parcels_in name t all) → far_at x.to.way x.to.at < 16
+    pub sent-low : (here : Spot) → AreLower (far {C = ℕ}) (far_at Down here.at) (parcels_in t all) → far_at x.to.way x.to.at < 16
     unfolding parcels_in
-    sent-low here lower = let low = (subst (λ ps. AreLower (far {C = ℕ}) (far_at Down here.at) ps) (ap (parcels_in name t) split) lower).0 in omega arith
+    sent-low here lower = let low = (subst (λ ps. AreLower (far {C = ℕ}) (far_at Down here.at) ps) (ap (parcels_in t) split) lower).0 in omega arith
 
-    only-one : (more : List (Sent M)) → length (parcels_in name t (x ∷ more)) ≤ 1 → more ≡ []
+    only-one : (more : List Sent) → length (parcels_in t (x ∷ more)) ≤ 1 → more ≡ []
     unfolding parcels_in
     only-one [] few = refl
     only-one (y ∷ ys) few = absurd (omega arith)
 
     -- and nothing is left when it is delivered
-    pub sent-rest : (here : Spot) (again : Bool) (stop : Option ℕ) (i : ℕ) (ps : List Stock) (u : StoreValue) (keeps' : ℕ → ℕ) → parcels_in name t all ≡ (act_among (λ p. (stock_serves here again stop p).acted) i ps).sent
-        → ((j : ℕ) → keeps' j ≡ 0) → Hands t u (name x.message) keeps keeps' (λ _. 0) → u.hand ≡ []
+    pub sent-rest : (here : Spot) (again : Bool) (stop : Option ℕ) (i : ℕ) (ps : List Stock) (u : StoreValue) (keeps' : ℕ → ℕ) → parcels_in t all ≡ (act_among (λ p. (stock_serves here again stop p).acted) i ps).sent
+        → ((j : ℕ) → keeps' j ≡ 0) → Hands t u (token x.message) keeps keeps' (λ _. 0) → u.hand ≡ []
     unfolding times_sent
     sent-rest here again stop i ps u keeps' sent keeps_none' carried =
         let few = act-few (λ p. (stock_serves here again stop p).acted) (λ p. few-of here p p.queue.messages) i ps in
-        let one = only-one more (subst (λ xs. length (parcels_in name t xs) ≤ 1) split (subst (λ ps. length ps ≤ 1) (sym sent) few)) in
+        let one = only-one more (subst (λ xs. length (parcels_in t xs) ≤ 1) split (subst (λ ps. length ps ≤ 1) (sym sent) few)) in
         no-hand u.hand (λ j.
-        let c = carried.counts j in let a = times-now j in let e = ap (times_sent name j) split in let n = ap (times_sent name j) one in
+        let c = carried.counts j in let a = times-now j in let e = ap (times_sent j) split in let n = ap (times_sent j) one in
         let k = keeps_none j in let z = keeps_none' j in omega arith)
 
 -- a message that has left

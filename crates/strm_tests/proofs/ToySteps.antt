@@ -9,7 +9,7 @@ use Rattle.strm_types.specs.Deliver.{Parcel, AreLower, toward}
 use Rattle.std.proofs.lemmas.Bool.Decides.{nat_tests}
 use Rattle.strm_types.specs.Message.{Message}
 use Rattle.strm_types.specs.declared.kinds.MsgKind.TheVariants as kinds
-use Rattle.strm_blocks.specs.Blocks.{Held, StoreValue, IsStore, in_hand, block_at, dropped, times_in}
+use Rattle.strm_blocks.specs.Blocks.{Held, StoreValue, IsStore, in_hand, block_at, dropped, times_in, token}
 use Rattle.strm_blocks.proofs.Laws.{in_hand-dropped}
 use Rattle.strm_queue.specs.declared.queue.Queue.{Queue}
 use Rattle.strm_queue.specs.Stored.{Changes, FreesBlocks, Dequeued}
@@ -73,17 +73,16 @@ freed-same s i keeps st can =
     }
 
 -- how much is spent, and how far it is, where nothing is sent or one message
-module _ {M : Type 0} (name : M → ℕ) where
-  pub none-spends : (s0 s : StoreValue) (cost : Spot → Message ℕ → ℕ) (most : ℕ) (all : List (Sent M)) → all ≡ [] → Spends s0 s most 0 → Spends s0 s most (cost_of cost (parcels_in name s all))
-  unfolding cost_of parcels_in
-  none-spends s0 s cost most all none spends = let e = ap (λ xs. cost_of cost (parcels_in name s xs)) none in record { mblks = omega arith; dblks = omega arith }
+pub none-spends : (s0 s : StoreValue) (cost : Spot → Message ℕ → ℕ) (most : ℕ) (all : List Sent) → all ≡ [] → Spends s0 s most 0 → Spends s0 s most (cost_of cost (parcels_in s all))
+unfolding cost_of parcels_in
+none-spends s0 s cost most all none spends = let e = ap (λ xs. cost_of cost (parcels_in s xs)) none in record { mblks = omega arith; dblks = omega arith }
 
-  pub one-spends : (s : StoreValue) (x : Sent M) (cost : Spot → Message ℕ → ℕ) (most : ℕ) (all : List (Sent M)) → all ≡ x ∷ [] → cost x.to (parcel_in name s x).message ≤ most → Spends s s most (cost_of cost (parcels_in name s all))
-  unfolding cost_of
-  one-spends s x cost most all one few = let e = ap (cost_of cost) (one-parts name s x all one) in record { mblks = omega arith; dblks = omega arith }
+pub one-spends : (s : StoreValue) (x : Sent) (cost : Spot → Message ℕ → ℕ) (most : ℕ) (all : List Sent) → all ≡ x ∷ [] → cost x.to (parcel_in s x).message ≤ most → Spends s s most (cost_of cost (parcels_in s all))
+unfolding cost_of
+one-spends s x cost most all one few = let e = ap (cost_of cost) (one-parts s x all one) in record { mblks = omega arith; dblks = omega arith }
 
-  pub one-lower : (s : StoreValue) (x : Sent M) (height : Spot → Message ℕ → ℕ) (top : ℕ) (all : List (Sent M)) → all ≡ x ∷ [] → height x.to (parcel_in name s x).message < top → AreLower height top (parcels_in name s all)
-  one-lower s x height top all one low = subst (AreLower height top) (sym (one-parts name s x all one)) (low, tt)
+pub one-lower : (s : StoreValue) (x : Sent) (height : Spot → Message ℕ → ℕ) (top : ℕ) (all : List Sent) → all ≡ x ∷ [] → height x.to (parcel_in s x).message < top → AreLower height top (parcels_in s all)
+one-lower s x height top all one low = subst (AreLower height top) (sym (one-parts s x all one)) (low, tt)
 
 -- nothing but the queue's own list changes
 pub own-list : (s t : StoreValue) (q q' : Queue) → Changes s t q q' → OnlyOwn s t (once q.list) (once q'.list)
@@ -127,26 +126,26 @@ took-own s t q q' i d = record {
   owns_same = λ k. ap (λ l. once l k) d.list;
 }
 
-pub took-hands : {M : Type 0} (name : M → ℕ) (s t : StoreValue) (q q' : Queue) (x : Sent M) (all : List (Sent M)) → all ≡ x ∷ [] → Dequeued s t q q' (name x.message)
-    → Handles s t (λ _. 0) (λ _. 0) (λ _. 0) (λ i. times_sent name i all)
+pub took-hands : (s t : StoreValue) (q q' : Queue) (x : Sent) (all : List Sent) → all ≡ x ∷ [] → Dequeued s t q q' (token x.message)
+    → Handles s t (λ _. 0) (λ _. 0) (λ _. 0) (λ i. times_sent i all)
 unfolding times_sent once
-took-hands name s t q q' x all one d =
-    let n = name x.message in
+took-hands s t q q' x all one d =
+    let n = token x.message in
     record {
       counts = λ j.
           let a = ap (times_in j) d.hand in
           let h = sum_by-cons (λ (y : Held). cond {A = ℕ} (eqb y.name j) 1 0) (record { name = n; chain = in_hand t n }) s.hand in
-          let o = ap (times_sent name j) one in
+          let o = ap (times_sent j) one in
           omega arith;
       others = λ j none kept some.
           ap (λ hs. in_hand (record s { hand = hs }) j) d.hand
           ∙ stays-chain s n (in_hand t n) j (λ e. (let f = d.fresh in let w = ap (λ k. times_in k s.hand) e in absurd (omega arith)));
     }
 
-pub one-room : {M : Type 0} (name : M → ℕ) (s : StoreValue) (next : ℕ) (x : Sent M) (all : List (Sent M)) → all ≡ x ∷ [] → HasRoom s (later_cost nothing false next (parcels_in name s all))
+pub one-room : (s : StoreValue) (next : ℕ) (x : Sent) (all : List Sent) → all ≡ x ∷ [] → HasRoom s (later_cost nothing false next (parcels_in s all))
 unfolding cost_of parcels_in
-one-room name s next x all one =
-    let e = ap (λ xs. cost_of (nothing {C = ℕ}) (parcels_in name s xs)) one in
+one-room s next x all one =
+    let e = ap (λ xs. cost_of (nothing {C = ℕ}) (parcels_in s xs)) one in
     record { mblks = omega arith; dblks = omega arith }
 
 -- what costs nothing

@@ -1,15 +1,15 @@
 //! Each call of a store once, through the bound, and how many references a data block can have.
 ghost use Rattle.std.specs.Prelude.{ℕ, ◌≡◌, ◌≢◌, ◌<◌, ◌≤◌, ◌+◌, ◌-◌, ◌^◌, min, not, is_some, length, IfOk, IfSome};
-ghost use Rattle.strm_blocks.specs.Blocks.{IsInHand, in_hand};
+ghost use Rattle.strm_blocks.specs.Blocks.{IsInHand, in_hand, token};
 
 use std::test::Fail;
-use strm_blocks::{Blocks, FlushWhat, NoBlocks, Peek, Summary, TableStore, Visitor};
+use strm_blocks::{Blocks, FlushWhat, InHand, NoBlocks, Peek, Summary, TableStore, Visitor};
 use strm_types::{Band, MsgKind};
 
 // So many more blocks behind a message, which all name the data block of its first one.
-fn piled<B: Blocks>(store: &mut B, message: B::Mp, count: usize) -> Result<B::Mp, NoBlocks>
-    requires { IsInHand (B.value store.old) (B.name message) }
-    ensures { IfOk result (λ m. IsInHand (B.value store.new) (B.name m)) }
+fn piled<B: Blocks>(store: &mut B, message: InHand, count: usize) -> Result<InHand, NoBlocks>
+    requires { IsInHand (B.value store.old) (token message) }
+    ensures { IfOk result (λ m. IsInHand (B.value store.new) (token m)) }
 {
     let mut pile = message;
     for _ in 0..count {
@@ -21,10 +21,10 @@ fn piled<B: Blocks>(store: &mut B, message: B::Mp, count: usize) -> Result<B::Mp
 }
 
 // A message of one block with these bytes. Those that were in hand still are.
-fn made<B: Blocks>(store: &mut B, kind: MsgKind, bytes: &[u8]) -> Result<B::Mp, NoBlocks>
-    ensures held { IfOk result (λ m. IsInHand (B.value store.new) (B.name m)) }
+fn made<B: Blocks>(store: &mut B, kind: MsgKind, bytes: &[u8]) -> Result<InHand, NoBlocks>
+    ensures held { IfOk result (λ m. IsInHand (B.value store.new) (token m)) }
     ensures others { IfOk result (λ m. (i : ℕ) → IsInHand (B.value store.old) i → IsInHand (B.value store.new) i) }
-    ensures apart { IfOk result (λ m. (i : ℕ) → IsInHand (B.value store.old) i → i ≢ B.name m) }
+    ensures apart { IfOk result (λ m. (i : ℕ) → IsInHand (B.value store.old) i → i ≢ token m) }
 {
     let message = store.alloc(kind)?;
     store.append(&message, bytes);
@@ -32,8 +32,8 @@ fn made<B: Blocks>(store: &mut B, kind: MsgKind, bytes: &[u8]) -> Result<B::Mp, 
 }
 
 // A message of a control part and a data part.
-fn of_two_parts<B: Blocks>(store: &mut B, control: &[u8], body: &[u8]) -> Result<B::Mp, NoBlocks>
-    ensures { IfOk result (λ m. IsInHand (B.value store.new) (B.name m)) }
+fn of_two_parts<B: Blocks>(store: &mut B, control: &[u8], body: &[u8]) -> Result<InHand, NoBlocks>
+    ensures { IfOk result (λ m. IsInHand (B.value store.new) (token m)) }
 {
     let first = made(store, MsgKind::Proto, control)?;
     let second = made(store, MsgKind::Data, body)?;
@@ -41,26 +41,26 @@ fn of_two_parts<B: Blocks>(store: &mut B, control: &[u8], body: &[u8]) -> Result
 }
 
 // The last block of a message loses so many bytes at its head, or all that it has.
-fn trim_first<B: Blocks>(store: &mut B, message: &B::Mp, n: usize)
-    requires { IsInHand (B.value store.old) (B.name message.now) }
-    ensures { IsInHand (B.value store.new) (B.name message.now) }
+fn trim_first<B: Blocks>(store: &mut B, message: &InHand, n: usize)
+    requires { IsInHand (B.value store.old) (token message.now) }
+    ensures { IsInHand (B.value store.new) (token message.now) }
 {
     let last = store.blocks(message) - 1;
     store.trim_head(message, last, n);
 }
 
 // The last block of a message loses so many bytes at its tail, or all that it has.
-fn trim_last<B: Blocks>(store: &mut B, message: &B::Mp, n: usize)
-    requires { IsInHand (B.value store.old) (B.name message.now) }
-    ensures { IsInHand (B.value store.new) (B.name message.now) }
+fn trim_last<B: Blocks>(store: &mut B, message: &InHand, n: usize)
+    requires { IsInHand (B.value store.old) (token message.now) }
+    ensures { IsInHand (B.value store.new) (token message.now) }
 {
     let last = store.blocks(message) - 1;
     store.trim_tail(message, last, n);
 }
 
 // How many bytes a copy of a message's last block shows, which is freed again.
-fn len_of_copy<B: Blocks>(store: &mut B, message: &B::Mp) -> Result<usize, NoBlocks>
-    requires { IsInHand (B.value store.old) (B.name message.now) }
+fn len_of_copy<B: Blocks>(store: &mut B, message: &InHand) -> Result<usize, NoBlocks>
+    requires { IsInHand (B.value store.old) (token message.now) }
     ensures { B.value store.new ≡ B.value store.old }
 {
     let last = store.blocks(message) - 1;
@@ -72,8 +72,8 @@ fn len_of_copy<B: Blocks>(store: &mut B, message: &B::Mp) -> Result<usize, NoBlo
 }
 
 // How many bytes a duplicate of a message's last block shows, which is freed again.
-fn len_of_dup<B: Blocks>(store: &mut B, message: &B::Mp) -> Result<usize, NoBlocks>
-    requires { IsInHand (B.value store.old) (B.name message.now) }
+fn len_of_dup<B: Blocks>(store: &mut B, message: &InHand) -> Result<usize, NoBlocks>
+    requires { IsInHand (B.value store.old) (token message.now) }
     ensures { B.value store.new ≡ B.value store.old }
 {
     let last = store.blocks(message) - 1;
@@ -85,8 +85,8 @@ fn len_of_dup<B: Blocks>(store: &mut B, message: &B::Mp) -> Result<usize, NoBloc
 }
 
 // Whether the first block of a message can't be duplicated once more.
-fn is_full<B: Blocks>(store: &mut B, message: &B::Mp) -> bool
-    requires { IsInHand (B.value store.old) (B.name message.now) }
+fn is_full<B: Blocks>(store: &mut B, message: &InHand) -> bool
+    requires { IsInHand (B.value store.old) (token message.now) }
     ensures { B.value store.new ≡ B.value store.old }
 {
     store.audit();
@@ -113,9 +113,9 @@ fn beside_pile<B: Blocks>(
 }
 
 // What is seen of a message of band 3 at the front of list 2, and its name when it was taken off again.
-fn through_a_list<B: Blocks>(store: &mut B, message: B::Mp) -> Option<(Peek, B::Mp)>
-    requires { IsInHand (B.value store.old) (B.name message) }
-    ensures { IfSome result (λ taken. IsInHand (B.value store.new) (B.name taken.1)) }
+fn through_a_list<B: Blocks>(store: &mut B, message: InHand) -> Option<(Peek, InHand)>
+    requires { IsInHand (B.value store.old) (token message) }
+    ensures { IfSome result (λ taken. IsInHand (B.value store.new) (token taken.1)) }
 {
     store.set_band(&message, Band(3));
     store.insert_back(2, message);
@@ -125,8 +125,8 @@ fn through_a_list<B: Blocks>(store: &mut B, message: B::Mp) -> Option<(Peek, B::
 }
 
 // Whether a message of band 3 has two blocks, of which the second is of M_DATA and shows these bytes.
-fn ends_in<B: Blocks>(store: &B, message: &B::Mp, bytes: &[u8]) -> bool
-    requires { IsInHand (B.value store.now) (B.name message.now) }
+fn ends_in<B: Blocks>(store: &B, message: &InHand, bytes: &[u8]) -> bool
+    requires { IsInHand (B.value store.now) (token message.now) }
 {
     store.blocks(message) == 2
         && store.band(message) == Band(3)
@@ -135,8 +135,8 @@ fn ends_in<B: Blocks>(store: &B, message: &B::Mp, bytes: &[u8]) -> bool
 }
 
 // Puts the first block of a message on list 7, and lets the rest stay in hand.
-fn part<B: Blocks>(store: &mut B, message: B::Mp)
-    requires { IsInHand (B.value store.old) (B.name message) }
+fn part<B: Blocks>(store: &mut B, message: InHand)
+    requires { IsInHand (B.value store.old) (token message) }
 {
     let (first, _rest) = store.unlink(message);
     store.insert_front(7, first);
@@ -163,17 +163,17 @@ fn is_seen<B: Blocks>(store: &mut B) -> Result<bool, NoBlocks> {
 }
 
 // A message of one block with these bytes, made at once.
-fn filled<B: Blocks>(store: &mut B, kind: MsgKind, bytes: &[u8]) -> Result<B::Mp, NoBlocks>
+fn filled<B: Blocks>(store: &mut B, kind: MsgKind, bytes: &[u8]) -> Result<InHand, NoBlocks>
     requires { length bytes.now ≤ 256 }
-    ensures { IfOk result (λ m. IsInHand (B.value store.new) (B.name m)) }
+    ensures { IfOk result (λ m. IsInHand (B.value store.new) (token m)) }
 {
     store.alloc_with(kind, Band(2), bytes)
 }
 
 // The first block of a message gets another kind.
-fn turn_first<B: Blocks>(store: &mut B, message: &B::Mp, kind: MsgKind)
-    requires { IsInHand (B.value store.old) (B.name message.now) }
-    ensures { IsInHand (B.value store.new) (B.name message.now) }
+fn turn_first<B: Blocks>(store: &mut B, message: &InHand, kind: MsgKind)
+    requires { IsInHand (B.value store.old) (token message.now) }
+    ensures { IsInHand (B.value store.new) (token message.now) }
 {
     let _some = store.blocks(message);
     store.set_kind(message, 0, kind);

@@ -51,11 +51,11 @@ fn a_stack_holds_three_modules_each_name_once(rt: HostRuntime) -> Result<(), Fai
 }
 
 fn push(stack: &mut Stream<Turner>, name: ModuleName) -> bool {
-    stack.push::<TableStore>(Turner { name }).is_ok()
+    stack.push(Turner { name }).is_ok()
 }
 
 fn look(stack: &Stream<Turner>) -> Option<ModuleName> {
-    stack.look::<TableStore>()
+    stack.look()
 }
 
 #[test]
@@ -63,14 +63,14 @@ fn the_nearest_queue_past_a_place_is_found(rt: HostRuntime) -> Result<(), Fail> 
     let mut stack = Stream::new();
     for name in [ModuleName::Ptem, ModuleName::Ldterm, ModuleName::Pckt] {
         let queue = Queue::new(0, 512, 128);
-        assert!(rt; stack.push::<TableStore>(Stock { name, queue }).is_ok());
+        assert!(rt; stack.push(Stock { name, queue }).is_ok());
     }
-    assert!(rt; stack.place_past::<TableStore>(Way::Down, 0) == Some(1));
-    assert!(rt; stack.place_past::<TableStore>(Way::Down, 2) == Some(3));
-    assert!(rt; stack.place_past::<TableStore>(Way::Down, 3).is_none());
-    assert!(rt; stack.place_past::<TableStore>(Way::Up, 4).is_none());
-    assert!(rt; stack.place_before::<TableStore>(Way::Down, 4) == Some(3));
-    assert!(rt; stack.place_before::<TableStore>(Way::Down, 1).is_none());
+    assert!(rt; stack.place_past(Way::Down, 0) == Some(1));
+    assert!(rt; stack.place_past(Way::Down, 2) == Some(3));
+    assert!(rt; stack.place_past(Way::Down, 3).is_none());
+    assert!(rt; stack.place_past(Way::Up, 4).is_none());
+    assert!(rt; stack.place_before(Way::Down, 4) == Some(3));
+    assert!(rt; stack.place_before(Way::Down, 1).is_none());
     Ok(())
 }
 
@@ -79,10 +79,10 @@ fn a_writer_waits_at_the_nearest_queue(rt: HostRuntime) -> Result<(), Fail> {
     let mut stack = Stream::new();
     for name in [ModuleName::Ptem, ModuleName::Ldterm] {
         let queue = Queue::new(0, 512, 128);
-        assert!(rt; stack.push::<TableStore>(Stock { name, queue }).is_ok());
+        assert!(rt; stack.push(Stock { name, queue }).is_ok());
     }
-    stack.let_wait_past::<TableStore>(Way::Down, Band(2), 1);
-    stack.let_wait_past::<TableStore>(Way::Up, Band(3), 3);
+    stack.let_wait_past(Way::Down, Band(2), 1);
+    stack.let_wait_past(Way::Up, Band(3), 3);
     for waits in [true, false] {
         let last = stack.modules.pop();
         assert!(rt; last.map(|stock| stock.queue.flows[2].want_write) == Some(waits));

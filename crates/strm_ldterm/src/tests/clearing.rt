@@ -28,8 +28,8 @@ fn line_goes<B: Blocks>(rt: &impl Abort, store: &mut B, side: Side, told: &mut F
 {
     let mut ldterm = Ldterm::new(0, 1);
     ldterm.line = typed(rt);
-    Module::<B>::let_wait(&mut ldterm, Way::Up, Band(0));
-    Module::<B>::let_wait(&mut ldterm, Way::Down, Band(0));
+    Module::let_wait(&mut ldterm, Way::Up, Band(0));
+    Module::let_wait(&mut ldterm, Way::Down, Band(0));
     let popped = clear(&mut ldterm, store, side, Rule::ModulePopped, Some(1), told);
     assert!(rt; popped.notes.is_empty());
     assert!(rt; !popped.met);

@@ -36,17 +36,17 @@ fn killed(rt: &impl Abort, tabs: usize) -> Echo {
 // Echoes it, and looks at who is enabled and at the write queue.
 fn echoes<B: Blocks>(
     rt: &impl Abort,
-    ldterm: &mut Ldterm<B::Mp>,
+    ldterm: &mut Ldterm,
     store: &mut B,
     tabs: usize,
     notes: &[Note],
     size: usize,
     told: &mut Fates,
 )
-    requires held { IsHeld B.name (B.value store.old) ldterm.old }
-    requires kept { AreIn (B.value store.old) (λ _. 0) (keeps B.name ldterm.old) }
-    ensures held { IsHeld B.name (B.value store.new) ldterm.new }
-    ensures kept { AreIn (B.value store.new) (λ _. 0) (keeps B.name ldterm.new) }
+    requires held { IsHeld (B.value store.old) ldterm.old }
+    requires kept { AreIn (B.value store.old) (λ _. 0) (keeps ldterm.old) }
+    ensures held { IsHeld (B.value store.new) ldterm.new }
+    ensures kept { AreIn (B.value store.new) (λ _. 0) (keeps ldterm.new) }
 {
     let plan = killed(rt, tabs);
     let len = plan.len(&ldterm.line);

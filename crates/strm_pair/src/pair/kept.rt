@@ -1,7 +1,7 @@
 //! What the four queues of a pair keep beside their messages, for tests that compare it.
 
 use crate::pair::Pair;
-use crate::stacks::Stacks;
+use strm_blocks::Blocks;
 use strm_queue::Queue;
 use strm_types::Band;
 
@@ -24,7 +24,7 @@ fn kept_of(queue: &Queue) -> Kept {
     }
 }
 
-impl<B: Stacks + Drop> Pair<B> {
+impl<B: Blocks + Drop> Pair<B> {
     /// What the queues keep: of the master its head and its driver, and then of the slave.
     pub(crate) fn kept(&self) -> [Kept; 4] {
         [

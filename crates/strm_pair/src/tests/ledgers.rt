@@ -3,8 +3,8 @@
 //! count in the sizes of a queue.
 
 use crate::Pair;
-use crate::stacks::Stacks;
 use crate::tests::over_tables;
+use strm_blocks::Blocks;
 use std::process::Abort;
 use std::test::Fail;
 use strm_types::{
@@ -32,7 +32,7 @@ impl Recount {
 // A pair, what was counted in each direction, what the last call gave, the last random number, and the most bytes that were seen in
 // unfinished lines.
 #[derive(Drop)]
-struct Walk<B: Stacks + Drop> {
+struct Walk<B: Blocks + Drop> {
     pair: Pair<B>,
     from_master: Recount,
     from_slave: Recount,
@@ -115,7 +115,7 @@ fn mode_of(x: u64) -> Mode {
     })
 }
 
-impl<B: Stacks + Drop> Walk<B> {
+impl<B: Blocks + Drop> Walk<B> {
     fn next_random(&mut self) -> u64 {
         self.random = self
             .random

@@ -2,10 +2,10 @@
 //! leads on.
 
 use crate::Pair;
-use crate::stacks::Stacks;
 use crate::stored::{stored_answer, stored_event};
 use crate::tests::over_tables;
 use crate::tests::recount::PlainPair;
+use strm_blocks::Blocks;
 use std::alloc::{AllocError, Global};
 use std::process::Abort;
 use std::test::Fail;
@@ -17,7 +17,7 @@ use strm_types::{
 // A pair, the model to which its journal has led, what the last read gave, the last random number, and how often what
 // was met.
 #[derive(Drop)]
-struct Walk<B: Stacks + Drop> {
+struct Walk<B: Blocks + Drop> {
     pair: Pair<B>,
     model: PlainPair,
     out: Content,
@@ -144,21 +144,21 @@ fn name_of(x: u64) -> Option<ModuleName> {
 }
 
 // Whether the model has the queues enabled that a pair has.
-fn enables_alike<B: Stacks + Drop>(pair: &Pair<B>, model: &PlainPair) -> bool {
+fn enables_alike<B: Blocks + Drop>(pair: &Pair<B>, model: &PlainPair) -> bool {
     let enabled = model.enabled();
     pair.enabled() == enabled && pair.first_enabled() == enabled.first().copied()
 }
 
 // Whether a journal has led the model to its end, and the pair is the model's: its free blocks, its enabled queues, and
 // what its queues keep.
-fn are_alike<B: Stacks + Drop>(pair: &Pair<B>, model: &PlainPair) -> bool {
+fn are_alike<B: Blocks + Drop>(pair: &Pair<B>, model: &PlainPair) -> bool {
     model.is_at_the_end_of(pair.journal())
         && pair.free_blocks() == model.free_blocks()
         && enables_alike(pair, model)
         && pair.kept() == model.kept()
 }
 
-impl<B: Stacks + Drop> Walk<B> {
+impl<B: Blocks + Drop> Walk<B> {
     fn next_random(&mut self) -> u64 {
         self.random = self
             .random

@@ -1,6 +1,6 @@
 //! Stations that count what passes: a message goes on upward from each, and at the top it ends.
 
-use strm_blocks::Blocks;
+use strm_blocks::{Blocks, InHand};
 use strm_frame::{Outbox, Sent, Stations};
 use strm_types::{Fates, Spot, Way};
 
@@ -33,9 +33,9 @@ impl<B: Blocks> Stations<B> for Counter {
         &mut self,
         store: &mut B,
         to: Spot,
-        message: B::Mp,
+        message: InHand,
         _told: &mut Fates,
-    ) -> Outbox<B::Mp> {
+    ) -> Outbox {
         store.audit();
         self.seen = self.seen.wrapping_add(1);
         if to.at == 0 {

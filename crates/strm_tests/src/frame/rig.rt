@@ -2,13 +2,13 @@
 //! the queues.
 
 ghost use Rattle.std.specs.Prelude.{ℕ, ◌≡◌, ◌<◌, ◌≤◌, ◌∷◌, [], true, false};
-ghost use Rattle.strm_blocks.specs.Blocks.{in_hand, empty_store};
+ghost use Rattle.strm_blocks.specs.Blocks.{in_hand, empty_store, token};
 ghost use Rattle.strm_msg.specs.Messages.{IsChain};
 ghost use Rattle.strm_tests.specs.Rigs.{is_end, AreTwo, AtRest};
 
 use super::stock::Stock;
 use arrayvec::ArrayVec;
-use strm_blocks::Blocks;
+use strm_blocks::{Blocks, InHand};
 use strm_frame::{Enabled, Outbox, Stations, Stream, deliver};
 use strm_queue::Queue;
 use strm_types::{Asks, Band, Fates, ModuleName, Note, QueueName, Side, Spot, Turn, Way};
@@ -65,12 +65,12 @@ impl Rig {
     }
 
     // Enables what a note says of the module at a place.
-    fn note<B: Blocks>(&mut self, at: usize, note: Note)
+    fn note(&mut self, at: usize, note: Note)
         ensures { self.new.modules ≡ self.old.modules }
     {
         let name = match note {
             Note::Enable(way) => self.queue_name(at, way),
-            Note::Room(way) => match self.modules.place_before::<B>(way, at) {
+            Note::Room(way) => match self.modules.place_before(way, at) {
                 Some(before) => self.queue_name(before, way),
                 None => None,
             },
@@ -79,23 +79,23 @@ impl Rig {
     }
 
     // The same where a condition holds.
-    fn note_if<B: Blocks>(&mut self, holds: bool, at: usize, note: Note)
+    fn note_if(&mut self, holds: bool, at: usize, note: Note)
         ensures { self.new.modules ≡ self.old.modules }
     {
         if holds {
-            self.note::<B>(at, note);
+            self.note(at, note);
         }
     }
 
     // The same for several notes, one after the other.
-    fn note_all<B: Blocks>(&mut self, at: usize, notes: &[Note])
+    fn note_all(&mut self, at: usize, notes: &[Note])
         ensures { self.new.modules ≡ self.old.modules }
     {
         let Some((first, rest)) = notes.split_first() else {
             return;
         };
-        self.note::<B>(at, *first);
-        self.note_all::<B>(at, rest);
+        self.note(at, *first);
+        self.note_all(at, rest);
     }
 
     // Takes the queue at a place off the enabled list.
@@ -118,10 +118,10 @@ impl Rig {
     }
 
     /// Delivers the only message in hand to a spot.
-    pub fn put<B: Blocks>(&mut self, store: &mut B, to: Spot, message: B::Mp)
+    pub fn put<B: Blocks>(&mut self, store: &mut B, to: Spot, message: InHand)
         requires are { AreTwo (λ x. x.queue) (B.value store.old) self.old.modules.modules.items }
-        requires alone { (B.value store.old).hand ≡ record { name = B.name message; chain = in_hand (B.value store.old) (B.name message) } ∷ [] }
-        requires chain { IsChain (in_hand (B.value store.old) (B.name message)) }
+        requires alone { (B.value store.old).hand ≡ record { name = token message; chain = in_hand (B.value store.old) (token message) } ∷ [] }
+        requires chain { IsChain (in_hand (B.value store.old) (token message)) }
         requires near { to.at ≤ 3 }
         ensures { AtRest (λ x. x.queue) (B.value store.new) self.new.modules.modules.items }
     {
@@ -154,7 +154,7 @@ impl Rig {
         };
         let mut told = Fates::none();
         let served = self.modules.serve(store, here, false, &mut told);
-        self.note_all::<B>(at, served.acts.notes.as_slice());
+        self.note_all(at, served.acts.notes.as_slice());
         let mut sent = served.acts.sent;
         let Some(next) = sent.take_first() else {
             return served.bytes;
@@ -171,8 +171,8 @@ impl Rig {
         ensures { AtRest (λ x. x.queue) (B.value store.now) self.new.modules.modules.items }
     {
         let end = self.modules.end_turn(store, at, Way::Down, took);
-        self.note_if::<B>(end.room, at, Note::Room(Way::Down));
-        self.note_if::<B>(end.more && took, at, Note::Enable(Way::Down));
+        self.note_if(end.room, at, Note::Room(Way::Down));
+        self.note_if(end.more && took, at, Note::Enable(Way::Down));
     }
 
     /// A turn of the queue at a place, which comes off the enabled list: its first message goes on where there is room past
@@ -189,7 +189,7 @@ impl Rig {
             return Turn::Idle;
         };
         if self.modules.can_pass(store, Way::Down, band, at) == Some(false) {
-            self.modules.let_wait_past::<B>(Way::Down, band, at);
+            self.modules.let_wait_past(Way::Down, band, at);
             self.end_turn(store, at, false);
             return Turn::Blocked;
         }
@@ -227,9 +227,9 @@ impl<B: Blocks> Stations<B> for Rig {
         &mut self,
         store: &mut B,
         to: Spot,
-        message: B::Mp,
+        message: InHand,
         told: &mut Fates,
-    ) -> Outbox<B::Mp> {
+    ) -> Outbox {
         store.audit();
         if is_end(to.at) {
             self.leave(to.way);
@@ -237,7 +237,7 @@ impl<B: Blocks> Stations<B> for Rig {
             return Outbox::none();
         }
         let acts = self.modules.put(store, to, message, told);
-        self.note_all::<B>(to.at, acts.notes.as_slice());
+        self.note_all(to.at, acts.notes.as_slice());
         acts.sent
     }
 

@@ -7,7 +7,7 @@ ghost use Rattle.strm_tests.specs.Toys.{stays};
 
 use super::turner::onward;
 use arrayvec::ArrayVec;
-use strm_blocks::Blocks;
+use strm_blocks::{Blocks, InHand};
 use strm_frame::{Acts, LetGo, Module, Outbox, Sent, Served, TurnEnd, clear_queue, end_queue_turn};
 use strm_msg::message_size;
 use strm_queue::Queue;
@@ -47,7 +47,7 @@ fn stays(kind: MsgKind, way: Way) -> bool
     matches!((kind, way), (MsgKind::Data, Way::Down))
 }
 
-impl<B: Blocks> Module<B> for Stock {
+impl Module for Stock {
     ghost use Rattle.std.specs.Prelude.{refl, false};
     ghost use Rattle.strm_queue.specs.Stored.{IsReady};
     ghost use Rattle.strm_frame.specs.Hands.{once};
@@ -100,7 +100,7 @@ impl<B: Blocks> Module<B> for Stock {
         self.name
     }
 
-    fn put(&mut self, store: &mut B, here: Spot, message: B::Mp, _told: &mut Fates) -> Acts<B::Mp> {
+    fn put<B: Blocks>(&mut self, store: &mut B, here: Spot, message: InHand, _told: &mut Fates) -> Acts {
         store.audit();
         let kind = store.kind(&message, 0);
         if stays(kind, here.way) {
@@ -126,35 +126,35 @@ impl<B: Blocks> Module<B> for Stock {
         }
     }
 
-    fn is_full(&self, store: &B, way: Way, band: Band) -> bool {
+    fn is_full<B: Blocks>(&self, store: &B, way: Way, band: Band) -> bool {
         match way {
             Way::Up => false,
             Way::Down => is_full(store, &self.queue, band),
         }
     }
 
-    fn count(&self, store: &B, way: Way, band: Band) -> usize {
+    fn count<B: Blocks>(&self, store: &B, way: Way, band: Band) -> usize {
         match way {
             Way::Up => 0,
             Way::Down => count(store, &self.queue, band),
         }
     }
 
-    fn sizes(&self, store: &B, way: Way) -> (usize, usize) {
+    fn sizes<B: Blocks>(&self, store: &B, way: Way) -> (usize, usize) {
         match way {
             Way::Up => (0, 0),
             Way::Down => sizes(store, &self.queue),
         }
     }
 
-    fn first_size(&self, store: &B, way: Way) -> usize {
+    fn first_size<B: Blocks>(&self, store: &B, way: Way) -> usize {
         match way {
             Way::Up => 0,
             Way::Down => first_size(store, &self.queue),
         }
     }
 
-    fn none_waits_up(&self, _store: &B) -> bool {
+    fn none_waits_up<B: Blocks>(&self, _store: &B) -> bool {
         true
     }
 
@@ -169,7 +169,7 @@ impl<B: Blocks> Module<B> for Stock {
         }
     }
 
-    fn asks(&self, store: &B, way: Way) -> Asks {
+    fn asks<B: Blocks>(&self, store: &B, way: Way) -> Asks {
         store.audit();
         match way {
             Way::Down if !self.queue.is_empty(store) => Asks::Room(Band(0)),
@@ -177,13 +177,13 @@ impl<B: Blocks> Module<B> for Stock {
         }
     }
 
-    fn serve(
+    fn serve<B: Blocks>(
         &mut self,
         store: &mut B,
         here: Spot,
         _again: bool,
         _told: &mut Fates,
-    ) -> Served<B::Mp> {
+    ) -> Served {
         if self.queue.is_empty(store) {
             return Served {
                 acts: Acts {
@@ -214,7 +214,7 @@ impl<B: Blocks> Module<B> for Stock {
         }
     }
 
-    fn end_turn(&mut self, store: &B, way: Way, took: bool) -> TurnEnd {
+    fn end_turn<B: Blocks>(&mut self, store: &B, way: Way, took: bool) -> TurnEnd {
         match way {
             Way::Up => TurnEnd {
                 room: false,
@@ -224,7 +224,7 @@ impl<B: Blocks> Module<B> for Stock {
         }
     }
 
-    fn clear(
+    fn clear<B: Blocks>(
         &mut self,
         store: &mut B,
         side: Side,

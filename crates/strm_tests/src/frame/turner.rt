@@ -4,7 +4,7 @@ ghost use Rattle.std.specs.Prelude.{◌≡◌};
 ghost use Rattle.strm_tests.specs.Toys.{is_flush, onward};
 
 use arrayvec::ArrayVec;
-use strm_blocks::Blocks;
+use strm_blocks::{Blocks, InHand};
 use strm_frame::{Acts, LetGo, Module, Outbox, Sent, Served, TurnEnd};
 use strm_types::{Asks, Band, Fates, ModuleName, MsgKind, Rule, Side, Spot, Way};
 
@@ -39,7 +39,7 @@ pub fn onward(kind: MsgKind, way: Way) -> Way
     }
 }
 
-impl<B: Blocks> Module<B> for Turner {
+impl Module for Turner {
     ghost use Rattle.std.specs.Prelude.{refl, None, [], false};
     ghost use Rattle.strm_types.specs.declared.names.ModuleName.{ModuleName};
     ghost use Rattle.strm_tests.specs.Toys.{turns, far, nothing, idle};
@@ -91,7 +91,7 @@ impl<B: Blocks> Module<B> for Turner {
         self.name
     }
 
-    fn put(&mut self, store: &mut B, here: Spot, message: B::Mp, _told: &mut Fates) -> Acts<B::Mp> {
+    fn put<B: Blocks>(&mut self, store: &mut B, here: Spot, message: InHand, _told: &mut Fates) -> Acts {
         store.audit();
         let kind = store.kind(&message, 0);
         Acts {
@@ -107,23 +107,23 @@ impl<B: Blocks> Module<B> for Turner {
         false
     }
 
-    fn is_full(&self, _store: &B, _way: Way, _band: Band) -> bool {
+    fn is_full<B: Blocks>(&self, _store: &B, _way: Way, _band: Band) -> bool {
         false
     }
 
-    fn count(&self, _store: &B, _way: Way, _band: Band) -> usize {
+    fn count<B: Blocks>(&self, _store: &B, _way: Way, _band: Band) -> usize {
         0
     }
 
-    fn sizes(&self, _store: &B, _way: Way) -> (usize, usize) {
+    fn sizes<B: Blocks>(&self, _store: &B, _way: Way) -> (usize, usize) {
         (0, 0)
     }
 
-    fn first_size(&self, _store: &B, _way: Way) -> usize {
+    fn first_size<B: Blocks>(&self, _store: &B, _way: Way) -> usize {
         0
     }
 
-    fn none_waits_up(&self, _store: &B) -> bool {
+    fn none_waits_up<B: Blocks>(&self, _store: &B) -> bool {
         true
     }
 
@@ -133,17 +133,17 @@ impl<B: Blocks> Module<B> for Turner {
 
     fn let_wait(&mut self, _way: Way, _band: Band) {}
 
-    fn asks(&self, _store: &B, _way: Way) -> Asks {
+    fn asks<B: Blocks>(&self, _store: &B, _way: Way) -> Asks {
         Asks::Empty
     }
 
-    fn serve(
+    fn serve<B: Blocks>(
         &mut self,
         _store: &mut B,
         _here: Spot,
         _again: bool,
         _told: &mut Fates,
-    ) -> Served<B::Mp> {
+    ) -> Served {
         Served {
             acts: Acts {
                 notes: ArrayVec::new(),
@@ -155,14 +155,14 @@ impl<B: Blocks> Module<B> for Turner {
         }
     }
 
-    fn end_turn(&mut self, _store: &B, _way: Way, _took: bool) -> TurnEnd {
+    fn end_turn<B: Blocks>(&mut self, _store: &B, _way: Way, _took: bool) -> TurnEnd {
         TurnEnd {
             room: false,
             more: false,
         }
     }
 
-    fn clear(
+    fn clear<B: Blocks>(
         &mut self,
         _store: &mut B,
         _side: Side,

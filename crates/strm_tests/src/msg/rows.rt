@@ -1,12 +1,12 @@
 //! Rows of calls on a message, what they are to answer, and what is to be seen after each.
 
 ghost use Rattle.std.specs.Prelude.{◌≡◌, ◌<◌, ◌≤◌, IfOk};
-ghost use Rattle.strm_blocks.specs.Blocks.{IsInHand, dropped};
+ghost use Rattle.strm_blocks.specs.Blocks.{IsInHand, dropped, token};
 
 use std::alloc::Global;
 use std::process::Abort;
 use std::test::Fail;
-use strm_blocks::{Blocks, NoBlocks, TableStore};
+use strm_blocks::{Blocks, InHand, NoBlocks, TableStore};
 use strm_msg::{
     NotPulled, adjmsg, control_len, copymsg, data_len, dupmsg, from_bytes, msgdsize, pullup,
     take_data,
@@ -52,36 +52,36 @@ pub(crate) struct Case<'a> {
     pub(crate) rows: &'a [Row<'a>],
 }
 
-fn seen<B: Blocks>(store: &B, message: &B::Mp) -> Seen
-    requires { IsInHand (B.value store.now) (B.name message.now) }
+fn seen<B: Blocks>(store: &B, message: &InHand) -> Seen
+    requires { IsInHand (B.value store.now) (token message.now) }
 {
     let parts = (control_len(store, message), data_len(store, message));
     (msgdsize(store, message), parts, store.free_blocks())
 }
 
-fn adjust<B: Blocks>(store: &mut B, message: &B::Mp, n: isize) -> bool
-    requires { IsInHand (B.value store.old) (B.name message.now) }
-    ensures in_hand { IsInHand (B.value store.new) (B.name message.now) }
-    ensures others { dropped (B.value store.new) (B.name message.now)
-        ≡ dropped (B.value store.old) (B.name message.now) }
+fn adjust<B: Blocks>(store: &mut B, message: &InHand, n: isize) -> bool
+    requires { IsInHand (B.value store.old) (token message.now) }
+    ensures in_hand { IsInHand (B.value store.new) (token message.now) }
+    ensures others { dropped (B.value store.new) (token message.now)
+        ≡ dropped (B.value store.old) (token message.now) }
 {
     adjmsg(store, message, n)
 }
 
 // Whether data bytes that are taken into a buffer of so many bytes, at most 280, are these.
-fn takes<B: Blocks>(store: &mut B, message: &B::Mp, room: usize, wanted: &[u8]) -> bool
-    requires { IsInHand (B.value store.old) (B.name message.now) }
-    ensures in_hand { IsInHand (B.value store.new) (B.name message.now) }
-    ensures others { dropped (B.value store.new) (B.name message.now)
-        ≡ dropped (B.value store.old) (B.name message.now) }
+fn takes<B: Blocks>(store: &mut B, message: &InHand, room: usize, wanted: &[u8]) -> bool
+    requires { IsInHand (B.value store.old) (token message.now) }
+    ensures in_hand { IsInHand (B.value store.new) (token message.now) }
+    ensures others { dropped (B.value store.new) (token message.now)
+        ≡ dropped (B.value store.old) (token message.now) }
 {
     let mut buffer = [0u8; 280];
     let count = take_data(store, message, &mut buffer[..room.min(280)]);
     &buffer[..count.min(280)] == wanted
 }
 
-fn seen_of_dup<B: Blocks>(store: &mut B, message: &B::Mp) -> Option<Seen>
-    requires { IsInHand (B.value store.old) (B.name message.now) }
+fn seen_of_dup<B: Blocks>(store: &mut B, message: &InHand) -> Option<Seen>
+    requires { IsInHand (B.value store.old) (token message.now) }
     ensures { B.value store.new ≡ B.value store.old }
 {
     let Ok(twin) = dupmsg(store, message) else {
@@ -92,8 +92,8 @@ fn seen_of_dup<B: Blocks>(store: &mut B, message: &B::Mp) -> Option<Seen>
     Some(seen)
 }
 
-fn seen_of_copy<B: Blocks>(store: &mut B, message: &B::Mp) -> Option<Seen>
-    requires { IsInHand (B.value store.old) (B.name message.now) }
+fn seen_of_copy<B: Blocks>(store: &mut B, message: &InHand) -> Option<Seen>
+    requires { IsInHand (B.value store.old) (token message.now) }
     ensures { B.value store.new ≡ B.value store.old }
 {
     let Ok(copy) = copymsg(store, message) else {
@@ -104,10 +104,10 @@ fn seen_of_copy<B: Blocks>(store: &mut B, message: &B::Mp) -> Option<Seen>
     Some(seen)
 }
 
-fn pulled<B: Blocks>(store: &mut B, message: B::Mp, n: isize) -> (B::Mp, Option<Refusal>)
-    requires { IsInHand (B.value store.old) (B.name message) }
-    ensures in_hand { IsInHand (B.value store.new) (B.name result.0) }
-    ensures others { dropped (B.value store.new) (B.name result.0) ≡ dropped (B.value store.old) (B.name message) }
+fn pulled<B: Blocks>(store: &mut B, message: InHand, n: isize) -> (InHand, Option<Refusal>)
+    requires { IsInHand (B.value store.old) (token message) }
+    ensures in_hand { IsInHand (B.value store.new) (token result.0) }
+    ensures others { dropped (B.value store.new) (token result.0) ≡ dropped (B.value store.old) (token message) }
 {
     match pullup(store, message, n) {
         Ok(message) => (message, None),
@@ -115,8 +115,8 @@ fn pulled<B: Blocks>(store: &mut B, message: B::Mp, n: isize) -> (B::Mp, Option<
     }
 }
 
-fn shows<B: Blocks>(store: &B, message: &B::Mp, wanted: &[Wanted<'_>]) -> bool
-    requires { IsInHand (B.value store.now) (B.name message.now) }
+fn shows<B: Blocks>(store: &B, message: &InHand, wanted: &[Wanted<'_>]) -> bool
+    requires { IsInHand (B.value store.now) (token message.now) }
 {
     let count = store.blocks(message);
     if count != wanted.len() || store.band(message) != Band(3) {
@@ -132,10 +132,10 @@ fn shows<B: Blocks>(store: &B, message: &B::Mp, wanted: &[Wanted<'_>]) -> bool
 }
 
 // Makes a call, and says whether it answers what it is to.
-fn answers<B: Blocks>(store: &mut B, message: B::Mp, call: Call<'_>) -> (B::Mp, bool)
-    requires { IsInHand (B.value store.old) (B.name message) }
-    ensures in_hand { IsInHand (B.value store.new) (B.name result.0) }
-    ensures others { dropped (B.value store.new) (B.name result.0) ≡ dropped (B.value store.old) (B.name message) }
+fn answers<B: Blocks>(store: &mut B, message: InHand, call: Call<'_>) -> (InHand, bool)
+    requires { IsInHand (B.value store.old) (token message) }
+    ensures in_hand { IsInHand (B.value store.new) (token result.0) }
+    ensures others { dropped (B.value store.new) (token result.0) ≡ dropped (B.value store.old) (token message) }
 {
     match call {
         Call::Adjust(n, wanted) => {
@@ -166,9 +166,9 @@ fn answers<B: Blocks>(store: &mut B, message: B::Mp, call: Call<'_>) -> (B::Mp, 
 }
 
 // Makes the calls of the rows on a message and frees it. Returns the first row that is not as wanted.
-fn walk<B: Blocks>(store: &mut B, message: B::Mp, rows: &[Row<'_>]) -> Option<usize>
-    requires { IsInHand (B.value store.old) (B.name message) }
-    ensures { B.value store.new ≡ dropped (B.value store.old) (B.name message) }
+fn walk<B: Blocks>(store: &mut B, message: InHand, rows: &[Row<'_>]) -> Option<usize>
+    requires { IsInHand (B.value store.old) (token message) }
+    ensures { B.value store.new ≡ dropped (B.value store.old) (token message) }
 {
     let mut message = message;
     let mut wrong = None;
@@ -190,8 +190,8 @@ fn made<B: Blocks>(
     store: &mut B,
     first: Wanted<'_>,
     second: Option<Wanted<'_>>,
-) -> Result<B::Mp, NoBlocks>
-    ensures { IfOk result (λ m. IsInHand (B.value store.new) (B.name m)) }
+) -> Result<InHand, NoBlocks>
+    ensures { IfOk result (λ m. IsInHand (B.value store.new) (token m)) }
 {
     let front = from_bytes(store, first.0, Band(3), first.1)?;
     let Some(second) = second else {
@@ -209,10 +209,10 @@ fn made<B: Blocks>(
 // Makes the calls of the rows on a copy of a message, while a duplicate stands.
 fn walk_beside_dup<B: Blocks>(
     store: &mut B,
-    message: &B::Mp,
+    message: &InHand,
     rows: &[Row<'_>],
 ) -> Result<Option<usize>, NoBlocks>
-    requires { IsInHand (B.value store.old) (B.name message.now) }
+    requires { IsInHand (B.value store.old) (token message.now) }
     ensures { B.value store.new ≡ B.value store.old }
 {
     let twin = dupmsg(store, message)?;
@@ -224,10 +224,10 @@ fn walk_beside_dup<B: Blocks>(
 // Makes the calls of the rows on a copy of a message.
 fn walk_copy<B: Blocks>(
     store: &mut B,
-    message: &B::Mp,
+    message: &InHand,
     rows: &[Row<'_>],
 ) -> Result<Option<usize>, NoBlocks>
-    requires { IsInHand (B.value store.old) (B.name message.now) }
+    requires { IsInHand (B.value store.old) (token message.now) }
     ensures { B.value store.new ≡ B.value store.old }
 {
     let copy = copymsg(store, message)?;

@@ -1,13 +1,13 @@
 //! Steps that are taken on a queue over a store of tables, and what is to be seen after each.
 
 ghost use Rattle.std.specs.Prelude.{◌≡◌, ◌<◌, List, [], IfOk};
-ghost use Rattle.strm_blocks.specs.Blocks.{Block, IsInHand, in_hand, list_at};
+ghost use Rattle.strm_blocks.specs.Blocks.{Block, IsInHand, in_hand, list_at, token};
 ghost use Rattle.strm_queue.specs.Kept.{AreCounted, band_of};
 
 use std::alloc::Global;
 use std::process::Abort;
 use std::test::Fail;
-use strm_blocks::{Blocks, NoBlocks, TableStore};
+use strm_blocks::{Blocks, InHand, NoBlocks, TableStore};
 use strm_queue::standing::mark_all;
 use strm_queue::{Flush, Queue, are_marks, is_band};
 use strm_types::{BANDS, Band, Marks, MsgKind};
@@ -41,10 +41,10 @@ fn message<B: Blocks>(
     kind: MsgKind,
     band: u8,
     bytes: &[u8],
-) -> Result<B::Mp, NoBlocks>
+) -> Result<InHand, NoBlocks>
     requires { band < BANDS }
-    ensures in_hand { IfOk result (λ m. IsInHand (B.value store.new) (B.name m)) }
-    ensures low { IfOk result (λ m. band_of (in_hand (B.value store.new) (B.name m)) < BANDS) }
+    ensures in_hand { IfOk result (λ m. IsInHand (B.value store.new) (token m)) }
+    ensures low { IfOk result (λ m. band_of (in_hand (B.value store.new) (token m)) < BANDS) }
     ensures lists { (B.value store.new).lists ≡ (B.value store.old).lists }
 {
     let message = store.alloc(kind)?;

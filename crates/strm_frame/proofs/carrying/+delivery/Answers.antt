@@ -8,31 +8,31 @@ use Rattle.strm_frame.specs.Outboxes.{message_in, sent_of, times_sent, parcels_i
 use Rattle.strm_frame.proofs.Handing.{hands-on, lower-more, next-chain, next-chains, next-low, next-lower, next-room, next-takes, no-cost, next-parts, next-can, next-hands, next-same, no-more, no-parts, may-on, sent-in, still-sent, takes-on}
 use Rattle.strm_frame.proofs.Turns.{begins-state, begins-told, goes-state, goes-told, stops-state, stops-told}
 use Rattle.strm_frame.proofs.carrying.+delivery.Goals as goal
+use Rattle.strm_blocks.specs.Blocks.{token}
 
 pub deliver-deliver_all-requires : goal.deliver-deliver_all-requires
 deliver-deliver_all-requires g t c κs within =
     let value = g.B.Blocks.value in
-    let name = g.B.Blocks.name in
     let w = g.S.Stations in
     let s0 = value c.args.store.now in
     let s = value c.put_at-sent.new.store in
-    let m = message_in s0 (name c.args.message) in
+    let m = message_in s0 (token c.args.message) in
     let e = c.put_at-sent.ensures in
     let all = sent_of c.put_at-sent.result in
     let top = c.requires.low in
-    let in_hand = sent-in s0 s (once (name c.args.message)) (λ i. times_sent name i all) (w.keeps c.args.stations.now) (w.keeps c.put_at-sent.new.self) c.requires.can_put e.hands in
-    let low = lower-more w.height (w.height c.args.to m) (c.args.hops - 1) (parcels_in name s all) (omega arith) e.falls in
+    let in_hand = sent-in s0 s (once (token c.args.message)) (λ i. times_sent i all) (w.keeps c.args.stations.now) (w.keeps c.put_at-sent.new.self) c.requires.can_put e.hands in
+    let low = lower-more w.height (w.height c.args.to m) (c.args.hops - 1) (parcels_in s all) (omega arith) e.falls in
     let before = w.plain s0 c.args.stations.now in
     let behind = w.plain s c.put_at-sent.new.self in
     let same : w.cost behind ≡ w.cost before = ap w.cost e.state ∙ g.met.S.Stations.cost_stays c.args.to m before in
-    let left = may-on s0 s (w.spare before) (w.spare behind) (w.cost before c.args.to m) (cost_of (w.cost before) (parcels_in name s all)) c.requires.room e.takes in
-    let room = subst (λ cost. MayTake s (w.spare behind) (cost_of cost (parcels_in name s all))) (sym same) left in
-    (omega arith, (within.0, (within.1.0, (within.1.1, (e.held, (in_hand, (e.chains, (low, room))))))))
+    let left = may-on s0 s (w.spare before) (w.spare behind) (w.cost before c.args.to m) (cost_of (w.cost before) (parcels_in s all)) c.requires.room e.takes in
+    let room = subst (λ cost. MayTake s (w.spare behind) (cost_of cost (parcels_in s all))) (sym same) left in
+    (omega arith, (within.0, (within.1, (e.held, (in_hand, (e.chains, (low, room)))))))
 
 pub deliver-returns-clause-state : goal.deliver-returns-clause-state
 deliver-returns-clause-state g t c =
     let s = g.B.Blocks.value c.args.store.now in
-    let p : Parcel ℕ = record { to = c.args.to; message = message_in s (g.B.Blocks.name c.args.message) } in
+    let p : Parcel ℕ = record { to = c.args.to; message = message_in s (token c.args.message) } in
     let w = g.S.Stations in
     let e = c.put_at-sent.ensures in
     let low = c.requires.low in
@@ -42,7 +42,7 @@ deliver-returns-clause-state g t c =
 pub deliver-returns-clause-told : goal.deliver-returns-clause-told
 deliver-returns-clause-told g t c =
     let s = g.B.Blocks.value c.args.store.now in
-    let p : Parcel ℕ = record { to = c.args.to; message = message_in s (g.B.Blocks.name c.args.message) } in
+    let p : Parcel ℕ = record { to = c.args.to; message = message_in s (token c.args.message) } in
     let w = g.S.Stations in
     let e = c.put_at-sent.ensures in
     let low = c.requires.low in
@@ -52,25 +52,23 @@ deliver-returns-clause-told g t c =
 pub deliver-returns-clause-hands : goal.deliver-returns-clause-hands
 deliver-returns-clause-hands g t c =
     let value = g.B.Blocks.value in
-    let name = g.B.Blocks.name in
     let w = g.S.Stations in
-    hands-on (value c.args.store.now) (value c.put_at-sent.new.store) (value c.deliver_all.new.store) (once (name c.args.message)) (λ i. times_sent name i (sent_of c.put_at-sent.result))
+    hands-on (value c.args.store.now) (value c.put_at-sent.new.store) (value c.deliver_all.new.store) (once (token c.args.message)) (λ i. times_sent i (sent_of c.put_at-sent.result))
     (w.keeps c.args.stations.now) (w.keeps c.put_at-sent.new.self) (w.keeps c.deliver_all.new.stations) c.audit.ensures c.put_at-sent.ensures.hands c.deliver_all.ensures.hands
 
 pub deliver-returns-clause-takes : goal.deliver-returns-clause-takes
 deliver-returns-clause-takes g t c =
     let value = g.B.Blocks.value in
-    let name = g.B.Blocks.name in
     let w = g.S.Stations in
     let s0 = value c.args.store.now in
     let s = value c.put_at-sent.new.store in
     let u = value c.deliver_all.new.store in
-    let m = message_in s0 (name c.args.message) in
+    let m = message_in s0 (token c.args.message) in
     let e = c.put_at-sent.ensures in
     let before = w.plain s0 c.args.stations.now in
     let behind = w.plain s c.put_at-sent.new.self in
     let after = w.plain u c.deliver_all.new.stations in
-    let sent = parcels_in name s (sent_of c.put_at-sent.result) in
+    let sent = parcels_in s (sent_of c.put_at-sent.result) in
     let same : w.cost behind ≡ w.cost before = ap w.cost e.state ∙ g.met.S.Stations.cost_stays c.args.to m before in
     let then = subst (λ cost. Takes s u (w.spare behind) (w.spare after) (cost_of cost sent) 0) same c.deliver_all.ensures.takes in
     takes-on s0 s u (w.spare before) (w.spare behind) (w.spare after) (w.cost before c.args.to m) (cost_of (w.cost before) sent) e.takes then
@@ -93,14 +91,13 @@ deliver_all-loop-next-init g t c =
 pub deliver_all-loop-next-preserved : goal.deliver_all-loop-next-preserved
 deliver_all-loop-next-preserved g t c =
     let value = g.B.Blocks.value in
-    let name = g.B.Blocks.name in
     let w = g.S.Stations in
     let i = c.loop-next.invariant in
     let x = c.in-Some.next in
     let s0 = value c.args.store.now in
     let s = value c.loop-next.store in
     let s' = value c.deliver.new.store in
-    let first = λ (j : ℕ). times_sent name j (sent_of c.args.sent) in
+    let first = λ (j : ℕ). times_sent j (sent_of c.args.sent) in
     let all = sent_of c.loop-next.left in
     let more = sent_of c.take_first.new.self in
     let k0 = w.keeps c.args.stations.now in
@@ -108,77 +105,75 @@ deliver_all-loop-next-preserved g t c =
     let k' = w.keeps c.deliver.new.stations in
     let split = c.in-Some.ensures in
     let carry = carried w.puts c.args.hops in
-    let parts = next-parts name s0 s s' first k0 k k' x more all split c.audit.ensures c.requires.are_in i.hands in
-    let same = next-same name s0 s s' first k0 k k' x more all split c.audit.ensures c.requires.are_in i.hands c.deliver.ensures.hands in
+    let parts = next-parts s0 s s' first k0 k k' x more all split c.audit.ensures c.requires.are_in i.hands in
+    let same = next-same s0 s s' first k0 k k' x more all split c.audit.ensures c.requires.are_in i.hands c.deliver.ensures.hands in
     let before = w.plain s0 c.args.stations.now in
     let now = w.plain s c.loop-next.stations in
     let after = w.plain s' c.deliver.new.stations in
     let cost = w.cost before in
-    let most = cost_of cost (parcels_in name s0 (sent_of c.args.sent)) in
-    let parcel = parcel_in name s x in
+    let most = cost_of cost (parcels_in s0 (sent_of c.args.sent)) in
+    let parcel = parcel_in s x in
     let behind : w.cost after ≡ w.cost now =
     ap w.cost c.deliver.ensures.state
     ∙ carried-holds (λ p. w.cost p ≡ w.cost now) w.puts (λ to m p is. g.met.S.Stations.cost_stays to m p ∙ is) c.args.hops parcel now refl in
     record {
-      state = goes-state carry (parcels_in name s all) (parcels_in name s more) (parcels_in name s' more) (parcel_in name s x) (w.plain s c.loop-next.stations) _ parts same c.deliver.ensures.state ∙ i.state;
-      told = goes-told carry (parcels_in name s all) (parcels_in name s more) (parcels_in name s' more) (parcel_in name s x) (w.plain s c.loop-next.stations) _ _ _ parts same c.deliver.ensures.state c.deliver.ensures.told ∙ i.told;
+      state = goes-state carry (parcels_in s all) (parcels_in s more) (parcels_in s' more) (parcel_in s x) (w.plain s c.loop-next.stations) _ parts same c.deliver.ensures.state ∙ i.state;
+      told = goes-told carry (parcels_in s all) (parcels_in s more) (parcels_in s' more) (parcel_in s x) (w.plain s c.loop-next.stations) _ _ _ parts same c.deliver.ensures.state c.deliver.ensures.told ∙ i.told;
       held = c.deliver.ensures.held;
-      chains = next-chains name s0 s s' first k0 k k' x more all split c.audit.ensures c.requires.are_in i.hands c.deliver.ensures.hands i.chains;
-      lower = next-lower name s0 s s' first k0 k k' x more all split c.audit.ensures c.requires.are_in i.hands c.deliver.ensures.hands w.height c.args.hops i.lower;
-      hands = next-hands name s0 s s' first k0 k k' x more all split c.audit.ensures c.requires.are_in i.hands c.deliver.ensures.hands;
+      chains = next-chains s0 s s' first k0 k k' x more all split c.audit.ensures c.requires.are_in i.hands c.deliver.ensures.hands i.chains;
+      lower = next-lower s0 s s' first k0 k k' x more all split c.audit.ensures c.requires.are_in i.hands c.deliver.ensures.hands w.height c.args.hops i.lower;
+      hands = next-hands s0 s s' first k0 k k' x more all split c.audit.ensures c.requires.are_in i.hands c.deliver.ensures.hands;
       costs = behind ∙ i.costs;
-      takes = next-takes name s0 s s' first k0 k k' x more all split c.audit.ensures c.requires.are_in i.hands c.deliver.ensures.hands cost most (w.spare before) (w.spare now) (w.spare after) i.takes
-          (subst (λ cost. Takes s s' (w.spare now) (w.spare after) (cost x.to (parcel_in name s x).message) 0) i.costs c.deliver.ensures.takes);
+      takes = next-takes s0 s s' first k0 k k' x more all split c.audit.ensures c.requires.are_in i.hands c.deliver.ensures.hands cost most (w.spare before) (w.spare now) (w.spare after) i.takes
+          (subst (λ cost. Takes s s' (w.spare now) (w.spare after) (cost x.to (parcel_in s x).message) 0) i.costs c.deliver.ensures.takes);
       pool = record { mblks = c.deliver.ensures.pool.mblks ∙ i.pool.mblks; dblks = c.deliver.ensures.pool.dblks ∙ i.pool.dblks };
     }
 
 pub deliver_all-deliver-requires : goal.deliver_all-deliver-requires
 deliver_all-deliver-requires g t c κs within =
     let value = g.B.Blocks.value in
-    let name = g.B.Blocks.name in
     let w = g.S.Stations in
     let i = c.loop-next.invariant in
     let s0 = value c.args.store.now in
     let s = value c.loop-next.store in
-    let first = λ (j : ℕ). times_sent name j (sent_of c.args.sent) in
+    let first = λ (j : ℕ). times_sent j (sent_of c.args.sent) in
     let k0 = w.keeps c.args.stations.now in
     let k = w.keeps c.loop-next.stations in
     let x = c.in-Some.next in
     let more = sent_of c.take_first.new.self in
     let all = sent_of c.loop-next.left in
-    let can = next-can name s0 s s first k0 k k x more all c.in-Some.ensures c.audit.ensures c.requires.are_in i.hands in
+    let can = next-can s0 s s first k0 k k x more all c.in-Some.ensures c.audit.ensures c.requires.are_in i.hands in
     let before = w.plain s0 c.args.stations.now in
     let now = w.plain s c.loop-next.stations in
-    let most = cost_of (w.cost before) (parcels_in name s0 (sent_of c.args.sent)) in
-    let left = next-room name s0 s s first k0 k k x more all c.in-Some.ensures c.audit.ensures c.requires.are_in i.hands (w.cost before) most (w.spare before) (w.spare now) c.requires.room i.takes in
-    let room = subst (λ cost. MayTake s (w.spare now) (cost x.to (parcel_in name s x).message)) (sym i.costs) left in
-    let chain = next-chain name s0 s s first k0 k k x more all c.in-Some.ensures c.audit.ensures c.requires.are_in i.hands i.chains in
-    let low = next-low name s0 s s first k0 k k x more all c.in-Some.ensures c.audit.ensures c.requires.are_in i.hands w.height c.args.hops i.lower in
-    (omega arith, (within.0, (within.1.0, (within.1.1, (i.held, (can, (chain, (low, room))))))))
+    let most = cost_of (w.cost before) (parcels_in s0 (sent_of c.args.sent)) in
+    let left = next-room s0 s s first k0 k k x more all c.in-Some.ensures c.audit.ensures c.requires.are_in i.hands (w.cost before) most (w.spare before) (w.spare now) c.requires.room i.takes in
+    let room = subst (λ cost. MayTake s (w.spare now) (cost x.to (parcel_in s x).message)) (sym i.costs) left in
+    let chain = next-chain s0 s s first k0 k k x more all c.in-Some.ensures c.audit.ensures c.requires.are_in i.hands i.chains in
+    let low = next-low s0 s s first k0 k k x more all c.in-Some.ensures c.audit.ensures c.requires.are_in i.hands w.height c.args.hops i.lower in
+    (omega arith, (within.0, (within.1, (i.held, (can, (chain, (low, room)))))))
 
 pub deliver_all-returns-clause-state : goal.deliver_all-returns-clause-state
 deliver_all-returns-clause-state g t c =
     let w = g.S.Stations in
     let s = g.B.Blocks.value c.loop-next.store in
-    let all = parcels_in g.B.Blocks.name s (sent_of c.loop-next.left) in
-    let none = no-parts g.B.Blocks.name s (sent_of c.loop-next.left) c.in_default.ensures.0 in
+    let all = parcels_in s (sent_of c.loop-next.left) in
+    let none = no-parts s (sent_of c.loop-next.left) c.in_default.ensures.0 in
     sym (stops-state (carried w.puts c.args.hops) all (w.plain s c.loop-next.stations) none) ∙ c.loop-next.invariant.state
 
 pub deliver_all-returns-clause-told : goal.deliver_all-returns-clause-told
 deliver_all-returns-clause-told g t c =
     let w = g.S.Stations in
     let s = g.B.Blocks.value c.loop-next.store in
-    let all = parcels_in g.B.Blocks.name s (sent_of c.loop-next.left) in
-    let none = no-parts g.B.Blocks.name s (sent_of c.loop-next.left) c.in_default.ensures.0 in
+    let all = parcels_in s (sent_of c.loop-next.left) in
+    let none = no-parts s (sent_of c.loop-next.left) c.in_default.ensures.0 in
     sym (stops-told (carried w.puts c.args.hops) all (w.plain s c.loop-next.stations) c.loop-next.told none) ∙ c.loop-next.invariant.told
 
 pub deliver_all-returns-clause-hands : goal.deliver_all-returns-clause-hands
 deliver_all-returns-clause-hands g t c =
-    let name = g.B.Blocks.name in
     let w = g.S.Stations in
     let s0 = g.B.Blocks.value c.args.store.now in
     let s = g.B.Blocks.value c.loop-next.store in
-    no-more name s0 s (λ i. times_sent name i (sent_of c.args.sent)) (w.keeps c.args.stations.now) (w.keeps c.loop-next.stations) (sent_of c.loop-next.left) c.in_default.ensures.0 c.loop-next.invariant.hands
+    no-more s0 s (λ i. times_sent i (sent_of c.args.sent)) (w.keeps c.args.stations.now) (w.keeps c.loop-next.stations) (sent_of c.loop-next.left) c.in_default.ensures.0 c.loop-next.invariant.hands
 
 pub deliver_all-returns-clause-takes : goal.deliver_all-returns-clause-takes
 deliver_all-returns-clause-takes g t c =
@@ -186,25 +181,25 @@ deliver_all-returns-clause-takes g t c =
     let s0 = g.B.Blocks.value c.args.store.now in
     let s = g.B.Blocks.value c.loop-next.store in
     let before = w.plain s0 c.args.stations.now in
-    no-cost g.B.Blocks.name s0 s (w.cost before) (cost_of (w.cost before) (parcels_in g.B.Blocks.name s0 (sent_of c.args.sent))) (w.spare before) (w.spare (w.plain s c.loop-next.stations)) (sent_of c.loop-next.left) c.in_default.ensures.0 c.loop-next.invariant.takes
+    no-cost s0 s (w.cost before) (cost_of (w.cost before) (parcels_in s0 (sent_of c.args.sent))) (w.spare before) (w.spare (w.plain s c.loop-next.stations)) (sent_of c.loop-next.left) c.in_default.ensures.0 c.loop-next.invariant.takes
 
 pub deliver_all-returns-then-is_empty-clause-state : goal.deliver_all-returns-then-is_empty-clause-state
 deliver_all-returns-then-is_empty-clause-state g t c =
     let w = g.S.Stations in
     let s = g.B.Blocks.value c.args.store.now in
-    let none = no-parts g.B.Blocks.name s (sent_of c.args.sent) (c.if-is_empty.ensures.0 refl) in
-    sym (stops-state (carried w.puts c.args.hops) (parcels_in g.B.Blocks.name s (sent_of c.args.sent)) (w.plain s c.args.stations.now) none)
+    let none = no-parts s (sent_of c.args.sent) (c.if-is_empty.ensures.0 refl) in
+    sym (stops-state (carried w.puts c.args.hops) (parcels_in s (sent_of c.args.sent)) (w.plain s c.args.stations.now) none)
 
 pub deliver_all-returns-then-is_empty-clause-told : goal.deliver_all-returns-then-is_empty-clause-told
 deliver_all-returns-then-is_empty-clause-told g t c =
     let w = g.S.Stations in
     let s = g.B.Blocks.value c.args.store.now in
-    let none = no-parts g.B.Blocks.name s (sent_of c.args.sent) (c.if-is_empty.ensures.0 refl) in
-    sym (stops-told (carried w.puts c.args.hops) (parcels_in g.B.Blocks.name s (sent_of c.args.sent)) (w.plain s c.args.stations.now) c.args.told.now none)
+    let none = no-parts s (sent_of c.args.sent) (c.if-is_empty.ensures.0 refl) in
+    sym (stops-told (carried w.puts c.args.hops) (parcels_in s (sent_of c.args.sent)) (w.plain s c.args.stations.now) c.args.told.now none)
 
 pub deliver_all-returns-then-is_empty-clause-hands : goal.deliver_all-returns-then-is_empty-clause-hands
 deliver_all-returns-then-is_empty-clause-hands g t c =
-    still-sent g.B.Blocks.name (g.B.Blocks.value c.args.store.now) (g.S.Stations.keeps c.args.stations.now) (sent_of c.args.sent) (c.if-is_empty.ensures.0 refl)
+    still-sent (g.B.Blocks.value c.args.store.now) (g.S.Stations.keeps c.args.stations.now) (sent_of c.args.sent) (c.if-is_empty.ensures.0 refl)
 
 pub deliver_all-returns-then-is_empty-clause-takes : goal.deliver_all-returns-then-is_empty-clause-takes
 deliver_all-returns-then-is_empty-clause-takes g t c = record { blocks = record { mblks = omega arith; dblks = omega arith }; spare = omega arith }

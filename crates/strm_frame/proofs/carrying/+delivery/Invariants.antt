@@ -4,6 +4,7 @@ use Rattle.strm_frame.specs.Hands.{Handles, SamePool, Takes}
 use Rattle.strm_types.specs.Costs.{cost_of}
 use Rattle.strm_frame.specs.Outboxes.{sent_of, times_sent, parcels_in, AreChains}
 use Rattle.strm_frame.proofs.carrying.+delivery.Given as goal
+use Rattle.strm_blocks.specs.Blocks.{token}
 
 abbrev pub decreases-deliver : goal.decreases-deliver
 decreases-deliver g l = 2 * l.hops
@@ -14,21 +15,20 @@ decreases-deliver_all g l = 2 * l.hops + 1
 abbrev pub invariant-deliver_all-loop-next : goal.invariant-deliver_all-loop-next
 invariant-deliver_all-loop-next g l =
     let value = g.B.Blocks.value in
-    let name = g.B.Blocks.name in
     let w = g.S.Stations in
-    let rest = in_turn (carried w.puts l.hops) (parcels_in name (value l.store) (sent_of l.left)) (w.plain (value l.store) l.stations) in
-    let all = in_turn (carried w.puts l.fn.hops) (parcels_in name (value l.fn.store) (sent_of l.fn.sent)) (w.plain (value l.fn.store) l.fn.stations) in
+    let rest = in_turn (carried w.puts l.hops) (parcels_in (value l.store) (sent_of l.left)) (w.plain (value l.store) l.stations) in
+    let all = in_turn (carried w.puts l.fn.hops) (parcels_in (value l.fn.store) (sent_of l.fn.sent)) (w.plain (value l.fn.store) l.fn.stations) in
     let first = w.cost (w.plain (value l.fn.store) l.fn.stations) in
     record {
       state : rest.state ≡ all.state;
       told : tallied rest.gone l.told ≡ tallied all.gone l.fn.told;
       held : w.IsHeld (value l.store) l.stations;
-      chains : AreChains name (value l.store) (sent_of l.left);
-      lower : AreLower w.height l.hops (parcels_in name (value l.store) (sent_of l.left));
-      hands : Handles (value l.fn.store) (value l.store) (λ i. times_sent name i (sent_of l.fn.sent)) (w.keeps l.fn.stations) (w.keeps l.stations) (λ i. times_sent name i (sent_of l.left));
+      chains : AreChains (value l.store) (sent_of l.left);
+      lower : AreLower w.height l.hops (parcels_in (value l.store) (sent_of l.left));
+      hands : Handles (value l.fn.store) (value l.store) (λ i. times_sent i (sent_of l.fn.sent)) (w.keeps l.fn.stations) (w.keeps l.stations) (λ i. times_sent i (sent_of l.left));
       costs : w.cost (w.plain (value l.store) l.stations) ≡ first;
       takes : Takes (value l.fn.store) (value l.store) (w.spare (w.plain (value l.fn.store) l.fn.stations)) (w.spare (w.plain (value l.store) l.stations))
-          (cost_of first (parcels_in name (value l.fn.store) (sent_of l.fn.sent))) (cost_of first (parcels_in name (value l.store) (sent_of l.left)));
+          (cost_of first (parcels_in (value l.fn.store) (sent_of l.fn.sent))) (cost_of first (parcels_in (value l.store) (sent_of l.left)));
       pool : SamePool (value l.fn.store) (value l.store);
     }
 

@@ -1,7 +1,7 @@
 -- Sixteen bytes are enough.
 use Rattle.std.proofs.Common.{ap, sym, ◌∙◌, take, replicate}
 use Rattle.strm_types.specs.Ioctls.{read_ioc}
-use Rattle.strm_blocks.specs.Blocks.{in_hand}
+use Rattle.strm_blocks.specs.Blocks.{in_hand, token}
 use Rattle.strm_msg.specs.Bytes.{bytes_of}
 use Rattle.strm_msg.proofs.MadePlain.{plain-is}
 use Rattle.strm_frame.proofs.Read.{first-of, ioc-first}
@@ -9,7 +9,7 @@ use Rattle.strm_frame.proofs.ioctls.header_of.Goals as goal
 
 pub returns : goal.returns
 returns g c =
-    let chain = in_hand (g.B.Blocks.value c.args.store.now) (g.B.Blocks.name c.args.message.now) in
+    let chain = in_hand (g.B.Blocks.value c.args.store.now) (token c.args.message.now) in
     let count = c.first_bytes-count in
     c.read.ensures
     ∙ ap (λ xs. read_ioc xs) (ap (λ xs. take count.result xs) count.ensures.given ∙ first-of (replicate 16 0) (bytes_of chain) count.result count.ensures.count)

@@ -1,7 +1,7 @@
 -- Thirty-six bytes behind the header are enough.
 use Rattle.std.proofs.Common.{ap, sym, ◌∙◌, refl, take, drop, replicate, arith}
 use Rattle.strm_types.specs.Acks.{payload}
-use Rattle.strm_blocks.specs.Blocks.{in_hand}
+use Rattle.strm_blocks.specs.Blocks.{in_hand, token}
 use Rattle.strm_msg.specs.Bytes.{bytes_of}
 use Rattle.strm_msg.proofs.MadePlain.{plain-is}
 use Rattle.strm_frame.proofs.Behind.{behind-first, none-behind, rest-all}
@@ -9,7 +9,7 @@ use Rattle.strm_frame.proofs.ioctls.payload_of.Goals as goal
 
 pub returns-then-count-gt16 : goal.returns-then-count-gt16
 returns-then-count-gt16 g c =
-    let chain = in_hand (g.B.Blocks.value c.args.store.now) (g.B.Blocks.name c.args.message.now) in
+    let chain = in_hand (g.B.Blocks.value c.args.store.now) (token c.args.message.now) in
     let count = c.first_bytes-count in
     (rw (c.unwrap.ensures, c.new-payload.ensures) at c.try_extend_from_slice.ensures.ok)
     ∙ rest-all 16 (take count.result count.new.buffer)
@@ -19,7 +19,7 @@ returns-then-count-gt16 g c =
 
 pub returns-else-count-gt16 : goal.returns-else-count-gt16
 returns-else-count-gt16 g c =
-    let chain = in_hand (g.B.Blocks.value c.args.store.now) (g.B.Blocks.name c.args.message.now) in
+    let chain = in_hand (g.B.Blocks.value c.args.store.now) (token c.args.message.now) in
     let count = c.first_bytes-count in
     c.new-payload.ensures ∙ sym (none-behind (bytes_of chain) count.result count.ensures.count (omega arith))
     ∙ ap (λ m. take 36 (payload m.plain)) (sym (plain-is chain c.requires.kind))

@@ -1,7 +1,7 @@
 -- Each message that goes is looked at, and in the end none is left.
 use Rattle.std.proofs.Common.{ap}
 use Rattle.std.specs.Prelude.{◌||◌}
-use Rattle.strm_blocks.specs.Blocks.{list_at}
+use Rattle.strm_blocks.specs.Blocks.{list_at, token}
 use Rattle.strm_queue.specs.Stored.{Dequeued}
 use Rattle.strm_frame.proofs.Seeking.{going-on, gone-queue}
 use Rattle.strm_frame.proofs.Emptiness.{none-listed}
@@ -11,7 +11,7 @@ pub loop-store-preserved : goal.loop-store-preserved
 loop-store-preserved g c =
     let l = c.loop-store in
     let t = g.B.Blocks.value c.dequeue.new.store in
-    let i = g.B.Blocks.name c.in-Some.message in
+    let i = token c.in-Some.message in
     let is : Dequeued (g.B.Blocks.value l.store) t l.queue c.dequeue.new.queue i = rw c.in-Some.is at c.dequeue.ensures in
     record {
       going = going-on c.args.number (g.B.Blocks.value c.args.store.now) (g.B.Blocks.value l.store) t (g.B.Blocks.value c.free.new.self) c.args.queue.now l.queue c.dequeue.new.queue l.met _ i

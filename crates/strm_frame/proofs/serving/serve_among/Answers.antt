@@ -24,7 +24,7 @@ returns-clause-state g c =
     let x = get_or xs i d in
     let y = c.serve.new.self in
     let e = c.serve.ensures in
-    row-plain w.plain w.IsHeld w.owns w.keeps g.met.M.Module.frame s t (λ _. 0) x d y (λ j. times_sent g.B.Blocks.name j (sent_of c.serve.result.acts.sent)) c.audit.ensures e.own e.hands e.pool xs i c.requires.within refl c.requires.held c.requires.kept e.held
+    row-plain w.plain w.IsHeld w.owns w.keeps g.met.M.Module.frame s t (λ _. 0) x d y (λ j. times_sent j (sent_of c.serve.result.acts.sent)) c.audit.ensures e.own e.hands e.pool xs i c.requires.within refl c.requires.held c.requires.kept e.held
     ∙ ap (λ p. set (map (w.plain s) xs) i p) e.state
     ∙ sym (act-state (λ p. (w.serves c.args.here c.args.again (stop_of c.serve.result) p).acted) (w.plain s) xs i x d c.requires.within refl)
 
@@ -79,7 +79,7 @@ returns-clause-held g c =
     let x = get_or xs i d in
     let y = c.serve.new.self in
     let e = c.serve.ensures in
-    row-held w.plain w.IsHeld w.owns w.keeps g.met.M.Module.frame s t (λ _. 0) x d y (λ j. times_sent g.B.Blocks.name j (sent_of c.serve.result.acts.sent)) c.audit.ensures e.own e.hands e.pool xs i c.requires.within refl c.requires.held c.requires.kept e.held
+    row-held w.plain w.IsHeld w.owns w.keeps g.met.M.Module.frame s t (λ _. 0) x d y (λ j. times_sent j (sent_of c.serve.result.acts.sent)) c.audit.ensures e.own e.hands e.pool xs i c.requires.within refl c.requires.held c.requires.kept e.held
 
 pub returns-clause-hands : goal.returns-clause-hands
 returns-clause-hands g c =
@@ -92,7 +92,7 @@ returns-clause-hands g c =
     let x = get_or xs i d in
     let y = c.serve.new.self in
     let e = c.serve.ensures in
-    row-hands w.plain w.IsHeld w.owns w.keeps g.met.M.Module.frame s t (λ _. 0) x d y (λ j. times_sent g.B.Blocks.name j (sent_of c.serve.result.acts.sent)) c.audit.ensures e.own e.hands e.pool xs i c.requires.within refl c.requires.held c.requires.kept e.held
+    row-hands w.plain w.IsHeld w.owns w.keeps g.met.M.Module.frame s t (λ _. 0) x d y (λ j. times_sent j (sent_of c.serve.result.acts.sent)) c.audit.ensures e.own e.hands e.pool xs i c.requires.within refl c.requires.held c.requires.kept e.held
 
 pub serve-requires-clause-turn : goal.serve-requires-clause-turn
 serve-requires-clause-turn g c =
@@ -122,7 +122,7 @@ returns-clause-room g c =
     let t = g.B.Blocks.value c.serve.new.store in
     let w = g.M.Module in
     let r = c.serve.result in
-    subst (λ n. HasRoom t (later_cost w.cost r.again n (parcels_in g.B.Blocks.name t (sent_of r.acts.sent))))
+    subst (λ n. HasRoom t (later_cost w.cost r.again n (parcels_in t (sent_of r.acts.sent))))
     (sym (said-set (w.plain t) (w.turn_cost c.args.here true) c.args.modules.now c.args.at c.serve.new.self 0 c.requires.within)) c.serve.ensures.room
 
 pub returns-clause-own : goal.returns-clause-own

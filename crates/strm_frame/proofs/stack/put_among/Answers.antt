@@ -7,12 +7,13 @@ use Rattle.strm_frame.specs.Hands.{once, HasRoom, Spends}
 use Rattle.strm_frame.specs.Outboxes.{message_in, sent_of, times_sent}
 use Rattle.strm_frame.proofs.Beside.{act-state, act-sent, act-notes, act-gone, row-plain, row-held, own-all, said-of}
 use Rattle.strm_frame.proofs.stack.put_among.Goals as goal
+use Rattle.strm_blocks.specs.Blocks.{token}
 
 pub returns-clause-state : goal.returns-clause-state
 returns-clause-state g c =
     let s = g.B.Blocks.value c.args.store.now in
     let t = g.B.Blocks.value c.put.new.store in
-    let n = g.B.Blocks.name c.args.message in
+    let n = token c.args.message in
     let m = message_in s n in
     let w = g.M.Module in
     let d = c.index-modules-at.result in
@@ -20,28 +21,28 @@ returns-clause-state g c =
     let y = c.put.new.self in
     let e = c.put.ensures in
     let xs = c.args.modules.now in
-    row-plain w.plain w.IsHeld w.owns w.keeps g.met.M.Module.frame s t (once n) x d y (λ i. times_sent g.B.Blocks.name i (sent_of c.put.result.sent)) c.audit.ensures e.own e.hands e.pool xs c.args.at c.requires.within refl c.requires.held c.requires.can_put e.held
+    row-plain w.plain w.IsHeld w.owns w.keeps g.met.M.Module.frame s t (once n) x d y (λ i. times_sent i (sent_of c.put.result.sent)) c.audit.ensures e.own e.hands e.pool xs c.args.at c.requires.within refl c.requires.held c.requires.can_put e.held
     ∙ ap (λ p. set (map (w.plain s) xs) c.args.at p) e.state
     ∙ sym (act-state (w.puts c.args.to m) (w.plain s) xs c.args.at x d c.requires.within refl)
 
 pub returns-clause-sent : goal.returns-clause-sent
 returns-clause-sent g c =
     let s = g.B.Blocks.value c.args.store.now in
-    let m = message_in s (g.B.Blocks.name c.args.message) in
+    let m = message_in s (token c.args.message) in
     let w = g.M.Module in
     c.put.ensures.sent ∙ sym (act-sent (w.puts c.args.to m) (w.plain s) c.args.modules.now c.args.at (get_or c.args.modules.now c.args.at c.index-modules-at.result) c.index-modules-at.result c.requires.within refl)
 
 pub returns-clause-notes : goal.returns-clause-notes
 returns-clause-notes g c =
     let s = g.B.Blocks.value c.args.store.now in
-    let m = message_in s (g.B.Blocks.name c.args.message) in
+    let m = message_in s (token c.args.message) in
     let w = g.M.Module in
     c.put.ensures.notes ∙ sym (act-notes (w.puts c.args.to m) (w.plain s) c.args.modules.now c.args.at (get_or c.args.modules.now c.args.at c.index-modules-at.result) c.index-modules-at.result c.requires.within refl)
 
 pub returns-clause-told : goal.returns-clause-told
 returns-clause-told g c =
     let s = g.B.Blocks.value c.args.store.now in
-    let m = message_in s (g.B.Blocks.name c.args.message) in
+    let m = message_in s (token c.args.message) in
     let w = g.M.Module in
     c.put.ensures.told ∙ ap (λ fates. tallied fates c.args.told.now) (sym (act-gone (w.puts c.args.to m) (w.plain s) c.args.modules.now c.args.at (get_or c.args.modules.now c.args.at c.index-modules-at.result) c.index-modules-at.result c.requires.within refl))
 
@@ -51,7 +52,7 @@ returns-clause-held g c =
     let t = g.B.Blocks.value c.put.new.store in
     let w = g.M.Module in
     let e = c.put.ensures in
-    row-held w.plain w.IsHeld w.owns w.keeps g.met.M.Module.frame s t (once (g.B.Blocks.name c.args.message)) (get_or c.args.modules.now c.args.at c.index-modules-at.result) c.index-modules-at.result c.put.new.self (λ i. times_sent g.B.Blocks.name i (sent_of c.put.result.sent)) c.audit.ensures e.own e.hands e.pool c.args.modules.now c.args.at c.requires.within refl c.requires.held c.requires.can_put e.held
+    row-held w.plain w.IsHeld w.owns w.keeps g.met.M.Module.frame s t (once (token c.args.message)) (get_or c.args.modules.now c.args.at c.index-modules-at.result) c.index-modules-at.result c.put.new.self (λ i. times_sent i (sent_of c.put.result.sent)) c.audit.ensures e.own e.hands e.pool c.args.modules.now c.args.at c.requires.within refl c.requires.held c.requires.can_put e.held
 
 pub returns-clause-own : goal.returns-clause-own
 returns-clause-own g c =
@@ -63,13 +64,13 @@ put-requires-clause-room g c =
     let w = g.M.Module in
     let d = c.index-modules-at.result in
     let xs = c.args.modules.now in
-    subst (HasRoom s) (said-of (w.plain s) (w.takes c.args.to (message_in s (g.B.Blocks.name c.args.message))) xs c.args.at (get_or xs c.args.at d) d 0 c.requires.within refl) c.requires.room
+    subst (HasRoom s) (said-of (w.plain s) (w.takes c.args.to (message_in s (token c.args.message))) xs c.args.at (get_or xs c.args.at d) d 0 c.requires.within refl) c.requires.room
 
 pub returns-clause-spends : goal.returns-clause-spends
 returns-clause-spends g c =
     let s = g.B.Blocks.value c.args.store.now in
     let t = g.B.Blocks.value c.put.new.store in
-    let m = message_in s (g.B.Blocks.name c.args.message) in
+    let m = message_in s (token c.args.message) in
     let w = g.M.Module in
     let d = c.index-modules-at.result in
     let xs = c.args.modules.now in

@@ -3,7 +3,7 @@ use Rattle.std.proofs.Common.{◌∙◌, ℕ, Bool, cond, ap, sym}
 use Rattle.strm_types.specs.declared.modes.Prio.{Prio}
 use Rattle.strm_types.specs.declared.modes.Prio.TheVariants.{High, Band}
 use Rattle.strm_types.specs.Message.{is_high_priority}
-use Rattle.strm_blocks.specs.Blocks.{in_hand}
+use Rattle.strm_blocks.specs.Blocks.{in_hand, token}
 use Rattle.strm_blocks.proofs.Laws.{chain-some}
 use Rattle.strm_msg.specs.Messages.{message_of}
 use Rattle.strm_msg.proofs.Chains.{kind-is, band-is}
@@ -16,15 +16,15 @@ abbrev either : ℕ → Bool → Prio
 either band high = cond high High (in_band band)
 
 pub kind-requires-clause-within : goal.kind-requires-clause-within
-kind-requires-clause-within g c = chain-some (g.B.Blocks.value c.args.store.now) (g.B.Blocks.name c.args.message.now) c.audit.ensures c.requires
+kind-requires-clause-within g c = chain-some (g.B.Blocks.value c.args.store.now) (token c.args.message.now) c.audit.ensures c.requires
 
 pub returns-then-is_high_priority : goal.returns-then-is_high_priority
 returns-then-is_high_priority g c =
-    let chain = in_hand (g.B.Blocks.value c.args.store.now) (g.B.Blocks.name c.args.message.now) in
+    let chain = in_hand (g.B.Blocks.value c.args.store.now) (token c.args.message.now) in
     sym (ap (either (message_of chain).band) (ap is_high_priority (kind-is chain ∙ sym c.kind.ensures) ∙ sym c.is_high_priority.ensures ∙ c.if-is_high_priority.true))
 
 pub returns-else-is_high_priority : goal.returns-else-is_high_priority
 returns-else-is_high_priority g c =
-    let chain = in_hand (g.B.Blocks.value c.args.store.now) (g.B.Blocks.name c.args.message.now) in
+    let chain = in_hand (g.B.Blocks.value c.args.store.now) (token c.args.message.now) in
     ap in_band (c.band.ensures ∙ sym (band-is chain))
     ∙ sym (ap (either (message_of chain).band) (ap is_high_priority (kind-is chain ∙ sym c.kind.ensures) ∙ sym c.is_high_priority.ensures ∙ c.if-is_high_priority.false))

@@ -1,6 +1,6 @@
 -- Where something is left it is what is in hand now, and goes back on the list.
 use Rattle.std.proofs.Common.{◌<◌, ◌∙◌, ap, sym, subst}
-use Rattle.strm_blocks.specs.Blocks.{in_hand, list_at, dropped}
+use Rattle.strm_blocks.specs.Blocks.{in_hand, list_at, dropped, token}
 use Rattle.strm_msg.specs.Emptied.{without_emptied}
 use Rattle.strm_queue.specs.Kept.{AreCounted, band_of}
 use Rattle.strm_head.specs.Getting.{put_rest}
@@ -19,8 +19,8 @@ pub returns-clause-left : goal.returns-clause-left
 returns-clause-left g c =
     let s = g.B.Blocks.value c.args.store.now in
     let u = g.B.Blocks.value c.free_emptied-rest.new.store in
-    let i = g.B.Blocks.name c.args.message in
+    let i = token c.args.message in
     let k = c.args.queue.now.list in
     let rest = without_emptied (in_hand s i) in
-    put-beside (dropped s i) u (g.B.Blocks.value c.putbq.new.store) (g.B.Blocks.name c.free_emptied-rest.result) k rest c.free_emptied-rest.ensures c.putbq.ensures.placed
+    put-beside (dropped s i) u (g.B.Blocks.value c.putbq.new.store) (token c.free_emptied-rest.result) k rest c.free_emptied-rest.ensures c.putbq.ensures.placed
     ∙ sym (ap (λ v. put_rest v s i k rest) c.if-not-left.false)

@@ -1,6 +1,6 @@
 -- What is taken of the first message, and what is left of it.
 use Rattle.std.proofs.Common.{◌∙◌, false, refl, sym, ap}
-use Rattle.strm_blocks.specs.Blocks.{in_hand}
+use Rattle.strm_blocks.specs.Blocks.{in_hand, token}
 use Rattle.strm_msg.specs.Emptied.{without_emptied}
 use Rattle.strm_head.specs.Getting.{put_rest}
 use Rattle.strm_queue.proofs.Gotten.{has-list}
@@ -12,7 +12,7 @@ put_rest-requires-clause-some g c = λ is.
     let s = g.B.Blocks.value c.args.store.now in
     let got = g.B.Blocks.value c.getq.new.store in
     let cut = g.B.Blocks.value c.take_parts.new.store in
-    let i = g.B.Blocks.name c.in-Some.message in
+    let i = token c.in-Some.message in
     let q = c.args.queue.now in
     rest-some s got cut q i c.args.cmax c.args.dmax c.unwrap_or.result c.unwrap_or-2.result (has-list s q c.audit.ensures) c.in-Some.ensures.taken c.requires.ready
     c.control_len.result c.data_len.result c.piece_of-first.result c.piece_of-second.result c.control_len.ensures c.data_len.ensures
@@ -23,7 +23,7 @@ put_rest-requires-clause-band g c = λ is.
     let s = g.B.Blocks.value c.args.store.now in
     let got = g.B.Blocks.value c.getq.new.store in
     let cut = g.B.Blocks.value c.take_parts.new.store in
-    let i = g.B.Blocks.name c.in-Some.message in
+    let i = token c.in-Some.message in
     let q = c.args.queue.now in
     rest-low s got cut q i c.args.cmax c.args.dmax c.unwrap_or.result c.unwrap_or-2.result (has-list s q c.audit.ensures) c.in-Some.ensures.taken c.requires.ready
     c.control_len.result c.data_len.result c.piece_of-first.result c.piece_of-second.result c.control_len.ensures c.data_len.ensures
@@ -35,7 +35,7 @@ returns-clause-took g c =
     let got = g.B.Blocks.value c.getq.new.store in
     let cut = g.B.Blocks.value c.take_parts.new.store in
     let new = g.B.Blocks.value c.put_rest.new.store in
-    let i = g.B.Blocks.name c.in-Some.message in
+    let i = token c.in-Some.message in
     let q = c.args.queue.now in
     let q' = c.put_rest.new.queue in
     took s got cut q i c.args.cmax c.args.dmax c.unwrap_or.result c.unwrap_or-2.result (has-list s q c.audit.ensures) c.in-Some.ensures.taken c.requires.ready
@@ -51,7 +51,7 @@ returns-clause-leaves g c =
     let got = g.B.Blocks.value c.getq.new.store in
     let cut = g.B.Blocks.value c.take_parts.new.store in
     let new = g.B.Blocks.value c.put_rest.new.store in
-    let i = g.B.Blocks.name c.in-Some.message in
+    let i = token c.in-Some.message in
     let q = c.args.queue.now in
     let q' = c.put_rest.new.queue in
     leaves s got cut q i c.args.cmax c.args.dmax c.unwrap_or.result c.unwrap_or-2.result (has-list s q c.audit.ensures) c.in-Some.ensures.taken c.requires.ready
@@ -67,7 +67,7 @@ returns-clause-keeps g c =
     let got = g.B.Blocks.value c.getq.new.store in
     let cut = g.B.Blocks.value c.take_parts.new.store in
     let new = g.B.Blocks.value c.put_rest.new.store in
-    let i = g.B.Blocks.name c.in-Some.message in
+    let i = token c.in-Some.message in
     let q = c.args.queue.now in
     let q' = c.put_rest.new.queue in
     keeps s got cut q i c.args.cmax c.args.dmax c.unwrap_or.result c.unwrap_or-2.result (has-list s q c.audit.ensures) c.in-Some.ensures.taken c.requires.ready

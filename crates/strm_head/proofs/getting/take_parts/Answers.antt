@@ -1,7 +1,7 @@
 -- Bytes of the control part are taken first, and the data part stays as it is.
 use Rattle.std.proofs.Common.{◌∙◌, ◌≡◌, ◌++◌, length, take, ap, sym, subst, arith}
 use Rattle.std.proofs.lemmas.List.{length-take-le}
-use Rattle.strm_blocks.specs.Blocks.{IsInHand, in_hand, changed}
+use Rattle.strm_blocks.specs.Blocks.{IsInHand, in_hand, changed, token}
 use Rattle.strm_msg.specs.Bytes.{control_bytes, data_bytes}
 use Rattle.strm_msg.specs.Taken.{without_control, without_data}
 use Rattle.strm_msg.proofs.Cutting.{data-cut}
@@ -11,28 +11,28 @@ use Rattle.strm_head.proofs.getting.take_parts.Goals as goal
 pub take_data_into-requires-clause-in_hand : goal.take_data_into-requires-clause-in_hand
 take_data_into-requires-clause-in_hand g c =
     let s = g.B.Blocks.value c.args.store.now in
-    let i = g.B.Blocks.name c.args.message.now in
+    let i = token c.args.message.now in
     subst (λ v. IsInHand v i) (sym c.take_control_into.ensures.trimmed) (changed-in_hand s i (without_control c.args.count (in_hand s i)) i c.requires.in_hand)
 
 pub take_data_into-requires-clause-has : goal.take_data_into-requires-clause-has
 take_data_into-requires-clause-has g c =
     let s = g.B.Blocks.value c.args.store.now in
     let t = g.B.Blocks.value c.take_control_into.new.store in
-    let i = g.B.Blocks.name c.args.message.now in
+    let i = token c.args.message.now in
     let first = without_control c.args.count (in_hand s i) in
     let now : in_hand t i ≡ first = ap (λ v. in_hand v i) c.take_control_into.ensures.trimmed ∙ changed-chain s i first c.requires.in_hand in
     omega (arith, ap (λ xs. length (data_bytes xs)) now, ap length (data-cut c.args.count (in_hand s i)), c.requires.has_data)
 
 pub take_data_into-requires-clause-room : goal.take_data_into-requires-clause-room
 take_data_into-requires-clause-room g c =
-    let bytes = control_bytes (in_hand (g.B.Blocks.value c.args.store.now) (g.B.Blocks.name c.args.message.now)) in
+    let bytes = control_bytes (in_hand (g.B.Blocks.value c.args.store.now) (token c.args.message.now)) in
     omega (arith, ap length c.take_control_into.ensures.given, length-take-le c.args.count bytes c.requires.has_control, c.requires.room, c.requires.data_room)
 
 pub returns-clause-given : goal.returns-clause-given
 returns-clause-given g c =
     let s = g.B.Blocks.value c.args.store.now in
     let t = g.B.Blocks.value c.take_control_into.new.store in
-    let i = g.B.Blocks.name c.args.message.now in
+    let i = token c.args.message.now in
     let first = without_control c.args.count (in_hand s i) in
     let now : in_hand t i ≡ first = ap (λ v. in_hand v i) c.take_control_into.ensures.trimmed ∙ changed-chain s i first c.requires.in_hand in
     c.take_data_into.ensures.given
@@ -43,7 +43,7 @@ pub returns-clause-cut : goal.returns-clause-cut
 returns-clause-cut g c =
     let s = g.B.Blocks.value c.args.store.now in
     let t = g.B.Blocks.value c.take_control_into.new.store in
-    let i = g.B.Blocks.name c.args.message.now in
+    let i = token c.args.message.now in
     let first = without_control c.args.count (in_hand s i) in
     let now : in_hand t i ≡ first = ap (λ v. in_hand v i) c.take_control_into.ensures.trimmed ∙ changed-chain s i first c.requires.in_hand in
     c.take_data_into.ensures.trimmed

@@ -1,7 +1,7 @@
 -- The bytes that are trimmed are those of the control part and then those of the data part.
 use Rattle.std.proofs.Common.{◌≡◌, ◌-◌, ◌∙◌, length, sym, ap, subst, arith}
 use Rattle.std.proofs.lemmas.List.{length-drop}
-use Rattle.strm_blocks.specs.Blocks.{in_hand, changed, dropped, IsInHand, trimmed_head}
+use Rattle.strm_blocks.specs.Blocks.{in_hand, changed, dropped, IsInHand, trimmed_head, token}
 use Rattle.strm_msg.specs.Adjusted.{trimmed_by}
 use Rattle.strm_msg.specs.Bytes.{bytes_of, control_bytes}
 use Rattle.strm_msg.specs.Emptied.{without_emptied}
@@ -14,13 +14,13 @@ use Rattle.strm_head.proofs.parts.leave_rest.Goals as goal
 pub free_emptied-requires-clause-in_hand : goal.free_emptied-requires-clause-in_hand
 free_emptied-requires-clause-in_hand g c =
     let s = g.B.Blocks.value c.args.store.now in
-    let i = g.B.Blocks.name c.args.message in
+    let i = token c.args.message in
     subst (λ v. IsInHand v i) (sym c.trim_front.ensures) (changed-in_hand s i (trimmed_by trimmed_head c.args.n (in_hand s i)) i c.requires.in_hand)
 
 pub free_emptied-requires-clause-some : goal.free_emptied-requires-clause-some
 free_emptied-requires-clause-some g c =
     let s = g.B.Blocks.value c.args.store.now in
-    let i = g.B.Blocks.name c.args.message in
+    let i = token c.args.message in
     let chain = in_hand s i in
     let cut = trimmed_by trimmed_head c.args.n chain in
     let now = ap (λ v. in_hand v i) c.trim_front.ensures ∙ changed-chain s i cut c.requires.in_hand in
@@ -30,7 +30,7 @@ pub returns : goal.returns
 returns g c =
     let s = g.B.Blocks.value c.args.store.now in
     let t = g.B.Blocks.value c.trim_front.new.store in
-    let i = g.B.Blocks.name c.args.message in
+    let i = token c.args.message in
     let chain = in_hand s i in
     let cut = cut_by c.args.n (c.args.n - length (control_bytes chain)) chain in
     let trimmed : t ≡ changed s i cut = c.trim_front.ensures ∙ ap (changed s i) (front-cut c.args.n chain c.requires.chain c.requires.data) in

@@ -1,7 +1,7 @@
 -- The bytes that are trimmed are those of the control part, and under the other modes all stays.
 use Rattle.std.proofs.Common.{◌≡◌, ◌-◌, ◌∙◌, length, sym, ap, arith}
 use Rattle.std.specs.Prelude.{unwrap_or}
-use Rattle.strm_blocks.specs.Blocks.{in_hand, changed, trimmed_head}
+use Rattle.strm_blocks.specs.Blocks.{in_hand, changed, trimmed_head, token}
 use Rattle.strm_msg.specs.Adjusted.{trimmed_by}
 use Rattle.strm_msg.specs.Bytes.{control_blocks, control_bytes}
 use Rattle.strm_msg.proofs.Cutting.{front-cut}
@@ -14,7 +14,7 @@ use Rattle.strm_head.proofs.parts.show.Goals as goal
 pub returns-in-Discard : goal.returns-in-Discard
 returns-in-Discard g c =
     let s = g.B.Blocks.value c.args.store.now in
-    let i = g.B.Blocks.name c.args.message.now in
+    let i = token c.args.message.now in
     let chain = in_hand s i in
     let n = length (control_bytes chain) in
     let size : c.unwrap_or-size.result ≡ n = c.unwrap_or-size.ensures ∙ ap (λ o. unwrap_or o 0) c.control_len.ensures ∙ part-length (control_blocks chain) in
@@ -25,5 +25,5 @@ returns-in-Discard g c =
 pub returns-in_default : goal.returns-in_default
 returns-in_default g c =
     let s = g.B.Blocks.value c.args.store.now in
-    let i = g.B.Blocks.name c.args.message.now in
+    let i = token c.args.message.now in
     sym (ap (changed s i) (shown-all c.args.control (in_hand s i) c.in_default.not-Discard) ∙ changed-same s i)

@@ -1,13 +1,13 @@
 -- Each block gives what is still wanted of it.
 use Rattle.std.proofs.Common.{◌≡◌, ◌<◌, ◌++◌, length, take, subst, ap, arith, length-append, length-take-le}
 use Rattle.std.specs.Result.{OnOk}
-use Rattle.strm_blocks.specs.Blocks.{in_hand}
+use Rattle.strm_blocks.specs.Blocks.{in_hand, token}
 use Rattle.strm_head.proofs.Copied.{copied-more, length-first}
 use Rattle.strm_head.proofs.reading.copy_into.Goals as goal
 
 pub loop-at-preserved : goal.loop-at-preserved
 loop-at-preserved g c =
-    let chain = in_hand (g.B.Blocks.value c.args.store.now) (g.B.Blocks.name c.args.message.now) in
+    let chain = in_hand (g.B.Blocks.value c.args.store.now) (token c.args.message.now) in
     let l = c.loop-at in
     let bytes = c.bytes_at-bytes.result.now in
     let part = c.min-part.result in

@@ -1,11 +1,11 @@
 use Rattle.std.proofs.Common.{◌≡◌, ◌≤◌, ◌+◌, ◌++◌, length, take, drop}
-use Rattle.strm_blocks.specs.Blocks.{in_hand}
+use Rattle.strm_blocks.specs.Blocks.{in_hand, token}
 use Rattle.strm_msg.specs.Bytes.{bytes_of}
 use Rattle.strm_head.proofs.reading.copy_into.Given as goal
 
 abbrev pub invariant-loop-at : goal.invariant-loop-at
 invariant-loop-at g l =
-    let chain = in_hand (g.B.Blocks.value l.store) (g.B.Blocks.name l.message) in
+    let chain = in_hand (g.B.Blocks.value l.store) (token l.message) in
     record {
       joined : l.out.items ++ take l.left (bytes_of (drop l.at chain)) ≡ l.fn.out.items ++ take l.fn.count (bytes_of chain);
       room : length l.out.items + l.left ≡ length l.fn.out.items + l.fn.count;

@@ -1,6 +1,6 @@
 -- One message goes, or there is none.
 use Rattle.std.proofs.Common.{◌∙◌, ap}
-use Rattle.strm_blocks.specs.Blocks.{list_at}
+use Rattle.strm_blocks.specs.Blocks.{list_at, token}
 use Rattle.strm_queue.proofs.Gotten.{has-list, freed, off}
 use Rattle.strm_head.proofs.Left.{taken-first, taken-none}
 use Rattle.strm_head.proofs.reading.drop_first.Goals as goal
@@ -17,7 +17,7 @@ returns-clause-taken g c =
     let s = g.B.Blocks.value c.args.store.now in
     let got = g.B.Blocks.value c.getq.new.store in
     let new = g.B.Blocks.value c.free.new.self in
-    let i = g.B.Blocks.name c.in-Some.message in
+    let i = token c.in-Some.message in
     let q = c.args.queue.now in
     let p = c.in-Some.ensures.taken in
     let within = has-list s q c.audit.ensures in

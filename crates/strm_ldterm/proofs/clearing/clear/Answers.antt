@@ -14,7 +14,7 @@ returns-clause-state g c =
     let b = c.clear_queue-below in
     let t = g.B.Blocks.value a.new.store in
     let u = g.B.Blocks.value b.new.store in
-    cleared-state g.B.Blocks.name s t u c.args.ldterm.now c.clear_line.new.line a.new.queue b.new.queue c.requires.held a.ensures.changes b.ensures.changes c.args.side c.args.rule c.requires.rests
+    cleared-state s t u c.args.ldterm.now c.clear_line.new.line a.new.queue b.new.queue c.requires.held a.ensures.changes b.ensures.changes c.args.side c.args.rule c.requires.rests
     c.clear_line.ensures.line a.ensures.queue b.ensures.queue
 
 pub returns-clause-notes : goal.returns-clause-notes
@@ -25,7 +25,7 @@ returns-clause-notes g c =
     let t = g.B.Blocks.value a.new.store in
     let u = g.B.Blocks.value b.new.store in
     c.rooms.ensures
-    ∙ cleared-notes g.B.Blocks.name s t u c.args.ldterm.now c.clear_line.new.line a.new.queue b.new.queue c.requires.held a.ensures.changes b.ensures.changes c.args.side c.args.rule c.requires.rests
+    ∙ cleared-notes s t u c.args.ldterm.now c.clear_line.new.line a.new.queue b.new.queue c.requires.held a.ensures.changes b.ensures.changes c.args.side c.args.rule c.requires.rests
     a.result.room b.result.room a.ensures.room b.ensures.room
 
 pub returns-clause-met : goal.returns-clause-met
@@ -36,7 +36,7 @@ returns-clause-met g c =
     let t = g.B.Blocks.value a.new.store in
     let u = g.B.Blocks.value b.new.store in
     b.ensures.met
-    ∙ cleared-met g.B.Blocks.name s t u c.args.ldterm.now c.clear_line.new.line a.new.queue b.new.queue c.requires.held a.ensures.changes b.ensures.changes c.args.side c.args.rule c.requires.rests
+    ∙ cleared-met s t u c.args.ldterm.now c.clear_line.new.line a.new.queue b.new.queue c.requires.held a.ensures.changes b.ensures.changes c.args.side c.args.rule c.requires.rests
     c.args.seeking
 
 pub returns-clause-told : goal.returns-clause-told
@@ -47,7 +47,7 @@ returns-clause-told g c =
     let b = c.clear_queue-below in
     let t = g.B.Blocks.value a.new.store in
     let u = g.B.Blocks.value b.new.store in
-    cleared-told g.B.Blocks.name s t u x c.clear_line.new.line a.new.queue b.new.queue c.requires.held a.ensures.changes b.ensures.changes c.args.side c.args.rule c.requires.rests
+    cleared-told s t u x c.clear_line.new.line a.new.queue b.new.queue c.requires.held a.ensures.changes b.ensures.changes c.args.side c.args.rule c.requires.rests
     c.args.told.now a.new.told c.clear_line.new.told b.new.told
     (a.ensures.told ∙ ap (λ d. told_more d c.args.rule (length (cells_gone of_all (messages_on s x.read_queue.list))) c.args.told.now) c.direction_at-up.ensures)
     c.clear_line.ensures.told
@@ -60,4 +60,4 @@ returns-clause-own g c =
     let b = c.clear_queue-below in
     let t = g.B.Blocks.value a.new.store in
     let u = g.B.Blocks.value b.new.store in
-    cleared-own g.B.Blocks.name s t u c.args.ldterm.now c.clear_line.new.line a.new.queue b.new.queue c.requires.held a.ensures.changes b.ensures.changes
+    cleared-own s t u c.args.ldterm.now c.clear_line.new.line a.new.queue b.new.queue c.requires.held a.ensures.changes b.ensures.changes

@@ -12,6 +12,7 @@ use Rattle.strm_ldterm.specs.Stands.{ldterm_in, keeps, IsHeld}
 use Rattle.strm_ldterm.specs.Does.{Proceeds}
 use Rattle.strm_ldterm.proofs.EchoStands.{begins-proceeds}
 use Rattle.strm_ldterm.proofs.echoing.begin_echo.Goals as goal
+use Rattle.strm_blocks.specs.Blocks.{token}
 
 none-there : {A : Type 0} (o : Option A) → is_some o ≡ false → o ≡ None
 none-there None is = refl
@@ -21,13 +22,12 @@ pub returns : goal.returns
 returns g c = λ here f.
     let s = g.B.Blocks.value c.args.store.now in
     let t = g.B.Blocks.value c.begin_by_runs.new.store in
-    let name = g.B.Blocks.name in
     let x = c.args.ldterm.now in
     let e = c.begin_by_runs.result in
     let none : x.echo ≡ None = none-there x.echo c.requires.none in
-    let held = subst (λ o. IsHeld name s (record x { echo = o })) none c.requires.held in
-    let kept = subst (λ o. AreIn s (λ _. 0) (keeps name (record x { echo = o }))) none c.requires.kept in
+    let held = subst (λ o. IsHeld s (record x { echo = o })) none c.requires.held in
+    let kept = subst (λ o. AreIn s (λ _. 0) (keeps (record x { echo = o }))) none c.requires.kept in
     let bytes = echo_bytes c.args.plan x.line in
-    subst (λ o. Proceeds name s t (record x { echo = o }) (record x { echo = Some e }) c.args.runs (cond {A = List Note} c.enables.result (Enable Down ∷ []) []) [] f f
-    (record (echo_stands plain here bytes (ldterm_in name s (record x { echo = o }))) { gone = [] })) (sym none)
-    (begins-proceeds name s t x e bytes c.args.runs c.audit.ensures held kept c.begin_by_runs.ensures here f c.enables.result c.enables.ensures)
+    subst (λ o. Proceeds s t (record x { echo = o }) (record x { echo = Some e }) c.args.runs (cond {A = List Note} c.enables.result (Enable Down ∷ []) []) [] f f
+    (record (echo_stands plain here bytes (ldterm_in s (record x { echo = o }))) { gone = [] })) (sym none)
+    (begins-proceeds s t x e bytes c.args.runs c.audit.ensures held kept c.begin_by_runs.ensures here f c.enables.result c.enables.ensures)

@@ -12,16 +12,16 @@ use Rattle.strm_ldterm.specs.Does.{Proceeds}
 use Rattle.strm_ldterm.specs.Echoes.{echo_bytes}
 use Rattle.strm_ldterm.proofs.EchoStands.{proceeds-still, proceeds-told, echoed-none, echoed-full, echoed-room, stands-gone, told-lost, told-made, runs-enough, few-bytes}
 use Rattle.strm_ldterm.proofs.echoing.echo.Goals as goal
+use Rattle.strm_blocks.specs.Blocks.{token}
 
 pub returns-then-len-eq0 : goal.returns-then-len-eq0
 returns-then-len-eq0 g c =
     let s = g.B.Blocks.value c.args.store.now in
     let x = c.args.ldterm.now in
-    let name = g.B.Blocks.name in
     let bytes = echo_bytes c.args.plan x.line in
     let f = c.args.told.now in
-    proceeds-still name s x (chunk_count (length bytes)) c.new.result.items f f [] (echoed plain c.args.here 0 bytes (ldterm_in name s x)) c.requires.held c.new.ensures refl
-    (echoed-none c.args.here (ldterm_in name s x) bytes (sym c.len-len.ensures ∙ c.if-len-eq0.true))
+    proceeds-still s x (chunk_count (length bytes)) c.new.result.items f f [] (echoed plain c.args.here 0 bytes (ldterm_in s x)) c.requires.held c.new.ensures refl
+    (echoed-none c.args.here (ldterm_in s x) bytes (sym c.len-len.ensures ∙ c.if-len-eq0.true))
 
 pub chunk_count-runs-requires : goal.chunk_count-runs-requires
 chunk_count-runs-requires g c =
@@ -34,14 +34,13 @@ pub returns-then-is_full : goal.returns-then-is_full
 returns-then-is_full g c =
     let s = g.B.Blocks.value c.args.store.now in
     let x = c.args.ldterm.now in
-    let name = g.B.Blocks.name in
     let here = c.args.here in
     let bytes = echo_bytes c.args.plan x.line in
     let d = echo_dir plain here in
-    proceeds-still name s x (chunk_count (length bytes)) c.new-then-is_full.result.items c.args.told.now c.tell.new.self (Comes d bytes ∷ Goes d EchoFull bytes ∷ [])
-    (echoed plain here 0 bytes (ldterm_in name s x)) c.requires.held c.new-then-is_full.ensures
+    proceeds-still s x (chunk_count (length bytes)) c.new-then-is_full.result.items c.args.told.now c.tell.new.self (Comes d bytes ∷ Goes d EchoFull bytes ∷ [])
+    (echoed plain here 0 bytes (ldterm_in s x)) c.requires.held c.new-then-is_full.ensures
     (told-lost c.direction_at-direction.result d c.len-len.result (length bytes) c.args.told.now c.tell_made.new.self c.tell.new.self c.direction_at-direction.ensures c.len-len.ensures c.tell_made.ensures c.tell.ensures)
-    (echoed-full here (ldterm_in name s x) bytes (λ none. c.if-len-eq0.false (c.len-len.ensures ∙ none)) (sym c.is_full.ensures ∙ c.if-is_full.true))
+    (echoed-full here (ldterm_in s x) bytes (λ none. c.if-len-eq0.false (c.len-len.ensures ∙ none)) (sym c.is_full.ensures ∙ c.if-is_full.true))
 
 pub let_stand-requires-clause-some : goal.let_stand-requires-clause-some
 let_stand-requires-clause-some g c = let some = chunk-some c.len-len.result in let e = c.chunk_count-runs.ensures.value in omega arith
@@ -59,18 +58,17 @@ returns g c =
     let t = g.B.Blocks.value c.let_stand.new.store in
     let x = c.args.ldterm.now in
     let x' = c.let_stand.new.ldterm in
-    let name = g.B.Blocks.name in
     let here = c.args.here in
     let bytes = echo_bytes c.args.plan x.line in
     let d = echo_dir plain here in
-    let p = ldterm_in name s x in
+    let p = ldterm_in s x in
     let f = c.args.told.now in
     let f' = c.tell_made.new.self in
     let notes = c.let_stand.result.items in
     let stands = cond (is_some x.echo) (echo_grows plain here bytes p) (echo_stands plain here bytes p) in
     let runs : c.chunk_count-runs.result ≡ chunk_count (length bytes) = c.chunk_count-runs.ensures.value ∙ ap chunk_count c.len-len.ensures in
-    let did = subst (λ n. Proceeds name s t x x' n notes [] f f (record stands { gone = [] })) runs (c.let_stand.ensures here f) in
+    let did = subst (λ n. Proceeds s t x x' n notes [] f f (record stands { gone = [] })) runs (c.let_stand.ensures here f) in
     let told = told-made c.direction_at-direction.result d c.len-len.result (length bytes) f f' c.direction_at-direction.ensures c.len-len.ensures c.tell_made.ensures in
-    subst (λ a. Proceeds name s t x x' (chunk_count (length bytes)) notes [] f f' a)
+    subst (λ a. Proceeds s t x x' (chunk_count (length bytes)) notes [] f f' a)
     (sym (echoed-room here p bytes (λ none. c.if-len-eq0.false (c.len-len.ensures ∙ none)) (sym c.is_full.ensures ∙ c.if-is_full.false)))
-    (proceeds-told name s t x x' (chunk_count (length bytes)) notes f f' stands (told ∙ sym (ap (λ gone. tallied gone f) (stands-gone here p bytes (is_some x.echo)))) did)
+    (proceeds-told s t x x' (chunk_count (length bytes)) notes f f' stands (told ∙ sym (ap (λ gone. tallied gone f) (stands-gone here p bytes (is_some x.echo)))) did)

@@ -8,17 +8,17 @@ use Rattle.strm_ldterm.specs.Stands.{ldterm_in, IsHeld}
 use Rattle.strm_ldterm.specs.Does.{Proceeds}
 use Rattle.strm_ldterm.proofs.EchoStands.{grows-proceeds}
 use Rattle.strm_ldterm.proofs.echoing.grow_echo.Goals as goal
+use Rattle.strm_blocks.specs.Blocks.{token}
 
 pub returns : goal.returns
 returns g c = λ here f.
     let s = g.B.Blocks.value c.args.store.now in
     let t = g.B.Blocks.value c.grow_by_runs.new.store in
-    let name = g.B.Blocks.name in
     let x = c.args.ldterm.now in
     let e = c.in-Some.echo in
     let there : x.echo ≡ Some e = sym c.take.ensures.value ∙ c.in-Some.is in
-    let held = subst (λ o. IsHeld name s (record x { echo = o })) there c.requires.held in
+    let held = subst (λ o. IsHeld s (record x { echo = o })) there c.requires.held in
     let bytes = echo_bytes c.args.plan x.line in
-    subst (λ o. Proceeds name s t (record x { echo = o }) (record x { echo = Some c.grow_by_runs.result }) c.args.runs [] [] f f
-    (record (echo_grows plain here bytes (ldterm_in name s (record x { echo = o }))) { gone = [] })) (sym there)
-    (grows-proceeds name s t x e c.grow_by_runs.result bytes c.args.runs held c.grow_by_runs.ensures.grown c.grow_by_runs.ensures.kept_name here f)
+    subst (λ o. Proceeds s t (record x { echo = o }) (record x { echo = Some c.grow_by_runs.result }) c.args.runs [] [] f f
+    (record (echo_grows plain here bytes (ldterm_in s (record x { echo = o }))) { gone = [] })) (sym there)
+    (grows-proceeds s t x e c.grow_by_runs.result bytes c.args.runs held c.grow_by_runs.ensures.grown c.grow_by_runs.ensures.kept_name here f)

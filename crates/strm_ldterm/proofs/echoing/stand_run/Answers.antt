@@ -11,34 +11,33 @@ use Rattle.strm_ldterm.specs.Stands.{ldterm_in, keeps, IsHeld}
 use Rattle.strm_ldterm.specs.Does.{Proceeds}
 use Rattle.strm_ldterm.proofs.EchoStands.{begins-proceeds, grows-proceeds, stands-by}
 use Rattle.strm_ldterm.proofs.echoing.stand_run.Goals as goal
+use Rattle.strm_blocks.specs.Blocks.{token}
 
 pub returns-in-Some : goal.returns-in-Some
 returns-in-Some g c = λ here f.
     let s = g.B.Blocks.value c.args.store.now in
     let t = g.B.Blocks.value c.grow.new.store in
-    let name = g.B.Blocks.name in
     let x = c.args.ldterm.now in
     let e = c.in-Some.echo in
     let r = c.grow.result in
     let run = c.args.run.now in
     let there : x.echo ≡ Some e = sym c.take.ensures.value ∙ c.in-Some.is in
-    let held = subst (λ o. IsHeld name s (record x { echo = o })) there c.requires.held in
-    stands-by name s t x (record x { echo = Some r }) 1 [] c.new.result.items here f run true (is_some x.echo) (ap is_some there) c.new.ensures
-    (subst (λ o. Proceeds name s t (record x { echo = o }) (record x { echo = Some r }) 1 [] [] f f (record (echo_grows plain here run (ldterm_in name s (record x { echo = o }))) { gone = [] })) (sym there)
-    (grows-proceeds name s t x e r run 1 held c.grow.ensures.grown c.grow.ensures.kept_name here f))
+    let held = subst (λ o. IsHeld s (record x { echo = o })) there c.requires.held in
+    stands-by s t x (record x { echo = Some r }) 1 [] c.new.result.items here f run true (is_some x.echo) (ap is_some there) c.new.ensures
+    (subst (λ o. Proceeds s t (record x { echo = o }) (record x { echo = Some r }) 1 [] [] f f (record (echo_grows plain here run (ldterm_in s (record x { echo = o }))) { gone = [] })) (sym there)
+    (grows-proceeds s t x e r run 1 held c.grow.ensures.grown c.grow.ensures.kept_name here f))
 
 pub returns-in-None : goal.returns-in-None
 returns-in-None g c = λ here f.
     let s = g.B.Blocks.value c.args.store.now in
     let t = g.B.Blocks.value c.begin.new.store in
-    let name = g.B.Blocks.name in
     let x = c.args.ldterm.now in
     let e = c.begin.result in
     let run = c.args.run.now in
     let none : x.echo ≡ None = sym c.take.ensures.value ∙ c.in-None.is in
-    let held = subst (λ o. IsHeld name s (record x { echo = o })) none c.requires.held in
-    let kept = subst (λ o. AreIn s (λ _. 0) (keeps name (record x { echo = o }))) none c.requires.kept in
+    let held = subst (λ o. IsHeld s (record x { echo = o })) none c.requires.held in
+    let kept = subst (λ o. AreIn s (λ _. 0) (keeps (record x { echo = o }))) none c.requires.kept in
     let noted = cond {A = List Note} c.enables.result (Enable Down ∷ []) [] in
-    stands-by name s t x (record x { echo = Some e }) 1 noted c.note_if.result.items here f run false (is_some x.echo) (ap is_some none) c.note_if.ensures
-    (subst (λ o. Proceeds name s t (record x { echo = o }) (record x { echo = Some e }) 1 noted [] f f (record (echo_stands plain here run (ldterm_in name s (record x { echo = o }))) { gone = [] })) (sym none)
-    (begins-proceeds name s t x e run 1 c.audit.ensures held kept c.begin.ensures here f c.enables.result c.enables.ensures))
+    stands-by s t x (record x { echo = Some e }) 1 noted c.note_if.result.items here f run false (is_some x.echo) (ap is_some none) c.note_if.ensures
+    (subst (λ o. Proceeds s t (record x { echo = o }) (record x { echo = Some e }) 1 noted [] f f (record (echo_stands plain here run (ldterm_in s (record x { echo = o }))) { gone = [] })) (sym none)
+    (begins-proceeds s t x e run 1 c.audit.ensures held kept c.begin.ensures here f c.enables.result c.enables.ensures))

@@ -10,25 +10,24 @@ use Rattle.strm_ldterm.specs.Calls.{queue_of, with_queue}
 use Rattle.strm_ldterm.proofs.Before.{echo-adds, echo-there}
 use Rattle.strm_ldterm.proofs.Beside.{write-plain}
 use Rattle.strm_ldterm.proofs.ending.end_turn.Goals as goal
+use Rattle.strm_blocks.specs.Blocks.{token}
 
 pub returns-in-Down-clause-state : goal.returns-in-Down-clause-state
 returns-in-Down-clause-state g c =
-    let name = g.B.Blocks.name in
     let s = g.B.Blocks.value c.args.store.now in
     let x = c.args.ldterm.now in
-    let p = ldterm_in name s x in
+    let p = ldterm_in s x in
     let e = c.end_with.ensures in
-    let adds = echo-adds name s c.echo_size-bytes.result x.echo c.requires.held.echoes c.echo_size-bytes.ensures in
-    let there = echo-there name s x.echo ∙ ap not (sym c.is_some-some.ensures) in
-    write-plain name s s x c.end_with.new.queue c.requires.held (record { ready = e.ready; list = e.list; others = λ k ne. refl; hand = refl; mblks = refl; dblks = refl })
-    ∙ ap (λ (q : plain.Queue ℕ). record p { write_queue = q }) (e.queue (option_to_list (kept_in name s x.echo)) adds there)
+    let adds = echo-adds s c.echo_size-bytes.result x.echo c.requires.held.echoes c.echo_size-bytes.ensures in
+    let there = echo-there s x.echo ∙ ap not (sym c.is_some-some.ensures) in
+    write-plain s s x c.end_with.new.queue c.requires.held (record { ready = e.ready; list = e.list; others = λ k ne. refl; hand = refl; mblks = refl; dblks = refl })
+    ∙ ap (λ (q : plain.Queue ℕ). record p { write_queue = q }) (e.queue (option_to_list (kept_in s x.echo)) adds there)
     ∙ ap (λ w. queue_changed queue_of with_queue w (turn_ended c.args.took) p) (sym c.in-Down.is)
 
 pub returns-in-Down-clause-room : goal.returns-in-Down-clause-room
 returns-in-Down-clause-room g c =
-    let name = g.B.Blocks.name in
     let s = g.B.Blocks.value c.args.store.now in
     let x = c.args.ldterm.now in
-    let adds = echo-adds name s c.echo_size-bytes.result x.echo c.requires.held.echoes c.echo_size-bytes.ensures in
-    let there = echo-there name s x.echo ∙ ap not (sym c.is_some-some.ensures) in
-    c.end_with.ensures.room (option_to_list (kept_in name s x.echo)) adds there ∙ ap (λ w. end_relieves queue_of c.args.took w (ldterm_in name s x)) (sym c.in-Down.is)
+    let adds = echo-adds s c.echo_size-bytes.result x.echo c.requires.held.echoes c.echo_size-bytes.ensures in
+    let there = echo-there s x.echo ∙ ap not (sym c.is_some-some.ensures) in
+    c.end_with.ensures.room (option_to_list (kept_in s x.echo)) adds there ∙ ap (λ w. end_relieves queue_of c.args.took w (ldterm_in s x)) (sym c.in-Down.is)

@@ -14,14 +14,14 @@ use Rattle.strm_ldterm.proofs.Flushed.{alters-both, kept-still}
 use Rattle.strm_ldterm.proofs.Freeing.{none-freed-both}
 use Rattle.strm_ldterm.proofs.Proceeding.{proceeds-alters, proceeds-both, proceeds-staged}
 use Rattle.strm_ldterm.proofs.finishing.finish.Goals as goal
+use Rattle.strm_blocks.specs.Blocks.{token}
 
 pub return_work-requires-clause-kept : goal.return_work-requires-clause-kept
 return_work-requires-clause-kept g c =
-    kept-still g.B.Blocks.name (g.B.Blocks.value c.args.store.now) (g.B.Blocks.value c.settle_echo.new.store) c.args.ldterm.now c.settle_echo.new.ldterm c.settle_echo.ensures.alters c.requires.kept
+    kept-still (g.B.Blocks.value c.args.store.now) (g.B.Blocks.value c.settle_echo.new.store) c.args.ldterm.now c.settle_echo.new.ldterm c.settle_echo.ensures.alters c.requires.kept
 
 pub returns-clause-did : goal.returns-clause-did
 returns-clause-did g c = λ f.
-    let name = g.B.Blocks.name in
     let s = g.B.Blocks.value c.args.store.now in
     let t = g.B.Blocks.value c.settle_echo.new.store in
     let u = g.B.Blocks.value c.return_work.new.store in
@@ -29,15 +29,15 @@ returns-clause-did g c = λ f.
     let y = c.settle_echo.new.ldterm in
     let z = c.return_work.new.ldterm in
     let w = c.send_gathered-first.new.ldterm in
-    let p = ldterm_in name s x in
+    let p = ldterm_in s x in
     let sent = option_to_list c.send_gathered-first.result in
     let q : ldterms.Ldterm ℕ = record p { echoing = false; in_work = None; read_queue = back_on p.in_work p.read_queue } in
-    let alters = alters-both name s t u x y z c.settle_echo.ensures.alters c.return_work.ensures.alters in
+    let alters = alters-both s t u x y z c.settle_echo.ensures.alters c.return_work.ensures.alters in
     let is = c.return_work.ensures.state ∙ ap (λ (r : ldterms.Ldterm ℕ). record r { in_work = None; read_queue = back_on r.in_work r.read_queue }) c.settle_echo.ensures.state in
-    subst (λ l. Proceeds name s u x (record w { stage = Between }) 0 [] l f f (finished plain c.args.here p)) (sym (append-nil sent))
-    (proceeds-staged name s u x w 0 sent f f _ Between
-    (proceeds-both name s u u x z w 0 0 [] sent f f f (sends [] q) (λ r. sends (gathered_up plain c.args.here r.gathered) (record r { gathered = [] })) c.audit.ensures c.requires.kept
-    (proceeds-alters name s u x z f q alters is) (c.send_gathered-first.ensures f)))
+    subst (λ l. Proceeds s u x (record w { stage = Between }) 0 [] l f f (finished plain c.args.here p)) (sym (append-nil sent))
+    (proceeds-staged s u x w 0 sent f f _ Between
+    (proceeds-both s u u x z w 0 0 [] sent f f f (sends [] q) (λ r. sends (gathered_up plain c.args.here r.gathered) (record r { gathered = [] })) c.audit.ensures c.requires.kept
+    (proceeds-alters s u x z f q alters is) (c.send_gathered-first.ensures f)))
 
 pub returns-clause-blocks : goal.returns-clause-blocks
 returns-clause-blocks g c = λ left.

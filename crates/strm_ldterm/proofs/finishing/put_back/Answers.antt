@@ -1,38 +1,38 @@
 -- The message stands on the list, and it is no longer in hand.
 use Rattle.std.proofs.Common.{◌<◌, length, arith}
-use Rattle.strm_blocks.specs.Blocks.{in_hand}
+use Rattle.strm_blocks.specs.Blocks.{in_hand, token}
 use Rattle.strm_queue.proofs.Chains.{chain-low}
 use Rattle.strm_ldterm.proofs.Freeing.{back-none}
 use Rattle.strm_ldterm.proofs.Returning.{back-queue, back-changes, back-frees}
 use Rattle.strm_ldterm.proofs.finishing.put_back.Goals as goal
 
 pub putbq-requires-clause-band : goal.putbq-requires-clause-band
-putbq-requires-clause-band g c = chain-low (in_hand (g.B.Blocks.value c.args.store.now) (g.B.Blocks.name c.args.message)) c.requires.chain
+putbq-requires-clause-band g c = chain-low (in_hand (g.B.Blocks.value c.args.store.now) (token c.args.message)) c.requires.chain
 
 pub returns-clause-queue : goal.returns-clause-queue
 returns-clause-queue g c =
     let s = g.B.Blocks.value c.args.store.now in
     let q = c.args.queue.now in
     let within : q.list < length s.lists = let low = q.on_list in omega (arith, low, c.audit.ensures.eight) in
-    back-queue s (g.B.Blocks.value c.putbq.new.store) q c.putbq.new.self (g.B.Blocks.name c.args.message) within c.requires.in_hand c.putbq.ensures.placed c.putbq.ensures.others c.putbq.ensures.flows
+    back-queue s (g.B.Blocks.value c.putbq.new.store) q c.putbq.new.self (token c.args.message) within c.requires.in_hand c.putbq.ensures.placed c.putbq.ensures.others c.putbq.ensures.flows
 
 pub returns-clause-changes : goal.returns-clause-changes
 returns-clause-changes g c =
     let s = g.B.Blocks.value c.args.store.now in
     let q = c.args.queue.now in
     let within : q.list < length s.lists = let low = q.on_list in omega (arith, low, c.audit.ensures.eight) in
-    back-changes s (g.B.Blocks.value c.putbq.new.store) q c.putbq.new.self (g.B.Blocks.name c.args.message) within c.requires.in_hand c.putbq.ensures.placed c.requires.ready c.requires.chain c.putbq.ensures.others c.putbq.ensures.counted
+    back-changes s (g.B.Blocks.value c.putbq.new.store) q c.putbq.new.self (token c.args.message) within c.requires.in_hand c.putbq.ensures.placed c.requires.ready c.requires.chain c.putbq.ensures.others c.putbq.ensures.counted
 
 pub returns-clause-frees : goal.returns-clause-frees
 returns-clause-frees g c =
     let s = g.B.Blocks.value c.args.store.now in
     let q = c.args.queue.now in
     let within : q.list < length s.lists = let low = q.on_list in omega (arith, low, c.audit.ensures.eight) in
-    back-frees s (g.B.Blocks.value c.putbq.new.store) q c.putbq.new.self (g.B.Blocks.name c.args.message) within c.requires.in_hand c.putbq.ensures.placed
+    back-frees s (g.B.Blocks.value c.putbq.new.store) q c.putbq.new.self (token c.args.message) within c.requires.in_hand c.putbq.ensures.placed
 
 pub returns-clause-blocks : goal.returns-clause-blocks
 returns-clause-blocks g c =
     let s = g.B.Blocks.value c.args.store.now in
     let q = c.args.queue.now in
     let within : q.list < length s.lists = let low = q.on_list in omega (arith, low, c.audit.ensures.eight) in
-    back-none s q.list (g.B.Blocks.name c.args.message) within c.requires.in_hand (g.B.Blocks.value c.putbq.new.store) c.putbq.ensures.placed
+    back-none s q.list (token c.args.message) within c.requires.in_hand (g.B.Blocks.value c.putbq.new.store) c.putbq.ensures.placed

@@ -2,7 +2,7 @@
 use Rattle.std.proofs.Common.{ap, sym, subst, refl, arith, ◌∙◌}
 use Rattle.std.specs.Prelude.{Some}
 use Rattle.strm_queue.specs.Stored.{queue_in, Changes, FreesBlocks}
-use Rattle.strm_blocks.specs.Blocks.{dropped}
+use Rattle.strm_blocks.specs.Blocks.{dropped, token}
 use Rattle.strm_frame.specs.Outboxes.{message_in}
 use Rattle.strm_ldterm.proofs.Finished.{back-none, back-some}
 use Rattle.strm_ldterm.proofs.Returning.{freed-changes, freed-frees}
@@ -11,20 +11,20 @@ use Rattle.strm_ldterm.proofs.finishing.return_rest.Goals as goal
 pub returns-then-booked_size-eq0-clause-queue : goal.returns-then-booked_size-eq0-clause-queue
 returns-then-booked_size-eq0-clause-queue g c =
     let s = g.B.Blocks.value c.args.store.now in
-    let m = message_in s (g.B.Blocks.name c.args.message) in
+    let m = message_in s (token c.args.message) in
     ap (λ v. queue_in v c.args.queue.now) c.free.ensures
     ∙ sym (back-none (Some m) m (queue_in s c.args.queue.now) refl (sym c.booked_size.ensures ∙ c.if-booked_size-eq0.true))
 
 pub returns-then-booked_size-eq0-clause-changes : goal.returns-then-booked_size-eq0-clause-changes
 returns-then-booked_size-eq0-clause-changes g c =
     let s = g.B.Blocks.value c.args.store.now in
-    let i = g.B.Blocks.name c.args.message in
+    let i = token c.args.message in
     subst (λ v. Changes (dropped s i) v c.args.queue.now c.args.queue.now) (sym c.free.ensures) (freed-changes s c.args.queue.now i c.requires.ready)
 
 pub returns-then-booked_size-eq0-clause-frees : goal.returns-then-booked_size-eq0-clause-frees
 returns-then-booked_size-eq0-clause-frees g c =
     let s = g.B.Blocks.value c.args.store.now in
-    subst (FreesBlocks s) (sym c.free.ensures) (freed-frees s (g.B.Blocks.name c.args.message) c.requires.in_hand)
+    subst (FreesBlocks s) (sym c.free.ensures) (freed-frees s (token c.args.message) c.requires.in_hand)
 
 pub returns-then-booked_size-eq0-clause-blocks : goal.returns-then-booked_size-eq0-clause-blocks
 returns-then-booked_size-eq0-clause-blocks g c = λ left.
@@ -35,7 +35,7 @@ returns-then-booked_size-eq0-clause-blocks g c = λ left.
 pub returns-clause-queue : goal.returns-clause-queue
 returns-clause-queue g c =
     let s = g.B.Blocks.value c.args.store.now in
-    let m = message_in s (g.B.Blocks.name c.args.message) in
+    let m = message_in s (token c.args.message) in
     c.put_back.ensures.queue
     ∙ sym (back-some (Some m) m (queue_in s c.args.queue.now) refl (λ e. c.if-booked_size-eq0.false (c.booked_size.ensures ∙ e)))
 

@@ -18,13 +18,13 @@ use Rattle.strm_ldterm.specs.Does.{Flushes}
 use Rattle.strm_ldterm.proofs.Before.{none-chosen, gone-last, of-echo}
 use Rattle.strm_ldterm.proofs.Flushed.{flushes-down}
 use Rattle.strm_ldterm.proofs.flushing.flush_beside.Goals as goal
+use Rattle.strm_blocks.specs.Blocks.{token}
 
 above : (b : Band) → takes_band_0 (Some b) ≡ false → 0 < b.0
 above b is = grind (arith, nat_tests)
 
 pub returns : goal.returns
 returns g c =
-    let name = g.B.Blocks.name in
     let s = g.B.Blocks.value c.args.store.now in
     let t = g.B.Blocks.value c.flush_before.new.store in
     let x = c.args.ldterm.now in
@@ -35,13 +35,13 @@ returns g c =
     let more = c.echo_size-more.result in
     let e = c.flush_before.ensures in
     let some = c.is_none.ensures ∙ ap not c.if-is_none.false in
-    let behind = of-echo name s (λ o. with_last o (queue_in t q1) ≡ queue_behind chosen (with_last o q)) more x.echo some c.requires.held.echoes c.echo_size-more.ensures e.queue in
-    let went = of-echo name s (λ o. c.flush_before.result ≡ writer_goes chosen (with_last o q)) more x.echo some c.requires.held.echoes c.echo_size-more.ensures e.went in
-    let gone = of-echo name s (λ o. cells_gone chosen (q.messages ++ option_to_list o) ≡ cells_gone chosen q.messages) more x.echo some c.requires.held.echoes c.echo_size-more.ensures
+    let behind = of-echo s (λ o. with_last o (queue_in t q1) ≡ queue_behind chosen (with_last o q)) more x.echo some c.requires.held.echoes c.echo_size-more.ensures e.queue in
+    let went = of-echo s (λ o. c.flush_before.result ≡ writer_goes chosen (with_last o q)) more x.echo some c.requires.held.echoes c.echo_size-more.ensures e.went in
+    let gone = of-echo s (λ o. cells_gone chosen (q.messages ++ option_to_list o) ≡ cells_gone chosen q.messages) more x.echo some c.requires.held.echoes c.echo_size-more.ensures
     (λ m zero adds. gone-last q m chosen (none-chosen m.kind m.band named zero (above named (sym (ap takes_band_0 c.in-Some.is) ∙ c.requires.other)))) in
     let told =
     c.tell.ensures ∙ ap (λ d. told_more d Flushed c.going-bytes.result c.args.told.now) c.direction_at-direction.ensures
     ∙ ap (λ n. told_more (direction_at Down c.args.here.side) Flushed n c.args.told.now) (c.going-bytes.ensures ∙ ap length (sym gone)) in
     let notes = cond {A = List Note} c.flush_before.result (Room Down ∷ []) [] in
-    subst (λ b. Flushes name s t x (record x { write_queue = q1 }) notes c.args.told.now c.tell.new.self (queue_flushed Down c.args.here b (ldterm_in name s x))) (sym c.in-Some.is)
-    (flushes-down name s t x q1 c.args.here (Some named) c.flush_before.result notes c.args.told.now c.tell.new.self c.requires.held e.frees e.changes behind went told refl)
+    subst (λ b. Flushes s t x (record x { write_queue = q1 }) notes c.args.told.now c.tell.new.self (queue_flushed Down c.args.here b (ldterm_in s x))) (sym c.in-Some.is)
+    (flushes-down s t x q1 c.args.here (Some named) c.flush_before.result notes c.args.told.now c.tell.new.self c.requires.held e.frees e.changes behind went told refl)

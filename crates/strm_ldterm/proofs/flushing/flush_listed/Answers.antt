@@ -13,5 +13,5 @@ returns g c =
     let x = c.args.ldterm.now in
     let e = c.flush_queue.ensures in
     let told = e.told ∙ ap (λ d. counted_with (Goes d Flushed (cells_gone (of_data c.args.band) (messages_on s x.write_queue.list))) c.args.told.now) c.direction_at-direction.ensures in
-    flushes-alone g.B.Blocks.name s (g.B.Blocks.value c.flush_queue.new.store) x c.flush_queue.new.queue c.args.here c.args.band c.flush_queue.result _ c.args.told.now c.flush_queue.new.told
+    flushes-alone s (g.B.Blocks.value c.flush_queue.new.store) x c.flush_queue.new.queue c.args.here c.args.band c.flush_queue.result _ c.args.told.now c.flush_queue.new.told
     c.requires.held e.frees c.requires.none e.changes e.queue e.went told refl

@@ -10,6 +10,7 @@ use Rattle.strm_types.specs.Emptied.{of_data, cells_gone}
 use Rattle.strm_queue.specs.Stored.{messages_on}
 use Rattle.strm_ldterm.proofs.Flushed.{flushes-up, line-after}
 use Rattle.strm_ldterm.proofs.flushing.flush_read.Goals as goal
+use Rattle.strm_blocks.specs.Blocks.{token}
 
 not-false : (v : Bool) → not v ≡ false → v ≡ true
 not-false true is = refl
@@ -18,12 +19,11 @@ not-false false is = absurd (cc)
 pub returns : goal.returns
 returns g c =
     let s = g.B.Blocks.value c.args.store.now in
-    let name = g.B.Blocks.name in
     let x = c.args.ldterm.now in
     let f = c.flush_queue-room in
     let t = g.B.Blocks.value f.new.store in
     let e = f.ensures in
     let told = e.told ∙ ap (λ d. counted_with (Goes d Flushed (cells_gone (of_data c.args.asked.band) (messages_on s x.read_queue.list))) c.args.told.now) c.direction_at-direction.ensures in
-    let first = flushes-up name s t x f.new.queue c.args.here c.args.asked.band f.result (cond {A = List Note} f.result (Room Up ∷ []) []) c.args.told.now f.new.told c.requires.held e.frees e.changes e.queue e.went told refl in
-    line-after name s t x (record x { read_queue = f.new.queue }) c.flush_line.new.ldterm c.args.here c.args.asked (cond {A = List Note} f.result (Room Up ∷ []) []) c.args.told.now f.new.told c.flush_line.new.told
-    (not-false c.args.asked.for_read c.if-not-asked.false) first (c.flush_line.ensures name t first.alters.held)
+    let first = flushes-up s t x f.new.queue c.args.here c.args.asked.band f.result (cond {A = List Note} f.result (Room Up ∷ []) []) c.args.told.now f.new.told c.requires.held e.frees e.changes e.queue e.went told refl in
+    line-after s t x (record x { read_queue = f.new.queue }) c.flush_line.new.ldterm c.args.here c.args.asked (cond {A = List Note} f.result (Room Up ∷ []) []) c.args.told.now f.new.told c.flush_line.new.told
+    (not-false c.args.asked.for_read c.if-not-asked.false) first (c.flush_line.ensures t first.alters.held)

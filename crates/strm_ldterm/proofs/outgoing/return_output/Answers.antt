@@ -13,7 +13,7 @@ pub return_rest-requires-clause-in_hand : goal.return_rest-requires-clause-in_ha
 return_rest-requires-clause-in_hand g c =
     let s = g.B.Blocks.value c.args.store.now in
     let there : c.args.ldterm.now.in_work ≡ Some c.in-Some.message = sym c.take.ensures.value ∙ c.in-Some.is in
-    can-in_hand s _ _ c.audit.ensures (work-can g.B.Blocks.name s c.args.ldterm.now c.in-Some.message there c.requires.kept)
+    can-in_hand s _ _ c.audit.ensures (work-can s c.args.ldterm.now c.in-Some.message there c.requires.kept)
 
 pub returns-clause-state : goal.returns-clause-state
 returns-clause-state g c =
@@ -21,8 +21,8 @@ returns-clause-state g c =
     let t = g.B.Blocks.value c.return_rest.new.store in
     let x = c.args.ldterm.now in
     let there : x.in_work ≡ Some c.in-Some.message = sym c.take.ensures.value ∙ c.in-Some.is in
-    ap (λ o. ldterm_in g.B.Blocks.name t (record x { in_work = o; write_queue = c.return_rest.new.queue })) c.take.ensures.after
-    ∙ write-returned g.B.Blocks.name s x c.in-Some.message there c.audit.ensures c.requires.held c.requires.kept t c.return_rest.new.queue c.return_rest.ensures.changes (none-there x.echo c.requires.quiet) c.return_rest.ensures.queue
+    ap (λ o. ldterm_in t (record x { in_work = o; write_queue = c.return_rest.new.queue })) c.take.ensures.after
+    ∙ write-returned s x c.in-Some.message there c.audit.ensures c.requires.held c.requires.kept t c.return_rest.new.queue c.return_rest.ensures.changes (none-there x.echo c.requires.quiet) c.return_rest.ensures.queue
 
 pub returns-clause-alters : goal.returns-clause-alters
 returns-clause-alters g c =
@@ -30,8 +30,8 @@ returns-clause-alters g c =
     let t = g.B.Blocks.value c.return_rest.new.store in
     let x = c.args.ldterm.now in
     let there : x.in_work ≡ Some c.in-Some.message = sym c.take.ensures.value ∙ c.in-Some.is in
-    subst (λ o. Alters g.B.Blocks.name s t x (record x { in_work = o; write_queue = c.return_rest.new.queue })) (sym c.take.ensures.after)
-    (write-returned-alters g.B.Blocks.name s x c.in-Some.message there c.audit.ensures c.requires.held c.requires.kept t c.return_rest.new.queue c.return_rest.ensures.changes c.return_rest.ensures.frees)
+    subst (λ o. Alters s t x (record x { in_work = o; write_queue = c.return_rest.new.queue })) (sym c.take.ensures.after)
+    (write-returned-alters s x c.in-Some.message there c.audit.ensures c.requires.held c.requires.kept t c.return_rest.new.queue c.return_rest.ensures.changes c.return_rest.ensures.frees)
 
 pub returns-in_default-clause-blocks : goal.returns-in_default-clause-blocks
 returns-in_default-clause-blocks g c = λ left. none-freed (g.B.Blocks.value c.args.store.now)
@@ -39,4 +39,4 @@ returns-in_default-clause-blocks g c = λ left. none-freed (g.B.Blocks.value c.a
 pub returns-clause-blocks : goal.returns-clause-blocks
 returns-clause-blocks g c = λ left.
     let there : c.args.ldterm.now.in_work ≡ Some c.in-Some.message = sym c.take.ensures.value ∙ c.in-Some.is in
-    c.return_rest.ensures.blocks (subst (λ l. 0 < length l) (work-cells g.B.Blocks.name (g.B.Blocks.value c.args.store.now) c.args.ldterm.now c.in-Some.message there) left)
+    c.return_rest.ensures.blocks (subst (λ l. 0 < length l) (work-cells (g.B.Blocks.value c.args.store.now) c.args.ldterm.now c.in-Some.message there) left)

@@ -11,30 +11,30 @@ use Rattle.strm_ldterm.proofs.Joining.{still-kept}
 use Rattle.strm_ldterm.proofs.Outgone.{out-serves}
 use Rattle.strm_ldterm.proofs.Turned.{down≢up, down-serves, whole-serves}
 use Rattle.strm_ldterm.proofs.outgoing.serve_output.Goals as goal
+use Rattle.strm_blocks.specs.Blocks.{token}
 
 pub post_bytes-left-requires-clause-held : goal.post_bytes-left-requires-clause-held
 post_bytes-left-requires-clause-held g c = (c.in-InWork.ensures.works c.args.told.now).held
 
 pub post_bytes-left-requires-clause-kept : goal.post_bytes-left-requires-clause-kept
 post_bytes-left-requires-clause-kept g c =
-    still-kept g.B.Blocks.name (g.B.Blocks.value c.args.store.now) (g.B.Blocks.value c.begin_output.new.store) c.args.ldterm.now c.begin_output.new.ldterm 0 [] c.args.told.now c.args.told.now _ c.audit.ensures
+    still-kept (g.B.Blocks.value c.args.store.now) (g.B.Blocks.value c.begin_output.new.store) c.args.ldterm.now c.begin_output.new.ldterm 0 [] c.args.told.now c.args.told.now _ c.audit.ensures
     (c.in-InWork.ensures.works c.args.told.now) c.requires.kept
 
 pub post_bytes-left-requires-clause-work : goal.post_bytes-left-requires-clause-work
 post_bytes-left-requires-clause-work g c =
-    sym (kept-some g.B.Blocks.name (g.B.Blocks.value c.begin_output.new.store) c.begin_output.new.ldterm.in_work) ∙ ap (λ (q : ldterms.Ldterm ℕ). is_some q.in_work) (c.in-InWork.ensures.works c.args.told.now).state
+    sym (kept-some (g.B.Blocks.value c.begin_output.new.store) c.begin_output.new.ldterm.in_work) ∙ ap (λ (q : ldterms.Ldterm ℕ). is_some q.in_work) (c.in-InWork.ensures.works c.args.told.now).state
 
 pub post_bytes-left-requires-clause-bytes : goal.post_bytes-left-requires-clause-bytes
 post_bytes-left-requires-clause-bytes g c = c.in-InWork.ensures.size ∙ sym (ap (λ (q : ldterms.Ldterm ℕ). length (cells_left q)) (c.in-InWork.ensures.works c.args.told.now).state)
 
 pub let_go-sent-requires-clause-kept : goal.let_go-sent-requires-clause-kept
 let_go-sent-requires-clause-kept g c =
-    let name = g.B.Blocks.name in
     let s1 = g.B.Blocks.value c.begin_output.new.store in
     let x1 = c.begin_output.new.ldterm in
     let told = c.args.told.now in
-    still-kept name s1 (g.B.Blocks.value c.post_bytes-left.new.store) x1 c.post_bytes-left.new.ldterm _ [] told c.post_bytes-left.new.told _ c.audit-in-InWork.ensures c.post_bytes-left.ensures.does
-    (still-kept name (g.B.Blocks.value c.args.store.now) s1 c.args.ldterm.now x1 0 [] told told _ c.audit.ensures (c.in-InWork.ensures.works told) c.requires.kept)
+    still-kept s1 (g.B.Blocks.value c.post_bytes-left.new.store) x1 c.post_bytes-left.new.ldterm _ [] told c.post_bytes-left.new.told _ c.audit-in-InWork.ensures c.post_bytes-left.ensures.does
+    (still-kept (g.B.Blocks.value c.args.store.now) s1 c.args.ldterm.now x1 0 [] told told _ c.audit.ensures (c.in-InWork.ensures.works told) c.requires.kept)
 
 pub let_go-sent-requires-clause-quiet : goal.let_go-sent-requires-clause-quiet
 let_go-sent-requires-clause-quiet g c =
@@ -45,22 +45,20 @@ let_go-sent-requires-clause-low g c = c.in-InWork.ensures.low
 
 pub returns-in-Whole : goal.returns-in-Whole
 returns-in-Whole g c = λ again.
-    let name = g.B.Blocks.name in
     let s = g.B.Blocks.value c.args.store.now in
     let s1 = g.B.Blocks.value c.begin_output.new.store in
     let x = c.args.ldterm.now in
     let x1 = c.begin_output.new.ldterm in
     let whole = c.in-Whole.ensures in
-    whole-serves name s s1 c.args.here x x1 again c.args.told.now c.of_whole.result c.in-Whole.passed.sent c.in-Whole.passed.bytes (output_of name s s1 c.args.here x x1 None)
+    whole-serves s s1 c.args.here x x1 again c.args.told.now c.of_whole.result c.in-Whole.passed.sent c.in-Whole.passed.bytes (output_of s s1 c.args.here x x1 None)
     c.of_whole.ensures.notes c.of_whole.ensures.sent c.of_whole.ensures.bytes c.of_whole.ensures.stopped c.of_whole.ensures.again
-    (down-serves c.args.here again None (ldterm_in name s x) c.requires.way) (whole.passes None c.args.told.now) (whole.size None) (whole.again None) (λ up. absurd (down≢up (sym c.requires.way ∙ up)))
-    (ap (λ w. passes_whole w again (ldterm_in name s x)) c.requires.way ∙ whole.whole again)
+    (down-serves c.args.here again None (ldterm_in s x) c.requires.way) (whole.passes None c.args.told.now) (whole.size None) (whole.again None) (λ up. absurd (down≢up (sym c.requires.way ∙ up)))
+    (ap (λ w. passes_whole w again (ldterm_in s x)) c.requires.way ∙ whole.whole again)
 
 pub returns-in-InWork : goal.returns-in-InWork
 returns-in-InWork g c = λ again.
-    let name = g.B.Blocks.name in
     let s = g.B.Blocks.value c.args.store.now in
     let told = c.post_bytes-left.new.told in
-    out-serves name s (g.B.Blocks.value c.begin_output.new.store) (g.B.Blocks.value c.post_bytes-left.new.store) (g.B.Blocks.value c.let_go-sent.new.store) c.args.here
+    out-serves s (g.B.Blocks.value c.begin_output.new.store) (g.B.Blocks.value c.post_bytes-left.new.store) (g.B.Blocks.value c.let_go-sent.new.store) c.args.here
     c.args.ldterm.now c.begin_output.new.ldterm c.post_bytes-left.new.ldterm c.let_go-sent.new.ldterm c.in-InWork.bytes c.post_bytes-left.result c.in-InWork.band.0 c.new.result c.let_go-sent.result c.args.told.now told
     c.requires.way c.requires.stage c.in-InWork.ensures c.post_bytes-left.ensures (c.let_go-sent.ensures.did told) c.let_go-sent.ensures.blocks c.audit.ensures c.audit-in-InWork.ensures c.new.ensures again

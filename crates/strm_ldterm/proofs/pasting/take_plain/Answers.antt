@@ -3,7 +3,7 @@ use Rattle.std.proofs.Common.{ℕ, ◌≡◌, ◌≤◌, ◌++◌, true, false, 
 use Rattle.std.specs.List.{AllByRecursion}
 use Rattle.strm_types.specs.Input.{left_of}
 use Rattle.strm_types.specs.Message.{Message, cells_of}
-use Rattle.strm_blocks.specs.Blocks.{block_at, in_hand}
+use Rattle.strm_blocks.specs.Blocks.{block_at, in_hand, token}
 use Rattle.strm_frame.specs.Outboxes.{message_in}
 use Rattle.strm_ldterm.specs.Becoming.{Becomes}
 use Rattle.strm_ldterm.proofs.Runs.{take-twice}
@@ -15,14 +15,14 @@ returns-clause-became g c =
     let s = g.B.Blocks.value c.args.store.now in
     let t = g.B.Blocks.value c.skip_empty-message.new.store in
     let u = g.B.Blocks.value c.trim_head.new.self in
-    let i = g.B.Blocks.name c.args.message in
-    let j = g.B.Blocks.name c.skip_empty-message.result in
+    let i = token c.args.message in
+    let j = token c.skip_empty-message.result in
     let n = c.plain_len-taken.result in
     let b = c.skip_empty-message.ensures.became in
     let run = c.try_extend_from_slice.new.self.items in
     let items : run ≡ take n (block_at 0 (in_hand t j)).bytes = c.in-Ok.ensures.ok ∙ ap (λ l. l ++ take n c.bytes_at-bytes.result.now) c.new-run.ensures ∙ ap (take n) c.bytes_at-bytes.ensures.bytes in
     let v = g.B.Blocks.value c.skip_empty.new.store in
-    let k = g.B.Blocks.name c.skip_empty.result in
+    let k = token c.skip_empty.result in
     let left = left_of (drop (length run) (cells_of (message_in s i))) (message_in s i) in
     let taken = becomes-both s t u i j j (message_in s i) left c.audit.ensures b
     (subst (λ (m : Message ℕ). Becomes t u j j (left_of (drop (length run) (cells_of m)) m)) b.shows
@@ -32,19 +32,19 @@ returns-clause-became g c =
 
 pub skip_empty-requires-clause-in_hand : goal.skip_empty-requires-clause-in_hand
 skip_empty-requires-clause-in_hand g c =
-    front-in (g.B.Blocks.value c.skip_empty-message.new.store) (g.B.Blocks.value c.trim_head.new.self) (g.B.Blocks.name c.skip_empty-message.result) c.plain_len-taken.result
+    front-in (g.B.Blocks.value c.skip_empty-message.new.store) (g.B.Blocks.value c.trim_head.new.self) (token c.skip_empty-message.result) c.plain_len-taken.result
     c.skip_empty-message.ensures.in_hand c.skip_empty-message.ensures.became.is c.trim_head.ensures
 
 pub skip_empty-requires-clause-is : goal.skip_empty-requires-clause-is
 skip_empty-requires-clause-is g c =
-    (front-becomes (g.B.Blocks.value c.skip_empty-message.new.store) (g.B.Blocks.value c.trim_head.new.self) (g.B.Blocks.name c.skip_empty-message.result) c.plain_len-taken.result
+    (front-becomes (g.B.Blocks.value c.skip_empty-message.new.store) (g.B.Blocks.value c.trim_head.new.self) (token c.skip_empty-message.result) c.plain_len-taken.result
     c.skip_empty-message.ensures.in_hand c.skip_empty-message.ensures.became.is c.trim_head.ensures).is
 
 pub returns-clause-front : goal.returns-clause-front
 returns-clause-front g c =
     let t = g.B.Blocks.value c.skip_empty-message.new.store in
     let u = g.B.Blocks.value c.trim_head.new.self in
-    let j = g.B.Blocks.name c.skip_empty-message.result in
+    let j = token c.skip_empty-message.result in
     let n = c.plain_len-taken.result in
     let b = c.skip_empty-message.ensures.became in
     let run = c.try_extend_from_slice.new.self.items in

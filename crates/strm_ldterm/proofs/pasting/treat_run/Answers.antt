@@ -11,11 +11,12 @@ use Rattle.strm_ldterm.proofs.Joining.{still-kept}
 use Rattle.strm_ldterm.proofs.RunsDone.{all-plain, front-short, line-room, no-run, run-begun, run-treated}
 use Rattle.strm_ldterm.proofs.Skipped.{no-bytes}
 use Rattle.strm_ldterm.proofs.pasting.treat_run.Goals as goal
+use Rattle.strm_blocks.specs.Blocks.{token}
 
 pub returns-then-is_empty-clause-does : goal.returns-then-is_empty-clause-does
 returns-then-is_empty-clause-does g c =
     let none : length c.as_slice-run.result.now ≡ 0 = (let e = sym c.is_empty.ensures ∙ c.if-is_empty.true in grind (arith, nat_tests)) in
-    no-run g.B.Blocks.name (g.B.Blocks.value c.args.store.now) (g.B.Blocks.value c.take_front-front.new.store) c.args.ldterm.now c.take_front-front.new.ldterm c.args.here c.take_front-front.result.items c.args.told.now
+    no-run (g.B.Blocks.value c.args.store.now) (g.B.Blocks.value c.take_front-front.new.store) c.args.ldterm.now c.take_front-front.new.ldterm c.args.here c.take_front-front.result.items c.args.told.now
     c.requires.held (c.take_front-front.ensures.did c.args.told.now) c.new.result.items (sym c.as_slice-run.ensures.value ∙ no-bytes c.as_slice-run.result.now none) c.new.ensures
 
 pub type_run-requires-clause-held : goal.type_run-requires-clause-held
@@ -23,7 +24,7 @@ type_run-requires-clause-held g c = (c.take_front-front.ensures.did c.args.told.
 
 pub type_run-requires-clause-kept : goal.type_run-requires-clause-kept
 type_run-requires-clause-kept g c =
-    still-kept g.B.Blocks.name (g.B.Blocks.value c.args.store.now) (g.B.Blocks.value c.take_front-front.new.store) c.args.ldterm.now c.take_front-front.new.ldterm 0 [] c.args.told.now c.args.told.now _ c.audit.ensures
+    still-kept (g.B.Blocks.value c.args.store.now) (g.B.Blocks.value c.take_front-front.new.store) c.args.ldterm.now c.take_front-front.new.ldterm 0 [] c.args.told.now c.args.told.now _ c.audit.ensures
     (c.take_front-front.ensures.did c.args.told.now) c.requires.kept
 
 pub type_run-requires-clause-line : goal.type_run-requires-clause-line
@@ -38,7 +39,7 @@ type_run-requires-clause-line g c =
     λ lines. omega (
       arith,
       same,
-      line-room g.B.Blocks.name (g.B.Blocks.value c.args.store.now) (g.B.Blocks.value front.new.store) c.args.ldterm.now front.new.ldterm c.args.here front.result.items t c.requires.held (front.ensures.did t)
+      line-room (g.B.Blocks.value c.args.store.now) (g.B.Blocks.value front.new.store) c.args.ldterm.now front.new.ldterm c.args.here front.result.items t c.requires.held (front.ensures.did t)
           most few (c.run_room-most.ensures.may (omega arith)) lines,
     )
 
@@ -52,11 +53,10 @@ echo_run-notes-requires-clause-held g c = (c.type_run.ensures c.args.told.now).h
 
 pub echo_run-notes-requires-clause-kept : goal.echo_run-notes-requires-clause-kept
 echo_run-notes-requires-clause-kept g c =
-    let name = g.B.Blocks.name in
     let s1 = g.B.Blocks.value c.take_front-front.new.store in
     let t = c.args.told.now in
-    still-kept name s1 (g.B.Blocks.value c.type_run.new.store) c.take_front-front.new.ldterm c.type_run.new.ldterm 1 [] t t _ c.audit-2.ensures (c.type_run.ensures t)
-    (still-kept name (g.B.Blocks.value c.args.store.now) s1 c.args.ldterm.now c.take_front-front.new.ldterm 0 [] t t _ c.audit.ensures (c.take_front-front.ensures.did t) c.requires.kept)
+    still-kept s1 (g.B.Blocks.value c.type_run.new.store) c.take_front-front.new.ldterm c.type_run.new.ldterm 1 [] t t _ c.audit-2.ensures (c.type_run.ensures t)
+    (still-kept (g.B.Blocks.value c.args.store.now) s1 c.args.ldterm.now c.take_front-front.new.ldterm 0 [] t t _ c.audit.ensures (c.take_front-front.ensures.did t) c.requires.kept)
 
 pub echo_run-notes-requires-clause-room : goal.echo_run-notes-requires-clause-room
 echo_run-notes-requires-clause-room g c =
@@ -69,7 +69,6 @@ echo_run-notes-requires-clause-room g c =
 
 pub returns-clause-does : goal.returns-clause-does
 returns-clause-does g c =
-    let name = g.B.Blocks.name in
     let s = g.B.Blocks.value c.args.store.now in
     let s1 = g.B.Blocks.value c.take_front-front.new.store in
     let x = c.args.ldterm.now in
@@ -79,11 +78,11 @@ returns-clause-does g c =
     let front = c.take_front-front.ensures in
     let most = c.run_room-most.result in
     let is = sym c.as_slice-run.ensures.value in
-    let cells = cells_left (ldterm_in name s x) in
+    let cells = cells_left (ldterm_in s x) in
     let some : 0 < length run = (let e = sym c.is_empty.ensures ∙ c.if-is_empty.false in grind (arith, nat_tests)) in
     let few : length run ≤ most = subst (λ l. length l ≤ most) is front.few in
-    run-treated name s s1 x x1 c.args.here run t c.requires.held
-    (subst (λ l. Proceeds name s s1 x x1 0 [] [] t t (sends [] (with_left (drop (length l) cells) (ldterm_in name s x)))) is (front.did t))
+    run-treated s s1 x x1 c.args.here run t c.requires.held
+    (subst (λ l. Proceeds s s1 x x1 0 [] [] t t (sends [] (with_left (drop (length l) cells) (ldterm_in s x)))) is (front.did t))
     (g.B.Blocks.value c.type_run.new.store) c.type_run.new.ldterm c.audit.ensures (c.type_run.ensures t)
     (g.B.Blocks.value c.echo_run-notes.new.store) c.echo_run-notes.new.ldterm c.echo_run-notes.result.items c.echo_run-notes.new.told most c.audit-2.ensures c.echo_run-notes.ensures
     c.requires.stage some few (subst (λ l. cells ≡ l ++ drop (length l) cells) is front.front)
@@ -91,7 +90,7 @@ returns-clause-does g c =
 
 pub returns-clause-within : goal.returns-clause-within
 returns-clause-within g c =
-    let cells = cells_left (ldterm_in g.B.Blocks.name (g.B.Blocks.value c.args.store.now) c.args.ldterm.now) in
+    let cells = cells_left (ldterm_in (g.B.Blocks.value c.args.store.now) c.args.ldterm.now) in
     front-short c.as_slice-run.result.now cells (subst (λ l. cells ≡ l ++ drop (length l) cells) (sym c.as_slice-run.ensures.value) c.take_front-front.ensures.front)
 
 pub returns-then-is_empty-clause-begun : goal.returns-then-is_empty-clause-begun
@@ -105,10 +104,10 @@ returns-clause-begun g c = λ byte within.
     let front = c.take_front-front.ensures in
     let most = c.run_room-most.result in
     let is = sym c.as_slice-run.ensures.value in
-    let cells = cells_left (ldterm_in g.B.Blocks.name s x) in
+    let cells = cells_left (ldterm_in s x) in
     let some : 0 < length run = (let e = sym c.is_empty.ensures ∙ c.if-is_empty.false in grind (arith, nat_tests)) in
     let few : length run ≤ most = subst (λ l. length l ≤ most) is front.few in
     let short = c.run_room-most.ensures.few in
-    run-begun g.B.Blocks.name s x run most c.requires.held c.requires.stage few (subst (λ l. cells ≡ l ++ drop (length l) cells) is front.front)
+    run-begun s x run most c.requires.held c.requires.stage few (subst (λ l. cells ≡ l ++ drop (length l) cells) is front.front)
     (subst (AllByRecursion (λ b. is_plain x.termios b ≡ true)) is (all-plain x.termios c.odd_bytes-odd.result c.take_front-front.result.items c.odd_bytes-odd.ensures front.plain)) (c.run_room-most.ensures.may (omega arith))
     c.args.here (omega arith) (c.run_room-most.ensures.many (omega arith)) byte within

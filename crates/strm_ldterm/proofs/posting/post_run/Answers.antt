@@ -15,13 +15,14 @@ use Rattle.strm_ldterm.proofs.Proceeding.{proceeds-kept}
 use Rattle.strm_ldterm.proofs.RunsDone.{front-short}
 use Rattle.strm_ldterm.proofs.Skipped.{no-bytes}
 use Rattle.strm_ldterm.proofs.posting.post_run.Goals as goal
+use Rattle.strm_blocks.specs.Blocks.{token}
 
 pub returns-then-is_empty-clause-does : goal.returns-then-is_empty-clause-does
 returns-then-is_empty-clause-does g c = λ here f.
     let none : length c.as_slice-run.result.now ≡ 0 = (let e = sym c.is_empty.ensures ∙ c.if-is_empty.true in grind (arith, nat_tests)) in
     let s = g.B.Blocks.value c.args.store.now in
     let s1 = g.B.Blocks.value c.take_front-front.new.store in
-    pours-zero g.B.Blocks.name here s s1 c.args.ldterm.now c.take_front-front.new.ldterm f c.take_front-front.result.items
+    pours-zero here s s1 c.args.ldterm.now c.take_front-front.new.ldterm f c.take_front-front.result.items
     (sym c.as_slice-run.ensures.value ∙ no-bytes c.as_slice-run.result.now none) (c.take_front-front.ensures.did f)
 
 pub gather-requires-clause-held : goal.gather-requires-clause-held
@@ -29,15 +30,14 @@ gather-requires-clause-held g c = (c.take_front-front.ensures.did no_fates).held
 
 pub gather-requires-clause-kept : goal.gather-requires-clause-kept
 gather-requires-clause-kept g c =
-    proceeds-kept g.B.Blocks.name (g.B.Blocks.value c.args.store.now) (g.B.Blocks.value c.take_front-front.new.store) c.args.ldterm.now c.take_front-front.new.ldterm 0 [] no_fates no_fates _ c.requires.kept (c.take_front-front.ensures.did no_fates)
+    proceeds-kept (g.B.Blocks.value c.args.store.now) (g.B.Blocks.value c.take_front-front.new.store) c.args.ldterm.now c.take_front-front.new.ldterm 0 [] no_fates no_fates _ c.requires.kept (c.take_front-front.ensures.did no_fates)
 
 pub gather-requires-clause-room : goal.gather-requires-clause-room
 gather-requires-clause-room g c =
-    room-stays g.B.Blocks.name (g.B.Blocks.value c.args.store.now) (g.B.Blocks.value c.take_front-front.new.store) c.args.ldterm.now c.take_front-front.new.ldterm [] no_fates no_fates _ 1 (c.take_front-front.ensures.did no_fates) c.requires.room
+    room-stays (g.B.Blocks.value c.args.store.now) (g.B.Blocks.value c.take_front-front.new.store) c.args.ldterm.now c.take_front-front.new.ldterm [] no_fates no_fates _ 1 (c.take_front-front.ensures.did no_fates) c.requires.room
 
 pub returns-clause-does : goal.returns-clause-does
 returns-clause-does g c = λ here f.
-    let name = g.B.Blocks.name in
     let s = g.B.Blocks.value c.args.store.now in
     let s1 = g.B.Blocks.value c.take_front-front.new.store in
     let x = c.args.ldterm.now in
@@ -45,20 +45,20 @@ returns-clause-does g c = λ here f.
     let run = c.as_slice-run.result.now in
     let front = c.take_front-front.ensures in
     let is = sym c.as_slice-run.ensures.value in
-    let p = ldterm_in name s x in
+    let p = ldterm_in s x in
     let cells = cells_left p in
     let most = c.run_most-most.result in
     let short : length run ≤ most = subst (λ l. length l ≤ most) is front.few in
     let few : length run ≤ 256 = (let m = c.run_most-most.ensures.few in omega arith) in
-    pours-run name here s s1 (g.B.Blocks.value c.gather.new.store) x x1 c.gather.new.ldterm f f c.audit.ensures run c.moved_on-ldterm.result
+    pours-run here s s1 (g.B.Blocks.value c.gather.new.store) x x1 c.gather.new.ldterm f f c.audit.ensures run c.moved_on-ldterm.result
     (subst (λ l. cells ≡ l ++ drop (length l) cells) is front.front)
-    (subst (λ l. Proceeds name s s1 x x1 0 [] [] f f (sends [] (with_left (drop (length l) cells) p))) is (front.did f))
+    (subst (λ l. Proceeds s s1 x x1 0 [] [] f f (sends [] (with_left (drop (length l) cells) p))) is (front.did f))
     (c.gather.ensures f) c.moved_on-ldterm.ensures.moved c.moved_on-ldterm.ensures.low few
     (subst (AllByRecursion (λ b. is_printed x.termios b ≡ true)) is (all-printed x.termios c.args.odd.now c.take_front-front.result.items c.requires.odd front.plain))
 
 pub returns-clause-within : goal.returns-clause-within
 returns-clause-within g c =
-    let cells = cells_left (ldterm_in g.B.Blocks.name (g.B.Blocks.value c.args.store.now) c.args.ldterm.now) in
+    let cells = cells_left (ldterm_in (g.B.Blocks.value c.args.store.now) c.args.ldterm.now) in
     front-short c.as_slice-run.result.now cells (subst (λ l. cells ≡ l ++ drop (length l) cells) (sym c.as_slice-run.ensures.value) c.take_front-front.ensures.front)
 
 pub returns-then-is_empty-clause-begun : goal.returns-then-is_empty-clause-begun
@@ -71,10 +71,10 @@ returns-clause-begun g c = λ here byte within.
     let run = c.as_slice-run.result.now in
     let front = c.take_front-front.ensures in
     let is = sym c.as_slice-run.ensures.value in
-    let cells = cells_left (ldterm_in g.B.Blocks.name s x) in
+    let cells = cells_left (ldterm_in s x) in
     let most = c.run_most-most.result in
     let short : length run ≤ most = subst (λ l. length l ≤ most) is front.few in
     let few = c.run_most-most.ensures.few in
-    run-begins g.B.Blocks.name here s x run (subst (λ l. cells ≡ l ++ drop (length l) cells) is front.front) c.moved_on-ldterm.ensures.low (omega arith)
+    run-begins here s x run (subst (λ l. cells ≡ l ++ drop (length l) cells) is front.front) c.moved_on-ldterm.ensures.low (omega arith)
     (subst (AllByRecursion (λ b. is_printed x.termios b ≡ true)) is (all-printed x.termios c.args.odd.now c.take_front-front.result.items c.requires.odd front.plain))
     (c.run_most-most.ensures.many (omega arith)) byte within

@@ -3,7 +3,7 @@ use Rattle.std.proofs.Common.{ℕ, sym, ap, subst, ◌∙◌, arith}
 use Rattle.strm_types.specs.Costs.{cost}
 use Rattle.strm_types.specs.Flushing.{is_flush}
 use Rattle.strm_types.specs.Ldterms.{flush_passes, queued_at}
-use Rattle.strm_blocks.specs.Blocks.{in_hand}
+use Rattle.strm_blocks.specs.Blocks.{in_hand, token}
 use Rattle.strm_msg.proofs.Chains.{kind-is}
 use Rattle.strm_frame.specs.Outboxes.{message_in}
 use Rattle.strm_frame.proofs.Handing.{can-in_hand}
@@ -22,50 +22,47 @@ pub waits_on-requires-clause-in_hand : goal.waits_on-requires-clause-in_hand
 waits_on-requires-clause-in_hand g c = can-in_hand _ _ _ c.audit.ensures c.requires.can_put
 
 pub wait-requires-clause-low : goal.wait-requires-clause-low
-wait-requires-clause-low g c = waits-low c.args.here.way (message_in (g.B.Blocks.value c.args.store.now) (g.B.Blocks.name c.args.message)) (sym c.waits_on.ensures ∙ c.if-waits_on.true)
+wait-requires-clause-low g c = waits-low c.args.here.way (message_in (g.B.Blocks.value c.args.store.now) (token c.args.message)) (sym c.waits_on.ensures ∙ c.if-waits_on.true)
 
 pub returns-then-waits_on : goal.returns-then-waits_on
 returns-then-waits_on g c =
-    let name = g.B.Blocks.name in
     let s = g.B.Blocks.value c.args.store.now in
     let t = g.B.Blocks.value c.wait.new.store in
     let x = c.args.ldterm.now in
-    let i = name c.args.message in
+    let i = token c.args.message in
     let f = c.args.told.now in
     let here = c.args.here in
     let m = message_in s i in
-    let p = ldterm_in name s x in
-    subst (λ a. Puts name s t x c.wait.new.ldterm i (cost here m) c.wait.result f f a) (sym (puts-wait here m p (sym c.waits_on.ensures ∙ c.if-waits_on.true)))
-    (does-puts name s t x c.wait.new.ldterm i (cost here m) c.wait.result f f (queued_at here.way m p) (c.wait.ensures f) (let none = none-cost ℕ in omega arith))
+    let p = ldterm_in s x in
+    subst (λ a. Puts s t x c.wait.new.ldterm i (cost here m) c.wait.result f f a) (sym (puts-wait here m p (sym c.waits_on.ensures ∙ c.if-waits_on.true)))
+    (does-puts s t x c.wait.new.ldterm i (cost here m) c.wait.result f f (queued_at here.way m p) (c.wait.ensures f) (let none = none-cost ℕ in omega arith))
 
 pub pass_flush-requires-clause-kind : goal.pass_flush-requires-clause-kind
 pass_flush-requires-clause-kind g c =
-    let chain = in_hand (g.B.Blocks.value c.args.store.now) (g.B.Blocks.name c.args.message) in
+    let chain = in_hand (g.B.Blocks.value c.args.store.now) (token c.args.message) in
     ap is_flush (kind-is chain ∙ sym c.kind-kind.ensures) ∙ sym c.is_flush.ensures ∙ c.if-is_flush.true
 
 pub returns-then-is_flush : goal.returns-then-is_flush
 returns-then-is_flush g c =
-    let name = g.B.Blocks.name in
     let s = g.B.Blocks.value c.args.store.now in
     let t = g.B.Blocks.value c.pass_flush.new.store in
     let x = c.args.ldterm.now in
-    let i = name c.args.message in
+    let i = token c.args.message in
     let f = c.args.told.now in
     let here = c.args.here in
     let m = message_in s i in
-    let p = ldterm_in name s x in
+    let p = ldterm_in s x in
     let flush = ap is_flush (kind-is (in_hand s i) ∙ sym c.kind-kind.ensures) ∙ sym c.is_flush.ensures ∙ c.if-is_flush.true in
-    subst (λ a. Puts name s t x c.pass_flush.new.ldterm i (cost here m) c.pass_flush.result f c.pass_flush.new.told a) (sym (puts-flush here m p (sym c.waits_on.ensures ∙ c.if-waits_on.false) flush))
-    (does-puts name s t x c.pass_flush.new.ldterm i (cost here m) c.pass_flush.result f c.pass_flush.new.told (flush_passes here m p) c.pass_flush.ensures (flush-cost here m p c.requires.inside c.requires.small))
+    subst (λ a. Puts s t x c.pass_flush.new.ldterm i (cost here m) c.pass_flush.result f c.pass_flush.new.told a) (sym (puts-flush here m p (sym c.waits_on.ensures ∙ c.if-waits_on.false) flush))
+    (does-puts s t x c.pass_flush.new.ldterm i (cost here m) c.pass_flush.result f c.pass_flush.new.told (flush_passes here m p) c.pass_flush.ensures (flush-cost here m p c.requires.inside c.requires.small))
 
 pub returns : goal.returns
 returns g c =
-    let name = g.B.Blocks.name in
     let s = g.B.Blocks.value c.args.store.now in
     let x = c.args.ldterm.now in
-    let i = name c.args.message in
+    let i = token c.args.message in
     let here = c.args.here in
     let m = message_in s i in
-    let p = ldterm_in name s x in
+    let p = ldterm_in s x in
     let flush = ap is_flush (kind-is (in_hand s i) ∙ sym c.kind-kind.ensures) ∙ sym c.is_flush.ensures ∙ c.if-is_flush.false in
-    subst (λ a. Puts name s (g.B.Blocks.value c.pass.new.store) x c.pass.new.ldterm i (cost here m) c.pass.result c.args.told.now c.pass.new.told a) (sym (puts-pass here m p (sym c.waits_on.ensures ∙ c.if-waits_on.false) flush)) c.pass.ensures
+    subst (λ a. Puts s (g.B.Blocks.value c.pass.new.store) x c.pass.new.ldterm i (cost here m) c.pass.result c.args.told.now c.pass.new.told a) (sym (puts-pass here m p (sym c.waits_on.ensures ∙ c.if-waits_on.false) flush)) c.pass.ensures

@@ -7,40 +7,38 @@ use Rattle.strm_ldterm.specs.Stands.{ldterm_in, keeps, IsHeld}
 use Rattle.strm_ldterm.specs.Does.{Alters}
 use Rattle.strm_ldterm.proofs.Beside.{echo-can, echo-plain, echo-alters}
 use Rattle.strm_ldterm.proofs.putting.settle_echo.Goals as goal
+use Rattle.strm_blocks.specs.Blocks.{token}
 
 pub stand-requires-clause-in_hand : goal.stand-requires-clause-in_hand
 stand-requires-clause-in_hand g c =
     let s = g.B.Blocks.value c.args.store.now in
-    let name = g.B.Blocks.name in
     let x = c.args.ldterm.now in
     let there : x.echo ≡ Some c.in-Some.echo = sym c.take.ensures.value ∙ c.in-Some.is in
-    can-in_hand s (name c.in-Some.echo) (λ _. 0) c.audit.ensures
-    (echo-can name s x c.in-Some.echo (subst (λ o. AreIn s (λ _. 0) (keeps name (record x { echo = o }))) there c.requires.kept))
+    can-in_hand s (token c.in-Some.echo) (λ _. 0) c.audit.ensures
+    (echo-can s x c.in-Some.echo (subst (λ o. AreIn s (λ _. 0) (keeps (record x { echo = o }))) there c.requires.kept))
 
 pub returns-clause-state : goal.returns-clause-state
 returns-clause-state g c =
     let s = g.B.Blocks.value c.args.store.now in
     let t = g.B.Blocks.value c.stand.new.store in
-    let name = g.B.Blocks.name in
     let x = c.args.ldterm.now in
     let e = c.in-Some.echo in
     let there : x.echo ≡ Some e = sym c.take.ensures.value ∙ c.in-Some.is in
-    let held = subst (λ o. IsHeld name s (record x { echo = o })) there c.requires.held in
-    let kept = subst (λ o. AreIn s (λ _. 0) (keeps name (record x { echo = o }))) there c.requires.kept in
-    ap (λ o. ldterm_in name t (record x { write_queue = c.stand.new.queue; echo = o })) c.take.ensures.after
-    ∙ echo-plain name s t x e c.stand.new.queue c.audit.ensures held kept c.stand.ensures.changes c.stand.ensures.frees c.stand.ensures.queue
-    ∙ ap (λ o. record (ldterm_in name s (record x { echo = o })) { echoing = false }) (sym there)
+    let held = subst (λ o. IsHeld s (record x { echo = o })) there c.requires.held in
+    let kept = subst (λ o. AreIn s (λ _. 0) (keeps (record x { echo = o }))) there c.requires.kept in
+    ap (λ o. ldterm_in t (record x { write_queue = c.stand.new.queue; echo = o })) c.take.ensures.after
+    ∙ echo-plain s t x e c.stand.new.queue c.audit.ensures held kept c.stand.ensures.changes c.stand.ensures.frees c.stand.ensures.queue
+    ∙ ap (λ o. record (ldterm_in s (record x { echo = o })) { echoing = false }) (sym there)
 
 pub returns-clause-alters : goal.returns-clause-alters
 returns-clause-alters g c =
     let s = g.B.Blocks.value c.args.store.now in
     let t = g.B.Blocks.value c.stand.new.store in
-    let name = g.B.Blocks.name in
     let x = c.args.ldterm.now in
     let e = c.in-Some.echo in
     let there : x.echo ≡ Some e = sym c.take.ensures.value ∙ c.in-Some.is in
-    let held = subst (λ o. IsHeld name s (record x { echo = o })) there c.requires.held in
-    let kept = subst (λ o. AreIn s (λ _. 0) (keeps name (record x { echo = o }))) there c.requires.kept in
-    subst (λ o. Alters name s t x (record x { write_queue = c.stand.new.queue; echo = o })) (sym c.take.ensures.after)
-    (subst (λ o. Alters name s t (record x { echo = o }) (record x { write_queue = c.stand.new.queue; echo = None })) (sym there)
-    (echo-alters name s t x e c.stand.new.queue c.audit.ensures held kept c.stand.ensures.changes c.stand.ensures.frees))
+    let held = subst (λ o. IsHeld s (record x { echo = o })) there c.requires.held in
+    let kept = subst (λ o. AreIn s (λ _. 0) (keeps (record x { echo = o }))) there c.requires.kept in
+    subst (λ o. Alters s t x (record x { write_queue = c.stand.new.queue; echo = o })) (sym c.take.ensures.after)
+    (subst (λ o. Alters s t (record x { echo = o }) (record x { write_queue = c.stand.new.queue; echo = None })) (sym there)
+    (echo-alters s t x e c.stand.new.queue c.audit.ensures held kept c.stand.ensures.changes c.stand.ensures.frees))

@@ -5,19 +5,18 @@ use Rattle.strm_frame.specs.Outboxes.{message_in}
 use Rattle.strm_ldterm.specs.Stands.{ldterm_in}
 use Rattle.strm_ldterm.specs.Does.{Does}
 use Rattle.strm_ldterm.proofs.putting.wait.Goals as goal
+use Rattle.strm_blocks.specs.Blocks.{token}
 
 pub returns-in-Up : goal.returns-in-Up
 returns-in-Up g c = λ f.
-    let name = g.B.Blocks.name in
     let s = g.B.Blocks.value c.args.store.now in
     let x = c.args.ldterm.now in
-    let i = name c.args.message in
-    subst (λ w. Does name s (g.B.Blocks.value c.wait_up.new.store) x c.wait_up.new.ldterm i c.wait_up.result f f (queued_at w (message_in s i) (ldterm_in name s x))) (sym c.in-Up.is) (c.wait_up.ensures f)
+    let i = token c.args.message in
+    subst (λ w. Does s (g.B.Blocks.value c.wait_up.new.store) x c.wait_up.new.ldterm i c.wait_up.result f f (queued_at w (message_in s i) (ldterm_in s x))) (sym c.in-Up.is) (c.wait_up.ensures f)
 
 pub returns-in-Down : goal.returns-in-Down
 returns-in-Down g c = λ f.
-    let name = g.B.Blocks.name in
     let s = g.B.Blocks.value c.args.store.now in
     let x = c.args.ldterm.now in
-    let i = name c.args.message in
-    subst (λ w. Does name s (g.B.Blocks.value c.wait_down.new.store) x c.wait_down.new.ldterm i c.wait_down.result f f (queued_at w (message_in s i) (ldterm_in name s x))) (sym c.in-Down.is) (c.wait_down.ensures f)
+    let i = token c.args.message in
+    subst (λ w. Does s (g.B.Blocks.value c.wait_down.new.store) x c.wait_down.new.ldterm i c.wait_down.result f f (queued_at w (message_in s i) (ldterm_in s x))) (sym c.in-Down.is) (c.wait_down.ensures f)

@@ -8,7 +8,7 @@ use Rattle.std.proofs.lemmas.List.Sums.{sum_by-cons}
 use Rattle.strm_types.specs.Message.{Message, size_of}
 use Rattle.strm_types.specs.ModuleQueues.{messages_at}
 use Rattle.strm_types.specs.Queue.{bytes_of, first_size}
-use Rattle.strm_blocks.specs.Blocks.{list_at}
+use Rattle.strm_blocks.specs.Blocks.{list_at, token}
 use Rattle.strm_msg.specs.Messages.{message_of}
 use Rattle.strm_queue.specs.Stored.{messages_on}
 use Rattle.strm_ldterm.specs.Calls.{queue_of}
@@ -27,19 +27,17 @@ listed-first n (m ∷ ms) o b is fails long = refl
 pub returns-then-none_listed : goal.returns-then-none_listed
 returns-then-none_listed g c =
     let s = g.B.Blocks.value c.args.store.now in
-    let name = g.B.Blocks.name in
     let x = c.args.ldterm.now in
     let q = list_at s x.write_queue.list in
     c.echo_size.ensures
-    ∙ alone-first (length q) (messages_on s x.write_queue.list) (kept_in name s x.echo) c.is_empty-none_listed.result c.is_empty-none_listed.ensures c.if-none_listed.true (length-map q message_of)
-    ∙ ap (λ w. first_size (messages_at queue_of w (ldterm_in name s x))) (sym c.in-Down.is)
+    ∙ alone-first (length q) (messages_on s x.write_queue.list) (kept_in s x.echo) c.is_empty-none_listed.result c.is_empty-none_listed.ensures c.if-none_listed.true (length-map q message_of)
+    ∙ ap (λ w. first_size (messages_at queue_of w (ldterm_in s x))) (sym c.in-Down.is)
 
 pub returns-else-none_listed : goal.returns-else-none_listed
 returns-else-none_listed g c =
     let s = g.B.Blocks.value c.args.store.now in
-    let name = g.B.Blocks.name in
     let x = c.args.ldterm.now in
     let q = list_at s x.write_queue.list in
     c.first_size-in-Down.ensures
-    ∙ listed-first (length q) (messages_on s x.write_queue.list) (kept_in name s x.echo) c.is_empty-none_listed.result c.is_empty-none_listed.ensures c.if-none_listed.false (length-map q message_of)
-    ∙ ap (λ w. first_size (messages_at queue_of w (ldterm_in name s x))) (sym c.in-Down.is)
+    ∙ listed-first (length q) (messages_on s x.write_queue.list) (kept_in s x.echo) c.is_empty-none_listed.result c.is_empty-none_listed.ensures c.if-none_listed.false (length-map q message_of)
+    ∙ ap (λ w. first_size (messages_at queue_of w (ldterm_in s x))) (sym c.in-Down.is)

@@ -20,5 +20,5 @@ pub overflow_add-result-in-Down : goal.overflow_add-result-in-Down
 overflow_add-result-in-Down g c =
     let s = g.B.Blocks.value c.args.store.now in
     let x = c.args.ldterm.now in
-    let few = bytes-few g.B.Blocks.name s x.write_queue.list x.write_queue x.echo c.audit.ensures c.requires.held.write refl c.requires.held.echoes in
+    let few = bytes-few s x.write_queue.list x.write_queue x.echo c.audit.ensures c.requires.held.write refl c.requires.held.echoes in
     omega (arith, few, c.sizes-listed.ensures.bytes, c.echo_size-echo.ensures)

@@ -8,17 +8,17 @@ use Rattle.strm_ldterm.specs.Does.{Proceeds}
 use Rattle.strm_ldterm.specs.Stands.{ldterm_in}
 use Rattle.strm_ldterm.proofs.Sends.{tells, key-told}
 use Rattle.strm_ldterm.proofs.sending.end_file.Goals as goal
+use Rattle.strm_blocks.specs.Blocks.{token}
 
 pub returns : goal.returns
 returns g c =
-    let name = g.B.Blocks.name in
     let s = g.B.Blocks.value c.args.store.now in
     let t = g.B.Blocks.value c.send_line.new.store in
     let x = c.args.ldterm.now in
     let y = c.send_line.new.ldterm in
-    let p = ldterm_in name s x in
+    let p = ldterm_in s x in
     let f = c.args.told.now in
     let sent = sent_of c.send_line.result in
-    tells name s t x y 1 sent f c.tell.new.self (line_sent plain c.args.here p.line p) (lost plain c.args.here EofKey (c.args.byte ∷ []))
-    (subst (λ l. Proceeds name s t x y 1 [] sent f f (line_sent plain c.args.here l p)) (append-nil x.line) (c.send_line.ensures f))
+    tells s t x y 1 sent f c.tell.new.self (line_sent plain c.args.here p.line p) (lost plain c.args.here EofKey (c.args.byte ∷ []))
+    (subst (λ l. Proceeds s t x y 1 [] sent f f (line_sent plain c.args.here l p)) (append-nil x.line) (c.send_line.ensures f))
     (key-told c.args.here EofKey c.args.byte _ f _ c.tell.ensures c.direction_at.ensures)

@@ -3,7 +3,7 @@ use Rattle.strm_ldterm.proofs.Sends.{first-in_hand}
 use Rattle.strm_ldterm.proofs.sent_tests.goes.Goals as goal
 
 pub first_bytes-count-requires : goal.first_bytes-count-requires
-first_bytes-count-requires g c = first-in_hand g.B.Blocks.name _ _ _ c.in-Some.sent c.audit.ensures c.in-Some.ensures c.requires
+first_bytes-count-requires g c = first-in_hand _ _ _ c.in-Some.sent c.audit.ensures c.in-Some.ensures c.requires
 
 pub summary-requires : goal.summary-requires
-summary-requires g c = first-in_hand g.B.Blocks.name _ _ _ c.in-Some.sent c.audit.ensures c.in-Some.ensures c.requires
+summary-requires g c = first-in_hand _ _ _ c.in-Some.sent c.audit.ensures c.in-Some.ensures c.requires

@@ -7,18 +7,18 @@ use Rattle.strm_ldterm.specs.Does.{Proceeds}
 use Rattle.strm_ldterm.specs.Stands.{ldterm_in}
 use Rattle.strm_ldterm.proofs.Signals.{flush-plain, flush-proceeds}
 use Rattle.strm_ldterm.proofs.signalling.flush_typed.Goals as goal
+use Rattle.strm_blocks.specs.Blocks.{token}
 
 pub send_up-requires-clause-kind : goal.send_up-requires-clause-kind
 send_up-requires-clause-kind g c = flush-plain
 
 pub returns : goal.returns
 returns g c =
-    let name = g.B.Blocks.name in
     let s = g.B.Blocks.value c.args.store.now in
     let t = g.B.Blocks.value c.send_up.new.store in
     let x = c.args.ldterm.now in
     let y = c.flush_line.new.ldterm in
     let here = c.args.here in
     let f' = c.flush_line.new.told in
-    flush-proceeds name s t x y c.send_up.result here (flush_bytes c.args.asked) c.args.told.now f' c.audit.ensures c.requires.kept (c.flush_line.ensures name s c.requires.held)
-    (subst (λ (bytes : List ℕ). Proceeds name s t y y 1 [] (c.send_up.result ∷ []) f' f' (sends (onward Up here (flush_message bytes) ∷ []) (ldterm_in name s y))) (c.as_slice.ensures.value ∙ c.bytes-bytes.ensures) (c.send_up.ensures f'))
+    flush-proceeds s t x y c.send_up.result here (flush_bytes c.args.asked) c.args.told.now f' c.audit.ensures c.requires.kept (c.flush_line.ensures s c.requires.held)
+    (subst (λ (bytes : List ℕ). Proceeds s t y y 1 [] (c.send_up.result ∷ []) f' f' (sends (onward Up here (flush_message bytes) ∷ []) (ldterm_in s y))) (c.as_slice.ensures.value ∙ c.bytes-bytes.ensures) (c.send_up.ensures f'))

@@ -10,16 +10,16 @@ use Rattle.strm_ldterm.specs.Stands.{ldterm_in}
 use Rattle.strm_ldterm.proofs.Sends.{tells, key-told}
 use Rattle.strm_ldterm.proofs.Signals.{signal-plain}
 use Rattle.strm_ldterm.proofs.signalling.send_key.Goals as goal
+use Rattle.strm_blocks.specs.Blocks.{token}
 
 pub send_up-requires-clause-kind : goal.send_up-requires-clause-kind
 send_up-requires-clause-kind g c = signal-plain
 
 pub returns : goal.returns
 returns g c =
-    let name = g.B.Blocks.name in
     let s = g.B.Blocks.value c.args.store.now in
     let x = c.args.ldterm.now in
     let f = c.args.told.now in
-    tells name s (g.B.Blocks.value c.send_up.new.store) x x 1 (c.send_up.result ∷ []) f c.tell.new.self
-    (sends (onward Up c.args.here (bare Pcsig (c.args.signal ∷ [])) ∷ []) (ldterm_in name s x)) (lost plain c.args.here SignalKey (c.args.byte ∷ [])) (c.send_up.ensures f)
+    tells s (g.B.Blocks.value c.send_up.new.store) x x 1 (c.send_up.result ∷ []) f c.tell.new.self
+    (sends (onward Up c.args.here (bare Pcsig (c.args.signal ∷ [])) ∷ []) (ldterm_in s x)) (lost plain c.args.here SignalKey (c.args.byte ∷ [])) (c.send_up.ensures f)
     (key-told c.args.here SignalKey c.args.byte _ f _ c.tell.ensures c.direction_at.ensures)

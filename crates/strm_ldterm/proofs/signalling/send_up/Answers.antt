@@ -8,13 +8,13 @@ use Rattle.strm_frame.specs.declared.parcels.Sent.{Sent}
 use Rattle.strm_ldterm.specs.Stands.{ldterm_in}
 use Rattle.strm_ldterm.proofs.Sends.{sends-made}
 use Rattle.strm_ldterm.proofs.signalling.send_up.Goals as goal
+use Rattle.strm_blocks.specs.Blocks.{token}
 
 pub returns : goal.returns
 returns g c = λ f.
-    let name = g.B.Blocks.name in
     let s = g.B.Blocks.value c.args.store.now in
     let x = c.args.ldterm.now in
     let m = bare c.args.kind c.args.bytes.now in
-    let z : Sent g.row.B-Mp.Denot = record { to = c.toward.result; message = c.make-message.result } in
-    sends-made name s (g.B.Blocks.value c.make-message.new.store) x x z (z ∷ []) f f m (toward Up c.args.here) (sends (onward Up c.args.here m ∷ []) (ldterm_in name s x)) c.requires.held c.requires.kept
+    let z : Sent = record { to = c.toward.result; message = c.make-message.result } in
+    sends-made s (g.B.Blocks.value c.make-message.new.store) x x z (z ∷ []) f f m (toward Up c.args.here) (sends (onward Up c.args.here m ∷ []) (ldterm_in s x)) c.requires.held c.requires.kept
     (λ k. refl) (λ i. refl) c.make-message.ensures refl c.toward.ensures refl refl refl refl

@@ -10,7 +10,7 @@ use Rattle.strm_ldterm.proofs.Joining.{takes-more}
 pub returns-in-Delimiter : goal.returns-in-Delimiter
 returns-in-Delimiter g c =
     let s = g.B.Blocks.value c.args.store.now in
-    takes-more g.B.Blocks.name s (g.B.Blocks.value c.end_line.new.store) c.args.ldterm.now c.end_line.new.ldterm 1 2 [] (sent_of c.end_line.result) c.args.told.now c.args.told.now
-    (strikes plain c.args.here c.args.key c.args.byte (ldterm_in g.B.Blocks.name s c.args.ldterm.now)) (omega arith)
-    (subst (λ k. Proceeds g.B.Blocks.name s (g.B.Blocks.value c.end_line.new.store) c.args.ldterm.now c.end_line.new.ldterm 1 [] (sent_of c.end_line.result) c.args.told.now c.args.told.now (strikes plain c.args.here k c.args.byte (ldterm_in g.B.Blocks.name s c.args.ldterm.now)))
+    takes-more s (g.B.Blocks.value c.end_line.new.store) c.args.ldterm.now c.end_line.new.ldterm 1 2 [] (sent_of c.end_line.result) c.args.told.now c.args.told.now
+    (strikes plain c.args.here c.args.key c.args.byte (ldterm_in s c.args.ldterm.now)) (omega arith)
+    (subst (λ k. Proceeds s (g.B.Blocks.value c.end_line.new.store) c.args.ldterm.now c.end_line.new.ldterm 1 [] (sent_of c.end_line.result) c.args.told.now c.args.told.now (strikes plain c.args.here k c.args.byte (ldterm_in s c.args.ldterm.now)))
     (sym c.in-Delimiter.is) (c.end_line.ensures c.args.told.now))

@@ -9,25 +9,24 @@ use Rattle.strm_ldterm.proofs.Sends.{sends-none}
 use Rattle.strm_ldterm.proofs.Signals.{flush-plain}
 use Rattle.strm_ldterm.proofs.TakingUp.{input-flushes, input-stays}
 use Rattle.strm_ldterm.proofs.taking_up.flush_input.Goals as goal
+use Rattle.strm_blocks.specs.Blocks.{token}
 
 pub returns-then-not-flushes_input : goal.returns-then-not-flushes_input
 returns-then-not-flushes_input g c =
-    let name = g.B.Blocks.name in
     let s = g.B.Blocks.value c.args.store.now in
     let x = c.args.ldterm.now in
     let f = c.args.told.now in
-    input-stays name s x c.args.here c.args.command [] f (sym c.flushes_input.ensures ∙ c.if-not-flushes_input.true)
-    (sends-none name s x x [] f f 0 (sends [] (ldterm_in name s x)) c.requires.held (λ k. refl) (λ i. refl) refl refl refl refl refl)
+    input-stays s x c.args.here c.args.command [] f (sym c.flushes_input.ensures ∙ c.if-not-flushes_input.true)
+    (sends-none s x x [] f f 0 (sends [] (ldterm_in s x)) c.requires.held (λ k. refl) (λ i. refl) refl refl refl refl refl)
 
 pub send_up-flush-requires-clause-kind : goal.send_up-flush-requires-clause-kind
 send_up-flush-requires-clause-kind g c = flush-plain
 
 pub returns : goal.returns
 returns g c =
-    let name = g.B.Blocks.name in
     let s = g.B.Blocks.value c.args.store.now in
     let t = g.B.Blocks.value c.flush_read-room.new.store in
     let u = g.B.Blocks.value c.send_up-flush.new.store in
     let f' = c.flush_read-room.new.told in
-    input-flushes name s t u c.args.ldterm.now c.flush_read-room.new.ldterm c.args.here c.args.command c.send_up-flush.result (cond {A = List Note} c.flush_read-room.result (Room Up ∷ []) []) c.args.told.now f' c.audit-2.ensures c.requires.kept
+    input-flushes s t u c.args.ldterm.now c.flush_read-room.new.ldterm c.args.here c.args.command c.send_up-flush.result (cond {A = List Note} c.flush_read-room.result (Room Up ∷ []) []) c.args.told.now f' c.audit-2.ensures c.requires.kept
     (sym c.flushes_input.ensures ∙ c.if-not-flushes_input.false) c.flush_read-room.ensures (c.send_up-flush.ensures f')

@@ -7,15 +7,15 @@ use Rattle.strm_ldterm.specs.Stands.{ldterm_in}
 use Rattle.strm_ldterm.proofs.Spending.{goes-cost}
 use Rattle.strm_ldterm.proofs.TakingUp.{does-puts}
 use Rattle.strm_ldterm.proofs.taking_up.go_on.Goals as goal
+use Rattle.strm_blocks.specs.Blocks.{token}
 
 pub returns : goal.returns
 returns g c = λ f.
-    let name = g.B.Blocks.name in
     let s = g.B.Blocks.value c.args.store.now in
     let x = c.args.ldterm.now in
-    let i = name c.args.message in
+    let i = token c.args.message in
     let m = message_in s i in
     let did = c.pass_on.ensures f in
-    does-puts name s s x x i (cost c.args.here m) c.pass_on.result f f (goes_on c.args.here m (ldterm_in name s x))
+    does-puts s s x x i (cost c.args.here m) c.pass_on.result f f (goes_on c.args.here m (ldterm_in s x))
     (record { state = did.state; notes = did.notes ∙ c.new.ensures; sent = did.sent; told = did.told; held = did.held; own = did.own; chains = did.chains; hands = did.hands; frees = did.frees; pool = did.pool })
     (goes-cost c.args.here m c.requires.inside c.requires.small)

@@ -16,13 +16,13 @@ use Rattle.strm_ldterm.specs.TakingUp.{flush_takes, line_takes}
 use Rattle.strm_ldterm.proofs.TakenCosts.{taken-cost}
 use Rattle.strm_ldterm.proofs.TakingUp.{can-kept, mode-plain, noted-kept, noted-room, room-left, takes-up}
 use Rattle.strm_ldterm.proofs.taking_up.take_up.Goals as goal
+use Rattle.strm_blocks.specs.Blocks.{token}
 
 pub send_up-mode-requires-clause-held : goal.send_up-mode-requires-clause-held
 send_up-mode-requires-clause-held g c = (c.set_termios-line.ensures c.args.told.now).held
 
 pub send_up-mode-requires-clause-kept : goal.send_up-mode-requires-clause-kept
 send_up-mode-requires-clause-kept g c =
-    let name = g.B.Blocks.name in
     let s = g.B.Blocks.value c.args.store.now in
     let t = g.B.Blocks.value c.flush_input-room.new.store in
     let u = g.B.Blocks.value c.set_termios-line.new.store in
@@ -30,12 +30,11 @@ send_up-mode-requires-clause-kept g c =
     let y = c.flush_input-room.new.ldterm in
     let z = c.set_termios-line.new.ldterm in
     let f = c.args.told.now in
-    let kept = noted-kept name s t x y (flush_takes c.args.set.0) (cond {A = List Note} c.flush_input-room.result.0 (Room Up ∷ []) []) (option_to_list c.flush_input-room.result.1) f c.flush_input-room.new.told _ (can-kept name s x (name c.args.message) c.requires.can_put) c.flush_input-room.ensures in
-    noted-kept name t u y z (line_takes y.line) [] (option_to_list c.set_termios-line.result) f f _ kept (c.set_termios-line.ensures f)
+    let kept = noted-kept s t x y (flush_takes c.args.set.0) (cond {A = List Note} c.flush_input-room.result.0 (Room Up ∷ []) []) (option_to_list c.flush_input-room.result.1) f c.flush_input-room.new.told _ (can-kept s x (token c.args.message) c.requires.can_put) c.flush_input-room.ensures in
+    noted-kept t u y z (line_takes y.line) [] (option_to_list c.set_termios-line.result) f f _ kept (c.set_termios-line.ensures f)
 
 pub send_up-mode-requires-clause-room : goal.send_up-mode-requires-clause-room
 send_up-mode-requires-clause-room g c =
-    let name = g.B.Blocks.name in
     let s = g.B.Blocks.value c.args.store.now in
     let t = g.B.Blocks.value c.flush_input-room.new.store in
     let u = g.B.Blocks.value c.set_termios-line.new.store in
@@ -43,15 +42,14 @@ send_up-mode-requires-clause-room g c =
     let y = c.flush_input-room.new.ldterm in
     let z = c.set_termios-line.new.ldterm in
     let f = c.args.told.now in
-    noted-room name t u y z (line_takes y.line) 1 [] (option_to_list c.set_termios-line.result) f f _ (c.set_termios-line.ensures f)
-    (room-left name s t x y c.args.here c.args.set.0 (cond {A = List Note} c.flush_input-room.result.0 (Room Up ∷ []) []) (option_to_list c.flush_input-room.result.1) f c.flush_input-room.new.told c.flush_input-room.ensures c.requires.room)
+    noted-room t u y z (line_takes y.line) 1 [] (option_to_list c.set_termios-line.result) f f _ (c.set_termios-line.ensures f)
+    (room-left s t x y c.args.here c.args.set.0 (cond {A = List Note} c.flush_input-room.result.0 (Room Up ∷ []) []) (option_to_list c.flush_input-room.result.1) f c.flush_input-room.new.told c.flush_input-room.ensures c.requires.room)
 
 pub send_up-mode-requires-clause-kind : goal.send_up-mode-requires-clause-kind
 send_up-mode-requires-clause-kind g c = mode-plain
 
 pub returns : goal.returns
 returns g c =
-    let name = g.B.Blocks.name in
     let s = g.B.Blocks.value c.args.store.now in
     let t = g.B.Blocks.value c.flush_input-room.new.store in
     let u = g.B.Blocks.value c.set_termios-line.new.store in
@@ -62,10 +60,10 @@ returns g c =
     let here = c.args.here in
     let termios = c.args.set.1 in
     let f1 = c.flush_input-room.new.told in
-    let m = message_in s (name c.args.message) in
-    let last : Sent g.row.B-Mp.Denot = record { to = c.toward.result; message = c.args.message } in
+    let m = message_in s (token c.args.message) in
+    let last : Sent = record { to = c.toward.result; message = c.args.message } in
     let mode = c.send_up-mode.result in
-    let told = subst (λ (n : ℕ). Proceeds name u v z z 1 [] (mode ∷ []) f1 f1 (sends (onward Up here (bare Setopts (n ∷ [])) ∷ []) (ldterm_in name u z))) c.mode_of.ensures (c.send_up-mode.ensures f1) in
-    takes-up name s t u v x y z here c.args.set.0 (cost here m) termios (cond {A = List Note} c.flush_input-room.result.0 (Room Up ∷ []) []) (option_to_list c.flush_input-room.result.1) (option_to_list c.set_termios-line.result) mode last _ c.args.told.now f1
+    let told = subst (λ (n : ℕ). Proceeds u v z z 1 [] (mode ∷ []) f1 f1 (sends (onward Up here (bare Setopts (n ∷ [])) ∷ []) (ldterm_in u z))) c.mode_of.ensures (c.send_up-mode.ensures f1) in
+    takes-up s t u v x y z here c.args.set.0 (cost here m) termios (cond {A = List Note} c.flush_input-room.result.0 (Room Up ∷ []) []) (option_to_list c.flush_input-room.result.1) (option_to_list c.set_termios-line.result) mode last _ c.args.told.now f1
     c.audit.ensures c.audit-2.ensures c.audit-3.ensures c.requires.can_put c.requires.chain c.toward.ensures c.flush_input-room.ensures (c.set_termios-line.ensures f1) told c.note_if.ensures refl
-    (taken-cost here m c.requires.acked c.requires.up c.requires.inside c.requires.small c.args.set.0 termios (ldterm_in name s x))
+    (taken-cost here m c.requires.acked c.requires.up c.requires.inside c.requires.small c.args.set.0 termios (ldterm_in s x))

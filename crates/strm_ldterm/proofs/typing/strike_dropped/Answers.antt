@@ -8,9 +8,9 @@ use Rattle.strm_ldterm.proofs.Strikes.{line-proceeds}
 use Rattle.strm_ldterm.proofs.typing.strike_dropped.Goals as goal
 
 pub returns : goal.returns
-returns g c = λ name s held.
+returns c = λ s held.
     let x = c.args.ldterm.now in
-    let p = ldterm_in name s x in
+    let p = ldterm_in s x in
     let rule = c.rule_of_dropped.result in
-    subst (λ a. Proceeds name s s x x 1 [] [] c.args.told.now c.tell_lost.new.told a) (sym (c.rule_of_dropped.ensures c.args.byte p c.args.here))
-    (line-proceeds name s x x.line x.line c.args.told.now c.tell_lost.new.told (dropped plain c.args.here rule c.args.byte p) held refl refl refl refl (c.tell_lost.ensures (c.args.byte ∷ []) refl))
+    subst (λ a. Proceeds s s x x 1 [] [] c.args.told.now c.tell_lost.new.told a) (sym (c.rule_of_dropped.ensures c.args.byte p c.args.here))
+    (line-proceeds s x x.line x.line c.args.told.now c.tell_lost.new.told (dropped plain c.args.here rule c.args.byte p) held refl refl refl refl (c.tell_lost.ensures (c.args.byte ∷ []) refl))

@@ -10,10 +10,10 @@ use Rattle.strm_ldterm.proofs.Strikes.{line-proceeds}
 use Rattle.strm_ldterm.proofs.typing.strike_erase.Goals as goal
 
 pub returns : goal.returns
-returns g c = λ name s held.
+returns c = λ s held.
     let x = c.args.ldterm.now in
     let left = edited is_blank ErasesByte x.line in
     let e = c.erase_byte-gone.ensures in
     let gone = length-drop (length left) x.line ∙ sym (e.gone ∙ ap (λ l. length x.line - length l) e.line) in
-    line-proceeds name s x c.erase_byte-gone.new.self left c.args.told.now c.tell_edit.new.told (edits plain c.args.here ErasesByte Erased c.args.byte (ldterm_in name s x))
+    line-proceeds s x c.erase_byte-gone.new.self left c.args.told.now c.tell_edit.new.told (edits plain c.args.here ErasesByte Erased c.args.byte (ldterm_in s x))
     held e.line refl refl refl (c.tell_edit.ensures (drop (length left) x.line) c.args.byte gone)

@@ -4,12 +4,12 @@ use Rattle.strm_ldterm.specs.Stands.{ldterm_in}
 use Rattle.strm_ldterm.specs.Does.{Proceeds}
 use Rattle.strm_ldterm.proofs.Strikes.{added-raw}
 use Rattle.strm_ldterm.proofs.typing.strike_ordinary.Goals as goal
+use Rattle.strm_blocks.specs.Blocks.{token}
 
 pub returns-else-contains : goal.returns-else-contains
 returns-else-contains g c =
-    let name = g.B.Blocks.name in
     let s = g.B.Blocks.value c.args.store.now in
     let x = c.args.ldterm.now in
     let f = c.args.told.now in
     let raw = sym (c.contains.ensures tt) ∙ c.if-contains.false in
-    subst (λ a. Proceeds name s (g.B.Blocks.value c.gather.new.store) x c.gather.new.ldterm 1 [] [] f f a) (sym (added-raw c.args.here c.args.byte (ldterm_in name s x) raw)) (c.gather.ensures f)
+    subst (λ a. Proceeds s (g.B.Blocks.value c.gather.new.store) x c.gather.new.ldterm 1 [] [] f f a) (sym (added-raw c.args.here c.args.byte (ldterm_in s x) raw)) (c.gather.ensures f)

@@ -4,16 +4,17 @@ use Rattle.strm_msg.specs.Adjusted.{end_of}
 use Rattle.strm_msg.proofs.AdjustingStore.{IsAdjusted, refused-is, trimmed-is, adjusted-nothing, adjusted-left, adjusted-blocks, adjusted-free_m, adjusted-free_d}
 use Rattle.strm_msg.proofs.adjust.adjmsg.Given as given
 use Rattle.strm_msg.proofs.adjust.adjmsg.Goals as goal
+use Rattle.strm_blocks.specs.Blocks.{token}
 
-refused : (g : given.Over) (c : goal.Then-run-size g) → IsAdjusted (g.B.Blocks.value c.args.store.now) (g.B.Blocks.value c.args.store.now) (g.B.Blocks.name c.args.message.now) c.args.n false
+refused : (g : given.Over) (c : goal.Then-run-size g) → IsAdjusted (g.B.Blocks.value c.args.store.now) (g.B.Blocks.value c.args.store.now) (token c.args.message.now) c.args.n false
 refused g c =
     let back = to_z-of_z _ c.args.n c.ranges.n in
-    refused-is (g.B.Blocks.value c.args.store.now) (g.B.Blocks.name c.args.message.now) c.args.n (c.end_of-end.ensures ∙ ap end_of back) (c.unsigned_abs-size.ensures.value ∙ ap unsigned_abs back) c.run_at-run.ensures.len c.if-run-size.true
+    refused-is (g.B.Blocks.value c.args.store.now) (token c.args.message.now) c.args.n (c.end_of-end.ensures ∙ ap end_of back) (c.unsigned_abs-size.ensures.value ∙ ap unsigned_abs back) c.run_at-run.ensures.len c.if-run-size.true
 
-carried : (g : given.Over) (c : goal.After-trim_blocks g) → IsAdjusted (g.B.Blocks.value c.args.store.now) (g.B.Blocks.value c.trim_blocks.new.store) (g.B.Blocks.name c.args.message.now) c.args.n true
+carried : (g : given.Over) (c : goal.After-trim_blocks g) → IsAdjusted (g.B.Blocks.value c.args.store.now) (g.B.Blocks.value c.trim_blocks.new.store) (token c.args.message.now) c.args.n true
 carried g c =
     let back = to_z-of_z _ c.args.n c.ranges.n in
-    trimmed-is (g.B.Blocks.value c.args.store.now) (g.B.Blocks.name c.args.message.now) c.args.n (c.end_of-end.ensures ∙ ap end_of back) (c.unsigned_abs-size.ensures.value ∙ ap unsigned_abs back) c.run_at-run.ensures.len c.if-run-size.false c.run_at-run.ensures.blocks c.trim_blocks.ensures
+    trimmed-is (g.B.Blocks.value c.args.store.now) (token c.args.message.now) c.args.n (c.end_of-end.ensures ∙ ap end_of back) (c.unsigned_abs-size.ensures.value ∙ ap unsigned_abs back) c.run_at-run.ensures.len c.if-run-size.false c.run_at-run.ensures.blocks c.trim_blocks.ensures
 
 pub returns-then-run-size-clause-answer : goal.returns-then-run-size-clause-answer
 returns-then-run-size-clause-answer g c = let so = refused g c in so.answer_is

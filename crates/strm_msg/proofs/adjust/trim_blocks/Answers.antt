@@ -1,9 +1,10 @@
 use Rattle.std.proofs.Common.{arith}
 use Rattle.strm_msg.proofs.Adjusting.{trimming-first, trimming-in_hand, trimming-length, trimming-next}
 use Rattle.strm_msg.proofs.adjust.trim_blocks.Goals as goal
+use Rattle.strm_blocks.specs.Blocks.{token}
 
 pub loop-steps-init : goal.loop-steps-init
-loop-steps-init g c = trimming-first (g.B.Blocks.value c.args.store.now) c.args.end (g.B.Blocks.name c.args.message.now) c.args.n
+loop-steps-init g c = trimming-first (g.B.Blocks.value c.args.store.now) c.args.end (token c.args.message.now) c.args.n
 
 pub block_len-requires-clause-in_hand : goal.block_len-requires-clause-in_hand
 block_len-requires-clause-in_hand g c = trimming-in_hand c.requires.in_hand c.loop-steps.invariant

@@ -1,14 +1,14 @@
 -- The blocks are all of them.
 use Rattle.std.proofs.Common.{◌∙◌, ◌++◌, drop, ap, arith, append-nil}
 use Rattle.std.proofs.lemmas.List.{take_all, drop_all}
-use Rattle.strm_blocks.specs.Blocks.{in_hand, changed, trimmed_head}
+use Rattle.strm_blocks.specs.Blocks.{in_hand, changed, trimmed_head, token}
 use Rattle.strm_msg.specs.Adjusted.{trimmed_by}
 use Rattle.strm_msg.proofs.adjust.trim_front.Goals as goal
 
 pub returns : goal.returns
 returns g c =
     let s = g.B.Blocks.value c.args.store.now in
-    let i = g.B.Blocks.name c.args.message.now in
+    let i = token c.args.message.now in
     let chain = in_hand s i in
     let all = c.blocks-count.ensures.count in
     c.trim_blocks.ensures

@@ -1,10 +1,10 @@
-use Rattle.strm_blocks.specs.Blocks.{in_hand}
+use Rattle.strm_blocks.specs.Blocks.{in_hand, token}
 use Rattle.std.proofs.Common.{arith}
 use Rattle.strm_msg.proofs.Gathering.{gathered-none, gathered-more, gathered-full, full-count}
 use Rattle.strm_msg.proofs.bytes.first_bytes.Goals as goal
 
 pub loop-at-init : goal.loop-at-init
-loop-at-init g c = gathered-none (in_hand (g.B.Blocks.value c.args.store.now) (g.B.Blocks.name c.args.message.now)) c.args.buffer.now
+loop-at-init g c = gathered-none (in_hand (g.B.Blocks.value c.args.store.now) (token c.args.message.now)) c.args.buffer.now
 
 pub returns-then-done-buffer-clause-given : goal.returns-then-done-buffer-clause-given
 returns-then-done-buffer-clause-given g c = gathered-full c.loop-at.invariant c.if-done-buffer.true

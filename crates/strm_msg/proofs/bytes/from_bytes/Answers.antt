@@ -3,7 +3,7 @@ use Rattle.std.proofs.lemmas.Result.{err_from_is_err_and}
 use Rattle.strm_types.specs.Write.{chunk_count}
 use Rattle.strm_msg.proofs.Making.{fails-at-once, made-in_hand}
 use Rattle.strm_msg.proofs.Pieces.{chunk-within, chunk-some, piece-next, piece-first, pieces-fail, pieces-all}
-use Rattle.strm_blocks.specs.Blocks.{times_in}
+use Rattle.strm_blocks.specs.Blocks.{times_in, token}
 use Rattle.strm_msg.proofs.InHand.{came-first, came-second, came-apart}
 use Rattle.strm_msg.proofs.bytes.from_bytes.Goals as goal
 
@@ -33,13 +33,13 @@ returns g c =
     pieces-all c.args.kind c.args.band.0 c.args.bytes.now c.loop-at.at (omega arith) c.loop-at.invariant
 
 pub link-message-requires-clause-first_in_hand : goal.link-message-requires-clause-first_in_hand
-link-message-requires-clause-first_in_hand g c = came-first (g.B.Blocks.name c.loop-at.message) (made-in_hand c.loop-at.invariant) c.in-Ok.ensures.fresh_name c.in-Ok.ensures.after
+link-message-requires-clause-first_in_hand g c = came-first (token c.loop-at.message) (made-in_hand c.loop-at.invariant) c.in-Ok.ensures.fresh_name c.in-Ok.ensures.after
 
 pub link-message-requires-clause-second_in_hand : goal.link-message-requires-clause-second_in_hand
-link-message-requires-clause-second_in_hand g c = came-second (g.B.Blocks.name c.loop-at.message) (made-in_hand c.loop-at.invariant) c.in-Ok.ensures.fresh_name c.in-Ok.ensures.after
+link-message-requires-clause-second_in_hand g c = came-second (token c.loop-at.message) (made-in_hand c.loop-at.invariant) c.in-Ok.ensures.fresh_name c.in-Ok.ensures.after
 
 pub link-message-requires-clause-apart : goal.link-message-requires-clause-apart
-link-message-requires-clause-apart g c = came-apart (g.B.Blocks.name c.loop-at.message) (made-in_hand c.loop-at.invariant) c.in-Ok.ensures.fresh_name c.in-Ok.ensures.after
+link-message-requires-clause-apart g c = came-apart (token c.loop-at.message) (made-in_hand c.loop-at.invariant) c.in-Ok.ensures.fresh_name c.in-Ok.ensures.after
 
 pub free-requires : goal.free-requires
-free-requires g c = ap (λ t. times_in (g.B.Blocks.name c.loop-at.message) t.hand) c.in-Err.ensures.same ∙ made-in_hand c.loop-at.invariant
+free-requires g c = ap (λ t. times_in (token c.loop-at.message) t.hand) c.in-Err.ensures.same ∙ made-in_hand c.loop-at.invariant

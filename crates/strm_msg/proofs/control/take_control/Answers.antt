@@ -1,21 +1,21 @@
 -- The first bytes of the message are those of its control part.
 use Rattle.std.proofs.Common.{◌∙◌, ◌<◌, ◌^◌, length, ap, refl, arith, w64}
 use Rattle.std.proofs.lemmas.Int.{to_z_pos}
-use Rattle.strm_blocks.specs.Blocks.{in_hand, changed}
+use Rattle.strm_blocks.specs.Blocks.{in_hand, changed, token}
 use Rattle.strm_msg.specs.Adjusted.{adjusted}
 use Rattle.strm_msg.proofs.Cutting.{head-cut, control-given}
 use Rattle.strm_msg.proofs.control.take_control.Goals as goal
 
 pub returns-clause-given : goal.returns-clause-given
 returns-clause-given g c =
-    let chain = in_hand (g.B.Blocks.value c.args.store.now) (g.B.Blocks.name c.args.message.now) in
+    let chain = in_hand (g.B.Blocks.value c.args.store.now) (token c.args.message.now) in
     let buffer = c.args.buffer.now in
     c.first_bytes.ensures.given ∙ control-given (length buffer) chain buffer c.requires.chain refl c.requires.has
 
 pub returns-clause-trimmed : goal.returns-clause-trimmed
 returns-clause-trimmed g c =
     let s = g.B.Blocks.value c.args.store.now in
-    let i = g.B.Blocks.name c.args.message.now in
+    let i = token c.args.message.now in
     let chain = in_hand s i in
     let n = length c.args.buffer.now in
     let small : n < 2 ^ 63 = omega arith in

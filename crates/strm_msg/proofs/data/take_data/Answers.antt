@@ -1,6 +1,6 @@
 use Rattle.std.proofs.Common.{◌∙◌, ap, sym, arith, length}
 use Rattle.std.proofs.lemmas.List.{take_all}
-use Rattle.strm_blocks.specs.Blocks.{in_hand, changed}
+use Rattle.strm_blocks.specs.Blocks.{in_hand, changed, token}
 use Rattle.strm_types.specs.Kinds.{is_body_kind}
 use Rattle.strm_msg.specs.Bytes.{data_bytes}
 use Rattle.strm_msg.specs.Taken.{filled}
@@ -9,22 +9,22 @@ use Rattle.strm_msg.proofs.data.take_data.Goals as goal
 use Rattle.strm_msg.proofs.data.take_data.Goals.{then-is_body_kind, else-is_body_kind}
 
 pub loop-at-init : goal.loop-at-init
-loop-at-init g c = going-first (g.B.Blocks.value c.args.store.now) (g.B.Blocks.name c.args.message.now) c.args.buffer.now
+loop-at-init g c = going-first (g.B.Blocks.value c.args.store.now) (token c.args.message.now) c.args.buffer.now
 
 pub kind-requires-clause-in_hand : goal.kind-requires-clause-in_hand
-kind-requires-clause-in_hand g c = take-in_hand (g.B.Blocks.value c.args.store.now) (g.B.Blocks.name c.args.message.now) (length c.args.buffer.now) c.loop-at.at c.requires c.loop-at.invariant.trimmed
+kind-requires-clause-in_hand g c = take-in_hand (g.B.Blocks.value c.args.store.now) (token c.args.message.now) (length c.args.buffer.now) c.loop-at.at c.requires c.loop-at.invariant.trimmed
 
 pub kind-requires-clause-within : goal.kind-requires-clause-within
 kind-requires-clause-within g c =
-    let same = take-length (g.B.Blocks.value c.args.store.now) (g.B.Blocks.name c.args.message.now) (length c.args.buffer.now) c.loop-at.at c.requires (omega arith) c.loop-at.invariant.trimmed in
+    let same = take-length (g.B.Blocks.value c.args.store.now) (token c.args.message.now) (length c.args.buffer.now) c.loop-at.at c.requires (omega arith) c.loop-at.invariant.trimmed in
     omega arith
 
 pub take_from_block-done-requires-clause-in_hand : goal.take_from_block-done-requires-clause-in_hand
-take_from_block-done-requires-clause-in_hand g c = take-in_hand (g.B.Blocks.value c.args.store.now) (g.B.Blocks.name c.args.message.now) (length c.args.buffer.now) c.loop-at.at c.requires c.loop-at.invariant.trimmed
+take_from_block-done-requires-clause-in_hand g c = take-in_hand (g.B.Blocks.value c.args.store.now) (token c.args.message.now) (length c.args.buffer.now) c.loop-at.at c.requires c.loop-at.invariant.trimmed
 
 pub take_from_block-done-requires-clause-within : goal.take_from_block-done-requires-clause-within
 take_from_block-done-requires-clause-within g c =
-    let same = take-length (g.B.Blocks.value c.args.store.now) (g.B.Blocks.name c.args.message.now) (length c.args.buffer.now) c.loop-at.at c.requires (omega arith) c.loop-at.invariant.trimmed in
+    let same = take-length (g.B.Blocks.value c.args.store.now) (token c.args.message.now) (length c.args.buffer.now) c.loop-at.at c.requires (omega arith) c.loop-at.invariant.trimmed in
     omega arith
 
 pub loop-at-preserved : goal.loop-at-preserved
@@ -36,22 +36,22 @@ loop-at-preserved g c =
 
 pub returns-clause-left : goal.returns-clause-left
 returns-clause-left g c =
-    take-left (g.B.Blocks.value c.args.store.now) (g.B.Blocks.name c.args.message.now) (length c.args.buffer.now) c.loop-at.at c.loop-at.done c.requires (omega arith) c.loop-at.invariant.count c.loop-at.invariant.trimmed
+    take-left (g.B.Blocks.value c.args.store.now) (token c.args.message.now) (length c.args.buffer.now) c.loop-at.at c.loop-at.done c.requires (omega arith) c.loop-at.invariant.count c.loop-at.invariant.trimmed
 
 pub returns-clause-control : goal.returns-clause-control
 returns-clause-control g c =
-    take-control (g.B.Blocks.value c.args.store.now) (g.B.Blocks.name c.args.message.now) (length c.args.buffer.now) c.loop-at.at c.requires (omega arith) c.loop-at.invariant.trimmed
+    take-control (g.B.Blocks.value c.args.store.now) (token c.args.message.now) (length c.args.buffer.now) c.loop-at.at c.requires (omega arith) c.loop-at.invariant.trimmed
 
 pub returns-clause-count : goal.returns-clause-count
 returns-clause-count g c =
-    let all = ap (λ xs. length (data_bytes xs)) (take_all c.loop-at.at (in_hand (g.B.Blocks.value c.args.store.now) (g.B.Blocks.name c.args.message.now)) (omega arith)) in
+    let all = ap (λ xs. length (data_bytes xs)) (take_all c.loop-at.at (in_hand (g.B.Blocks.value c.args.store.now) (token c.args.message.now)) (omega arith)) in
     let count = c.loop-at.invariant.count in
     omega arith
 
 pub returns-clause-given : goal.returns-clause-given
 returns-clause-given g c =
-    c.loop-at.invariant.given ∙ ap (λ xs. filled c.args.buffer.now (data_bytes xs)) (take_all c.loop-at.at (in_hand (g.B.Blocks.value c.args.store.now) (g.B.Blocks.name c.args.message.now)) (omega arith))
+    c.loop-at.invariant.given ∙ ap (λ xs. filled c.args.buffer.now (data_bytes xs)) (take_all c.loop-at.at (in_hand (g.B.Blocks.value c.args.store.now) (token c.args.message.now)) (omega arith))
 
 pub returns-clause-trimmed : goal.returns-clause-trimmed
 returns-clause-trimmed g c =
-    c.loop-at.invariant.trimmed ∙ ap (λ xs. changed (g.B.Blocks.value c.args.store.now) (g.B.Blocks.name c.args.message.now) xs) (take-all (length c.args.buffer.now) (in_hand (g.B.Blocks.value c.args.store.now) (g.B.Blocks.name c.args.message.now)) c.loop-at.at (omega arith))
+    c.loop-at.invariant.trimmed ∙ ap (λ xs. changed (g.B.Blocks.value c.args.store.now) (token c.args.message.now) xs) (take-all (length c.args.buffer.now) (in_hand (g.B.Blocks.value c.args.store.now) (token c.args.message.now)) c.loop-at.at (omega arith))

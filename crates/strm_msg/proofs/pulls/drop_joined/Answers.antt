@@ -1,9 +1,10 @@
 use Rattle.std.proofs.Common.{arith}
 use Rattle.strm_msg.proofs.Dropping.{dropping-none, dropping-in_hand, dropping-more, dropping-other, dropping-part, dropping-one, dropping-all}
 use Rattle.strm_msg.proofs.pulls.drop_joined.Goals as goal
+use Rattle.strm_blocks.specs.Blocks.{token}
 
 pub loop-init : goal.loop-init
-loop-init g c = dropping-none (g.B.Blocks.value c.args.store.now) (g.B.Blocks.name c.args.message) c.args.count (omega arith)
+loop-init g c = dropping-none (g.B.Blocks.value c.args.store.now) (token c.args.message) c.args.count (omega arith)
 
 pub kind-requires-clause-in_hand : goal.kind-requires-clause-in_hand
 kind-requires-clause-in_hand g c = dropping-in_hand c.requires c.loop.invariant

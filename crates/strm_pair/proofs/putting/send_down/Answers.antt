@@ -16,7 +16,7 @@ pub returns-in_default : goal.returns-in_default
 returns-in_default g c =
     let s = g.B.Blocks.value c.args.store.now in
     let made = sent_of c.none.result in
-    subst (λ d. Makes g.B.Blocks.name s s (cond (is_there d) 1 0) made (sent_down c.args.here d)) (sym c.in_default.is) (makes-none g.B.Blocks.name s 0 made c.none.ensures)
+    subst (λ d. Makes s s (cond (is_there d) 1 0) made (sent_down c.args.here d)) (sym c.in_default.is) (makes-none s 0 made c.none.ensures)
 
 pub returns : goal.returns
 returns g c =
@@ -27,7 +27,7 @@ returns g c =
     let down = c.in-Some.down in
     let m = down_message down in
     let plain : Message _ = record { kind = m.kind; band = 0; control = None; body = None; plain = m.plain } in
-    subst (λ d. Makes g.B.Blocks.name s t (cond (is_there d) 1 0) made (sent_down here d)) (sym c.in-Some.is)
-    (makes-one g.B.Blocks.name s t (record { to = record here { at = 1; way = Down }; message = c.make_down-message.result }) m.kind m.plain made
+    subst (λ d. Makes s t (cond (is_there d) 1 0) made (sent_down here d)) (sym c.in-Some.is)
+    (makes-one s t (record { to = record here { at = 1; way = Down }; message = c.make_down-message.result }) m.kind m.plain made
     (record { to = toward Down here; message = m }) c.make_down-message.ensures c.one.ensures
     (ap (λ n. record { to = record here { at = n + 1; way = Down }; message = plain }) (sym c.requires.top) ∙ ap (λ x. record { to = toward Down here; message = x }) (down-plain down)))

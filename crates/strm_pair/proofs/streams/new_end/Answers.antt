@@ -1,17 +1,21 @@
 -- No module stands there.
-use Rattle.std.proofs.Common.{rules, sym, subst}
+use Rattle.std.proofs.Common.{[], ◌≡◌, map, ap, arith, rules, sym, subst}
 use Rattle.strm_laws.proofs.StackOnce.{none-once}
+use Rattle.strm_frame.specs.Stacks.{all_of, AreHeld}
+use Rattle.strm_pair.specs.AnyModules.{IsHeld, module_in, owns}
 use Rattle.strm_pair.specs.Streams.{AreApart}
 use Rattle.strm_pair.proofs.streams.new_end.Goals as goal
 
 pub returns-clause-side : goal.returns-clause-side
-returns-clause-side g c = λ s blank. record {
-  head_list = search rules;
-  driver_list = search rules;
-  head = search rules;
-  driver = search rules;
-  stack = c.no_module.ensures.held s;
-  once = subst AreApart (sym (c.no_module.ensures.modules s)) none-once;
-  owned = search rules;
-  spare = search rules;
-}
+returns-clause-side c = λ s blank.
+    let none = c.new-3.ensures in
+    record {
+      head_list = search rules;
+      driver_list = search rules;
+      head = search rules;
+      driver = search rules;
+      stack = subst (λ xs. AreHeld IsHeld owns s xs) (sym none) (record { each = tt; apart = λ k. omega arith });
+      once = subst (λ xs. AreApart (map (module_in s) xs)) (sym none) none-once;
+      owned = λ k some. absurd (omega (arith, some, ap (λ xs. all_of owns xs k) none));
+      spare = search rules;
+    }

@@ -1,6 +1,6 @@
 -- The kind is that of the message.
 use Rattle.std.proofs.Common.{◌∙◌, sym, subst}
-use Rattle.strm_blocks.specs.Blocks.{in_hand}
+use Rattle.strm_blocks.specs.Blocks.{in_hand, token}
 use Rattle.strm_frame.specs.Hands.{HasRoom, Spends}
 use Rattle.strm_msg.proofs.Chains.{kind-is}
 use Rattle.strm_pty.specs.Does.{driver_cost}
@@ -10,11 +10,11 @@ use Rattle.strm_pty.proofs.drivers.put.Goals as goal
 pub put_any-requires-clause-room : goal.put_any-requires-clause-room
 put_any-requires-clause-room g c =
     let s = g.B.Blocks.value c.args.store.now in
-    subst (λ k. HasRoom s (driver_cost c.args.here.way k)) (kind-is (in_hand s (g.B.Blocks.name c.args.message)) ∙ sym c.kind-kind.ensures) c.requires.room
+    subst (λ k. HasRoom s (driver_cost c.args.here.way k)) (kind-is (in_hand s (token c.args.message)) ∙ sym c.kind-kind.ensures) c.requires.room
 
 pub returns-clause-spends : goal.returns-clause-spends
 returns-clause-spends g c =
     let s = g.B.Blocks.value c.args.store.now in
     let t = g.B.Blocks.value c.put_any.new.store in
-    subst (λ k. Spends s t (driver_cost c.args.here.way k) 0) (c.kind-kind.ensures ∙ sym (kind-is (in_hand s (g.B.Blocks.name c.args.message))))
+    subst (λ k. Spends s t (driver_cost c.args.here.way k) 0) (c.kind-kind.ensures ∙ sym (kind-is (in_hand s (token c.args.message))))
     (shifts-spends s t _ _ (driver_cost c.args.here.way c.kind-kind.result) c.put_any.ensures.hands)

@@ -8,8 +8,8 @@ make-message-requires-clause-kind g c = flush-plain
 
 pub returns-then-goes : goal.returns-then-goes
 returns-then-goes g c =
-    one-flush g.B.Blocks.name c.args.goes c.args.asked c.args.to _ _ (record { to = c.args.to; message = c.make-message.result }) _ _ c.make-message.ensures refl refl
+    one-flush c.args.goes c.args.asked c.args.to _ _ (record { to = c.args.to; message = c.make-message.result }) _ _ c.make-message.ensures refl refl
     (c.as_slice.ensures.value ∙ c.for_readers.ensures) c.if-goes.true
 
 pub returns-else-goes : goal.returns-else-goes
-returns-else-goes g c = no-flush g.B.Blocks.name c.args.goes c.args.asked c.args.to _ _ refl c.if-goes.false
+returns-else-goes g c = no-flush c.args.goes c.args.asked c.args.to _ _ refl c.if-goes.false

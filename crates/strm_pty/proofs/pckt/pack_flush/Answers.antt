@@ -3,7 +3,7 @@ use Rattle.std.proofs.Common.{ap, sym, subst, ◌∙◌, ◌∷◌, []}
 use Rattle.std.proofs.lemmas.Bool.{not-false}
 use Rattle.strm_types.specs.Flush.{is_data_kind}
 use Rattle.strm_types.specs.Pckts.{writers_flush}
-use Rattle.strm_blocks.specs.Blocks.{in_hand}
+use Rattle.strm_blocks.specs.Blocks.{in_hand, token}
 use Rattle.strm_msg.proofs.Chains.{kind-is}
 use Rattle.strm_frame.specs.Outboxes.{message_in}
 use Rattle.strm_pty.specs.Does.{Makes}
@@ -13,18 +13,17 @@ use Rattle.strm_pty.proofs.pckt.pack_flush.Goals as goal
 pub asked_of-asked-requires-clause-kind : goal.asked_of-asked-requires-clause-kind
 asked_of-asked-requires-clause-kind g c =
     let s = g.B.Blocks.value c.args.store.now in
-    let i = g.B.Blocks.name c.args.message in
+    let i = token c.args.message in
     ap is_data_kind (sym (kind-is (in_hand s i))) ∙ flush-plain (message_in s i).kind c.requires.flush
 
 pub returns : goal.returns
 returns g c =
-    let name = g.B.Blocks.name in
     let s = g.B.Blocks.value c.args.store.now in
     let t = g.B.Blocks.value c.send_packet-packet.new.store in
     let u = g.B.Blocks.value c.pass_flush-flush.new.store in
-    let i = name c.args.message in
+    let i = token c.args.message in
     let m = message_in s i in
     let asked = c.asked_of-asked.ensures.asked in
-    packs-two name s t i c.args.here c.send_packet-packet.result _ c.args.told.now c.send_packet-packet.new.told (flush-packed m.kind c.requires.flush) c.send_packet-packet.ensures.swaps c.new-2.ensures
-    u c.pass_flush-flush.result c.requires.passes.held (subst (λ a. Makes name t u 1 (c.pass_flush-flush.result ∷ []) (writers_flush c.args.here a ∷ [])) asked c.pass_flush-flush.ensures)
+    packs-two s t i c.args.here c.send_packet-packet.result _ c.args.told.now c.send_packet-packet.new.told (flush-packed m.kind c.requires.flush) c.send_packet-packet.ensures.swaps c.new-2.ensures
+    u c.pass_flush-flush.result c.requires.passes.held (subst (λ a. Makes t u 1 (c.pass_flush-flush.result ∷ []) (writers_flush c.args.here a ∷ [])) asked c.pass_flush-flush.ensures)
     (flush-goes m.kind m.plain c.requires.flush ∙ sym (ap (λ a. a.for_write) asked) ∙ not-false c.asked_of-asked.result.for_write c.if-not-asked.false) c.two.ensures c.send_packet-packet.ensures.told

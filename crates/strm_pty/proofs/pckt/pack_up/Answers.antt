@@ -3,16 +3,17 @@ use Rattle.strm_types.specs.Flushing.{is_flush}
 use Rattle.strm_frame.specs.Outboxes.{message_in}
 use Rattle.strm_pty.proofs.Packing.{kind-test, others-stay, packs-one}
 use Rattle.strm_pty.proofs.pckt.pack_up.Goals as goal
+use Rattle.strm_blocks.specs.Blocks.{token}
 
 pub pack_flush-requires-clause-flush : goal.pack_flush-requires-clause-flush
 pack_flush-requires-clause-flush g c =
-    kind-test is_flush (g.B.Blocks.value c.args.store.now) (g.B.Blocks.name c.args.message) c.kind.result c.is_flush.result _ c.kind.ensures c.is_flush.ensures c.if-is_flush.true
+    kind-test is_flush (g.B.Blocks.value c.args.store.now) (token c.args.message) c.kind.result c.is_flush.result _ c.kind.ensures c.is_flush.ensures c.if-is_flush.true
 
 pub returns : goal.returns
 returns g c =
     let s = g.B.Blocks.value c.args.store.now in
-    let i = g.B.Blocks.name c.args.message in
+    let i = token c.args.message in
     let m = message_in s i in
     let other = kind-test is_flush s i c.kind.result c.is_flush.result _ c.kind.ensures c.is_flush.ensures c.if-is_flush.false in
-    packs-one g.B.Blocks.name s (g.B.Blocks.value c.send_packet-packet.new.store) i c.args.here c.send_packet-packet.result _ c.args.told.now c.send_packet-packet.new.told c.requires.packed
+    packs-one s (g.B.Blocks.value c.send_packet-packet.new.store) i c.args.here c.send_packet-packet.result _ c.args.told.now c.send_packet-packet.new.told c.requires.packed
     c.send_packet-packet.ensures.swaps c.new.ensures (others-stay m.kind m.plain other) c.one.ensures c.send_packet-packet.ensures.told

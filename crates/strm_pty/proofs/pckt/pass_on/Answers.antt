@@ -7,5 +7,5 @@ pub returns : goal.returns
 returns g c = record {
   notes = c.new.ensures;
   told = refl;
-  swaps = passes-swaps g.B.Blocks.name (g.B.Blocks.value c.args.store.now) (record { to = c.toward.result; message = c.args.message }) _ c.args.here c.one.ensures c.toward.ensures c.requires.chain;
+  swaps = passes-swaps (g.B.Blocks.value c.args.store.now) (record { to = c.toward.result; message = c.args.message }) _ c.args.here c.one.ensures c.toward.ensures c.requires.chain;
 }

@@ -14,29 +14,28 @@ use Rattle.strm_frame.proofs.Behind.{window_read}
 use Rattle.strm_pty.proofs.Costing.{hear-cost}
 use Rattle.strm_pty.proofs.Replied.{read-all, refuse-below, swaps-answers}
 use Rattle.strm_pty.proofs.ptem.hear_window.Goals as goal
+use Rattle.strm_blocks.specs.Blocks.{token}
 
 pub payload_of-given-requires-clause-kind : goal.payload_of-given-requires-clause-kind
-payload_of-given-requires-clause-kind g c = asked-plain (g.B.Blocks.value c.args.store.now) (g.B.Blocks.name c.args.message) c.requires.asked
+payload_of-given-requires-clause-kind g c = asked-plain (g.B.Blocks.value c.args.store.now) (token c.args.message) c.requires.asked
 
 pub returns-in_default : goal.returns-in_default
 returns-in_default g c =
-    let name = g.B.Blocks.name in
     let s = g.B.Blocks.value c.args.store.now in
     let t = g.B.Blocks.value c.nak.new.store in
-    let i = name c.args.message in
+    let i = token c.args.message in
     let here = c.args.here in
     let p = payload (message_in s i).plain in
     let x = c.args.ptem.now in
     let none : read_winsize p ≡ None = read-all window_read 8 p _ _ (omega arith) c.read.ensures (c.as_slice.ensures.value ∙ c.payload_of-given.ensures) None c.in_default.is in
-    subst (λ o. Answers name s t x i (cost here (message_in s i)) c.nak.result (window_told here c.args.ioc o (ptem_in x))) (sym none)
-    (refuse-below name s t i here c.args.ioc c.nak.result c.nak.ensures.notes x c.requires c.nak.ensures.swaps)
+    subst (λ o. Answers s t x i (cost here (message_in s i)) c.nak.result (window_told here c.args.ioc o (ptem_in x))) (sym none)
+    (refuse-below s t i here c.args.ioc c.nak.result c.nak.ensures.notes x c.requires c.nak.ensures.swaps)
 
 pub returns : goal.returns
 returns g c =
-    let name = g.B.Blocks.name in
     let s = g.B.Blocks.value c.args.store.now in
     let t = g.B.Blocks.value c.hear.new.store in
-    let i = name c.args.message in
+    let i = token c.args.message in
     let here = c.args.here in
     let ioc = c.args.ioc in
     let m = message_in s i in
@@ -45,6 +44,6 @@ returns g c =
     let v = c.in-Some.window in
     let x' = record x { window = v } in
     let said : read_winsize p ≡ Some v = read-all window_read 8 p _ _ (omega arith) c.read.ensures (c.as_slice.ensures.value ∙ c.payload_of-given.ensures) (Some v) c.in-Some.is in
-    subst (λ o. Answers name s t x' i (cost here m) c.hear.result (window_told here ioc o (ptem_in x))) (sym said)
-    (swaps-answers name s t x' i 2 (cost here m) c.hear.result (window_signal here x.window v ++ onward Down here (ack_message ioc []) ∷ []) c.hear.ensures.notes c.hear.ensures.swaps
+    subst (λ o. Answers s t x' i (cost here m) c.hear.result (window_told here ioc o (ptem_in x))) (sym said)
+    (swaps-answers s t x' i 2 (cost here m) c.hear.result (window_signal here x.window v ++ onward Down here (ack_message ioc []) ∷ []) c.hear.ensures.notes c.hear.ensures.swaps
     (hear-cost here m c.requires.asked c.requires.passes.inside ioc x.window v c.requires.goes))

@@ -4,5 +4,5 @@ use Rattle.strm_pty.proofs.ptem.pass_on.Goals as goal
 
 pub returns : goal.returns
 returns g c =
-    passes-answers g.B.Blocks.name (g.B.Blocks.value c.args.store.now) c.args.ptem.now (record { to = c.toward.result; message = c.args.message }) _ c.args.here c.new.ensures c.one.ensures
+    passes-answers (g.B.Blocks.value c.args.store.now) c.args.ptem.now (record { to = c.toward.result; message = c.args.message }) _ c.args.here c.new.ensures c.one.ensures
     c.toward.ensures c.requires.chain c.requires.inside c.requires.small

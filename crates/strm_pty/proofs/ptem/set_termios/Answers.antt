@@ -12,38 +12,37 @@ use Rattle.strm_frame.proofs.Behind.{termios_read}
 use Rattle.strm_pty.proofs.Carried.{lone-carries}
 use Rattle.strm_pty.proofs.Replied.{read-all, read-whole, refuse-above, set-answers}
 use Rattle.strm_pty.proofs.ptem.set_termios.Goals as goal
+use Rattle.strm_blocks.specs.Blocks.{token}
 
 pub payload_of-given-requires-clause-kind : goal.payload_of-given-requires-clause-kind
-payload_of-given-requires-clause-kind g c = asked-plain (g.B.Blocks.value c.args.store.now) (g.B.Blocks.name c.args.message) c.requires.asked
+payload_of-given-requires-clause-kind g c = asked-plain (g.B.Blocks.value c.args.store.now) (token c.args.message) c.requires.asked
 
 pub confirm-requires-clause-kind : goal.confirm-requires-clause-kind
-confirm-requires-clause-kind g c = asked-plain (g.B.Blocks.value c.args.store.now) (g.B.Blocks.name c.args.message) c.requires.asked
+confirm-requires-clause-kind g c = asked-plain (g.B.Blocks.value c.args.store.now) (token c.args.message) c.requires.asked
 
 pub confirm-requires-clause-given : goal.confirm-requires-clause-given
 confirm-requires-clause-given g c =
-    let p = payload (message_in (g.B.Blocks.value c.args.store.now) (g.B.Blocks.name c.args.message)).plain in
+    let p = payload (message_in (g.B.Blocks.value c.args.store.now) (token c.args.message)).plain in
     c.as_slice-2.ensures.value ∙ sym c.as_slice.ensures.value
     ∙ read-whole termios_read 35 p _ _ (omega arith) c.read.ensures (c.as_slice.ensures.value ∙ c.payload_of-given.ensures) c.in-Some.termios c.in-Some.is
 
 pub returns-in_default-clause-does : goal.returns-in_default-clause-does
 returns-in_default-clause-does g c =
-    let name = g.B.Blocks.name in
     let s = g.B.Blocks.value c.args.store.now in
     let t = g.B.Blocks.value c.nak.new.store in
-    let i = name c.args.message in
+    let i = token c.args.message in
     let here = c.args.here in
     let p = payload (message_in s i).plain in
     let x = c.args.ptem.now in
     let none : read_termios p ≡ None = read-all termios_read 35 p _ _ (omega arith) c.read.ensures (c.as_slice.ensures.value ∙ c.payload_of-given.ensures) None c.in_default.is in
-    subst (λ o. Answers name s t x i (cost here (message_in s i)) c.nak.result (termios_set here c.args.ioc p o (ptem_in x))) (sym none)
-    (refuse-above name s t i here c.args.ioc c.nak.result c.nak.ensures.notes x c.requires c.nak.ensures.swaps)
+    subst (λ o. Answers s t x i (cost here (message_in s i)) c.nak.result (termios_set here c.args.ioc p o (ptem_in x))) (sym none)
+    (refuse-above s t i here c.args.ioc c.nak.result c.nak.ensures.notes x c.requires c.nak.ensures.swaps)
 
 pub returns-clause-does : goal.returns-clause-does
 returns-clause-does g c =
-    let name = g.B.Blocks.name in
     let s = g.B.Blocks.value c.args.store.now in
     let t = g.B.Blocks.value c.confirm.new.store in
-    let i = name c.args.message in
+    let i = token c.args.message in
     let here = c.args.here in
     let p = payload (message_in s i).plain in
     let x = c.args.ptem.now in
@@ -51,11 +50,11 @@ returns-clause-does g c =
     let x' = record x { termios = v } in
     let said : read_termios p ≡ Some v = read-all termios_read 35 p _ _ (omega arith) c.read.ensures (c.as_slice.ensures.value ∙ c.payload_of-given.ensures) (Some v) c.in-Some.is in
     let whole = read-whole termios_read 35 p _ _ (omega arith) c.read.ensures (c.as_slice.ensures.value ∙ c.payload_of-given.ensures) v c.in-Some.is in
-    subst (λ o. Answers name s t x' i (cost here (message_in s i)) c.confirm.result (termios_set here c.args.ioc p o (ptem_in x))) (sym said)
-    (set-answers name s t i here c.args.ioc c.confirm.result c.confirm.ensures.notes x x' c.as_slice-2.result.now p c.requires (c.as_slice-2.ensures.value ∙ sym c.as_slice.ensures.value ∙ whole) c.confirm.ensures.swaps)
+    subst (λ o. Answers s t x' i (cost here (message_in s i)) c.confirm.result (termios_set here c.args.ioc p o (ptem_in x))) (sym said)
+    (set-answers s t i here c.args.ioc c.confirm.result c.confirm.ensures.notes x x' c.as_slice-2.result.now p c.requires (c.as_slice-2.ensures.value ∙ sym c.as_slice.ensures.value ∙ whole) c.confirm.ensures.swaps)
 
 pub returns-in_default-clause-shared : goal.returns-in_default-clause-shared
-returns-in_default-clause-shared g c = λ can. lone-carries g.B.Blocks.name (g.B.Blocks.value c.nak.new.store) _ (sent_of c.nak.result.sent) _ c.nak.ensures.swaps.sent
+returns-in_default-clause-shared g c = λ can. lone-carries (g.B.Blocks.value c.nak.new.store) _ (sent_of c.nak.result.sent) _ c.nak.ensures.swaps.sent
 
 pub returns-clause-shared : goal.returns-clause-shared
 returns-clause-shared g c = c.confirm.ensures.shared

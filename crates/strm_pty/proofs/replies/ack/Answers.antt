@@ -9,6 +9,7 @@ use Rattle.strm_types.specs.Typing.{bare}
 use Rattle.strm_pty.proofs.Replied.{ack-plain, makes-as}
 use Rattle.strm_pty.proofs.Doing.{freed-then, room-freed}
 use Rattle.strm_pty.proofs.replies.ack.Goals as goal
+use Rattle.strm_blocks.specs.Blocks.{token}
 
 pub send-sent-requires-clause-kind : goal.send-sent-requires-clause-kind
 send-sent-requires-clause-kind g c = ack-plain
@@ -17,16 +18,15 @@ pub send-sent-requires-clause-room : goal.send-sent-requires-clause-room
 send-sent-requires-clause-room g c =
     let s = g.B.Blocks.value c.args.store.now in
     let t = g.B.Blocks.value c.free.new.self in
-    room-freed s t (g.B.Blocks.name c.args.message) 1 1 c.audit.ensures c.requires.in_hand c.free.ensures (omega arith) c.requires.room
+    room-freed s t (token c.args.message) 1 1 c.audit.ensures c.requires.in_hand c.free.ensures (omega arith) c.requires.room
 
 pub returns-clause-swaps : goal.returns-clause-swaps
 returns-clause-swaps g c =
-    let name = g.B.Blocks.name in
     let s = g.B.Blocks.value c.args.store.now in
     let t = g.B.Blocks.value c.free.new.self in
     let u = g.B.Blocks.value c.send-sent.new.store in
-    let i = name c.args.message in
+    let i = token c.args.message in
     let here = c.args.here in
     let bytes = c.as_slice.ensures.value ∙ c.framed-answer.ensures.bytes ∙ ap (λ (header : Ioc). ioc_bytes header ++ c.args.given.now) c.acked.ensures in
-    freed-then name s t u i 1 _ _ c.audit.ensures c.requires.in_hand c.free.ensures
-    (makes-as name t u 1 _ _ _ _ c.send-sent.ensures c.one.ensures (ap (λ xs. onward Up here (bare Iocack xs) ∷ []) bytes))
+    freed-then s t u i 1 _ _ c.audit.ensures c.requires.in_hand c.free.ensures
+    (makes-as t u 1 _ _ _ _ c.send-sent.ensures c.one.ensures (ap (λ xs. onward Up here (bare Iocack xs) ∷ []) bytes))

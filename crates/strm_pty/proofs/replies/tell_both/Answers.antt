@@ -3,7 +3,7 @@ use Rattle.std.proofs.Common.{ℕ, List, [], ◌∷◌, drop, sym, ap, subst, �
 use Rattle.strm_types.specs.declared.names.Way.TheVariants.{Up, Down}
 use Rattle.strm_types.specs.Acks.{ack_message, telling_message}
 use Rattle.strm_types.specs.Ldterms.{onward}
-use Rattle.strm_blocks.specs.Blocks.{IsInHand}
+use Rattle.strm_blocks.specs.Blocks.{IsInHand, token}
 use Rattle.strm_frame.specs.Hands.{HasRoom}
 use Rattle.strm_pty.specs.Does.{Swaps}
 use Rattle.strm_pty.specs.Shares.{BothCarry}
@@ -22,41 +22,39 @@ share-requires-clause-room g c =
 
 pub copy_both-requires-clause-in_hand : goal.copy_both-requires-clause-in_hand
 copy_both-requires-clause-in_hand g c =
-    subst (λ v. IsInHand v (g.B.Blocks.name c.in-Err.message)) (sym c.in-Err.ensures.kept) (subst (IsInHand (g.B.Blocks.value c.args.store.now)) (sym c.in-Err.ensures.name) c.requires.in_hand)
+    subst (λ v. IsInHand v (token c.in-Err.message)) (sym c.in-Err.ensures.kept) (subst (IsInHand (g.B.Blocks.value c.args.store.now)) (sym c.in-Err.ensures.name) c.requires.in_hand)
 
 pub copy_both-requires-clause-room : goal.copy_both-requires-clause-room
 copy_both-requires-clause-room g c = subst (λ v. HasRoom v 2) (sym c.in-Err.ensures.kept) c.requires.room
 
 pub returns-in-Ok-clause-swaps : goal.returns-in-Ok-clause-swaps
 returns-in-Ok-clause-swaps g c =
-    let name = g.B.Blocks.name in
     let s = g.B.Blocks.value c.args.store.now in
     let t = g.B.Blocks.value c.part.new.store in
     let w = g.B.Blocks.value c.share.new.store in
-    let i = name c.args.message in
+    let i = token c.args.message in
     let here = c.args.here in
     let ioc = c.args.ioc in
     let parts = c.in-Ok.ensures in
-    let r = name c.in-Ok.both.0 in
-    let k = name c.in-Ok.both.1 in
+    let r = token c.in-Ok.both.0 in
+    let k = token c.in-Ok.both.1 in
     let given : List ℕ → List _ = λ xs. onward Up here (ack_message ioc xs) ∷ onward Down here (telling_message ioc xs) ∷ [] in
-    parted-sends name s t w i r k (c.share.result.0 ∷ c.share.result.1 ∷ []) _ _ parts c.audit.ensures c.share.ensures.sends (ap given (payload-is s t i r k parts c.requires.kind ∙ sym c.requires.given))
+    parted-sends s t w i r k (c.share.result.0 ∷ c.share.result.1 ∷ []) _ _ parts c.audit.ensures c.share.ensures.sends (ap given (payload-is s t i r k parts c.requires.kind ∙ sym c.requires.given))
 
 pub returns-in-Err-clause-swaps : goal.returns-in-Err-clause-swaps
 returns-in-Err-clause-swaps g c =
-    let name = g.B.Blocks.name in
     let w = g.B.Blocks.value c.copy_both.new.store in
     let here = c.args.here in
     let ioc = c.args.ioc in
     let given = c.args.given.now in
     let made = c.copy_both.result.0 ∷ c.copy_both.result.1 ∷ [] in
     let ps = onward Up here (ack_message ioc given) ∷ onward Down here (telling_message ioc given) ∷ [] in
-    subst (λ v. Swaps name v w (name c.args.message) 2 made ps) c.in-Err.ensures.kept (subst (λ k. Swaps name (g.B.Blocks.value c.part.new.store) w k 2 made ps) c.in-Err.ensures.name c.copy_both.ensures)
+    subst (λ v. Swaps v w (token c.args.message) 2 made ps) c.in-Err.ensures.kept (subst (λ k. Swaps (g.B.Blocks.value c.part.new.store) w k 2 made ps) c.in-Err.ensures.name c.copy_both.ensures)
 
 pub returns-in-Ok-clause-shared : goal.returns-in-Ok-clause-shared
 returns-in-Ok-clause-shared g c =
     let parts = c.in-Ok.ensures in
-    λ can. subst (λ blocks. BothCarry g.B.Blocks.name (g.B.Blocks.value c.share.new.store) blocks (c.share.result.0 ∷ c.share.result.1 ∷ [])) (parts.shared.first_is ∙ sym (ap (drop 1) parts.were)) c.share.ensures.carries
+    λ can. subst (λ blocks. BothCarry (g.B.Blocks.value c.share.new.store) blocks (c.share.result.0 ∷ c.share.result.1 ∷ [])) (parts.shared.first_is ∙ sym (ap (drop 1) parts.were)) c.share.ensures.carries
 
 pub returns-in-Err-clause-shared : goal.returns-in-Err-clause-shared
 returns-in-Err-clause-shared g c = λ can. absurd (c.in-Err.ensures.never can)

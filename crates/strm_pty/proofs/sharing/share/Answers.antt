@@ -6,7 +6,7 @@ use Rattle.strm_types.specs.declared.names.Way.TheVariants.{Up, Down}
 use Rattle.strm_types.specs.Ioctls.{asking, ioc_bytes}
 use Rattle.strm_types.specs.Ldterms.{onward}
 use Rattle.strm_types.specs.Typing.{bare}
-use Rattle.strm_blocks.specs.Blocks.{in_hand}
+use Rattle.strm_blocks.specs.Blocks.{in_hand, token}
 use Rattle.strm_msg.specs.Bytes.{bytes_of}
 use Rattle.strm_pty.specs.Does.{Swaps}
 use Rattle.strm_pty.proofs.Doing.{once-none, room-left}
@@ -22,10 +22,10 @@ send_behind-second-requires-clause-kind g c = ioctl-plain
 
 pub send_behind-second-requires-clause-in_hand : goal.send_behind-second-requires-clause-in_hand
 send_behind-second-requires-clause-in_hand g c =
-    let k = g.B.Blocks.name c.args.both.1 in
+    let k = token c.args.both.1 in
     let moved = c.send_behind-first.ensures.swaps.hands.counts k in
     let one = c.audit.ensures.apart k in
-    let other = once-none (g.B.Blocks.name c.args.both.0) k c.requires.shared.apart in
+    let other = once-none (token c.args.both.0) k c.requires.shared.apart in
     let there = c.requires.shared.second_in in
     omega (arith, moved, one, other, there)
 
@@ -37,13 +37,12 @@ send_behind-second-requires-clause-room g c =
 
 pub returns-clause-sends : goal.returns-clause-sends
 returns-clause-sends g c =
-    let name = g.B.Blocks.name in
     let s = g.B.Blocks.value c.args.store.now in
     let u = g.B.Blocks.value c.send_behind-first.new.store in
     let w = g.B.Blocks.value c.send_behind-second.new.store in
     let here = c.args.here in
-    let r = name c.args.both.0 in
-    let k = name c.args.both.1 in
+    let r = token c.args.both.0 in
+    let k = token c.args.both.1 in
     let x = c.send_behind-first.result in
     let y = c.send_behind-second.result in
     let shared = c.requires.shared in
@@ -52,17 +51,16 @@ returns-clause-sends g c =
     let same : bytes_of (in_hand u k) ≡ given = ap bytes_of (c.send_behind-first.ensures.swaps.hands.others k (once-none r k shared.apart) there ∙ shared.second_is ∙ sym shared.first_is) in
     let answer = c.bytes-answer.ensures.bytes ∙ ap (λ (header : Ioc). ioc_bytes header) c.acked.ensures in
     let telling = c.bytes-telling.ensures.bytes ∙ ap (λ (header : Ioc). ioc_bytes header) c.asking.ensures in
-    let one = subst (λ ps. Swaps name s u r 1 (x ∷ []) ps) (ap (λ xs. onward Up here (bare Iocack (xs ++ given)) ∷ []) answer) c.send_behind-first.ensures.swaps in
-    let two = subst (λ ps. Swaps name u w k 1 (y ∷ []) ps)
+    let one = subst (λ ps. Swaps s u r 1 (x ∷ []) ps) (ap (λ xs. onward Up here (bare Iocack (xs ++ given)) ∷ []) answer) c.send_behind-first.ensures.swaps in
+    let two = subst (λ ps. Swaps u w k 1 (y ∷ []) ps)
     (ap (λ xs. onward Down here (bare Ioctl (xs ++ bytes_of (in_hand u k))) ∷ []) telling ∙ ap (λ xs. onward Down here (bare Ioctl (ioc_bytes (asking c.args.ioc.command 0) ++ xs)) ∷ []) same) c.send_behind-second.ensures.swaps in
-    sends-both name s u w r k shared c.audit.ensures x y _ _ one two
+    sends-both s u w r k shared c.audit.ensures x y _ _ one two
 
 pub returns-clause-carries : goal.returns-clause-carries
 returns-clause-carries g c =
-    let name = g.B.Blocks.name in
     let s = g.B.Blocks.value c.args.store.now in
     let u = g.B.Blocks.value c.send_behind-first.new.store in
     let w = g.B.Blocks.value c.send_behind-second.new.store in
     let first = c.send_behind-first.ensures in
     let second = c.send_behind-second.ensures in
-    both-carry name s u w (name c.args.both.0) (name c.args.both.1) c.requires.shared c.audit.ensures c.send_behind-first.result c.send_behind-second.result _ _ first.swaps second.swaps first.carries second.carries
+    both-carry s u w (token c.args.both.0) (token c.args.both.1) c.requires.shared c.audit.ensures c.send_behind-first.result c.send_behind-second.result _ _ first.swaps second.swaps first.carries second.carries

@@ -1,5 +1,5 @@
 use Rattle.std.proofs.Common.{◌≢◌, ◌∷◌, []}
-use Rattle.strm_blocks.specs.Blocks.{IsInHand, in_hand, dropped, block_at}
+use Rattle.strm_blocks.specs.Blocks.{IsInHand, in_hand, dropped, block_at, token}
 use Rattle.strm_blocks.proofs.Laws.{chain-some, IsInHand-held_other, IsInHand-dropped, IsInHand-changed}
 use Rattle.strm_msg.proofs.Hands.{held-apart}
 use Rattle.strm_tests.proofs.blocks.piled.Goals as goal
@@ -12,8 +12,8 @@ loop-preserved g c =
     let made = c.in_ok-block.ensures in
     let s = g.B.Blocks.value c.loop.store in
     let t = g.B.Blocks.value c.dup.new.self in
-    let i = g.B.Blocks.name c.loop.pile in
-    let j = g.B.Blocks.name c.in_ok-block.block in
+    let i = token c.loop.pile in
+    let j = token c.in_ok-block.block in
     let apart : j ≢ i = held-apart s j [] i made.fresh_name c.loop.invariant in
     let one = block_at 0 (in_hand s i) ∷ [] in
     let both : IsInHand t i = rw made.after (IsInHand-held_other s j i one apart c.loop.invariant) in

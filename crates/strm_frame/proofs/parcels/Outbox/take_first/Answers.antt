@@ -3,7 +3,7 @@ use Rattle.std.proofs.lemmas.Grind.{common_steps}
 use Rattle.strm_frame.proofs.parcels.Outbox.take_first.Goals as goal
 
 pub returns-in-Some : goal.returns-in-Some
-returns-in-Some g c = grind (arith, common_steps) steps 30000
+returns-in-Some c = grind (arith, common_steps) steps 30000
 
 pub returns : goal.returns
-returns g c = grind (arith, common_steps) steps 100000
+returns c = grind (arith, common_steps) steps 100000

@@ -3,4 +3,4 @@ use Rattle.std.proofs.lemmas.Grind.{common_steps}
 use Rattle.strm_frame.proofs.parcels.Outbox.two.Goals as goal
 
 pub returns : goal.returns
-returns g c = grind (arith, common_steps) steps 10000
+returns c = grind (arith, common_steps) steps 10000

@@ -8,6 +8,7 @@ use Rattle.strm_frame.specs.Outboxes.{message_in, sent_of, times_sent}
 use Rattle.strm_frame.specs.Stacks.{all_of, AreHeld}
 use Rattle.strm_frame.proofs.Beside.{refilled}
 use Rattle.strm_frame.proofs.stack.Stream.put.Goals as goal
+use Rattle.strm_blocks.specs.Blocks.{token}
 
 pub returns-clause-state : goal.returns-clause-state
 returns-clause-state g c =
@@ -17,28 +18,28 @@ returns-clause-state g c =
     let before = c.as_mut_slice.ensures.value in
     ap (map (w.plain s')) (refilled c.args.self.now.modules.items c.put_among.new.modules (c.put_among.ensures.length ∙ ap length before))
     ∙ c.put_among.ensures.state
-    ∙ ap (λ xs. (put_among w.puts (c.args.to.at - 1) c.args.to (message_in s (g.B.Blocks.name c.args.message)) (map (w.plain s) xs)).state) before
+    ∙ ap (λ xs. (put_among w.puts (c.args.to.at - 1) c.args.to (message_in s (token c.args.message)) (map (w.plain s) xs)).state) before
 
 pub returns-clause-notes : goal.returns-clause-notes
 returns-clause-notes g c =
     let w = g.M.Module in
     let s = g.B.Blocks.value c.args.store.now in
     c.put_among.ensures.notes
-    ∙ ap (λ xs. (put_among w.puts (c.args.to.at - 1) c.args.to (message_in s (g.B.Blocks.name c.args.message)) (map (w.plain s) xs)).notes) c.as_mut_slice.ensures.value
+    ∙ ap (λ xs. (put_among w.puts (c.args.to.at - 1) c.args.to (message_in s (token c.args.message)) (map (w.plain s) xs)).notes) c.as_mut_slice.ensures.value
 
 pub returns-clause-sent : goal.returns-clause-sent
 returns-clause-sent g c =
     let w = g.M.Module in
     let s = g.B.Blocks.value c.args.store.now in
     c.put_among.ensures.sent
-    ∙ ap (λ xs. (put_among w.puts (c.args.to.at - 1) c.args.to (message_in s (g.B.Blocks.name c.args.message)) (map (w.plain s) xs)).sent) c.as_mut_slice.ensures.value
+    ∙ ap (λ xs. (put_among w.puts (c.args.to.at - 1) c.args.to (message_in s (token c.args.message)) (map (w.plain s) xs)).sent) c.as_mut_slice.ensures.value
 
 pub returns-clause-told : goal.returns-clause-told
 returns-clause-told g c =
     let w = g.M.Module in
     let s = g.B.Blocks.value c.args.store.now in
     c.put_among.ensures.told
-    ∙ ap (λ xs. tallied (put_among w.puts (c.args.to.at - 1) c.args.to (message_in s (g.B.Blocks.name c.args.message)) (map (w.plain s) xs)).gone c.args.told.now) c.as_mut_slice.ensures.value
+    ∙ ap (λ xs. tallied (put_among w.puts (c.args.to.at - 1) c.args.to (message_in s (token c.args.message)) (map (w.plain s) xs)).gone c.args.told.now) c.as_mut_slice.ensures.value
 
 pub returns-clause-length : goal.returns-clause-length
 returns-clause-length g c =
@@ -62,16 +63,16 @@ put_among-requires-clause-held g c =
 
 pub put_among-requires-clause-can_put : goal.put_among-requires-clause-can_put
 put_among-requires-clause-can_put g c =
-    subst (λ xs. CanPut (g.B.Blocks.value c.args.store.now) (g.B.Blocks.name c.args.message) (all_of g.M.Module.keeps xs)) (sym c.as_mut_slice.ensures.value) c.requires.can_put
+    subst (λ xs. CanPut (g.B.Blocks.value c.args.store.now) (token c.args.message) (all_of g.M.Module.keeps xs)) (sym c.as_mut_slice.ensures.value) c.requires.can_put
 
 pub returns-clause-hands : goal.returns-clause-hands
 returns-clause-hands g c =
     let w = g.M.Module in
     let s = g.B.Blocks.value c.args.store.now in
     let s' = g.B.Blocks.value c.put_among.new.store in
-    let name = g.B.Blocks.name c.args.message in
+    let name = token c.args.message in
     let before = c.as_mut_slice.ensures.value in
-    let sent = λ (i : ℕ). times_sent g.B.Blocks.name i (sent_of c.put_among.result.sent) in
+    let sent = λ (i : ℕ). times_sent i (sent_of c.put_among.result.sent) in
     subst (λ xs. Hands s s' name (all_of w.keeps c.args.self.now.modules.items) (all_of w.keeps xs) sent)
     (sym (refilled c.args.self.now.modules.items c.put_among.new.modules (c.put_among.ensures.length ∙ ap length before)))
     (subst (λ xs. Hands s s' name (all_of w.keeps xs) (all_of w.keeps c.put_among.new.modules) sent) before c.put_among.ensures.hands)
@@ -90,7 +91,7 @@ pub put_among-requires-clause-room : goal.put_among-requires-clause-room
 put_among-requires-clause-room g c =
     let w = g.M.Module in
     let s = g.B.Blocks.value c.args.store.now in
-    let m = message_in s (g.B.Blocks.name c.args.message) in
+    let m = message_in s (token c.args.message) in
     subst (λ xs. HasRoom s (slice_index_or (map (w.takes c.args.to m) (map (w.plain s) xs)) (c.args.to.at - 1) 0)) (sym c.as_mut_slice.ensures.value) c.requires.room
 
 pub returns-clause-spends : goal.returns-clause-spends
@@ -98,6 +99,6 @@ returns-clause-spends g c =
     let w = g.M.Module in
     let s = g.B.Blocks.value c.args.store.now in
     let t = g.B.Blocks.value c.put_among.new.store in
-    let m = message_in s (g.B.Blocks.name c.args.message) in
+    let m = message_in s (token c.args.message) in
     let said = λ (say : w.Plain → ℕ) (xs : List _). slice_index_or (map say (map (w.plain s) xs)) (c.args.to.at - 1) 0 in
     subst (λ xs. Spends s t (said (w.takes c.args.to m) xs) (said (w.leaves c.args.to m) xs)) c.as_mut_slice.ensures.value c.put_among.ensures.spends

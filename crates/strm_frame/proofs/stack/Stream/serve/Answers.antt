@@ -15,8 +15,8 @@ returns-clause-hands g c =
     let ys = c.serve_among.new.modules in
     let before = c.as_mut_slice.ensures.value in
     let all = sent_of c.serve_among.result.acts.sent in
-    subst (λ zs. Handles s t (λ _. 0) (all_of keeps xs) (all_of keeps zs) (λ i. times_sent g.B.Blocks.name i all)) (sym (refilled xs ys (c.serve_among.ensures.length ∙ ap length before)))
-    (subst (λ zs. Handles s t (λ _. 0) (all_of keeps zs) (all_of keeps ys) (λ i. times_sent g.B.Blocks.name i all)) before c.serve_among.ensures.hands)
+    subst (λ zs. Handles s t (λ _. 0) (all_of keeps xs) (all_of keeps zs) (λ i. times_sent i all)) (sym (refilled xs ys (c.serve_among.ensures.length ∙ ap length before)))
+    (subst (λ zs. Handles s t (λ _. 0) (all_of keeps zs) (all_of keeps ys) (λ i. times_sent i all)) before c.serve_among.ensures.hands)
 
 pub returns-clause-own : goal.returns-clause-own
 returns-clause-own g c =

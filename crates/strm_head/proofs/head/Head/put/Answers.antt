@@ -7,7 +7,7 @@ use Rattle.strm_types.specs.Flush.{is_data_kind}
 use Rattle.strm_types.specs.Flushing.{is_flush}
 use Rattle.strm_types.specs.Heads.{waits_for_readers, flush_up, obeyed, head_put}
 use Rattle.strm_types.specs.Heads as state
-use Rattle.strm_blocks.specs.Blocks.{StoreValue, in_hand}
+use Rattle.strm_blocks.specs.Blocks.{StoreValue, in_hand, token}
 use Rattle.strm_msg.specs.Bytes.{bytes_of}
 use Rattle.strm_msg.specs.Messages.{message_of}
 use Rattle.strm_head.specs.Heads.{head_in}
@@ -19,17 +19,17 @@ use Rattle.strm_head.proofs.head.Head.put.Goals as goal
 abbrev waits : (g : given.Over) → goal.After-take_in g → Acted ℕ (state.Head ℕ)
 waits g c =
     let s = g.B.Blocks.value c.args.store.now in
-    waits_for_readers c.args.here (message_of (in_hand s (g.B.Blocks.name c.args.message))) (head_in s c.args.self.now)
+    waits_for_readers c.args.here (message_of (in_hand s (token c.args.message))) (head_in s c.args.self.now)
 
 abbrev put-data : (g : given.Over) → goal.After-take_in g → Acted ℕ (state.Head ℕ)
 put-data g c =
     let s = g.B.Blocks.value c.args.store.now in
-    head_put c.args.here (message_of (in_hand s (g.B.Blocks.name c.args.message))) (head_in s c.args.self.now)
+    head_put c.args.here (message_of (in_hand s (token c.args.message))) (head_in s c.args.self.now)
 
 data-is : (g : given.Over) (c : goal.After-take_in g) → put-data g c ≡ waits g c
 data-is g c =
     let s = g.B.Blocks.value c.args.store.now in
-    let chain = in_hand s (g.B.Blocks.name c.args.message) in
+    let chain = in_hand s (token c.args.message) in
     data-comes c.args.here chain (head_in s c.args.self.now) c.requires.chain
     (sym (ap is_data_kind c.kind-kind.ensures) ∙ sym c.is_data_kind.ensures ∙ c.if-is_data_kind.true)
 
@@ -40,13 +40,13 @@ pub returns-then-is_data_kind-clause-notes : goal.returns-then-is_data_kind-clau
 returns-then-is_data_kind-clause-notes g c =
     let s = g.B.Blocks.value c.args.store.now in
     sym (ap (λ (a : Acted ℕ (state.Head ℕ)). a.notes) (data-is g c)
-    ∙ waits-notes c.args.here (in_hand s (g.B.Blocks.name c.args.message)) (head_in s c.args.self.now))
+    ∙ waits-notes c.args.here (in_hand s (token c.args.message)) (head_in s c.args.self.now))
 
 pub returns-then-is_data_kind-clause-sent : goal.returns-then-is_data_kind-clause-sent
 returns-then-is_data_kind-clause-sent g c =
     let s = g.B.Blocks.value c.args.store.now in
     sym (ap (λ (a : Acted ℕ (state.Head ℕ)). a.sent) (data-is g c)
-    ∙ waits-sent c.args.here (in_hand s (g.B.Blocks.name c.args.message)) (head_in s c.args.self.now))
+    ∙ waits-sent c.args.here (in_hand s (token c.args.message)) (head_in s c.args.self.now))
 
 pub returns-then-is_data_kind-clause-told : goal.returns-then-is_data_kind-clause-told
 returns-then-is_data_kind-clause-told g c = c.take_in.ensures.told ∙ sym (ap (λ (a : Acted ℕ (state.Head ℕ)). tallied a.gone c.args.told.now) (data-is g c))
@@ -58,12 +58,12 @@ flushed g c t asked = flush_up c.args.here asked (head_in t c.args.self.now)
 abbrev put-flush : (g : given.Over) → goal.After-obey g → Acted ℕ (state.Head ℕ)
 put-flush g c =
     let s = g.B.Blocks.value c.args.store.now in
-    head_put c.args.here (message_of (in_hand s (g.B.Blocks.name c.args.message))) (head_in s c.args.self.now)
+    head_put c.args.here (message_of (in_hand s (token c.args.message))) (head_in s c.args.self.now)
 
 flush-is : (g : given.Over) (c : goal.After-obey g) → flushed g c (g.B.Blocks.value c.free.new.self) c.asked-asked.result ≡ put-flush g c
 flush-is g c =
     let s = g.B.Blocks.value c.args.store.now in
-    let chain = in_hand s (g.B.Blocks.name c.args.message) in
+    let chain = in_hand s (token c.args.message) in
     ap (λ t. flushed g c t c.asked-asked.result) c.free.ensures
     ∙ ap (λ a. flushed g c s a) c.asked-asked.ensures.asked
     ∙ sym (flush-comes c.args.here chain (head_in s c.args.self.now) c.requires.chain
@@ -86,18 +86,18 @@ pub returns-then-is_flush-clause-frees : goal.returns-then-is_flush-clause-frees
 returns-then-is_flush-clause-frees g c =
     let s = g.B.Blocks.value c.args.store.now in
     let t = g.B.Blocks.value c.free.new.self in
-    frees-both s t (g.B.Blocks.value c.obey.new.store) (freed-frees s t (g.B.Blocks.name c.args.message) c.requires.in_hand c.free.ensures) c.obey.ensures.frees
+    frees-both s t (g.B.Blocks.value c.obey.new.store) (freed-frees s t (token c.args.message) c.requires.in_hand c.free.ensures) c.obey.ensures.frees
 
 -- all others
 abbrev put-rest : (g : given.Over) → goal.After-free-2 g → Acted ℕ (state.Head ℕ)
 put-rest g c =
     let s = g.B.Blocks.value c.args.store.now in
-    head_put c.args.here (message_of (in_hand s (g.B.Blocks.name c.args.message))) (head_in s c.args.self.now)
+    head_put c.args.here (message_of (in_hand s (token c.args.message))) (head_in s c.args.self.now)
 
 abbrev heeded : (g : given.Over) → goal.After-free-2 g → MsgKind → Acted ℕ (state.Head ℕ)
 heeded g c kind =
     let s = g.B.Blocks.value c.args.store.now in
-    obeyed c.args.here kind (bytes_of (in_hand s (g.B.Blocks.name c.args.message))) (head_in s c.args.self.now)
+    obeyed c.args.here kind (bytes_of (in_hand s (token c.args.message))) (head_in s c.args.self.now)
 
 no-flush : (g : given.Over) (c : goal.After-free-2 g) → is_flush c.kind-kind.result ≡ false
 no-flush g c = sym c.is_flush.ensures ∙ c.if-is_flush.false
@@ -105,7 +105,7 @@ no-flush g c = sym c.is_flush.ensures ∙ c.if-is_flush.false
 rest-is : (g : given.Over) (c : goal.After-free-2 g) → heeded g c c.kind-kind.result ≡ put-rest g c
 rest-is g c =
     let s = g.B.Blocks.value c.args.store.now in
-    let chain = in_hand s (g.B.Blocks.name c.args.message) in
+    let chain = in_hand s (token c.args.message) in
     ap (λ kind. heeded g c kind) c.kind-kind.ensures
     ∙ sym (other-comes c.args.here chain (head_in s c.args.self.now) c.requires.chain
     (sym (ap is_data_kind c.kind-kind.ensures) ∙ sym c.is_data_kind.ensures ∙ c.if-is_data_kind.false))
@@ -120,7 +120,7 @@ returns-clause-state g c =
 pub returns-clause-notes : goal.returns-clause-notes
 returns-clause-notes g c =
     let s = g.B.Blocks.value c.args.store.now in
-    sym (heeds-notes c.args.here c.kind-kind.result (bytes_of (in_hand s (g.B.Blocks.name c.args.message))) (head_in s c.args.self.now) (no-flush g c))
+    sym (heeds-notes c.args.here c.kind-kind.result (bytes_of (in_hand s (token c.args.message))) (head_in s c.args.self.now) (no-flush g c))
     ∙ ap (λ (a : Acted ℕ (state.Head ℕ)). a.notes) (rest-is g c)
 
 pub returns-clause-sent : goal.returns-clause-sent
@@ -132,19 +132,19 @@ pub returns-clause-told : goal.returns-clause-told
 returns-clause-told g c =
     let s = g.B.Blocks.value c.args.store.now in
     sym (ap (λ (gone : List (Fate ℕ)). tallied gone c.args.told.now)
-    (heeds-gone c.args.here c.kind-kind.result (bytes_of (in_hand s (g.B.Blocks.name c.args.message))) (head_in s c.args.self.now) (no-flush g c)))
+    (heeds-gone c.args.here c.kind-kind.result (bytes_of (in_hand s (token c.args.message))) (head_in s c.args.self.now) (no-flush g c)))
     ∙ ap (λ (a : Acted ℕ (state.Head ℕ)). tallied a.gone c.args.told.now) (rest-is g c)
 
 pub returns-clause-changes : goal.returns-clause-changes
 returns-clause-changes g c =
-    counts-changed (g.B.Blocks.value c.args.store.now) (g.B.Blocks.value c.free-2.new.self) (g.B.Blocks.name c.args.message)
+    counts-changed (g.B.Blocks.value c.args.store.now) (g.B.Blocks.value c.free-2.new.self) (token c.args.message)
     c.args.self.now.queue c.heed-down.new.self.queue c.free-2.ensures c.heed-down.ensures.others c.requires.ready.ready c.heed-down.ensures.counted
 
 pub returns-clause-readable : goal.returns-clause-readable
 returns-clause-readable g c =
-    readable-still (g.B.Blocks.value c.args.store.now) (g.B.Blocks.value c.free-2.new.self) (g.B.Blocks.name c.args.message)
+    readable-still (g.B.Blocks.value c.args.store.now) (g.B.Blocks.value c.free-2.new.self) (token c.args.message)
     c.args.self.now.queue c.heed-down.new.self.queue c.free-2.ensures c.heed-down.ensures.others c.requires.ready.readable
 
 pub returns-clause-frees : goal.returns-clause-frees
 returns-clause-frees g c =
-    freed-frees (g.B.Blocks.value c.args.store.now) (g.B.Blocks.value c.free-2.new.self) (g.B.Blocks.name c.args.message) c.requires.in_hand c.free-2.ensures
+    freed-frees (g.B.Blocks.value c.args.store.now) (g.B.Blocks.value c.free-2.new.self) (token c.args.message) c.requires.in_hand c.free-2.ensures

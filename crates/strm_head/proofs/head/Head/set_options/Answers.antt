@@ -2,7 +2,7 @@
 use Rattle.std.proofs.Common.{◌≡◌, ap, ◌∙◌, take, replicate}
 use Rattle.strm_types.specs.Heads.{with_options}
 use Rattle.strm_types.specs.Options.{options_in}
-use Rattle.strm_blocks.specs.Blocks.{in_hand}
+use Rattle.strm_blocks.specs.Blocks.{in_hand, token}
 use Rattle.strm_msg.specs.Bytes.{bytes_of}
 use Rattle.strm_head.specs.Heads.{head_in}
 use Rattle.strm_head.proofs.Heeding.{first-of, options-first}
@@ -10,7 +10,7 @@ use Rattle.strm_head.proofs.head.Head.set_options.Goals as goal
 
 pub returns-clause-state : goal.returns-clause-state
 returns-clause-state g c = λ s ready.
-    let bytes = bytes_of (in_hand (g.B.Blocks.value c.args.store.now) (g.B.Blocks.name c.args.message.now)) in
+    let bytes = bytes_of (in_hand (g.B.Blocks.value c.args.store.now) (token c.args.message.now)) in
     let count = c.first_bytes-count in
     let options : c.read-options.result ≡ options_in bytes =
     c.read-options.ensures

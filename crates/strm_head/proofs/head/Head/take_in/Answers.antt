@@ -9,7 +9,7 @@ use Rattle.strm_types.specs.Heads.{is_pcproto, is_doubled}
 use Rattle.strm_types.specs.Names.{direction_at}
 use Rattle.strm_types.specs.Rules.{told_more}
 use Rattle.strm_types.specs.Heads as state
-use Rattle.strm_blocks.specs.Blocks.{in_hand}
+use Rattle.strm_blocks.specs.Blocks.{in_hand, token}
 use Rattle.strm_msg.specs.Messages.{message_of}
 use Rattle.strm_queue.specs.Stored.{messages_on}
 use Rattle.strm_head.specs.Heads.{head_in}
@@ -19,10 +19,10 @@ use Rattle.strm_head.proofs.head.Head.take_in.Goals.{else-is_pcproto-via-then-is
 use Rattle.strm_head.proofs.head.Head.take_in.Goals as goal
 
 doubled-then : (g : given.Over) (c : goal.After-free g) → let s = g.B.Blocks.value c.args.store.now in
-    is_doubled (message_of (in_hand s (g.B.Blocks.name c.args.message))) (messages_on s c.args.self.now.queue.list) ≡ true
+    is_doubled (message_of (in_hand s (token c.args.message))) (messages_on s c.args.self.now.queue.list) ≡ true
 doubled-then g c =
     let s = g.B.Blocks.value c.args.store.now in
-    let chain = in_hand s (g.B.Blocks.name c.args.message) in
+    let chain = in_hand s (token c.args.message) in
     a-pcproto c.args.here chain (head_in s c.args.self.now) true
     (sym (ap is_pcproto c.kind.ensures) ∙ sym c.is_pcproto.ensures ∙ c.if-is_pcproto.true)
     (sym c.has_pcproto.ensures ∙ c.if-has_pcproto.true)
@@ -30,7 +30,7 @@ doubled-then g c =
 pub returns-then-has_pcproto-clause-state : goal.returns-then-has_pcproto-clause-state
 returns-then-has_pcproto-clause-state g c =
     let s = g.B.Blocks.value c.args.store.now in
-    let chain = in_hand s (g.B.Blocks.name c.args.message) in
+    let chain = in_hand s (token c.args.message) in
     let h = head_in s c.args.self.now in
     ap (λ t. head_in t c.args.self.now) c.free.ensures
     ∙ sym (ap (λ (a : Acted ℕ (state.Head ℕ)). a.state) (goes-doubled c.args.here chain h (doubled-then g c)))
@@ -38,7 +38,7 @@ returns-then-has_pcproto-clause-state g c =
 pub returns-then-has_pcproto-clause-told : goal.returns-then-has_pcproto-clause-told
 returns-then-has_pcproto-clause-told g c =
     let s = g.B.Blocks.value c.args.store.now in
-    let chain = in_hand s (g.B.Blocks.name c.args.message) in
+    let chain = in_hand s (token c.args.message) in
     let h = head_in s c.args.self.now in
     let fates = c.args.told.now in
     c.tell.ensures
@@ -48,13 +48,13 @@ returns-then-has_pcproto-clause-told g c =
 
 pub returns-then-has_pcproto-clause-frees : goal.returns-then-has_pcproto-clause-frees
 returns-then-has_pcproto-clause-frees g c =
-    freed-frees (g.B.Blocks.value c.args.store.now) (g.B.Blocks.value c.free.new.self) (g.B.Blocks.name c.args.message) c.requires.in_hand c.free.ensures
+    freed-frees (g.B.Blocks.value c.args.store.now) (g.B.Blocks.value c.free.new.self) (token c.args.message) c.requires.in_hand c.free.ensures
 
 doubled-else : (g : given.Over) (c : goal.After-enqueue g) → let s = g.B.Blocks.value c.args.store.now in
-    is_doubled (message_of (in_hand s (g.B.Blocks.name c.args.message))) (messages_on s c.args.self.now.queue.list) ≡ false
+    is_doubled (message_of (in_hand s (token c.args.message))) (messages_on s c.args.self.now.queue.list) ≡ false
 doubled-else g c =
     let s = g.B.Blocks.value c.args.store.now in
-    let chain = in_hand s (g.B.Blocks.name c.args.message) in
+    let chain = in_hand s (token c.args.message) in
     let h = head_in s c.args.self.now in
     elim c.else-is_pcproto.branch [
       | else-is_pcproto-via-then-is_pcproto+else-has_pcproto w ↦
@@ -68,7 +68,7 @@ doubled-else g c =
 pub returns-clause-state : goal.returns-clause-state
 returns-clause-state g c =
     let s = g.B.Blocks.value c.args.store.now in
-    let chain = in_hand s (g.B.Blocks.name c.args.message) in
+    let chain = in_hand s (token c.args.message) in
     let h = head_in s c.args.self.now in
     ap (λ q. record h { queue = q }) c.enqueue.ensures.queue
     ∙ sym (ap (λ (a : Acted ℕ (state.Head ℕ)). a.state) (waits-there c.args.here chain h (doubled-else g c)))
@@ -76,7 +76,7 @@ returns-clause-state g c =
 pub returns-clause-told : goal.returns-clause-told
 returns-clause-told g c =
     let s = g.B.Blocks.value c.args.store.now in
-    let chain = in_hand s (g.B.Blocks.name c.args.message) in
+    let chain = in_hand s (token c.args.message) in
     let h = head_in s c.args.self.now in
     sym (ap (λ (a : Acted ℕ (state.Head ℕ)). tallied a.gone c.args.told.now) (waits-there c.args.here chain h (doubled-else g c)))
 

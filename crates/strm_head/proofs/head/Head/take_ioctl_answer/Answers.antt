@@ -1,7 +1,7 @@
 -- 272 bytes are enough.
 use Rattle.std.proofs.Common.{ap, ◌∙◌, take, replicate}
 use Rattle.strm_types.specs.Slots.{slot_answered}
-use Rattle.strm_blocks.specs.Blocks.{in_hand}
+use Rattle.strm_blocks.specs.Blocks.{in_hand, token}
 use Rattle.strm_msg.specs.Bytes.{bytes_of}
 use Rattle.strm_head.specs.Heads.{head_in, plain_slot}
 use Rattle.strm_head.proofs.Heeding.{answered-first, first-of}
@@ -9,7 +9,7 @@ use Rattle.strm_head.proofs.head.Head.take_ioctl_answer.Goals as goal
 
 pub returns-clause-state : goal.returns-clause-state
 returns-clause-state g c = λ s.
-    let bytes = bytes_of (in_hand (g.B.Blocks.value c.args.store.now) (g.B.Blocks.name c.args.message.now)) in
+    let bytes = bytes_of (in_hand (g.B.Blocks.value c.args.store.now) (token c.args.message.now)) in
     let slot = plain_slot c.args.self.now.ioctl in
     let count = c.first_bytes-count in
     c.take_answer.ensures.state s

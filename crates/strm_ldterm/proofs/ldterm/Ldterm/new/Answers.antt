@@ -6,7 +6,7 @@ use Rattle.strm_ldterm.proofs.ldterm.Ldterm.new.Goals as goal
 
 pub returns-clause-held : goal.returns-clause-held
 unfolding times_kept
-returns-clause-held g c = λ name s read write. record {
+returns-clause-held c = λ s read write. record {
   read = empty-ready s c.new-3.result c.args.read_list c.new-3.ensures.list c.new-3.ensures.counted read;
   write = empty-ready s c.new-4.result c.args.write_list c.new-4.ensures.list c.new-4.ensures.counted write;
   apart = omega (arith, c.requires.apart, c.new-3.ensures.list, c.new-4.ensures.list);
@@ -18,4 +18,4 @@ returns-clause-held g c = λ name s read write. record {
 
 pub returns-clause-rests : goal.returns-clause-rests
 unfolding times_kept
-returns-clause-rests g c = λ name i. refl
+returns-clause-rests c = λ i. refl

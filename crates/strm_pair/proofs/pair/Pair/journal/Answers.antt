@@ -19,16 +19,16 @@ pub returns-clause-ordered : goal.returns-clause-ordered
 returns-clause-ordered g c =
     let p = c.self.inside in
     let s = g.B.Blocks.value p.store in
-    let idle = led-idle g.B.Stacks.view s p.streams p.journal p.limits p.fates c.self.invariant in
-    subst (λ (v : PairState). AreOrdered v.state) c.self.view_is (ordered g.B.Stacks.view s p.streams c.self.invariant.held idle)
+    let idle = led-idle s p.streams p.journal p.limits p.fates c.self.invariant in
+    subst (λ (v : PairState). AreOrdered v.state) c.self.view_is (ordered s p.streams c.self.invariant.held idle)
 
 pub returns-clause-blocks : goal.returns-clause-blocks
 returns-clause-blocks g c =
     let p = c.self.inside in
     let s = g.B.Blocks.value p.store in
-    let idle = led-idle g.B.Stacks.view s p.streams p.journal p.limits p.fates c.self.invariant in
+    let idle = led-idle s p.streams p.journal p.limits p.fates c.self.invariant in
     subst (λ (v : PairState). IsPoolOf (messages_in v.state) v.limits v.free) c.self.view_is
-    (free-shown g.B.Stacks.view s p.streams c.self.invariant.held idle p.limits c.audit.ensures c.self.invariant.mblks c.self.invariant.dblks)
+    (free-shown s p.streams c.self.invariant.held idle p.limits c.audit.ensures c.self.invariant.mblks c.self.invariant.dblks)
 
 pub returns-clause-replayed : goal.returns-clause-replayed
 returns-clause-replayed g c = search rules steps 1000000

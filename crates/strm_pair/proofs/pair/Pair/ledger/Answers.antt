@@ -18,14 +18,14 @@ use Rattle.strm_pair.proofs.pair.Pair.ledger.Goals as goal
 pub sum-requires : goal.sum-requires
 sum-requires g c =
     let p = c.self.inside in
-    let low = elsewhere-few g.B.Stacks.view (g.B.Blocks.value p.store) p.streams p.journal p.limits p.fates c.self.invariant c.args.direction in
+    let low = elsewhere-few (g.B.Blocks.value p.store) p.streams p.journal p.limits p.fates c.self.invariant c.args.direction in
     omega (arith, low, ap (λ counts. sum_of counts) c.of-fates.ensures)
 
 pub overflow_add-elsewhere : goal.overflow_add-elsewhere
 overflow_add-elsewhere g c =
     let p = c.self.inside in
     let s = g.B.Blocks.value p.store in
-    let low = elsewhere-few g.B.Stacks.view s p.streams p.journal p.limits p.fates c.self.invariant c.args.direction in
+    let low = elsewhere-few s p.streams p.journal p.limits p.fates c.self.invariant c.args.direction in
     omega (arith, low, c.sum.ensures, ap (λ counts. sum_of counts) c.of-fates.ensures, c.line_lens-inline.ensures s)
 
 pub overflow_add-result : goal.overflow_add-result
@@ -33,7 +33,7 @@ overflow_add-result g c =
     let p = c.self.inside in
     let s = g.B.Blocks.value p.store in
     let few = c.self.invariant.few c.args.direction in
-    let is = c.book-book.ensures g.B.Stacks.view.modules s in
+    let is = c.book-book.ensures s in
     omega (arith, few, ap (λ (b : Book). b.written) is, ap (λ (b : Book). b.made) is)
 
 pub overflow_sub-result : goal.overflow_sub-result
@@ -41,9 +41,9 @@ overflow_sub-result g c =
     let p = c.self.inside in
     let s = g.B.Blocks.value p.store in
     let dir = c.args.direction in
-    let all = balance g.B.Stacks.view s p.streams p.journal p.limits p.fates c.self.invariant dir in
+    let all = balance s p.streams p.journal p.limits p.fates c.self.invariant dir in
     let gone = c.sum.ensures ∙ ap (λ counts. sum_of counts) c.of-fates.ensures in
-    let is = c.book-book.ensures g.B.Stacks.view.modules s in
+    let is = c.book-book.ensures s in
     omega (arith, all, gone, c.line_lens-inline.ensures s, ap (λ (b : Book). b.written) is, ap (λ (b : Book). b.made) is)
 
 pub returns-clause-ledger : goal.returns-clause-ledger
@@ -51,10 +51,10 @@ returns-clause-ledger g c =
     let p = c.self.inside in
     let s = g.B.Blocks.value p.store in
     let dir = c.args.direction in
-    let st = state_in g.B.Stacks.view.modules s p.streams in
-    let all = balance g.B.Stacks.view s p.streams p.journal p.limits p.fates c.self.invariant dir in
+    let st = state_in s p.streams in
+    let all = balance s p.streams p.journal p.limits p.fates c.self.invariant dir in
     let gone = c.sum.ensures ∙ ap (λ counts. sum_of counts) c.of-fates.ensures in
-    let is = c.book-book.ensures g.B.Stacks.view.modules s in
+    let is = c.book-book.ensures s in
     let written = ap (λ (b : Book). b.written) is in
     let made = ap (λ (b : Book). b.made) is in
     let inl = c.line_lens-inline.ensures s in
@@ -77,8 +77,8 @@ returns-clause-balance g c =
     let p = c.self.inside in
     let s = g.B.Blocks.value p.store in
     let dir = c.args.direction in
-    let all = balance g.B.Stacks.view s p.streams p.journal p.limits p.fates c.self.invariant dir in
-    let is = c.book-book.ensures g.B.Stacks.view.modules s in
+    let all = balance s p.streams p.journal p.limits p.fates c.self.invariant dir in
+    let is = c.book-book.ensures s in
     let gone = ap (λ counts. sum_of counts) c.of-fates.ensures in
     omega (arith, all, gone, c.sum.ensures, c.line_lens-inline.ensures s, ap (λ (b : Book). b.written) is, ap (λ (b : Book). b.made) is)
 

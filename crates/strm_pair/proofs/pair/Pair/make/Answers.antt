@@ -40,9 +40,9 @@ invariant_of-self g c =
     let new = g.B.Blocks.value c.carry_out-answer.new.store in
     let asked = request c.args.event.now in
     let out = c.carry_out-answer.new.out.items in
-    let old = state_in g.B.Stacks.view.modules s p.streams in
+    let old = state_in s p.streams in
     let entry : PlainEntry = Called c.args.caller asked (reply_in c.carry_out-answer.result out) in
-    let allowed : call_refused (pair_of g.B.Stacks.view s p.streams p.journal p.limits p.fates) c.args.caller asked ≡ None = ap (λ (v : PairState). call_refused v c.args.caller asked) c.self.view_is ∙ sym c.refusal.ensures ∙ c.in_default.is in
+    let allowed : call_refused (pair_of s p.streams p.journal p.limits p.fates) c.args.caller asked ≡ None = ap (λ (v : PairState). call_refused v c.args.caller asked) c.self.view_is ∙ sym c.refusal.ensures ∙ c.in_default.is in
     let added : journal_of c.add_call.new.self ≡ journal_of p.journal ++ entry ∷ [] = c.add_call.ensures.added ∙ ap (λ b. journal_of p.journal ++ Called c.args.caller asked (reply_in c.carry_out-answer.result b) ∷ []) c.as_slice.ensures.value in
     let may = (call-allowed old (journal_of p.journal) p.limits (enough (blocks_asked asked) (free_in s)) c.args.caller asked allowed).0 in
     let blocks : blocks_asked asked ≤ free_m s = asked-free (blocks_asked asked) s (call-allowed old (journal_of p.journal) p.limits (enough (blocks_asked asked) (free_in s)) c.args.caller asked allowed).2 in
@@ -50,7 +50,7 @@ invariant_of-self g c =
     let less : blocks_asked asked ≤ 65536 = omega (arith, blocks, store.few_mblks, free_m-is s) in
     let left = subst (λ v. OnTrue (delivers asked) (spare old ≤ spare v + 30)) c.carry_out-answer.ensures.state c.carry_out-answer.ensures.left in
     let few = call-few plain c.args.caller asked old may (written-by-blocks asked 65536 (omega arith) less) c.self.invariant.few (λ room. call-low plain c.args.caller asked old room left) in
-    kept-step g.B.Stacks.view s new p.streams c.carry_out-answer.new.self p.journal c.add_call.new.self p.limits p.fates c.carry_out-answer.new.told entry c.self.invariant
+    kept-step s new p.streams c.carry_out-answer.new.self p.journal c.add_call.new.self p.limits p.fates c.carry_out-answer.new.told entry c.self.invariant
     (record {
       allowed = (call-allowed old (journal_of p.journal) p.limits (enough (blocks_asked asked) (free_in s)) c.args.caller asked allowed).0;
       answered = sym c.carry_out-answer.ensures.answer;
@@ -67,19 +67,19 @@ returns-clause-adds g c =
     let k = c.add_call.new.self in
     let asked = request c.args.event.now in
     let out = c.carry_out-answer.new.out.items in
-    let old = state_in g.B.Stacks.view.modules s p.streams in
+    let old = state_in s p.streams in
     let entry : PlainEntry = Called c.args.caller asked (reply_in c.carry_out-answer.result out) in
-    let allowed : call_refused (pair_of g.B.Stacks.view s p.streams p.journal p.limits p.fates) c.args.caller asked ≡ None = ap (λ (v : PairState). call_refused v c.args.caller asked) c.self.view_is ∙ sym c.refusal.ensures ∙ c.in_default.is in
+    let allowed : call_refused (pair_of s p.streams p.journal p.limits p.fates) c.args.caller asked ≡ None = ap (λ (v : PairState). call_refused v c.args.caller asked) c.self.view_is ∙ sym c.refusal.ensures ∙ c.in_default.is in
     let added : journal_of k ≡ journal_of p.journal ++ entry ∷ [] = c.add_call.ensures.added ∙ ap (λ b. journal_of p.journal ++ Called c.args.caller asked (reply_in c.carry_out-answer.result b) ∷ []) c.as_slice.ensures.value in
     let taken : IsCall plain old c.args.caller asked (reply_in c.carry_out-answer.result out) (after plain old entry) = record {
       allowed = (call-allowed old (journal_of p.journal) p.limits (enough (blocks_asked asked) (free_in s)) c.args.caller asked allowed).0;
       answered = sym c.carry_out-answer.ensures.answer;
       leads = refl;
     } in
-    subst (λ (v : PairState). AddsEntry v (pair_of g.B.Stacks.view new q k p.limits c.carry_out-answer.new.told) entry) c.self.view_is
+    subst (λ (v : PairState). AddsEntry v (pair_of new q k p.limits c.carry_out-answer.new.told) entry) c.self.view_is
     (record {
       journal = added;
-      step = step-shown g.B.Stacks.view s new p.streams q entry c.carry_out-answer.ensures.state taken;
+      step = step-shown s new p.streams q entry c.carry_out-answer.ensures.state taken;
       fates = c.carry_out-answer.ensures.told (reply_in c.carry_out-answer.result out);
       base = refl;
       limits = refl;
@@ -102,12 +102,12 @@ carry_out-answer-requires-clause-allowed_by_state g c =
     let p = c.self.inside in
     let s = g.B.Blocks.value p.store in
     let asked = request c.args.event.now in
-    let old = state_in g.B.Stacks.view.modules s p.streams in
-    let allowed : call_refused (pair_of g.B.Stacks.view s p.streams p.journal p.limits p.fates) c.args.caller asked ≡ None = ap (λ (v : PairState). call_refused v c.args.caller asked) c.self.view_is ∙ sym c.refusal.ensures ∙ c.in_default.is in
+    let old = state_in s p.streams in
+    let allowed : call_refused (pair_of s p.streams p.journal p.limits p.fates) c.args.caller asked ≡ None = ap (λ (v : PairState). call_refused v c.args.caller asked) c.self.view_is ∙ sym c.refusal.ensures ∙ c.in_default.is in
     (or_else-none (refused_at_once old c.args.caller asked) (refused_by_state old c.args.caller asked) (call-allowed old (journal_of p.journal) p.limits (enough (blocks_asked asked) (free_in s)) c.args.caller asked allowed).0).1
 
 pub carry_out-answer-requires-clause-idle : goal.carry_out-answer-requires-clause-idle
-carry_out-answer-requires-clause-idle g c = led-idle g.B.Stacks.view (g.B.Blocks.value c.self.inside.store) c.self.inside.streams c.self.inside.journal c.self.inside.limits c.self.inside.fates c.self.invariant
+carry_out-answer-requires-clause-idle g c = led-idle (g.B.Blocks.value c.self.inside.store) c.self.inside.streams c.self.inside.journal c.self.inside.limits c.self.inside.fates c.self.invariant
 
 pub carry_out-answer-requires-clause-room_m : goal.carry_out-answer-requires-clause-room_m
 carry_out-answer-requires-clause-room_m g c = search rules steps 1000000
@@ -126,8 +126,8 @@ add_call-requires-clause-small g c =
     let p = c.self.inside in
     let s = g.B.Blocks.value p.store in
     let asked = request c.args.event.now in
-    let old = state_in g.B.Stacks.view.modules s p.streams in
-    let allowed : call_refused (pair_of g.B.Stacks.view s p.streams p.journal p.limits p.fates) c.args.caller asked ≡ None = ap (λ (v : PairState). call_refused v c.args.caller asked) c.self.view_is ∙ sym c.refusal.ensures ∙ c.in_default.is in
+    let old = state_in s p.streams in
+    let allowed : call_refused (pair_of s p.streams p.journal p.limits p.fates) c.args.caller asked ≡ None = ap (λ (v : PairState). call_refused v c.args.caller asked) c.self.view_is ∙ sym c.refusal.ensures ∙ c.in_default.is in
     let parts = call-allowed old (journal_of p.journal) p.limits (enough (blocks_asked asked) (free_in s)) c.args.caller asked allowed in
     let at_once = (or_else-none (refused_at_once old c.args.caller asked) (refused_by_state old c.args.caller asked) parts.0).0 in
     let blocks : blocks_asked asked ≤ free_m s = asked-free (blocks_asked asked) s parts.2 in
@@ -144,8 +144,8 @@ add_call-requires-clause-room g c =
     let p = c.self.inside in
     let s = g.B.Blocks.value p.store in
     let asked = request c.args.event.now in
-    let old = state_in g.B.Stacks.view.modules s p.streams in
-    let allowed : call_refused (pair_of g.B.Stacks.view s p.streams p.journal p.limits p.fates) c.args.caller asked ≡ None = ap (λ (v : PairState). call_refused v c.args.caller asked) c.self.view_is ∙ sym c.refusal.ensures ∙ c.in_default.is in
+    let old = state_in s p.streams in
+    let allowed : call_refused (pair_of s p.streams p.journal p.limits p.fates) c.args.caller asked ≡ None = ap (λ (v : PairState). call_refused v c.args.caller asked) c.self.view_is ∙ sym c.refusal.ensures ∙ c.in_default.is in
     let room = (call-allowed old (journal_of p.journal) p.limits (enough (blocks_asked asked) (free_in s)) c.args.caller asked allowed).1 in
     room-less (journal_of p.journal) p.limits p.journal.most_entries p.journal.most_bytes (length (payload_of asked) + content_max asked) (length (payload_of asked) + length c.as_slice.result.now)
     c.self.invariant.events c.self.invariant.bytes (omega (arith, c.carry_out-answer.ensures.content, ap length c.as_slice.ensures.value)) room

@@ -11,11 +11,10 @@ pub returns : goal.returns
 returns g c =
     let p = c.self.inside in
     let s = g.B.Blocks.value p.store in
-    let view = g.B.Stacks.view in
     let kept = c.self.invariant.held in
-    let idle = led-idle view s p.streams p.journal p.limits p.fates c.self.invariant in
-    let master = modules-shown view s 0 p.streams.master kept.beside.master idle.master in
-    let slave = modules-shown view s 4 p.streams.slave kept.beside.slave idle.slave in
+    let idle = led-idle s p.streams p.journal p.limits p.fates c.self.invariant in
+    let master = modules-shown s 0 p.streams.master kept.beside.master idle.master in
+    let slave = modules-shown s 4 p.streams.slave kept.beside.slave idle.slave in
     subst (λ (v : PairState). Shows s v.state) c.self.view_is (record {
       hand = kept.hand;
       master_head = ap (messages_on s) (sym kept.beside.master.head_list);

@@ -10,5 +10,5 @@ use Rattle.strm_pair.proofs.pair.Pair.turn_refusal.Goals as goal
 pub returns : goal.returns
 returns g c =
     let contains = c.contains.ensures ∙ ap (λ (v : PairState). is_enabled c.args.name v.state.enabled) c.self.view_is in
-    let beyond = c.beyond.ensures g.B.Stacks.view.modules (g.B.Blocks.value c.self.inside.store) ∙ ap (λ (v : PairState). unless (in_range v.state) Erange) c.self.view_is in
+    let beyond = c.beyond.ensures (g.B.Blocks.value c.self.inside.store) ∙ ap (λ (v : PairState). unless (in_range v.state) Erange) c.self.view_is in
     rw (c.or_else-3.ensures, c.or_else-2.ensures, c.or_else.ensures, c.unless.ensures, c.unless-2.ensures, c.unless-3.ensures, contains, beyond, c.has_room.ensures, c.has_blocks.ensures, c.turn_blocks.ensures) refl

@@ -15,48 +15,48 @@ use Rattle.strm_pair.proofs.streams.Streams.+send_chunks.Goals as goal
 
 pub returns-then-chunks-eq0-clause-taken : goal.returns-then-chunks-eq0-clause-taken
 returns-then-chunks-eq0-clause-taken g t c =
-    let old = state_in g.B.Stacks.view.modules (g.B.Blocks.value c.args.store.now) c.args.self.now in
+    let old = state_in (g.B.Blocks.value c.args.store.now) c.args.self.now in
     ap (λ (w : Wrote ℕ). w.taken) (sym (chunks-none c.args.side old c.args.chunks c.args.bytes.now c.if-chunks-eq0.true))
 
 pub returns-then-chunks-eq0-clause-state : goal.returns-then-chunks-eq0-clause-state
 returns-then-chunks-eq0-clause-state g t c =
-    let old = state_in g.B.Stacks.view.modules (g.B.Blocks.value c.args.store.now) c.args.self.now in
+    let old = state_in (g.B.Blocks.value c.args.store.now) c.args.self.now in
     ap (λ (w : Wrote ℕ). w.state) (sym (chunks-none c.args.side old c.args.chunks c.args.bytes.now c.if-chunks-eq0.true))
 
 pub returns-then-chunks-eq0-clause-told : goal.returns-then-chunks-eq0-clause-told
 returns-then-chunks-eq0-clause-told g t c =
-    let old = state_in g.B.Stacks.view.modules (g.B.Blocks.value c.args.store.now) c.args.self.now in
+    let old = state_in (g.B.Blocks.value c.args.store.now) c.args.self.now in
     ap (λ (w : Wrote ℕ). tallied w.gone c.args.told.now) (sym (chunks-none c.args.side old c.args.chunks c.args.bytes.now c.if-chunks-eq0.true))
 
 pub returns-then-is_full_below-clause-taken : goal.returns-then-is_full_below-clause-taken
 returns-then-is_full_below-clause-taken g t c =
-    let old = state_in g.B.Stacks.view.modules (g.B.Blocks.value c.args.store.now) c.args.self.now in
+    let old = state_in (g.B.Blocks.value c.args.store.now) c.args.self.now in
     ap (λ (w : Wrote ℕ). w.taken) (sym (chunks-full c.args.side old c.args.chunks c.args.bytes.now (sym c.is_full_below.ensures ∙ c.if-is_full_below.true)))
 
 pub returns-then-is_full_below-clause-state : goal.returns-then-is_full_below-clause-state
 returns-then-is_full_below-clause-state g t c =
-    let old = state_in g.B.Stacks.view.modules (g.B.Blocks.value c.args.store.now) c.args.self.now in
+    let old = state_in (g.B.Blocks.value c.args.store.now) c.args.self.now in
     ap (λ (w : Wrote ℕ). w.state) (sym (chunks-full c.args.side old c.args.chunks c.args.bytes.now (sym c.is_full_below.ensures ∙ c.if-is_full_below.true)))
 
 pub returns-then-is_full_below-clause-told : goal.returns-then-is_full_below-clause-told
 returns-then-is_full_below-clause-told g t c =
-    let old = state_in g.B.Stacks.view.modules (g.B.Blocks.value c.args.store.now) c.args.self.now in
+    let old = state_in (g.B.Blocks.value c.args.store.now) c.args.self.now in
     ap (λ (w : Wrote ℕ). tallied w.gone c.args.told.now) (sym (chunks-full c.args.side old c.args.chunks c.args.bytes.now (sym c.is_full_below.ensures ∙ c.if-is_full_below.true)))
 
 -- Nothing of a turn is under way behind a chunk.
 pub send_chunks-more-requires : goal.send_chunks-more-requires
 send_chunks-more-requires g t c κs within =
-    let old = state_in g.B.Stacks.view.modules (g.B.Blocks.value c.args.store.now) c.args.self.now in
+    let old = state_in (g.B.Blocks.value c.args.store.now) c.args.self.now in
     let some = c.if-chunks-eq0.false in
     let idle = subst AreIdle (sym c.send_chunk.ensures.state) (delivered-idle plain (below_head c.args.side) (data_message c.split_at.result.0.now) old c.requires.idle) in
     let room_m : c.args.chunks - 1 ≤ free_m (g.B.Blocks.value c.send_chunk.new.store) = omega (arith, some, c.requires.room_m, c.send_chunk.ensures.takes_m) in
     let room_d : c.args.chunks - 1 ≤ free_d (g.B.Blocks.value c.send_chunk.new.store) = omega (arith, some, c.requires.room_d, c.send_chunk.ensures.takes_d) in
-    (omega arith, (within.0, (within.1.0, (within.1.1, (c.send_chunk.ensures.held, (idle, (room_m, room_d)))))))
+    (omega arith, (within, (c.send_chunk.ensures.held, (idle, (room_m, room_d)))))
 
 pub returns-clause-taken : goal.returns-clause-taken
 returns-clause-taken g t c =
-    let old = state_in g.B.Stacks.view.modules (g.B.Blocks.value c.args.store.now) c.args.self.now in
-    let mid = state_in g.B.Stacks.view.modules (g.B.Blocks.value c.send_chunk.new.store) c.send_chunk.new.self in
+    let old = state_in (g.B.Blocks.value c.args.store.now) c.args.self.now in
+    let mid = state_in (g.B.Blocks.value c.send_chunk.new.store) c.send_chunk.new.self in
     let chunk = c.split_at.result.0.now in
     let count : c.args.chunks ≡ suc (c.args.chunks - 1) = omega arith in
     let e = chunks-more c.args.side old c.args.chunks (c.args.chunks - 1) c.args.bytes.now chunk c.split_at.result.1.now mid count (sym c.is_full_below.ensures ∙ c.if-is_full_below.false)
@@ -65,8 +65,8 @@ returns-clause-taken g t c =
 
 pub returns-clause-state : goal.returns-clause-state
 returns-clause-state g t c =
-    let old = state_in g.B.Stacks.view.modules (g.B.Blocks.value c.args.store.now) c.args.self.now in
-    let mid = state_in g.B.Stacks.view.modules (g.B.Blocks.value c.send_chunk.new.store) c.send_chunk.new.self in
+    let old = state_in (g.B.Blocks.value c.args.store.now) c.args.self.now in
+    let mid = state_in (g.B.Blocks.value c.send_chunk.new.store) c.send_chunk.new.self in
     let chunk = c.split_at.result.0.now in
     let count : c.args.chunks ≡ suc (c.args.chunks - 1) = omega arith in
     let e = chunks-more c.args.side old c.args.chunks (c.args.chunks - 1) c.args.bytes.now chunk c.split_at.result.1.now mid count (sym c.is_full_below.ensures ∙ c.if-is_full_below.false)
@@ -75,8 +75,8 @@ returns-clause-state g t c =
 
 pub returns-clause-told : goal.returns-clause-told
 returns-clause-told g t c =
-    let old = state_in g.B.Stacks.view.modules (g.B.Blocks.value c.args.store.now) c.args.self.now in
-    let mid = state_in g.B.Stacks.view.modules (g.B.Blocks.value c.send_chunk.new.store) c.send_chunk.new.self in
+    let old = state_in (g.B.Blocks.value c.args.store.now) c.args.self.now in
+    let mid = state_in (g.B.Blocks.value c.send_chunk.new.store) c.send_chunk.new.self in
     let chunk = c.split_at.result.0.now in
     let rest = c.split_at.result.1.now in
     let count : c.args.chunks ≡ suc (c.args.chunks - 1) = omega arith in

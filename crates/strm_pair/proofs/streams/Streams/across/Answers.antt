@@ -6,13 +6,13 @@ use Rattle.strm_laws.specs.State.{Stream, stream}
 use Rattle.strm_laws.specs.Puts.{across_of}
 use Rattle.strm_pair.specs.Pairs.{state_in}
 use Rattle.strm_pair.proofs.streams.Streams.across.Goals as goal
+use Rattle.strm_pair.specs.Stacks.{modules_in}
 
 pub returns : goal.returns
-returns g c = λ s.
-    let V = g.B.Stacks.view.modules in
-    let st = state_in V s c.args.self.now in
+returns c = λ s.
+    let st = state_in s c.args.self.now in
     let side = c.args.side in
     ap (λ (b : Bool). record { is_open = b; bottom = c.modules_on.result; ended = c.is_closed.result })
-    (c.is_open.ensures ∙ ap (λ (t : Stream ℕ). is_open t.opened) (c.end.ensures.stream V s ∙ ap (λ sd. stream sd st) c.other-other.ensures))
+    (c.is_open.ensures ∙ ap (λ (t : Stream ℕ). is_open t.opened) (c.end.ensures.stream s ∙ ap (λ sd. stream sd st) c.other-other.ensures))
     ∙ ap (λ (n : ℕ). record { is_open = is_open (stream (other side) st).opened; bottom = n; ended = c.is_closed.result }) (c.modules_on.ensures.on s ∙ ap (λ sd. modules_on sd st) c.other-other.ensures)
     ∙ ap (λ (b : Bool). record (across_of side st) { ended = b }) c.is_closed.ensures

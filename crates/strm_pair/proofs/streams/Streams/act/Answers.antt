@@ -17,91 +17,86 @@ use Rattle.strm_pair.specs.Pairs.{end_at, state_in, with_end}
 use Rattle.strm_pair.proofs.ModuleSteps.{books-same, modules-are}
 use Rattle.strm_pair.proofs.ServeSteps.{acts-by, made-fits, master-between, slave-between, tells-by, within-any}
 use Rattle.strm_pair.proofs.streams.Streams.act.Goals as goal
+use Rattle.strm_blocks.specs.Blocks.{token}
+use Rattle.strm_pair.specs.Stacks.{modules_in}
 
-pub place-place-requires-clause-within : goal.place-place-requires-clause-within
-place-place-requires-clause-within g c = λ s.
-    let view = g.B.Stacks.view in
+pub place_at-place-requires-clause-within : goal.place_at-place-requires-clause-within
+place_at-place-requires-clause-within g c = λ s.
     let p = c.args.self.now in
     let here = c.args.here in
-    let low = within-any view (g.B.Blocks.value c.args.store.now) s p here.side here.at c.requires.within in
-    let same = ap length (modules-are view s p here.side) in
-    let there = ap (λ (e : End _). length (view.modules s e.stack)) c.end.ensures.end in
+    let low = within-any (g.B.Blocks.value c.args.store.now) s p here.side here.at c.requires.within in
+    let same = ap length (modules-are s p here.side) in
+    let there = ap (λ (e : End). length (modules_in s e.stack)) c.end.ensures.end in
     omega (arith, low, same, there)
 
 pub book_made-requires-clause-master : goal.book_made-requires-clause-master
 book_made-requires-clause-master g c =
-    let view = g.B.Stacks.view in
-    let name = g.B.Blocks.name in
     let s = g.B.Blocks.value c.args.store.now in
     let t = g.B.Blocks.value c.serve_at-served.new.store in
     let p = c.args.self.now in
     let q = c.serve_at-served.new.self in
     let here = c.args.here in
-    let st = state_in view.modules s p in
+    let st = state_in s p in
     let f = c.args.told.now in
     let f' = c.serve_at-served.new.told in
     let call = call_of c.serve_at-served.result in
     let e = c.serve_at-served.ensures in
     let x = (end_at here.side q).stack in
     let told = (called here c.args.again (stop_in call) (state.stream here.side st).modules).gone in
-    let tells = tells-by name view s t p q x here c.args.again c.serve_at-served.result f f' e.serves in
+    let tells = tells-by s t p q x here c.args.again c.serve_at-served.result f f' e.serves in
     let low = let inside = c.requires.inside in let within = c.requires.within in let l : here.at - 1 < length (state.stream here.side st).modules = omega arith in l in
-    let tallies = e.serves.tells ∙ ap (λ ls. tallied (called here c.args.again (stop_in call) ls).gone f) (sym (modules-are view s p here.side)) in
+    let tallies = e.serves.tells ∙ ap (λ ls. tallied (called here c.args.again (stop_in call) ls).gone f) (sym (modules-are s p here.side)) in
     let few = c.of-before.ensures.few.0 in
     let counts = c.of-before.ensures.counts in
     let before = ap (λ (m : Made). m.from_master) counts in
     let made = ap (λ k. between k f'.made_from_master) before ∙ master-between here c.args.again call st tells c.requires.begins low c.requires.books f f' (omega (arith, few, before)) tallies in
-    let book = ap (λ (y : Streams _). y.from_master.made) e.streams ∙ ap (λ b. b.made) (books-same here.side (record (end_at here.side p) { stack = x }) p).0 in
+    let book = ap (λ (y : Streams). y.from_master.made) e.streams ∙ ap (λ b. b.made) (books-same here.side (record (end_at here.side p) { stack = x }) p).0 in
     let fits = made-fits here c.args.again call st tells c.requires.begins low c.requires.books MasterToSlave in
     λ some. omega (arith, made, book, fits)
 
 pub book_made-requires-clause-slave : goal.book_made-requires-clause-slave
 book_made-requires-clause-slave g c =
-    let view = g.B.Stacks.view in
-    let name = g.B.Blocks.name in
     let s = g.B.Blocks.value c.args.store.now in
     let t = g.B.Blocks.value c.serve_at-served.new.store in
     let p = c.args.self.now in
     let q = c.serve_at-served.new.self in
     let here = c.args.here in
-    let st = state_in view.modules s p in
+    let st = state_in s p in
     let f = c.args.told.now in
     let f' = c.serve_at-served.new.told in
     let call = call_of c.serve_at-served.result in
     let e = c.serve_at-served.ensures in
     let x = (end_at here.side q).stack in
-    let tells = tells-by name view s t p q x here c.args.again c.serve_at-served.result f f' e.serves in
+    let tells = tells-by s t p q x here c.args.again c.serve_at-served.result f f' e.serves in
     let low = let inside = c.requires.inside in let within = c.requires.within in let l : here.at - 1 < length (state.stream here.side st).modules = omega arith in l in
-    let tallies = e.serves.tells ∙ ap (λ ls. tallied (called here c.args.again (stop_in call) ls).gone f) (sym (modules-are view s p here.side)) in
+    let tallies = e.serves.tells ∙ ap (λ ls. tallied (called here c.args.again (stop_in call) ls).gone f) (sym (modules-are s p here.side)) in
     let few = c.of-before.ensures.few.1 in
     let before = ap (λ (m : Made). m.from_slave) c.of-before.ensures.counts in
     let made = ap (λ k. between k f'.made_from_slave) before ∙ slave-between here c.args.again call st tells c.requires.begins low c.requires.books f f' (omega (arith, few, before)) tallies in
-    let book = ap (λ (y : Streams _). y.from_slave.made) e.streams ∙ ap (λ b. b.made) (books-same here.side (record (end_at here.side p) { stack = x }) p).1 in
+    let book = ap (λ (y : Streams). y.from_slave.made) e.streams ∙ ap (λ b. b.made) (books-same here.side (record (end_at here.side p) { stack = x }) p).1 in
     let fits = made-fits here c.args.again call st tells c.requires.begins low c.requires.books SlaveToMaster in
     λ some. omega (arith, made, book, fits)
 
 pub returns : goal.returns
 returns g c =
-    let view = g.B.Stacks.view in
-    let name = g.B.Blocks.name in
     let s = g.B.Blocks.value c.args.store.now in
     let t = g.B.Blocks.value c.serve_at-served.new.store in
     let p = c.args.self.now in
     let y = c.serve_at-served.new.self in
     let here = c.args.here in
-    let st = state_in view.modules s p in
+    let st = state_in s p in
     let f = c.args.told.now in
     let f' = c.serve_at-served.new.told in
     let served = c.serve_at-served.result in
     let call = call_of served in
     let e = c.serve_at-served.ensures in
     let x = (end_at here.side y).stack in
-    let place = c.place-place.result in
+    let place = c.place_at-place.result in
     let earlier = earlier_of c.earlier-earlier.result in
-    let place_is = c.place-place.ensures s ∙ ap (λ (on : state.Stream _). slice_index_or (places_of on.modules) (here.at - 1) None) (c.end.ensures.stream view.modules s) in
-    let tells = tells-by name view s t p c.book_made.new.self x here c.args.again served f f' e.serves in
+    let place_is = c.place_at-place.ensures s ∙ ap (λ (on : state.Stream _). slice_index_or (places_of on.modules) (here.at - 1) None) (c.end.ensures.stream s) in
+    let tells = tells-by s t p c.book_made.new.self x here c.args.again served f f' e.serves in
     let low = let inside = c.requires.inside in let within = c.requires.within in let l : here.at - 1 < length (state.stream here.side st).modules = omega arith in l in
-    let tallies = e.serves.tells ∙ ap (λ ls. tallied (called here c.args.again (stop_in call) ls).gone f) (sym (modules-are view s p here.side)) in
+    let tallies = e.serves.tells ∙ ap (λ ls. tallied (called here c.args.again (stop_in call) ls).gone f) (sym (modules-are s p here.side)) in
     let counts = c.of-before.ensures.counts in
     let first = ap (λ (m : Made). m.from_master) counts in
     let second = ap (λ (m : Made). m.from_slave) counts in
@@ -112,8 +107,8 @@ returns g c =
     let n = between c.of-before.result.from_slave f'.made_from_slave in
     let changed = with_end here.side (record (end_at here.side p) { stack = x }) p in
     let same = books-same here.side (record (end_at here.side p) { stack = x }) p in
-    let at : Streams _ → Streams _ = λ z. record z { enabled = noted here.side place earlier served.acts.notes.items z.enabled; from_master = with_made m z.from_master; from_slave = with_made n z.from_slave } in
-    acts-by name view s t p c.book_made.new.self x here c.args.again served f f' place earlier m n c.audit.ensures c.requires.hand c.requires.beside
+    let at : Streams → Streams = λ z. record z { enabled = noted here.side place earlier served.acts.notes.items z.enabled; from_master = with_made m z.from_master; from_slave = with_made n z.from_slave } in
+    acts-by s t p c.book_made.new.self x here c.args.again served f f' place earlier m n c.audit.ensures c.requires.hand c.requires.beside
     place_is (λ way. c.earlier-earlier.ensures s way) e.serves m_is n_is
     (c.book_made.ensures
     ∙ ap (λ ns. record y { enabled = ns; from_master = with_made m y.from_master; from_slave = with_made n y.from_slave }) (c.note.ensures ∙ ap (λ ns. noted here.side place earlier ns y.enabled) c.as_slice.ensures.value)

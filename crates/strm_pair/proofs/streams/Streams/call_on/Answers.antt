@@ -2,19 +2,21 @@
 use Rattle.std.proofs.Common.{◌≡◌, ◌<◌, ◌+◌, ◌-◌, false, true, [], length, refl, sym, ap, subst, ◌∙◌, arith}
 use Rattle.strm_laws.specs.State.{stream}
 use Rattle.strm_laws.proofs.ModuleTurnCalls.{reached-first}
+use Rattle.strm_blocks.specs.Blocks.{times_in}
+use Rattle.strm_pair.specs.Framing.{rests}
 use Rattle.strm_pair.specs.Pairs.{state_in}
-use Rattle.strm_pair.proofs.CallsOn.{Along, GoOn, along, comes-closer, first-begins, first-books, next-books, still_to_come}
+use Rattle.strm_pair.proofs.CallsOn.{Along, GoOn, along, comes-closer, first-begins, first-books, first-cost, next-books, still_to_come}
 use Rattle.strm_pair.proofs.ServeSteps.{call-within}
 use Rattle.strm_pair.proofs.streams.Streams.call_on.Goals as goal
+use Rattle.strm_pair.specs.Stacks.{modules_in}
 
 pub loop-call-init : goal.loop-call-init
 loop-call-init g c =
-    let view = g.B.Stacks.view.modules in
     let here = c.args.here in
-    let st0 = state_in view (g.B.Blocks.value c.args.store.now) c.args.self.now in
+    let st0 = state_in (g.B.Blocks.value c.args.store.now) c.args.self.now in
     let m = c.call_module-call in
     let e = m.ensures in
-    let st = state_in view (g.B.Blocks.value m.new.store) m.new.self in
+    let st = state_in (g.B.Blocks.value m.new.store) m.new.self in
     let f = c.args.told.now in
     let low : here.at - 1 < length (stream here.side st0).modules = let inside = c.requires.inside in let within = c.requires.within in omega arith in
     let begins = first-begins here st0 c.requires.rests low in
@@ -28,26 +30,24 @@ loop-call-init g c =
     }
 
 pub call_module-call-requires-clause-books : goal.call_module-call-requires-clause-books
-call_module-call-requires-clause-books g c = first-books c.args.here (state_in g.B.Stacks.view.modules (g.B.Blocks.value c.args.store.now) c.args.self.now) c.requires.range c.requires.few
+call_module-call-requires-clause-books g c = first-books c.args.here (state_in (g.B.Blocks.value c.args.store.now) c.args.self.now) c.requires.range c.requires.few
 
 pub call_module-call-requires-in-loop-call-clause-books : goal.call_module-call-requires-in-loop-call-clause-books
 call_module-call-requires-in-loop-call-clause-books g c =
-    let view = g.B.Stacks.view.modules in
     let here = c.args.here in
     let l = c.loop-call in
-    let st0 = state_in view (g.B.Blocks.value c.args.store.now) c.args.self.now in
-    let st = state_in view (g.B.Blocks.value l.store) l.self in
+    let st0 = state_in (g.B.Blocks.value c.args.store.now) c.args.self.now in
+    let st = state_in (g.B.Blocks.value l.store) l.self in
     let on : GoOn here l.bytes st0 st c.args.told.now l.told = subst (λ more. Along more here l.bytes st0 st c.args.told.now l.told) c.loop-call-test.true l.invariant.along in
     next-books here l.bytes st0 st c.args.told.now l.told c.requires.range c.requires.few on
 
 pub overflow_add-bytes : goal.overflow_add-bytes
 overflow_add-bytes g c =
-    let view = g.B.Stacks.view.modules in
     let here = c.args.here in
     let l = c.loop-call in
     let m = c.call_module-call-in-loop-call in
-    let st0 = state_in view (g.B.Blocks.value c.args.store.now) c.args.self.now in
-    let st = state_in view (g.B.Blocks.value l.store) l.self in
+    let st0 = state_in (g.B.Blocks.value c.args.store.now) c.args.self.now in
+    let st = state_in (g.B.Blocks.value l.store) l.self in
     let on : GoOn here l.bytes st0 st c.args.told.now l.told = subst (λ more. Along more here l.bytes st0 st c.args.told.now l.told) c.loop-call-test.true l.invariant.along in
     let most = call-within here true m.result st m.ensures.itself on.reached.begins on.reached.inside in
     let within = on.reached.within in
@@ -56,14 +56,13 @@ overflow_add-bytes g c =
 
 pub loop-call-smaller : goal.loop-call-smaller
 loop-call-smaller g c =
-    let view = g.B.Stacks.view.modules in
     let here = c.args.here in
     let l = c.loop-call in
     let m = c.call_module-call-in-loop-call in
     let e = m.ensures in
-    let st0 = state_in view (g.B.Blocks.value c.args.store.now) c.args.self.now in
-    let st = state_in view (g.B.Blocks.value l.store) l.self in
-    let behind = state_in view (g.B.Blocks.value m.new.store) m.new.self in
+    let st0 = state_in (g.B.Blocks.value c.args.store.now) c.args.self.now in
+    let st = state_in (g.B.Blocks.value l.store) l.self in
+    let behind = state_in (g.B.Blocks.value m.new.store) m.new.self in
     let f = c.args.told.now in
     let on : GoOn here l.bytes st0 st f l.told = subst (λ more. Along more here l.bytes st0 st f l.told) c.loop-call-test.true l.invariant.along in
     let closer = comes-closer here st0 true l.bytes on.gone st behind on.reached m.result e.itself e.state f l.told m.new.told on.tells e.tells e.left m.result.again refl in
@@ -71,14 +70,13 @@ loop-call-smaller g c =
 
 pub loop-call-preserved : goal.loop-call-preserved
 loop-call-preserved g c =
-    let view = g.B.Stacks.view.modules in
     let here = c.args.here in
     let l = c.loop-call in
     let m = c.call_module-call-in-loop-call in
     let e = m.ensures in
-    let st0 = state_in view (g.B.Blocks.value c.args.store.now) c.args.self.now in
-    let st = state_in view (g.B.Blocks.value l.store) l.self in
-    let behind = state_in view (g.B.Blocks.value m.new.store) m.new.self in
+    let st0 = state_in (g.B.Blocks.value c.args.store.now) c.args.self.now in
+    let st = state_in (g.B.Blocks.value l.store) l.self in
+    let behind = state_in (g.B.Blocks.value m.new.store) m.new.self in
     let f = c.args.told.now in
     let on : GoOn here l.bytes st0 st f l.told = subst (λ more. Along more here l.bytes st0 st f l.told) c.loop-call-test.true l.invariant.along in
     record {
@@ -88,3 +86,19 @@ loop-call-preserved g c =
       hand = e.hand;
       pool = record { mblks = e.pool.mblks ∙ l.invariant.pool.mblks; dblks = e.pool.dblks ∙ l.invariant.pool.dblks };
     }
+
+pub call_module-call-requires-clause-begins : goal.call_module-call-requires-clause-begins
+call_module-call-requires-clause-begins g c =
+    let here = c.args.here in
+    let st0 = state_in (g.B.Blocks.value c.args.store.now) c.args.self.now in
+    first-begins here st0 c.requires.rests (let inside = c.requires.inside in let within = c.requires.within in omega arith)
+
+pub call_module-call-requires-clause-hand : goal.call_module-call-requires-clause-hand
+call_module-call-requires-clause-hand g c = λ i.
+    let s = g.B.Blocks.value c.args.store.now in
+    ap (times_in i) c.requires.held.hand ∙ sym (rests s c.args.self.now c.requires.held.beside c.requires.rests i)
+
+pub call_module-call-requires-clause-room : goal.call_module-call-requires-clause-room
+call_module-call-requires-clause-room g c =
+    let cost = first-cost c.args.here (state_in (g.B.Blocks.value c.args.store.now) c.args.self.now) in
+    record { mblks = omega (arith, cost, c.requires.room.mblks); dblks = omega (arith, cost, c.requires.room.dblks) }

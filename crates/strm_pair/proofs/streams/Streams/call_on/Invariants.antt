@@ -8,15 +8,14 @@ use Rattle.strm_pair.proofs.streams.Streams.call_on.Given as goal
 abbrev pub invariant-loop-call : goal.invariant-loop-call
 invariant-loop-call g l =
     let value = g.B.Blocks.value in
-    let view = g.B.Stacks.view in
-    let st = state_in view.modules (value l.store) l.self in
+    let st = state_in (value l.store) l.self in
     record {
-      along : Along l.call.again l.here l.bytes (state_in view.modules (value l.fn.store) l.fn.self) st l.fn.told l.told;
+      along : Along l.call.again l.here l.bytes (state_in (value l.fn.store) l.fn.self) st l.fn.told l.told;
       room : OnTrue l.call.again (HasRoom (value l.store) (next_cost l.here st));
-      beside : AreBeside view (value l.store) l.self;
-      hand : IsKeptAll view (value l.store) l.self;
+      beside : AreBeside (value l.store) l.self;
+      hand : IsKeptAll (value l.store) l.self;
       pool : SamePool (value l.fn.store) (value l.store);
     }
 
 abbrev pub decreases-loop-call : goal.decreases-loop-call
-decreases-loop-call g l = still_to_come l.call.again l.here (state_in g.B.Stacks.view.modules (g.B.Blocks.value l.store) l.self)
+decreases-loop-call g l = still_to_come l.call.again l.here (state_in (g.B.Blocks.value l.store) l.self)

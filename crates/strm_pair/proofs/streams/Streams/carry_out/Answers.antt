@@ -47,14 +47,14 @@ returns-in-Signals-clause-held g c = c.take_signals.ensures.held (g.B.Blocks.val
 
 pub putmsg-requires-clause-in_range : goal.putmsg-requires-clause-in_range
 putmsg-requires-clause-in_range g c =
-    let old = state_in g.B.Stacks.view.modules (g.B.Blocks.value c.args.store.now) c.args.self.now in
+    let old = state_in (g.B.Blocks.value c.args.store.now) c.args.self.now in
     let now : Bor (List ℕ) → List ℕ = λ bytes. bytes.now in
     put-in_range old c.args.caller c.in-Put.prio (option_map now c.in-Put.control) (option_map now c.in-Put.body)
     (ap (λ (e : Event (Bor (List ℕ))). refused_at_once old c.args.caller (request e)) (sym c.in-Put.is) ∙ c.requires.allowed)
 
 pub push-requires-clause-may_stand : goal.push-requires-clause-may_stand
 push-requires-clause-may_stand g c =
-    let old = state_in g.B.Stacks.view.modules (g.B.Blocks.value c.args.store.now) c.args.self.now in
+    let old = state_in (g.B.Blocks.value c.args.store.now) c.args.self.now in
     unless-none (may_stand (named_by c.in-Push.name) (stream c.args.caller.side old).modules) Einval
     (ap (λ (e : Event (Bor (List ℕ))). refused_by_state old c.args.caller (request e)) (sym c.in-Push.is) ∙ c.requires.allowed_by_state)
 

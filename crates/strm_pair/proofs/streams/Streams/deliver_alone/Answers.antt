@@ -4,7 +4,7 @@ use Rattle.strm_types.specs.Cells.{plain}
 use Rattle.strm_laws.specs.Kept.{AreIdle}
 use Rattle.strm_laws.specs.StackCosts.{stands_of}
 use Rattle.strm_laws.proofs.ModulesIdle.{delivered-idle}
-use Rattle.strm_blocks.specs.Blocks.{in_hand}
+use Rattle.strm_blocks.specs.Blocks.{in_hand, token}
 use Rattle.strm_msg.specs.Messages.{message_of}
 use Rattle.strm_frame.proofs.Handing.{alone-can, none-left}
 use Rattle.strm_pair.specs.Framing.{rests}
@@ -16,16 +16,16 @@ pub deliver-requires-clause-can_put : goal.deliver-requires-clause-can_put
 deliver-requires-clause-can_put g c =
     let s = g.B.Blocks.value c.args.store.now in
     let p = c.args.self.now in
-    let i = g.B.Blocks.name c.args.message in
+    let i = token c.args.message in
     let is = c.requires.alone in
-    alone-can s i (in_hand s i) (kept_by g.B.Stacks.view p) is.hand (rests g.B.Stacks.view s p is.beside is.idle)
+    alone-can s i (in_hand s i) (kept_by p) is.hand (rests s p is.beside is.idle)
 
 pub deliver-requires-clause-room : goal.deliver-requires-clause-room
 deliver-requires-clause-room g c =
     let s = g.B.Blocks.value c.args.store.now in
     let p = c.args.self.now in
-    let m = message_of (in_hand s (g.B.Blocks.name c.args.message)) in
-    let most = stack-most (stands_of (state_in g.B.Stacks.view.modules s p)) (once-stands g.B.Stacks.view s p c.requires.alone.beside) c.args.to m in
+    let m = message_of (in_hand s (token c.args.message)) in
+    let most = stack-most (stands_of (state_in s p)) (once-stands s p c.requires.alone.beside) c.args.to m in
     let may = c.requires.room in
     record {
       room = record { mblks = omega (arith, may.room.mblks, most); dblks = omega (arith, may.room.dblks, most) };
@@ -36,8 +36,8 @@ pub returns-clause-takes : goal.returns-clause-takes
 returns-clause-takes g c =
     let s = g.B.Blocks.value c.args.store.now in
     let p = c.args.self.now in
-    let m = message_of (in_hand s (g.B.Blocks.name c.args.message)) in
-    let most = stack-most (stands_of (state_in g.B.Stacks.view.modules s p)) (once-stands g.B.Stacks.view s p c.requires.alone.beside) c.args.to m in
+    let m = message_of (in_hand s (token c.args.message)) in
+    let most = stack-most (stands_of (state_in s p)) (once-stands s p c.requires.alone.beside) c.args.to m in
     let takes = c.deliver.ensures.takes in
     record {
       blocks = record { mblks = omega (arith, takes.blocks.mblks, most); dblks = omega (arith, takes.blocks.dblks, most) };
@@ -50,10 +50,10 @@ returns-clause-held g c =
     let t = g.B.Blocks.value c.deliver.new.store in
     let p = c.args.self.now in
     let q = c.deliver.new.stations in
-    let i = g.B.Blocks.name c.args.message in
+    let i = token c.args.message in
     let is = c.requires.alone in
-    let idle = subst AreIdle (sym c.deliver.ensures.state) (delivered-idle plain c.args.to (message_of (in_hand s i)) (state_in g.B.Stacks.view.modules s p) is.idle) in
+    let idle = subst AreIdle (sym c.deliver.ensures.state) (delivered-idle plain c.args.to (message_of (in_hand s i)) (state_in s p) is.idle) in
     record {
-      hand = none-left s t i (in_hand s i) (kept_by g.B.Stacks.view p) (kept_by g.B.Stacks.view q) is.hand (rests g.B.Stacks.view t q c.deliver.ensures.held idle) c.deliver.ensures.hands;
+      hand = none-left s t i (in_hand s i) (kept_by p) (kept_by q) is.hand (rests t q c.deliver.ensures.held idle) c.deliver.ensures.hands;
       beside = c.deliver.ensures.held;
     }

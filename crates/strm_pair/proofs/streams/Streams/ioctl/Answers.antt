@@ -13,5 +13,5 @@ returns-clause-held g c = c.tell_ioctl.ensures.held (g.B.Blocks.value c.send_ioc
 pub returns-clause-left : goal.returns-clause-left
 returns-clause-left g c =
     let t = g.B.Blocks.value c.send_ioctl.new.store in
-    let sent = state_in g.B.Stacks.view.modules t c.send_ioctl.new.self in
-    omega (arith, c.send_ioctl.ensures.left, ap spare (c.tell_ioctl.ensures.state g.B.Stacks.view.modules t), same-spare sent (ioctl_told c.args.side sent).state (told-books c.args.side sent))
+    let sent = state_in t c.send_ioctl.new.self in
+    omega (arith, c.send_ioctl.ensures.left, ap spare (c.tell_ioctl.ensures.state t), same-spare sent (ioctl_told c.args.side sent).state (told-books c.args.side sent))

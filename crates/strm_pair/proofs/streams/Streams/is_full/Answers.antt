@@ -8,15 +8,15 @@ use Rattle.strm_pair.specs.Named.{at_named}
 use Rattle.strm_pair.specs.Pairs.{state_in}
 use Rattle.strm_pair.specs.Shows.{full_in}
 use Rattle.strm_pair.proofs.streams.Streams.is_full.Goals as goal
+use Rattle.strm_pair.specs.Stacks.{modules_in}
 
 pub returns-in-Ldterm : goal.returns-in-Ldterm
 returns-in-Ldterm g c =
     let s = g.B.Blocks.value c.args.store.now in
-    let on = g.B.Stacks.view.modules in
-    let t = stream c.args.queue.side (state_in on s c.args.self.now) in
+    let t = stream c.args.queue.side (state_in s c.args.self.now) in
     let way = c.args.queue.way in
     let band = c.args.band.0 in
     c.is_full_named.ensures
-    ∙ ap (λ place. at_named place (modules.full_at module_queue way band) false (on s c.end-end.result.now.stack)) c.in-Ldterm.is
-    ∙ ap (λ (u : Stream _). at_named Ldterm (modules.full_at module_queue way band) false u.modules) (c.end-end.ensures.stream on s)
+    ∙ ap (λ place. at_named place (modules.full_at module_queue way band) false (modules_in s c.end-end.result.now.stack)) c.in-Ldterm.is
+    ∙ ap (λ (u : Stream _). at_named Ldterm (modules.full_at module_queue way band) false u.modules) (c.end-end.ensures.stream s)
     ∙ ap (λ place. full_in place way band t) (sym c.in-Ldterm.is)

@@ -1,1 +1,33 @@
 -- There is room, and none of its name stands there.
+use Rattle.std.proofs.Common.{ℕ, ◌≡◌, ◌&&◌, true, false, not, length, ap, arith, subst, sym, ◌∙◌, nat_lt}
+use Rattle.std.proofs.lemmas.Bool.Decides.{nat_tests}
+use Rattle.std.specs.Prelude.{Option}
+use Rattle.strm_types.specs.declared.limits.TheConstants.{MODULES}
+use Rattle.strm_types.specs.declared.names.ModuleName.{ModuleName}
+use Rattle.strm_types.specs.Modules.{stands}
+use Rattle.strm_laws.specs.Pushes.{may_stand, named_by}
+use Rattle.strm_laws.specs.Stacked.{module_name}
+use Rattle.strm_laws.specs.State.{Stream, stream}
+use Rattle.strm_pair.specs.Pairs.{state_in}
+use Rattle.strm_pair.proofs.Modes.{may-known}
+use Rattle.strm_pair.proofs.streams.Streams.may_push.Goals as goal
+
+pub returns-then-module_count-lt-MODULES : goal.returns-then-module_count-lt-MODULES
+returns-then-module_count-lt-MODULES c = λ s.
+    let ms = (stream c.args.side (state_in s c.args.self.now)).modules in
+    let kind = c.in-Some.kind in
+    let there = c.has.ensures s ∙ ap (λ (t : Stream ℕ). stands module_name kind t.modules) (c.end.ensures.stream s) in
+    let many = c.module_count.ensures s ∙ ap (λ (t : Stream ℕ). length t.modules) (c.end.ensures.stream s) in
+    let few : nat_lt (length ms) MODULES ≡ true = grind (arith, nat_tests) in
+    subst (λ (name : Option ModuleName). not c.has.result ≡ may_stand (named_by name) ms) (sym c.in-Some.is)
+    (ap not there ∙ sym (ap (λ b. b && not (stands module_name kind ms)) few) ∙ may-known kind ms)
+
+pub returns-else-module_count-lt-MODULES : goal.returns-else-module_count-lt-MODULES
+returns-else-module_count-lt-MODULES c = λ s.
+    let ms = (stream c.args.side (state_in s c.args.self.now)).modules in
+    let kind = c.in-Some.kind in
+    let many = c.module_count.ensures s ∙ ap (λ (t : Stream ℕ). length t.modules) (c.end.ensures.stream s) in
+    let full : nat_lt (length ms) MODULES ≡ false = grind (arith, nat_tests) in
+    let none : nat_lt c.module_count.result MODULES ≡ false = grind (arith, nat_tests) in
+    subst (λ (name : Option ModuleName). nat_lt c.module_count.result MODULES ≡ may_stand (named_by name) ms) (sym c.in-Some.is)
+    (none ∙ sym (ap (λ b. b && not (stands module_name kind ms)) full) ∙ may-known kind ms)

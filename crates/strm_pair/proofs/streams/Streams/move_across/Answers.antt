@@ -20,30 +20,30 @@ use Rattle.strm_laws.proofs.StackSpares.{range-spare}
 use Rattle.strm_msg.specs.Messages.{message_of}
 use Rattle.strm_pair.specs.Pairs.{state_in}
 use Rattle.strm_pair.proofs.TurnSteps.{ended-spare, taken-idle, taken-spare, up-few, up-near}
-use Rattle.strm_blocks.specs.Blocks.{in_hand}
+use Rattle.strm_blocks.specs.Blocks.{in_hand, token}
 use Rattle.strm_pair.proofs.streams.Streams.move_across.Goals as goal
 
 pub deliver_alone-requires-clause-alone : goal.deliver_alone-requires-clause-alone
 deliver_alone-requires-clause-alone g c =
     let got = g.B.Blocks.value c.take_first.new.store in
-    let i = g.B.Blocks.name c.in-Some.message in
+    let i = token c.in-Some.message in
     let e = c.in-Some.ensures in
     record {
       hand = e.hand ∙ ap (λ h. record { name = i; chain = in_hand got i } ∷ h) c.requires.held.hand;
       chain = e.chain;
       beside = e.beside;
-      idle = subst AreIdle (sym e.state) (taken-idle c.args.side _ (state_in g.B.Stacks.view.modules (g.B.Blocks.value c.args.store.now) c.args.self.now) c.requires.idle);
+      idle = subst AreIdle (sym e.state) (taken-idle c.args.side _ (state_in (g.B.Blocks.value c.args.store.now) c.args.self.now) c.requires.idle);
     }
 
 -- It goes up from the lowest place on the other side's stream.
 pub deliver_alone-requires-clause-low : goal.deliver_alone-requires-clause-low
 deliver_alone-requires-clause-low g c =
-    up-near (is_turned (message_of (in_hand (g.B.Blocks.value c.take_first.new.store) (g.B.Blocks.name c.in-Some.message)))) c.modules_on-at.result c.modules_on-at.ensures.few
+    up-near (is_turned (message_of (in_hand (g.B.Blocks.value c.take_first.new.store) (token c.in-Some.message)))) c.modules_on-at.result c.modules_on-at.ensures.few
 
 pub deliver_alone-requires-clause-room : goal.deliver_alone-requires-clause-room
 deliver_alone-requires-clause-room g c =
-    let old = state_in g.B.Stacks.view.modules (g.B.Blocks.value c.args.store.now) c.args.self.now in
-    let m = message_of (in_hand (g.B.Blocks.value c.take_first.new.store) (g.B.Blocks.name c.in-Some.message)) in
+    let old = state_in (g.B.Blocks.value c.args.store.now) c.args.self.now in
+    let m = message_of (in_hand (g.B.Blocks.value c.take_first.new.store) (token c.in-Some.message)) in
     let few = up-few c.other-above.result c.modules_on-at.result m in
     let e = c.in-Some.ensures.frees in
     let room = c.requires.room in
@@ -54,9 +54,9 @@ deliver_alone-requires-clause-room g c =
 
 pub returns-clause-left : goal.returns-clause-left
 returns-clause-left g c =
-    let old = state_in g.B.Stacks.view.modules (g.B.Blocks.value c.args.store.now) c.args.self.now in
-    let m = message_of (in_hand (g.B.Blocks.value c.take_first.new.store) (g.B.Blocks.name c.in-Some.message)) in
-    let sent = state_in g.B.Stacks.view.modules (g.B.Blocks.value c.deliver_alone.new.store) c.deliver_alone.new.self in
+    let old = state_in (g.B.Blocks.value c.args.store.now) c.args.self.now in
+    let m = message_of (in_hand (g.B.Blocks.value c.take_first.new.store) (token c.in-Some.message)) in
+    let sent = state_in (g.B.Blocks.value c.deliver_alone.new.store) c.deliver_alone.new.self in
     omega (
       arith,
       up-few c.other-above.result c.modules_on-at.result m,
@@ -70,9 +70,9 @@ returns-clause-left g c =
 pub returns-clause-moves : goal.returns-clause-moves
 returns-clause-moves g c =
     let side = c.args.side in
-    let got = state_in g.B.Stacks.view.modules (g.B.Blocks.value c.take_first.new.store) c.take_first.new.self in
+    let got = state_in (g.B.Blocks.value c.take_first.new.store) c.take_first.new.self in
     let t = g.B.Blocks.value c.deliver_alone.new.store in
-    let m = message_of (in_hand (g.B.Blocks.value c.take_first.new.store) (g.B.Blocks.name c.in-Some.message)) in
+    let m = message_of (in_hand (g.B.Blocks.value c.take_first.new.store) (token c.in-Some.message)) in
     let e = c.in-Some.ensures in
     let size_is = c.message_size-size.ensures.message e.chain in
     let place_is = c.modules_on-at.ensures.on (g.B.Blocks.value c.take_first.new.store) in
@@ -83,7 +83,7 @@ returns-clause-moves g c =
       first = e.first;
       answer = ap Moved size_is;
       state = c.end_turn.ensures.state
-          ∙ ap (λ n. turn_ended side n (state_in g.B.Stacks.view.modules t c.deliver_alone.new.self)) size_is
+          ∙ ap (λ n. turn_ended side n (state_in t c.deliver_alone.new.self)) size_is
           ∙ ap (λ v. turn_ended side (size_of m) v) (c.deliver_alone.ensures.state
           ∙ ap (λ n. (delivered plain (up c.other-above.result n) m got).state) place_is
           ∙ ap (λ sd. (delivered plain (up sd (modules_on sd got)) m got).state) c.other-above.ensures

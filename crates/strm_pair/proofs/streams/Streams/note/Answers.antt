@@ -7,7 +7,7 @@ use Rattle.strm_pair.specs.Pairs.{state_in}
 use Rattle.strm_pair.proofs.streams.Streams.note.Goals as goal
 
 pub returns : goal.returns
-returns g c = λ s.
+returns c = λ s.
     let p = c.args.self.now in
     ap (λ names. record p { enabled = names })
-    (c.note.ensures ∙ noted-same c.args.side c.args.place (earlier_of c.earlier-earlier.result) (earlier_at c.args.side c.args.at (state_in g.B.Stacks.view.modules s p)) (λ way. c.earlier-earlier.ensures s way) c.args.notes.now p.enabled)
+    (c.note.ensures ∙ noted-same c.args.side c.args.place (earlier_of c.earlier-earlier.result) (earlier_at c.args.side c.args.at (state_in s p)) (λ way. c.earlier-earlier.ensures s way) c.args.notes.now p.enabled)

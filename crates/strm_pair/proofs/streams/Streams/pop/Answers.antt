@@ -11,13 +11,14 @@ use Rattle.strm_pair.proofs.Dropping.{same-sought, slot-stays}
 use Rattle.strm_pair.proofs.Idle.{top-idle}
 use Rattle.strm_pair.proofs.Takings.{tallied-both}
 use Rattle.strm_pair.proofs.streams.Streams.pop.Goals as goal
+use Rattle.strm_pair.specs.Stacks.{modules_in}
 
 pub put_mode-requires-clause-held : goal.put_mode-requires-clause-held
 put_mode-requires-clause-held g c = c.take_top-taken.ensures.taken.held
 
 pub put_mode-requires-clause-idle : goal.put_mode-requires-clause-idle
 put_mode-requires-clause-idle g c =
-    let s = state_in g.B.Stacks.view.modules (g.B.Blocks.value c.args.store.now) c.args.self.now in
+    let s = state_in (g.B.Blocks.value c.args.store.now) c.args.self.now in
     subst AreIdle (sym c.take_top-taken.ensures.taken.state) (top-idle ModulePopped c.args.side s c.requires.idle)
 
 pub put_mode-requires-clause-room : goal.put_mode-requires-clause-room
@@ -30,25 +31,24 @@ pub returns-clause-state : goal.returns-clause-state
 returns-clause-state g c =
     let side = c.args.side in
     let t = g.B.Blocks.value c.put_mode.new.store in
-    let modules = g.B.Stacks.view.modules in
-    let s = state_in modules (g.B.Blocks.value c.args.store.now) c.args.self.now in
-    let u = state_in modules (g.B.Blocks.value c.take_top-taken.new.store) c.take_top-taken.new.self in
+    let s = state_in (g.B.Blocks.value c.args.store.now) c.args.self.now in
+    let u = state_in (g.B.Blocks.value c.take_top-taken.new.store) c.take_top-taken.new.self in
     let w = c.take_top-taken.ensures.taken in
     let ms = below_top (stream side s).modules in
-    let off : state_in modules t c.put_mode.new.self ≡ (taken_off side s).state =
+    let off : state_in t c.put_mode.new.self ≡ (taken_off side s).state =
     c.put_mode.ensures.state
     ∙ ap (λ m. (mode_put side m u).state) (c.mode_behind.ensures ∙ ap mode_behind w.name_is)
     ∙ ap (λ (x : State ℕ). (mode_put side (mode_behind (top_on side s)) x).state) w.state in
-    let sought : c.number_sought-seeking.result ≡ number_sought (stream side (state_in modules t c.put_mode.new.self)).head.ioctl =
+    let sought : c.number_sought-seeking.result ≡ number_sought (stream side (state_in t c.put_mode.new.self)).head.ioctl =
     c.number_sought-seeking.ensures ∙ sym (same-sought c.end.result.now.head.ioctl)
-    ∙ ap (λ (x : Stream ℕ). number_sought x.head.ioctl) (c.end.ensures.stream modules (g.B.Blocks.value c.args.store.now))
+    ∙ ap (λ (x : Stream ℕ). number_sought x.head.ioctl) (c.end.ensures.stream (g.B.Blocks.value c.args.store.now))
     ∙ sym (ap (λ x. number_sought (stream side x).head.ioctl) off ∙ ap number_sought (slot-stays side s)) in
     c.drop_ioctl.ensures.state t ms (c.take_top-taken.ensures.met ∙ ap (λ o. is_met o ms) sought) ∙ ap (ioctl_dropped side ms) off
 
 pub returns-clause-told : goal.returns-clause-told
 returns-clause-told g c =
-    let s = state_in g.B.Stacks.view.modules (g.B.Blocks.value c.args.store.now) c.args.self.now in
-    let u = state_in g.B.Stacks.view.modules (g.B.Blocks.value c.take_top-taken.new.store) c.take_top-taken.new.self in
+    let s = state_in (g.B.Blocks.value c.args.store.now) c.args.self.now in
+    let u = state_in (g.B.Blocks.value c.take_top-taken.new.store) c.take_top-taken.new.self in
     let w = c.take_top-taken.ensures.taken in
     let taken = top_taken ModulePopped c.args.side (stream c.args.side s).modules s in
     let put = λ (x : State ℕ). mode_put c.args.side (mode_behind (top_on c.args.side s)) x in

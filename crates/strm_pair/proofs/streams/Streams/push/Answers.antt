@@ -13,7 +13,7 @@ use Rattle.strm_pair.proofs.streams.Streams.push.Goals as goal
 
 pub put_on-requires-clause-may_stand : goal.put_on-requires-clause-may_stand
 put_on-requires-clause-may_stand g c =
-    let s = state_in g.B.Stacks.view.modules (g.B.Blocks.value c.args.store.now) c.args.self.now in
+    let s = state_in (g.B.Blocks.value c.args.store.now) c.args.self.now in
     let named = ap (λ (o : Option _). may_stand (named_by o) (stream c.args.side s).modules) (sym c.in-Some.is) ∙ c.requires.may_stand in
     ap (λ ms. may_stand (named_by (Some c.in-Some.name)) ms)
     (ap (λ (x : State ℕ). (stream c.args.side x).modules) c.put_mode.ensures.state ∙ modules-stay c.args.side c.mode_on_push.result s)
@@ -21,10 +21,10 @@ put_on-requires-clause-may_stand g c =
 
 pub returns-clause-state : goal.returns-clause-state
 returns-clause-state g c =
-    let s = state_in g.B.Stacks.view.modules (g.B.Blocks.value c.args.store.now) c.args.self.now in
+    let s = state_in (g.B.Blocks.value c.args.store.now) c.args.self.now in
     let t = g.B.Blocks.value c.put_mode.new.store in
-    let u = state_in g.B.Stacks.view.modules t c.put_mode.new.self in
-    let v = state_in g.B.Stacks.view.modules t c.put_on.new.self in
+    let u = state_in t c.put_mode.new.self in
+    let v = state_in t c.put_on.new.self in
     let name = c.in-Some.name in
     let reads = is_some (place_of name) in
     let may = ap (λ (o : Option _). may_stand (named_by o) (stream c.args.side s).modules) (sym c.in-Some.is) ∙ c.requires.may_stand in
@@ -33,14 +33,14 @@ returns-clause-state g c =
     subst (λ o. IfSome o (λ p. v ≡ with_modules c.args.side (p ∷ (stream c.args.side u).modules) u)) new.1 c.put_on.ensures.state in
     let told = c.put_mode.ensures.state ∙ ap (λ m. (mode_put c.args.side m s).state) c.mode_on_push.ensures in
     rw c.in-Some.is
-    (ap (λ (p : Streams _). state_in g.B.Stacks.view.modules t p) c.come_from_driver.ensures
+    (ap (λ (p : Streams). state_in t p) c.come_from_driver.ensures
     ∙ ap (driver_comes reads c.args.side) stands
     ∙ ap (λ (x : State ℕ). driver_comes reads c.args.side (with_modules c.args.side (new.0 ∷ (stream c.args.side x).modules) x)) told
     ∙ sym (ap (λ (o : Carried ℕ (State ℕ)). o.state) (pushed-is c.args.side name new.0 s new.1 may)))
 
 pub returns-clause-told : goal.returns-clause-told
 returns-clause-told g c =
-    let s = state_in g.B.Stacks.view.modules (g.B.Blocks.value c.args.store.now) c.args.self.now in
+    let s = state_in (g.B.Blocks.value c.args.store.now) c.args.self.now in
     let name = c.in-Some.name in
     let may = ap (λ (o : Option _). may_stand (named_by o) (stream c.args.side s).modules) (sym c.in-Some.is) ∙ c.requires.may_stand in
     let new = made-named name (stream c.args.side s).modules may in
@@ -52,5 +52,5 @@ returns-clause-told g c =
 pub returns-clause-held : goal.returns-clause-held
 returns-clause-held g c =
     let r = c.put_on.ensures.held in
-    subst (λ (p : Streams _). AreHeld g.B.Stacks.view (g.B.Blocks.value c.put_mode.new.store) p) (sym c.come_from_driver.ensures)
+    subst (λ (p : Streams). AreHeld (g.B.Blocks.value c.put_mode.new.store) p) (sym c.come_from_driver.ensures)
     (record { hand = r.hand; beside = record { master = r.beside.master; slave = r.beside.slave } })

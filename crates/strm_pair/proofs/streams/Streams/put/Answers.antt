@@ -17,6 +17,7 @@ use Rattle.strm_pair.proofs.PutSteps.{behind-put, behind-room, head-put, module-
 use Rattle.strm_pair.proofs.PlaceCosts.{place-books, place-room}
 use Rattle.strm_pair.proofs.PutsCost.{head-stack}
 use Rattle.strm_pair.proofs.streams.Streams.put.Goals as goal
+use Rattle.strm_blocks.specs.Blocks.{token}
 
 stands-at : (at count : ℕ) → at ≤ count → nat_le at count ≡ true
 stands-at at count low = grind (arith, nat_tests)
@@ -31,33 +32,33 @@ stands-above at count past = grind (arith, nat_tests)
 pub put_head-requires-clause-room : goal.put_head-requires-clause-room
 put_head-requires-clause-room g c =
     let s = g.B.Blocks.value c.args.store.now in
-    let st = state_in g.B.Stacks.view.modules s c.args.self.now in
-    let m = message_in s (g.B.Blocks.name c.args.message) in
+    let st = state_in s c.args.self.now in
+    let m = message_in s (token c.args.message) in
     room-for s (stack_cost (stands_of st) c.args.to m) (head_takes m) (omega (arith, head-stack (stands_of st) c.args.to m st c.if-to-eq0.true)) c.requires.room.room
 
 pub put_module-requires-clause-room : goal.put_module-requires-clause-room
 put_module-requires-clause-room g c =
     let s = g.B.Blocks.value c.args.store.now in
-    let st = state_in g.B.Stacks.view.modules s c.args.self.now in
+    let st = state_in s c.args.self.now in
     let to = c.args.to in
-    let m = message_in s (g.B.Blocks.name c.args.message) in
+    let m = message_in s (token c.args.message) in
     room-for s (stack_cost (stands_of st) to m) (at_place (module_takes to m) 0 to.at (stream to.side st).modules)
     (place-room to m st (above-top to.at c.if-to-eq0.false) (omega (arith, c.if-to-modules_on.true, c.modules_on.ensures.on s))) c.requires.room.room
 
 pub put_module-requires-clause-books : goal.put_module-requires-clause-books
 put_module-requires-clause-books g c =
     let s = g.B.Blocks.value c.args.store.now in
-    let st = state_in g.B.Stacks.view.modules s c.args.self.now in
+    let st = state_in s c.args.self.now in
     let to = c.args.to in
-    let m = message_in s (g.B.Blocks.name c.args.message) in
+    let m = message_in s (token c.args.message) in
     let books = place-books to m st (above-top to.at c.if-to-eq0.false) (omega (arith, c.if-to-modules_on.true, c.modules_on.ensures.on s)) in
     omega (arith, books, c.requires.room.spare)
 
 pub put_driver-requires-clause-room : goal.put_driver-requires-clause-room
 put_driver-requires-clause-room g c =
     let s = g.B.Blocks.value c.args.store.now in
-    let st = state_in g.B.Stacks.view.modules s c.args.self.now in
-    let i = g.B.Blocks.name c.args.message in
+    let st = state_in s c.args.self.now in
+    let i = token c.args.message in
     let m = message_in s i in
     subst (λ way. HasRoom s (below_takes way (has_parts m) true)) (sym c.in-Down.is)
     (behind-room Down s i c.args.to c.in-Down.is c.if-to-eq0.false (room-for s (stack_cost (stands_of st) c.args.to m) (cost c.args.to m) (omega arith) c.requires.room.room))
@@ -65,42 +66,41 @@ put_driver-requires-clause-room g c =
 pub put_up-requires-clause-room : goal.put_up-requires-clause-room
 put_up-requires-clause-room g c =
     let s = g.B.Blocks.value c.args.store.now in
-    let st = state_in g.B.Stacks.view.modules s c.args.self.now in
-    let i = g.B.Blocks.name c.args.message in
+    let st = state_in s c.args.self.now in
+    let i = token c.args.message in
     let m = message_in s i in
     behind-room Up s i c.args.to c.in-Up.is c.if-to-eq0.false (room-for s (stack_cost (stands_of st) c.args.to m) (cost c.args.to m) (omega arith) c.requires.room.room)
 
 pub returns-then-to-eq0 : goal.returns-then-to-eq0
 returns-then-to-eq0 g c =
     let s = g.B.Blocks.value c.args.store.now in
-    head-put g.B.Blocks.name g.B.Stacks.view s (g.B.Blocks.value c.put_head.new.store) c.args.self.now c.put_head.new.self (g.B.Blocks.name c.args.message) c.args.to (sent_of c.put_head.result) c.args.told.now c.put_head.new.told
+    head-put s (g.B.Blocks.value c.put_head.new.store) c.args.self.now c.put_head.new.self (token c.args.message) c.args.to (sent_of c.put_head.result) c.args.told.now c.put_head.new.told
     c.if-to-eq0.true c.put_head.ensures
 
 pub returns-then-to-modules_on : goal.returns-then-to-modules_on
 returns-then-to-modules_on g c =
     let s = g.B.Blocks.value c.args.store.now in
     let at = c.args.to.at in
-    module-put g.B.Blocks.name g.B.Stacks.view s (g.B.Blocks.value c.put_module.new.store) c.args.self.now c.put_module.new.self (g.B.Blocks.name c.args.message) c.args.to (sent_of c.put_module.result) c.args.told.now c.put_module.new.told
+    module-put s (g.B.Blocks.value c.put_module.new.store) c.args.self.now c.put_module.new.self (token c.args.message) c.args.to (sent_of c.put_module.result) c.args.told.now c.put_module.new.told
     c.if-to-eq0.false (subst (λ n. nat_le at n ≡ true) (c.modules_on.ensures.on s) (stands-at at c.modules_on.result c.if-to-modules_on.true)) c.put_module.ensures
 
 pub returns-in-Down : goal.returns-in-Down
 returns-in-Down g c =
     let s = g.B.Blocks.value c.args.store.now in
     let t = g.B.Blocks.value c.put_driver.new.store in
-    let i = g.B.Blocks.name c.args.message in
-    let name = g.B.Blocks.name in
+    let i = token c.args.message in
     let p = c.args.self.now in
     let q = c.put_driver.new.self in
     let to = c.args.to in
     let sent = sent_of c.put_driver.result in
     let told = c.put_driver.new.told in
-    behind-put name g.B.Stacks.view Down s t p q i to sent c.args.told.now told c.in-Down.is c.if-to-eq0.false
+    behind-put Down s t p q i to sent c.args.told.now told c.in-Down.is c.if-to-eq0.false
     (subst (λ n. nat_le to.at n ≡ false) (c.modules_on.ensures.on s) (stands-above to.at c.modules_on.result c.if-to-modules_on.false))
-    (subst (λ way. PutBy name g.B.Stacks.view s t p q i (below_takes way (has_parts (message_in s i)) true) sent c.args.told.now told (put_at_driver to.side to (message_in s i) (state_in g.B.Stacks.view.modules s p))) c.in-Down.is c.put_driver.ensures)
+    (subst (λ way. PutBy s t p q i (below_takes way (has_parts (message_in s i)) true) sent c.args.told.now told (put_at_driver to.side to (message_in s i) (state_in s p))) c.in-Down.is c.put_driver.ensures)
 
 pub returns-in-Up : goal.returns-in-Up
 returns-in-Up g c =
     let s = g.B.Blocks.value c.args.store.now in
-    let i = g.B.Blocks.name c.args.message in
-    behind-put g.B.Blocks.name g.B.Stacks.view Up s (g.B.Blocks.value c.put_up.new.store) c.args.self.now c.put_up.new.self i c.args.to (sent_of c.put_up.result) c.args.told.now c.put_up.new.told
+    let i = token c.args.message in
+    behind-put Up s (g.B.Blocks.value c.put_up.new.store) c.args.self.now c.put_up.new.self i c.args.to (sent_of c.put_up.result) c.args.told.now c.put_up.new.told
     c.in-Up.is c.if-to-eq0.false (subst (λ n. nat_le c.args.to.at n ≡ false) (c.modules_on.ensures.on s) (stands-above c.args.to.at c.modules_on.result c.if-to-modules_on.false)) c.put_up.ensures

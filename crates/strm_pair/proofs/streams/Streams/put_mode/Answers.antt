@@ -13,7 +13,7 @@ use Rattle.strm_laws.specs.Puts.{delivered}
 use Rattle.strm_laws.specs.Spares.{spare}
 use Rattle.strm_types.specs.Costs.{most_cost}
 use Rattle.strm_laws.specs.State.{State}
-use Rattle.strm_blocks.specs.Blocks.{in_hand}
+use Rattle.strm_blocks.specs.Blocks.{in_hand, token}
 use Rattle.strm_msg.specs.Messages.{message_of}
 use Rattle.strm_pair.specs.Pairs.{state_in}
 use Rattle.strm_pair.proofs.Modes.{mode-delivered}
@@ -28,7 +28,7 @@ make-message-requires-clause-kind g c = refl
 pub deliver_alone-requires-clause-alone : goal.deliver_alone-requires-clause-alone
 deliver_alone-requires-clause-alone g c =
     let made = c.make-message.ensures in
-    made-alone g.B.Stacks.view (g.B.Blocks.value c.args.store.now) (g.B.Blocks.value c.make-message.new.store) c.args.self.now c.requires.held c.requires.idle (g.B.Blocks.name c.make-message.result) made.after made.chain
+    made-alone (g.B.Blocks.value c.args.store.now) (g.B.Blocks.value c.make-message.new.store) c.args.self.now c.requires.held c.requires.idle (token c.make-message.result) made.after made.chain
 
 -- at a head it takes none
 mode-free : (side : Side) (bytes : List ℕ) → most_cost {C = ℕ} (head_above side) (record { kind = Setopts; band = 0; control = None; body = None; plain = bytes }) ≤ 0
@@ -38,7 +38,7 @@ pub deliver_alone-requires-clause-room : goal.deliver_alone-requires-clause-room
 deliver_alone-requires-clause-room g c =
     let made = g.B.Blocks.value c.make-message.new.store in
     let bytes = c.mode_number.result ∷ [] in
-    may-by made (spare (state_in g.B.Stacks.view.modules made c.args.self.now)) (head_above c.args.side) (message_of (in_hand made (g.B.Blocks.name c.make-message.result))) (record { kind = Setopts; band = 0; control = None; body = None; plain = bytes }) 0
+    may-by made (spare (state_in made c.args.self.now)) (head_above c.args.side) (message_of (in_hand made (token c.make-message.result))) (record { kind = Setopts; band = 0; control = None; body = None; plain = bytes }) 0
     c.make-message.ensures.shows (mode-free c.args.side bytes) (record { mblks = omega arith; dblks = omega arith }) (omega arith)
 
 pub returns-clause-state : goal.returns-clause-state
@@ -46,27 +46,27 @@ returns-clause-state g c =
     let s = g.B.Blocks.value c.args.store.now in
     let made = g.B.Blocks.value c.make-message.new.store in
     let p = c.args.self.now in
-    let i = g.B.Blocks.name c.make-message.result in
+    let i = token c.make-message.result in
     let m = message_of (in_hand made i) in
     let to = head_above c.args.side in
     let shown : m ≡ mode_message c.in-Some.mode = c.make-message.ensures.shows ∙ ap (λ (n : ℕ). record { kind = Setopts; band = 0; control = None; body = None; plain = n ∷ [] }) c.mode_number.ensures in
     rw c.in-Some.is
     (c.deliver_alone.ensures.state
-    ∙ ap (λ v. (delivered plain to m v).state) (made-state g.B.Stacks.view s made p c.requires.held c.requires.idle i c.make-message.ensures.after)
-    ∙ ap (λ (x : Message _). (delivered plain to x (state_in g.B.Stacks.view.modules s p)).state) shown
-    ∙ ap (λ (t : Carried _ (State _)). t.state) (mode-delivered c.args.side c.in-Some.mode (state_in g.B.Stacks.view.modules s p)))
+    ∙ ap (λ v. (delivered plain to m v).state) (made-state s made p c.requires.held c.requires.idle i c.make-message.ensures.after)
+    ∙ ap (λ (x : Message _). (delivered plain to x (state_in s p)).state) shown
+    ∙ ap (λ (t : Carried _ (State _)). t.state) (mode-delivered c.args.side c.in-Some.mode (state_in s p)))
 
 pub returns-clause-told : goal.returns-clause-told
 returns-clause-told g c =
     let s = g.B.Blocks.value c.args.store.now in
     let made = g.B.Blocks.value c.make-message.new.store in
     let p = c.args.self.now in
-    let i = g.B.Blocks.name c.make-message.result in
+    let i = token c.make-message.result in
     let m = message_of (in_hand made i) in
     let to = head_above c.args.side in
     let shown : m ≡ mode_message c.in-Some.mode = c.make-message.ensures.shows ∙ ap (λ (n : ℕ). record { kind = Setopts; band = 0; control = None; body = None; plain = n ∷ [] }) c.mode_number.ensures in
     rw c.in-Some.is
     (c.deliver_alone.ensures.told
-    ∙ ap (λ v. tallied (delivered plain to m v).gone c.args.told.now) (made-state g.B.Stacks.view s made p c.requires.held c.requires.idle i c.make-message.ensures.after)
-    ∙ ap (λ (x : Message _). tallied (delivered plain to x (state_in g.B.Stacks.view.modules s p)).gone c.args.told.now) shown
-    ∙ ap (λ (t : Carried _ (State _)). tallied t.gone c.args.told.now) (mode-delivered c.args.side c.in-Some.mode (state_in g.B.Stacks.view.modules s p)))
+    ∙ ap (λ v. tallied (delivered plain to m v).gone c.args.told.now) (made-state s made p c.requires.held c.requires.idle i c.make-message.ensures.after)
+    ∙ ap (λ (x : Message _). tallied (delivered plain to x (state_in s p)).gone c.args.told.now) shown
+    ∙ ap (λ (t : Carried _ (State _)). tallied t.gone c.args.told.now) (mode-delivered c.args.side c.in-Some.mode (state_in s p)))

@@ -17,71 +17,69 @@ use Rattle.strm_pair.specs.PutBy.{taken_at}
 use Rattle.strm_pair.proofs.ModuleSteps.{books-same, module-by, modules-are, put-between, put-fits}
 use Rattle.strm_pair.proofs.PlaceCosts.{plain-few}
 use Rattle.strm_pair.proofs.streams.Streams.put_module.Goals as goal
+use Rattle.strm_blocks.specs.Blocks.{token}
 
 pub book_made-requires-clause-master : goal.book_made-requires-clause-master
 book_made-requires-clause-master g c =
-    let view = g.B.Stacks.view in
     let s = g.B.Blocks.value c.args.store.now in
-    let i = g.B.Blocks.name c.args.message in
+    let i = token c.args.message in
     let p = c.args.self.now in
     let to = c.args.to in
     let m = message_in s i in
-    let st = state_in view.modules s p in
+    let st = state_in s p in
     let f = c.args.told.now in
     let f' = c.put_on_stack-acts.new.told in
     let e = c.put_on_stack-acts.ensures in
     let x = (end_at to.side c.put_on_stack-acts.new.self).stack in
     let small = plain-few s i c.audit.ensures in
-    let tells = e.takes.tells ∙ ap (λ ls. tallied (taken_at to m ls).gone f) (sym (modules-are view s p to.side)) in
+    let tells = e.takes.tells ∙ ap (λ ls. tallied (taken_at to m ls).gone f) (sym (modules-are s p to.side)) in
     let few = c.of-before.ensures.few in
     let first = ap (λ (b : Made). b.from_master) c.of-before.ensures.counts in
     let second = ap (λ (b : Made). b.from_slave) c.of-before.ensures.counts in
     let made = ap (λ k. between k f'.made_from_master) first ∙ put-between to m st small MasterToSlave f f' (omega (arith, few.0, first)) (omega (arith, few.1, second)) tells in
-    let book = ap (λ (y : Streams _). y.from_master.made) e.streams ∙ ap (λ b. b.made) (books-same to.side (record (end_at to.side p) { stack = x }) p).0 in
+    let book = ap (λ (y : Streams). y.from_master.made) e.streams ∙ ap (λ b. b.made) (books-same to.side (record (end_at to.side p) { stack = x }) p).0 in
     λ some. (let fits = put-fits to m st small c.requires.books MasterToSlave (omega (arith, some, made)) in omega (arith, made, book, fits))
 
 pub book_made-requires-clause-slave : goal.book_made-requires-clause-slave
 book_made-requires-clause-slave g c =
-    let view = g.B.Stacks.view in
     let s = g.B.Blocks.value c.args.store.now in
-    let i = g.B.Blocks.name c.args.message in
+    let i = token c.args.message in
     let p = c.args.self.now in
     let to = c.args.to in
     let m = message_in s i in
-    let st = state_in view.modules s p in
+    let st = state_in s p in
     let f = c.args.told.now in
     let f' = c.put_on_stack-acts.new.told in
     let e = c.put_on_stack-acts.ensures in
     let x = (end_at to.side c.put_on_stack-acts.new.self).stack in
     let small = plain-few s i c.audit.ensures in
-    let tells = e.takes.tells ∙ ap (λ ls. tallied (taken_at to m ls).gone f) (sym (modules-are view s p to.side)) in
+    let tells = e.takes.tells ∙ ap (λ ls. tallied (taken_at to m ls).gone f) (sym (modules-are s p to.side)) in
     let few = c.of-before.ensures.few in
     let first = ap (λ (b : Made). b.from_master) c.of-before.ensures.counts in
     let second = ap (λ (b : Made). b.from_slave) c.of-before.ensures.counts in
     let made = ap (λ k. between k f'.made_from_slave) second ∙ put-between to m st small SlaveToMaster f f' (omega (arith, few.0, first)) (omega (arith, few.1, second)) tells in
-    let book = ap (λ (y : Streams _). y.from_slave.made) e.streams ∙ ap (λ b. b.made) (books-same to.side (record (end_at to.side p) { stack = x }) p).1 in
+    let book = ap (λ (y : Streams). y.from_slave.made) e.streams ∙ ap (λ b. b.made) (books-same to.side (record (end_at to.side p) { stack = x }) p).1 in
     λ some. (let fits = put-fits to m st small c.requires.books SlaveToMaster (omega (arith, some, made)) in omega (arith, made, book, fits))
 
 pub returns : goal.returns
 returns g c =
-    let view = g.B.Stacks.view in
     let s = g.B.Blocks.value c.args.store.now in
-    let i = g.B.Blocks.name c.args.message in
+    let i = token c.args.message in
     let p = c.args.self.now in
     let to = c.args.to in
     let m = message_in s i in
-    let st = state_in view.modules s p in
+    let st = state_in s p in
     let f = c.args.told.now in
     let f' = c.put_on_stack-acts.new.told in
     let y = c.put_on_stack-acts.new.self in
     let acts = c.put_on_stack-acts.result in
     let e = c.put_on_stack-acts.ensures in
     let x = (end_at to.side y).stack in
-    let place = c.place-place.result in
+    let place = c.place_at-place.result in
     let earlier = earlier_of c.earlier-earlier.result in
-    let place_is = c.place-place.ensures s ∙ ap (λ (on : state.Stream _). slice_index_or (places_of on.modules) (to.at - 1) None) (c.end.ensures.stream view.modules s) in
+    let place_is = c.place_at-place.ensures s ∙ ap (λ (on : state.Stream _). slice_index_or (places_of on.modules) (to.at - 1) None) (c.end.ensures.stream s) in
     let small = plain-few s i c.audit.ensures in
-    let tells = e.takes.tells ∙ ap (λ ls. tallied (taken_at to m ls).gone f) (sym (modules-are view s p to.side)) in
+    let tells = e.takes.tells ∙ ap (λ ls. tallied (taken_at to m ls).gone f) (sym (modules-are s p to.side)) in
     let few = c.of-before.ensures.few in
     let first = ap (λ (b : Made). b.from_master) c.of-before.ensures.counts in
     let second = ap (λ (b : Made). b.from_slave) c.of-before.ensures.counts in
@@ -91,8 +89,8 @@ returns g c =
     let b_is = ap (λ k. between k f'.made_from_slave) second ∙ put-between to m st small SlaveToMaster f f' (omega (arith, few.0, first)) (omega (arith, few.1, second)) tells in
     let changed = with_end to.side (record (end_at to.side p) { stack = x }) p in
     let same = books-same to.side (record (end_at to.side p) { stack = x }) p in
-    let at : Streams _ → Streams _ = λ z. record z { enabled = noted to.side place earlier acts.notes.items z.enabled; from_master = with_made a z.from_master; from_slave = with_made b z.from_slave } in
-    module-by g.B.Blocks.name view s (g.B.Blocks.value c.put_on_stack-acts.new.store) p c.book_made.new.self x i to place earlier acts f f' a b
+    let at : Streams → Streams = λ z. record z { enabled = noted to.side place earlier acts.notes.items z.enabled; from_master = with_made a z.from_master; from_slave = with_made b z.from_slave } in
+    module-by s (g.B.Blocks.value c.put_on_stack-acts.new.store) p c.book_made.new.self x i to place earlier acts f f' a b
     c.audit.ensures c.requires.can_put place_is (λ way. c.earlier-earlier.ensures s way) c.requires.beside e.takes a_is b_is
     (c.book_made.ensures
     ∙ ap (λ ns. record y { enabled = ns; from_master = with_made a y.from_master; from_slave = with_made b y.from_slave }) (c.note.ensures ∙ ap (λ ns. noted to.side place earlier ns y.enabled) c.as_slice.ensures.value)

@@ -9,7 +9,7 @@ use Rattle.strm_types.specs.Flush.{is_data_kind}
 use Rattle.strm_types.specs.Flushing.{is_flush, is_bare_flush}
 use Rattle.strm_types.specs.Message.{has_parts}
 use Rattle.strm_laws.specs.Puts.{passed_up, put_at_driver}
-use Rattle.strm_blocks.specs.Blocks.{Block, block_at, in_hand}
+use Rattle.strm_blocks.specs.Blocks.{Block, block_at, in_hand, token}
 use Rattle.strm_msg.specs.Messages.{IsChain, message_of}
 use Rattle.strm_msg.proofs.Chains.{kind-is}
 use Rattle.strm_msg.proofs.MadePlain.{parts-same}
@@ -48,12 +48,12 @@ at-other : (n : ℕ) → (n ≡ 4 → ⊥) → (n == 4) ≡ false
 at-other n ne = grind (arith, nat_tests)
 
 pub kind-requires-clause-in_hand : goal.kind-requires-clause-in_hand
-kind-requires-clause-in_hand g c = can-in_hand (g.B.Blocks.value c.args.store.now) (g.B.Blocks.name c.args.message) (kept_by g.B.Stacks.view c.args.self.now) c.audit.ensures c.requires.can_put
+kind-requires-clause-in_hand g c = can-in_hand (g.B.Blocks.value c.args.store.now) (token c.args.message) (kept_by c.args.self.now) c.audit.ensures c.requires.can_put
 
 pub put_driver-requires-clause-room : goal.put_driver-requires-clause-room
 put_driver-requires-clause-room g c =
     let s = g.B.Blocks.value c.args.store.now in
-    let i = g.B.Blocks.name c.args.message in
+    let i = token c.args.message in
     let flush : is_bare_flush (message_in s i) ≡ true = bare-is (in_hand s i) c.requires.chain ∙ ap is_flush (sym c.kind.ensures) ∙ sym c.is_flush.ensures ∙ c.if-is_flush.true in
     let across : is_across c.args.to (message_in s i) ≡ true = ap (λ b. b && (c.args.to.at == 4)) flush ∙ at-place c.args.to.at c.if-to.true in
     let parts = has_parts (message_in s i) in
@@ -63,22 +63,20 @@ pub returns-then-is_flush : goal.returns-then-is_flush
 returns-then-is_flush g c =
     let s = g.B.Blocks.value c.args.store.now in
     let t = g.B.Blocks.value c.put_driver.new.store in
-    let i = g.B.Blocks.name c.args.message in
-    let name = g.B.Blocks.name in
+    let i = token c.args.message in
     let p = c.args.self.now in
     let to = c.args.to in
     let m = message_in s i in
     let flush : is_bare_flush m ≡ true = bare-is (in_hand s i) c.requires.chain ∙ ap is_flush (sym c.kind.ensures) ∙ sym c.is_flush.ensures ∙ c.if-is_flush.true in
     let across : is_across to m ≡ true = ap (λ b. b && (to.at == 4)) flush ∙ at-place c.args.to.at c.if-to.true in
     let sent = sent_of c.put_driver.result in
-    subst (λ b. PutBy name g.B.Stacks.view s t p c.put_driver.new.self i (cond b 1 0) sent c.args.told.now c.put_driver.new.told (cond b (put_at_driver to.side to m (state_in g.B.Stacks.view.modules s p)) (passed_up to m (state_in g.B.Stacks.view.modules s p)))) (sym across)
-    (subst (λ w. PutBy name g.B.Stacks.view s t p c.put_driver.new.self i (below_takes w (has_parts m) true) sent c.args.told.now c.put_driver.new.told (put_at_driver to.side to m (state_in g.B.Stacks.view.modules s p))) c.requires.up c.put_driver.ensures)
+    subst (λ b. PutBy s t p c.put_driver.new.self i (cond b 1 0) sent c.args.told.now c.put_driver.new.told (cond b (put_at_driver to.side to m (state_in s p)) (passed_up to m (state_in s p)))) (sym across)
+    (subst (λ w. PutBy s t p c.put_driver.new.self i (below_takes w (has_parts m) true) sent c.args.told.now c.put_driver.new.told (put_at_driver to.side to m (state_in s p))) c.requires.up c.put_driver.ensures)
 
 pub returns : goal.returns
 returns g c =
     let s = g.B.Blocks.value c.args.store.now in
-    let i = g.B.Blocks.name c.args.message in
-    let name = g.B.Blocks.name in
+    let i = token c.args.message in
     let p = c.args.self.now in
     let to = c.args.to in
     let m = message_in s i in
@@ -90,4 +88,4 @@ returns g c =
           ap (λ b. b && (to.at == 4)) flush)
       | else-to-via-else-to w ↦ ap (λ b. is_bare_flush m && b) (at-other to.at w.if-to.false) ∙ and-false (is_bare_flush m)
     ] in
-    subst (λ b. PutBy name g.B.Stacks.view s s p p i (cond b 1 0) sent f f (cond b (put_at_driver to.side to m (state_in g.B.Stacks.view.modules s p)) (passed_up to m (state_in g.B.Stacks.view.modules s p)))) (sym passes) (c.pass_up.ensures f)
+    subst (λ b. PutBy s s p p i (cond b 1 0) sent f f (cond b (put_at_driver to.side to m (state_in s p)) (passed_up to m (state_in s p)))) (sym passes) (c.pass_up.ensures f)

@@ -12,7 +12,7 @@ use Rattle.strm_laws.specs.Spares.{spare}
 use Rattle.strm_types.specs.Costs.{most_cost}
 use Rattle.strm_laws.specs.State.{State, book, with_book}
 use Rattle.strm_laws.proofs.Balances.{parts-few}
-use Rattle.strm_blocks.specs.Blocks.{in_hand}
+use Rattle.strm_blocks.specs.Blocks.{in_hand, token}
 use Rattle.strm_msg.specs.Messages.{message_of}
 use Rattle.strm_types.specs.Cells.{plain}
 use Rattle.strm_types.specs.Deliver.{tallied}
@@ -33,7 +33,7 @@ shown o = option_map (λ bytes. bytes.now) o
 pub deliver_alone-requires-clause-alone : goal.deliver_alone-requires-clause-alone
 deliver_alone-requires-clause-alone g c =
     let sends = c.in-Some.ensures.made in
-    made-alone g.B.Stacks.view (g.B.Blocks.value c.args.store.now) (g.B.Blocks.value c.make_message.new.store) c.args.self.now c.requires.held c.requires.idle (g.B.Blocks.name c.in-Some.message) sends.after sends.chain
+    made-alone (g.B.Blocks.value c.args.store.now) (g.B.Blocks.value c.make_message.new.store) c.args.self.now c.requires.held c.requires.idle (token c.in-Some.message) sends.after sends.chain
 
 -- a message of parts takes no block on its way down, and no packet comes of it
 parts-free : (side : Side) (prio : Prio) (control body : Option (List ℕ)) → no_parts control body ≡ false → most_cost (record { side = side; at = 1; way = Down }) (put_message prio control body) ≡ 0
@@ -47,7 +47,7 @@ pub deliver_alone-requires-clause-room : goal.deliver_alone-requires-clause-room
 deliver_alone-requires-clause-room g c =
     let made = g.B.Blocks.value c.make_message.new.store in
     let free = parts-free c.args.side c.args.prio (shown c.args.control) (shown c.args.body) c.in-Some.ensures.none in
-    may-by made (spare (state_in g.B.Stacks.view.modules made c.args.self.now)) (record { side = c.args.side; at = 1; way = Down }) (message_of (in_hand made (g.B.Blocks.name c.in-Some.message)))
+    may-by made (spare (state_in made c.args.self.now)) (record { side = c.args.side; at = 1; way = Down }) (message_of (in_hand made (token c.in-Some.message)))
     (put_message c.args.prio (shown c.args.control) (shown c.args.body)) 0 c.in-Some.ensures.made.shows (omega (arith, free)) (record { mblks = omega arith; dblks = omega arith }) (omega arith)
 
 pub with_written-book-requires : goal.with_written-book-requires
@@ -55,14 +55,14 @@ with_written-book-requires g c =
     let s = g.B.Blocks.value c.args.store.now in
     let made = g.B.Blocks.value c.make_message.new.store in
     let t = g.B.Blocks.value c.deliver_alone.new.store in
-    let i = g.B.Blocks.name c.in-Some.message in
-    let old = state_in g.B.Stacks.view.modules s c.args.self.now in
+    let i = token c.in-Some.message in
+    let old = state_in s c.args.self.now in
     let dir = direction_from c.args.side in
     let to : Spot = record { side = c.args.side; at = 1; way = Down } in
-    let is = ap (λ (b : Book). b.written) (c.book_of.ensures g.B.Stacks.view.modules t) in
+    let is = ap (λ (b : Book). b.written) (c.book_of.ensures t) in
     let sent = ap (λ (v : State ℕ). (book dir v).written) c.deliver_alone.ensures.state in
-    let stays = sent-written to (message_of (in_hand made i)) dir (state_in g.B.Stacks.view.modules made c.args.self.now) in
-    let same = ap (λ (v : State ℕ). (book dir v).written) (made-state g.B.Stacks.view s made c.args.self.now c.requires.held c.requires.idle i c.in-Some.ensures.made.after) in
+    let stays = sent-written to (message_of (in_hand made i)) dir (state_in made c.args.self.now) in
+    let same = ap (λ (v : State ℕ). (book dir v).written) (made-state s made c.args.self.now c.requires.held c.requires.idle i c.in-Some.ensures.made.after) in
     let few = parts-few c.args.prio (shown c.args.control) (shown c.args.body) c.requires.allowed in
     omega (arith, book-low c.args.side old c.requires.in_range, is, sent, stays, same, few, c.len_of.ensures.value, c.len_of-2.ensures.value)
 
@@ -71,15 +71,15 @@ returns-clause-left g c =
     let s = g.B.Blocks.value c.args.store.now in
     let made = g.B.Blocks.value c.make_message.new.store in
     let t = g.B.Blocks.value c.deliver_alone.new.store in
-    let i = g.B.Blocks.name c.in-Some.message in
+    let i = token c.in-Some.message in
     let dir = direction_from c.args.side in
     let to : Spot = record { side = c.args.side; at = 1; way = Down } in
-    let sent = state_in g.B.Stacks.view.modules t c.deliver_alone.new.self in
+    let sent = state_in t c.deliver_alone.new.self in
     let n = c.len_of.result + c.len_of-2.result in
-    let kept = c.keep_book.ensures.state g.B.Stacks.view.modules t
-    ∙ ap (λ (b : Book). with_book dir b sent) (c.with_written-book.ensures ∙ ap (with_written n) (c.book_of.ensures g.B.Stacks.view.modules t)) in
+    let kept = c.keep_book.ensures.state t
+    ∙ ap (λ (b : Book). with_book dir b sent) (c.with_written-book.ensures ∙ ap (with_written n) (c.book_of.ensures t)) in
     let free = ap (most_cost to) c.in-Some.ensures.made.shows ∙ parts-free c.args.side c.args.prio (shown c.args.control) (shown c.args.body) c.in-Some.ensures.none in
-    let same = ap spare (made-state g.B.Stacks.view s made c.args.self.now c.requires.held c.requires.idle i c.in-Some.ensures.made.after) in
+    let same = ap spare (made-state s made c.args.self.now c.requires.held c.requires.idle i c.in-Some.ensures.made.after) in
     omega (arith, c.deliver_alone.ensures.takes.spare, free, same, ap spare kept, written-spare dir n sent)
 
 pub returns-clause-state : goal.returns-clause-state
@@ -88,15 +88,15 @@ returns-clause-state g c =
     let made = g.B.Blocks.value c.make_message.new.store in
     let t = g.B.Blocks.value c.deliver_alone.new.store in
     let p = c.args.self.now in
-    let i = g.B.Blocks.name c.in-Some.message in
+    let i = token c.in-Some.message in
     let m = message_of (in_hand made i) in
-    let same = made-state g.B.Stacks.view s made p c.requires.held c.requires.idle i c.in-Some.ensures.made.after in
+    let same = made-state s made p c.requires.held c.requires.idle i c.in-Some.ensures.made.after in
     let to : Spot = record { side = c.args.side; at = 1; way = Down } in
-    put-state c.args.side c.args.prio (shown c.args.control) (shown c.args.body) (state_in g.B.Stacks.view.modules s p) c.in-Some.ensures.none m c.in-Some.ensures.made.shows
-    (state_in g.B.Stacks.view.modules t c.deliver_alone.new.self) (state_in g.B.Stacks.view.modules t c.keep_book.new.self) c.with_written-book.result (c.len_of.result + c.len_of-2.result)
+    put-state c.args.side c.args.prio (shown c.args.control) (shown c.args.body) (state_in s p) c.in-Some.ensures.none m c.in-Some.ensures.made.shows
+    (state_in t c.deliver_alone.new.self) (state_in t c.keep_book.new.self) c.with_written-book.result (c.len_of.result + c.len_of-2.result)
     (c.deliver_alone.ensures.state ∙ ap (λ v. (delivered plain to m v).state) same)
-    (c.keep_book.ensures.state g.B.Stacks.view.modules t)
-    (c.with_written-book.ensures ∙ ap (with_written (c.len_of.result + c.len_of-2.result)) (c.book_of.ensures g.B.Stacks.view.modules t))
+    (c.keep_book.ensures.state t)
+    (c.with_written-book.ensures ∙ ap (with_written (c.len_of.result + c.len_of-2.result)) (c.book_of.ensures t))
     (ap (λ n. n + c.len_of-2.result) c.len_of.ensures.value ∙ ap (λ n. length (part (shown c.args.control)) + n) c.len_of-2.ensures.value)
 
 pub returns-clause-told : goal.returns-clause-told
@@ -104,9 +104,9 @@ returns-clause-told g c =
     let s = g.B.Blocks.value c.args.store.now in
     let made = g.B.Blocks.value c.make_message.new.store in
     let p = c.args.self.now in
-    let i = g.B.Blocks.name c.in-Some.message in
+    let i = token c.in-Some.message in
     let m = message_of (in_hand made i) in
-    let same = made-state g.B.Stacks.view s made p c.requires.held c.requires.idle i c.in-Some.ensures.made.after in
+    let same = made-state s made p c.requires.held c.requires.idle i c.in-Some.ensures.made.after in
     let to : Spot = record { side = c.args.side; at = 1; way = Down } in
-    put-told c.args.side c.args.prio (shown c.args.control) (shown c.args.body) (state_in g.B.Stacks.view.modules s p) c.in-Some.ensures.none m c.in-Some.ensures.made.shows
+    put-told c.args.side c.args.prio (shown c.args.control) (shown c.args.body) (state_in s p) c.in-Some.ensures.none m c.in-Some.ensures.made.shows
     c.args.told.now c.deliver_alone.new.told (c.deliver_alone.ensures.told ∙ ap (λ v. tallied (delivered plain to m v).gone c.args.told.now) same)

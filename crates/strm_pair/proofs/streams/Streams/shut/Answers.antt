@@ -15,25 +15,25 @@ use Rattle.strm_pair.proofs.streams.Streams.shut.Goals as goal
 
 pub returns-in-Master-clause-state : goal.returns-in-Master-clause-state
 returns-in-Master-clause-state g c =
-    let s = state_in g.B.Stacks.view.modules (g.B.Blocks.value c.args.store.now) c.args.self.now in
+    let s = state_in (g.B.Blocks.value c.args.store.now) c.args.self.now in
     let head = c.clear_head.ensures.state ∙ ap (λ sd. (head_emptied EndClosed of_all sd s).state) c.in-Master.is in
-    let modules = c.clear_modules.ensures.state ∙ ap (λ sd. (modules_emptied EndClosed sd (state_in g.B.Stacks.view.modules (g.B.Blocks.value c.clear_head.new.store) c.clear_head.new.self)).state) c.in-Master.is ∙ ap (λ (x : State ℕ). (modules_emptied EndClosed Master x).state) head in
+    let modules = c.clear_modules.ensures.state ∙ ap (λ sd. (modules_emptied EndClosed sd (state_in (g.B.Blocks.value c.clear_head.new.store) c.clear_head.new.self)).state) c.in-Master.is ∙ ap (λ (x : State ℕ). (modules_emptied EndClosed Master x).state) head in
     let own = c.clear_driver.ensures.state ∙ ap (λ (x : State ℕ). (driver_emptied EndClosed of_all Master x).state) modules in
     let other = c.clear_driver-in-Master.ensures.state ∙ ap (λ (x : State ℕ). (driver_emptied EndClosed of_all Slave x).state) own in
-    c.hang_up.ensures.state g.B.Stacks.view.modules (g.B.Blocks.value c.end_side.new.store)
+    c.hang_up.ensures.state (g.B.Blocks.value c.end_side.new.store)
     ∙ ap (hung_up_at Slave) (c.end_side.ensures.state ∙ ap (ended Master) other)
     ∙ ap (λ sd. (closed_at sd s).state) (sym c.in-Master.is)
 
 pub returns-in-Slave-clause-state : goal.returns-in-Slave-clause-state
 returns-in-Slave-clause-state g c =
-    let s = state_in g.B.Stacks.view.modules (g.B.Blocks.value c.args.store.now) c.args.self.now in
+    let s = state_in (g.B.Blocks.value c.args.store.now) c.args.self.now in
     let head = c.clear_head.ensures.state ∙ ap (λ sd. (head_emptied EndClosed of_all sd s).state) c.in-Slave.is in
-    let modules = c.clear_modules.ensures.state ∙ ap (λ sd. (modules_emptied EndClosed sd (state_in g.B.Stacks.view.modules (g.B.Blocks.value c.clear_head.new.store) c.clear_head.new.self)).state) c.in-Slave.is ∙ ap (λ (x : State ℕ). (modules_emptied EndClosed Slave x).state) head in
+    let modules = c.clear_modules.ensures.state ∙ ap (λ sd. (modules_emptied EndClosed sd (state_in (g.B.Blocks.value c.clear_head.new.store) c.clear_head.new.self)).state) c.in-Slave.is ∙ ap (λ (x : State ℕ). (modules_emptied EndClosed Slave x).state) head in
     c.end_side-in-Slave.ensures.state ∙ ap (ended Slave) modules ∙ ap (λ sd. (closed_at sd s).state) (sym c.in-Slave.is)
 
 pub returns-in-Master-clause-told : goal.returns-in-Master-clause-told
 returns-in-Master-clause-told g c =
-    let s = state_in g.B.Stacks.view.modules (g.B.Blocks.value c.args.store.now) c.args.self.now in
+    let s = state_in (g.B.Blocks.value c.args.store.now) c.args.self.now in
     let f = c.args.told.now in
     let emptied = head_emptied EndClosed of_all Master s in
     let without = modules_emptied EndClosed Master emptied.state in
@@ -41,7 +41,7 @@ returns-in-Master-clause-told g c =
     let other = driver_emptied EndClosed of_all Slave own.state in
     let head = c.clear_head.ensures.state ∙ ap (λ sd. (head_emptied EndClosed of_all sd s).state) c.in-Master.is in
     let first = c.clear_head.ensures.told ∙ ap (λ sd. tallied (head_emptied EndClosed of_all sd s).gone f) c.in-Master.is in
-    let above = state_in g.B.Stacks.view.modules (g.B.Blocks.value c.clear_head.new.store) c.clear_head.new.self in
+    let above = state_in (g.B.Blocks.value c.clear_head.new.store) c.clear_head.new.self in
     let modules = c.clear_modules.ensures.state ∙ ap (λ sd. (modules_emptied EndClosed sd above).state) c.in-Master.is ∙ ap (λ (x : State ℕ). (modules_emptied EndClosed Master x).state) head in
     let second = c.clear_modules.ensures.told ∙ ap (λ sd. tallied (modules_emptied EndClosed sd above).gone c.clear_head.new.told) c.in-Master.is
     ∙ ap (λ (x : State ℕ). tallied (modules_emptied EndClosed Master x).gone c.clear_head.new.told) head ∙ ap (λ v. tallied without.gone v) first in
@@ -59,13 +59,13 @@ returns-in-Master-clause-held g c = c.hang_up.ensures.held (g.B.Blocks.value c.e
 
 pub returns-in-Slave-clause-told : goal.returns-in-Slave-clause-told
 returns-in-Slave-clause-told g c =
-    let s = state_in g.B.Stacks.view.modules (g.B.Blocks.value c.args.store.now) c.args.self.now in
+    let s = state_in (g.B.Blocks.value c.args.store.now) c.args.self.now in
     let f = c.args.told.now in
     let emptied = head_emptied EndClosed of_all Slave s in
     let without = modules_emptied EndClosed Slave emptied.state in
     let head = c.clear_head.ensures.state ∙ ap (λ sd. (head_emptied EndClosed of_all sd s).state) c.in-Slave.is in
     let first = c.clear_head.ensures.told ∙ ap (λ sd. tallied (head_emptied EndClosed of_all sd s).gone f) c.in-Slave.is in
-    let above = state_in g.B.Stacks.view.modules (g.B.Blocks.value c.clear_head.new.store) c.clear_head.new.self in
+    let above = state_in (g.B.Blocks.value c.clear_head.new.store) c.clear_head.new.self in
     c.clear_modules.ensures.told ∙ ap (λ sd. tallied (modules_emptied EndClosed sd above).gone c.clear_head.new.told) c.in-Slave.is
     ∙ ap (λ (x : State ℕ). tallied (modules_emptied EndClosed Slave x).gone c.clear_head.new.told) head ∙ ap (λ v. tallied without.gone v) first
     ∙ sym (tallied-both emptied.gone without.gone f)
@@ -73,5 +73,5 @@ returns-in-Slave-clause-told g c =
 
 pub clear_modules-requires-clause-idle : goal.clear_modules-requires-clause-idle
 clear_modules-requires-clause-idle g c =
-    let s = state_in g.B.Stacks.view.modules (g.B.Blocks.value c.args.store.now) c.args.self.now in
+    let s = state_in (g.B.Blocks.value c.args.store.now) c.args.self.now in
     subst AreIdle (sym c.clear_head.ensures.state) (emptied-idle c.args.side s c.requires.idle)

@@ -7,6 +7,7 @@ use Rattle.strm_pair.specs.Pairs.{end_at, with_end}
 use Rattle.strm_pair.specs.Took.{TookFirst}
 use Rattle.strm_pair.proofs.TurnSteps.{took}
 use Rattle.strm_pair.proofs.streams.Streams.take_first.Goals as goal
+use Rattle.strm_blocks.specs.Blocks.{token}
 
 pub returns-in-Master : goal.returns-in-Master
 returns-in-Master g c =
@@ -14,8 +15,8 @@ returns-in-Master g c =
     let t = g.B.Blocks.value c.dequeue.new.store in
     let p = c.args.self.now in
     let q = with_end Master (record p.master { driver = c.dequeue.new.queue }) p in
-    subst (λ sd. MatchOption c.dequeue.result (messages_on s (end_at sd p).driver.list ≡ []) (λ m. TookFirst g.B.Stacks.view sd s t p q (g.B.Blocks.name m))) (sym c.in-Master.is)
-    (took g.B.Stacks.view g.B.Blocks.name Master s t p c.dequeue.new.queue c.dequeue.result c.requires.held.beside c.requires.idle c.dequeue.ensures)
+    subst (λ sd. MatchOption c.dequeue.result (messages_on s (end_at sd p).driver.list ≡ []) (λ m. TookFirst sd s t p q (token m))) (sym c.in-Master.is)
+    (took Master s t p c.dequeue.new.queue c.dequeue.result c.requires.held.beside c.requires.idle c.dequeue.ensures)
 
 pub returns-in-Slave : goal.returns-in-Slave
 returns-in-Slave g c =
@@ -23,5 +24,5 @@ returns-in-Slave g c =
     let t = g.B.Blocks.value c.dequeue-in-Slave.new.store in
     let p = c.args.self.now in
     let q = with_end Slave (record p.slave { driver = c.dequeue-in-Slave.new.queue }) p in
-    subst (λ sd. MatchOption c.dequeue-in-Slave.result (messages_on s (end_at sd p).driver.list ≡ []) (λ m. TookFirst g.B.Stacks.view sd s t p q (g.B.Blocks.name m))) (sym c.in-Slave.is)
-    (took g.B.Stacks.view g.B.Blocks.name Slave s t p c.dequeue-in-Slave.new.queue c.dequeue-in-Slave.result c.requires.held.beside c.requires.idle c.dequeue-in-Slave.ensures)
+    subst (λ sd. MatchOption c.dequeue-in-Slave.result (messages_on s (end_at sd p).driver.list ≡ []) (λ m. TookFirst sd s t p q (token m))) (sym c.in-Slave.is)
+    (took Slave s t p c.dequeue-in-Slave.new.queue c.dequeue-in-Slave.result c.requires.held.beside c.requires.idle c.dequeue-in-Slave.ensures)

@@ -13,11 +13,11 @@ pub returns-clause-taken : goal.returns-clause-taken
 returns-clause-taken g c =
     let s = g.B.Blocks.value c.args.store.now in
     let p = c.args.self.now in
-    let st = state_in g.B.Stacks.view.modules s p in
+    let st = state_in s p in
     let e = c.take_off.ensures in
     let taken = c.in-Some.taken in
     let took = rw c.in-Some.is at e.took in
-    top-went g.B.Stacks.view c.args.side c.args.rule s p c.requires.held c.args.told.now (g.B.Blocks.value c.take_off.new.store) c.take_off.new.self c.take_off.new.told taken c.forget.new.self e.streams took
+    top-went c.args.side c.args.rule s p c.requires.held c.args.told.now (g.B.Blocks.value c.take_off.new.store) c.take_off.new.self c.take_off.new.told taken c.forget.new.self e.streams took
     (c.forget.ensures ∙ ap (without_module c.args.side taken.name)
     (c.note.ensures
     ∙ noted-same c.args.side c.place-place.result (earlier_of c.earlier-earlier.result) (earlier_at c.args.side 1 st) (λ way. c.earlier-earlier.ensures s way) c.as_slice.result.now c.take_off.new.self.enabled

@@ -14,7 +14,7 @@ use Rattle.strm_pair.proofs.streams.Streams.turn.Goals as goal
 pub returns-in-Driver-clause-few : goal.returns-in-Driver-clause-few
 returns-in-Driver-clause-few g c =
     let side = c.args.name.side in
-    let from = state_in g.B.Stacks.view.modules (g.B.Blocks.value c.args.store.now) (record c.args.self.now { enabled = c.remove.new.self }) in
+    let from = state_in (g.B.Blocks.value c.args.store.now) (record c.args.self.now { enabled = c.remove.new.self }) in
     let behind = driver_turned plain side from in
     let e = c.turn_driver.ensures in
     subst FewBooked (sym e.state)

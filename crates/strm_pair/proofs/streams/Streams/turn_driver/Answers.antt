@@ -19,11 +19,11 @@ returns-then-is_stopped-clause-turn g c =
     let s = g.B.Blocks.value c.args.store.now in
     let p = c.args.self.now in
     let side = c.args.side in
-    let st = state_in g.B.Stacks.view.modules s p in
+    let st = state_in s p in
     let x_is = c.end-across.ensures.end ∙ ap (λ sd. end_at sd p) c.other-above.ensures in
     let opened = sym c.is_open.ensures ∙ c.if-not-is_open.false in
     let asked = c.is_stopped.ensures ∙ ap (λ sd. is_held c.in-Some.first.kind && not (has_room_past sd Up (driver_place sd st) c.in-Some.first.band.0 st)) c.other-above.ensures in
-    let is = turned-stopped g.B.Stacks.view s p side c.end.result.now c.end-across.result.now c.end.ensures.end x_is opened c.in-Some.first c.in-Some.ensures c.is_stopped.result asked c.if-is_stopped.true in
+    let is = turned-stopped s p side c.end.result.now c.end-across.result.now c.end.ensures.end x_is opened c.in-Some.first c.in-Some.ensures c.is_stopped.result asked c.if-is_stopped.true in
     ap (λ (o : TurnOutcome ℕ). o.turn) (sym is)
 
 pub returns-then-is_stopped-clause-state : goal.returns-then-is_stopped-clause-state
@@ -31,17 +31,17 @@ returns-then-is_stopped-clause-state g c =
     let s = g.B.Blocks.value c.args.store.now in
     let p = c.args.self.now in
     let side = c.args.side in
-    let st = state_in g.B.Stacks.view.modules s p in
+    let st = state_in s p in
     let x_is = c.end-across.ensures.end ∙ ap (λ sd. end_at sd p) c.other-above.ensures in
     let opened = sym c.is_open.ensures ∙ c.if-not-is_open.false in
     let asked = c.is_stopped.ensures ∙ ap (λ sd. is_held c.in-Some.first.kind && not (has_room_past sd Up (driver_place sd st) c.in-Some.first.band.0 st)) c.other-above.ensures in
-    let is = turned-stopped g.B.Stacks.view s p side c.end.result.now c.end-across.result.now c.end.ensures.end x_is opened c.in-Some.first c.in-Some.ensures c.is_stopped.result asked c.if-is_stopped.true in
-    let kept = state_in g.B.Stacks.view.modules s c.keep-then-is_stopped.new.self in
+    let is = turned-stopped s p side c.end.result.now c.end-across.result.now c.end.ensures.end x_is opened c.in-Some.first c.in-Some.ensures c.is_stopped.result asked c.if-is_stopped.true in
+    let kept = state_in s c.keep-then-is_stopped.new.self in
     let band = c.in-Some.first.band.0 in
     c.wait_past.ensures.state s
     ∙ ap (λ n. writer_waits c.other-above.result Up n band kept) (c.driver_place-at.ensures.place s)
     ∙ ap (λ sd. writer_waits sd Up (driver_place sd kept) band kept) c.other-above.ensures
-    ∙ ap (λ v. writer_waits (other side) Up (driver_place (other side) v) band v) (c.keep-then-is_stopped.ensures.state g.B.Stacks.view.modules s)
+    ∙ ap (λ v. writer_waits (other side) Up (driver_place (other side) v) band v) (c.keep-then-is_stopped.ensures.state s)
     ∙ ap (λ (o : TurnOutcome ℕ). o.state) (sym is)
 
 pub returns-then-is_stopped-clause-told : goal.returns-then-is_stopped-clause-told
@@ -49,11 +49,11 @@ returns-then-is_stopped-clause-told g c =
     let s = g.B.Blocks.value c.args.store.now in
     let p = c.args.self.now in
     let side = c.args.side in
-    let st = state_in g.B.Stacks.view.modules s p in
+    let st = state_in s p in
     let x_is = c.end-across.ensures.end ∙ ap (λ sd. end_at sd p) c.other-above.ensures in
     let opened = sym c.is_open.ensures ∙ c.if-not-is_open.false in
     let asked = c.is_stopped.ensures ∙ ap (λ sd. is_held c.in-Some.first.kind && not (has_room_past sd Up (driver_place sd st) c.in-Some.first.band.0 st)) c.other-above.ensures in
-    let is = turned-stopped g.B.Stacks.view s p side c.end.result.now c.end-across.result.now c.end.ensures.end x_is opened c.in-Some.first c.in-Some.ensures c.is_stopped.result asked c.if-is_stopped.true in
+    let is = turned-stopped s p side c.end.result.now c.end-across.result.now c.end.ensures.end x_is opened c.in-Some.first c.in-Some.ensures c.is_stopped.result asked c.if-is_stopped.true in
     ap (λ (o : TurnOutcome ℕ). tallied o.gone c.args.told.now) (sym is)
 
 pub returns-clause-turn : goal.returns-clause-turn
@@ -61,12 +61,12 @@ returns-clause-turn g c =
     let s = g.B.Blocks.value c.args.store.now in
     let p = c.args.self.now in
     let side = c.args.side in
-    let st = state_in g.B.Stacks.view.modules s p in
+    let st = state_in s p in
     let x_is = c.end-across.ensures.end ∙ ap (λ sd. end_at sd p) c.other-above.ensures in
     let opened = sym c.is_open.ensures ∙ c.if-not-is_open.false in
     let w = c.move_across.ensures.moves in
     let asked = c.is_stopped.ensures ∙ ap (λ sd. is_held c.in-Some.first.kind && not (has_room_past sd Up (driver_place sd st) c.in-Some.first.band.0 st)) c.other-above.ensures in
-    let is = turned-moved g.B.Stacks.view s p side c.end.result.now c.end-across.result.now c.end.ensures.end x_is opened c.in-Some.first c.in-Some.ensures c.is_stopped.result asked c.if-is_stopped.false w.message w.rest w.first in
+    let is = turned-moved s p side c.end.result.now c.end-across.result.now c.end.ensures.end x_is opened c.in-Some.first c.in-Some.ensures c.is_stopped.result asked c.if-is_stopped.false w.message w.rest w.first in
     w.answer ∙ ap (λ (o : TurnOutcome ℕ). o.turn) (sym is)
 
 pub returns-clause-state : goal.returns-clause-state
@@ -74,12 +74,12 @@ returns-clause-state g c =
     let s = g.B.Blocks.value c.args.store.now in
     let p = c.args.self.now in
     let side = c.args.side in
-    let st = state_in g.B.Stacks.view.modules s p in
+    let st = state_in s p in
     let x_is = c.end-across.ensures.end ∙ ap (λ sd. end_at sd p) c.other-above.ensures in
     let opened = sym c.is_open.ensures ∙ c.if-not-is_open.false in
     let w = c.move_across.ensures.moves in
     let asked = c.is_stopped.ensures ∙ ap (λ sd. is_held c.in-Some.first.kind && not (has_room_past sd Up (driver_place sd st) c.in-Some.first.band.0 st)) c.other-above.ensures in
-    let is = turned-moved g.B.Stacks.view s p side c.end.result.now c.end-across.result.now c.end.ensures.end x_is opened c.in-Some.first c.in-Some.ensures c.is_stopped.result asked c.if-is_stopped.false w.message w.rest w.first in
+    let is = turned-moved s p side c.end.result.now c.end-across.result.now c.end.ensures.end x_is opened c.in-Some.first c.in-Some.ensures c.is_stopped.result asked c.if-is_stopped.false w.message w.rest w.first in
     w.state ∙ ap (λ (o : TurnOutcome ℕ). o.state) (sym is)
 
 pub returns-clause-told : goal.returns-clause-told
@@ -87,12 +87,12 @@ returns-clause-told g c =
     let s = g.B.Blocks.value c.args.store.now in
     let p = c.args.self.now in
     let side = c.args.side in
-    let st = state_in g.B.Stacks.view.modules s p in
+    let st = state_in s p in
     let x_is = c.end-across.ensures.end ∙ ap (λ sd. end_at sd p) c.other-above.ensures in
     let opened = sym c.is_open.ensures ∙ c.if-not-is_open.false in
     let w = c.move_across.ensures.moves in
     let asked = c.is_stopped.ensures ∙ ap (λ sd. is_held c.in-Some.first.kind && not (has_room_past sd Up (driver_place sd st) c.in-Some.first.band.0 st)) c.other-above.ensures in
-    let is = turned-moved g.B.Stacks.view s p side c.end.result.now c.end-across.result.now c.end.ensures.end x_is opened c.in-Some.first c.in-Some.ensures c.is_stopped.result asked c.if-is_stopped.false w.message w.rest w.first in
+    let is = turned-moved s p side c.end.result.now c.end-across.result.now c.end.ensures.end x_is opened c.in-Some.first c.in-Some.ensures c.is_stopped.result asked c.if-is_stopped.false w.message w.rest w.first in
     w.tells ∙ ap (λ (o : TurnOutcome ℕ). tallied o.gone c.args.told.now) (sym is)
 
 pub returns-in_default-clause-held : goal.returns-in_default-clause-held
@@ -110,24 +110,24 @@ returns-then-is_stopped-clause-held g c =
 pub returns-in_default-clause-left : goal.returns-in_default-clause-left
 returns-in_default-clause-left g c =
     let s = g.B.Blocks.value c.args.store.now in
-    let old = state_in g.B.Stacks.view.modules s c.args.self.now in
-    omega (arith, ap spare (c.keep.ensures.state g.B.Stacks.view.modules s), taken-spare c.args.side (record (stream c.args.side old).driver.queue { want_read = true }) old)
+    let old = state_in s c.args.self.now in
+    omega (arith, ap spare (c.keep.ensures.state s), taken-spare c.args.side (record (stream c.args.side old).driver.queue { want_read = true }) old)
 
 pub returns-then-not-is_open-clause-left : goal.returns-then-not-is_open-clause-left
 returns-then-not-is_open-clause-left g c =
     let s = g.B.Blocks.value c.args.store.now in
-    let old = state_in g.B.Stacks.view.modules s c.args.self.now in
-    omega (arith, ap spare (c.keep-then-not-is_open.ensures.state g.B.Stacks.view.modules s), taken-spare c.args.side (record (stream c.args.side old).driver.queue { want_read = false }) old)
+    let old = state_in s c.args.self.now in
+    omega (arith, ap spare (c.keep-then-not-is_open.ensures.state s), taken-spare c.args.side (record (stream c.args.side old).driver.queue { want_read = false }) old)
 
 pub returns-then-is_stopped-clause-left : goal.returns-then-is_stopped-clause-left
 returns-then-is_stopped-clause-left g c =
     let s = g.B.Blocks.value c.args.store.now in
-    let old = state_in g.B.Stacks.view.modules s c.args.self.now in
-    let kept = state_in g.B.Stacks.view.modules s c.keep-then-is_stopped.new.self in
+    let old = state_in s c.args.self.now in
+    let kept = state_in s c.keep-then-is_stopped.new.self in
     omega (
       arith,
       ap spare (c.wait_past.ensures.state s),
       waits-spare c.other-above.result Up c.driver_place-at.result c.in-Some.first.band.0 kept,
-      ap spare (c.keep-then-is_stopped.ensures.state g.B.Stacks.view.modules s),
+      ap spare (c.keep-then-is_stopped.ensures.state s),
       taken-spare c.args.side (record (stream c.args.side old).driver.queue { want_read = false }) old,
     )

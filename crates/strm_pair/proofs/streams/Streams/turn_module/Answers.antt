@@ -21,6 +21,7 @@ use Rattle.strm_pair.specs.Framing.{rests}
 use Rattle.strm_pair.specs.Pairs.{state_in}
 use Rattle.strm_pair.proofs.CallsOn.{some-taken, turned-by}
 use Rattle.strm_pair.proofs.streams.Streams.turn_module.Goals as goal
+use Rattle.strm_pair.specs.Stacks.{modules_in}
 
 pub end_module_turn-requires-clause-within : goal.end_module_turn-requires-clause-within
 end_module_turn-requires-clause-within g c = let stands = c.call_on-bytes.ensures.treats.stands in let inside = c.in-Serves.ensures.begins.inside in omega arith
@@ -36,69 +37,63 @@ returns-in-Over-clause-told g c = sym (ap (λ (t : TurnOutcome ℕ). tallied t.g
 
 pub returns-in-Serves-clause-turn : goal.returns-in-Serves-clause-turn
 returns-in-Serves-clause-turn g c =
-    let view = g.B.Stacks.view.modules in
     let s = g.B.Blocks.value c.args.store.now in
     let on = c.call_on-bytes in
     sym (ap (λ (t : TurnOutcome ℕ). t.turn)
-    (turned-by c.args.name c.in-Serves.here on.result (state_in view s c.args.self.now) (state_in view s c.begin_module_turn.new.self) (state_in view (g.B.Blocks.value on.new.store) on.new.self)
+    (turned-by c.args.name c.in-Serves.here on.result (state_in s c.args.self.now) (state_in s c.begin_module_turn.new.self) (state_in (g.B.Blocks.value on.new.store) on.new.self)
     c.args.told.now on.new.told c.in-Serves.ensures.begins on.ensures.treats))
 
 pub returns-in-Serves-clause-state : goal.returns-in-Serves-clause-state
 returns-in-Serves-clause-state g c =
-    let view = g.B.Stacks.view.modules in
     let s = g.B.Blocks.value c.args.store.now in
     let on = c.call_on-bytes in
-    let st = state_in view (g.B.Blocks.value on.new.store) on.new.self in
+    let st = state_in (g.B.Blocks.value on.new.store) on.new.self in
     c.end_module_turn.ensures.state
     ∙ ap (λ took. module_turn_ended c.args.name c.in-Serves.here took st) (some-taken on.result)
     ∙ sym (ap (λ (t : TurnOutcome ℕ). t.state)
-    (turned-by c.args.name c.in-Serves.here on.result (state_in view s c.args.self.now) (state_in view s c.begin_module_turn.new.self) st
+    (turned-by c.args.name c.in-Serves.here on.result (state_in s c.args.self.now) (state_in s c.begin_module_turn.new.self) st
     c.args.told.now on.new.told c.in-Serves.ensures.begins on.ensures.treats))
 
 pub returns-in-Serves-clause-told : goal.returns-in-Serves-clause-told
 returns-in-Serves-clause-told g c =
-    let view = g.B.Stacks.view.modules in
     let s = g.B.Blocks.value c.args.store.now in
     let on = c.call_on-bytes in
     on.ensures.treats.tells
     ∙ sym (ap (λ (t : TurnOutcome ℕ). tallied t.gone c.args.told.now)
-    (turned-by c.args.name c.in-Serves.here on.result (state_in view s c.args.self.now) (state_in view s c.begin_module_turn.new.self) (state_in view (g.B.Blocks.value on.new.store) on.new.self)
+    (turned-by c.args.name c.in-Serves.here on.result (state_in s c.args.self.now) (state_in s c.begin_module_turn.new.self) (state_in (g.B.Blocks.value on.new.store) on.new.self)
     c.args.told.now on.new.told c.in-Serves.ensures.begins on.ensures.treats))
 
 -- Nothing of a turn is under way behind it, so that nothing is in hand.
 pub returns-in-Serves-clause-held : goal.returns-in-Serves-clause-held
 returns-in-Serves-clause-held g c =
-    let view = g.B.Stacks.view in
     let s = g.B.Blocks.value c.args.store.now in
     let on = c.call_on-bytes in
     let t = g.B.Blocks.value on.new.store in
-    let old = state_in view.modules s c.args.self.now in
+    let old = state_in s c.args.self.now in
     let q = c.end_module_turn.new.self in
     let idle = subst AreIdle (sym (returns-in-Serves-clause-state g c)) (module_turned-rests plain c.args.name (Moved on.result) old c.requires.rests) in
     record {
-      hand = no-hand t.hand (λ i. on.ensures.hand i ∙ sym (c.end_module_turn.ensures.keeps i) ∙ rests view t q c.end_module_turn.ensures.beside idle i);
+      hand = no-hand t.hand (λ i. on.ensures.hand i ∙ sym (c.end_module_turn.ensures.keeps i) ∙ rests t q c.end_module_turn.ensures.beside idle i);
       beside = c.end_module_turn.ensures.beside;
     }
 
 -- no book goes round
 pub returns-in-Over-clause-few : goal.returns-in-Over-clause-few
 returns-in-Over-clause-few g c =
-    let view = g.B.Stacks.view.modules in
     let s = g.B.Blocks.value c.args.store.now in
-    let old = state_in view s c.args.self.now in
+    let old = state_in s c.args.self.now in
     let is = c.in-Over.ensures.begins c.in-Over.turn in
     let books = subst (λ (t : TurnOutcome ℕ). BooksMade plain old t.gone t.state) is (module-books plain c.args.name c.in-Over.turn old) in
-    turn-few plain old (state_in view s c.begin_module_turn.new.self) [] c.requires.range books (λ dir. let low = range-low dir old c.requires.range in let same = books.made dir in omega (arith, low.1, same))
+    turn-few plain old (state_in s c.begin_module_turn.new.self) [] c.requires.range books (λ dir. let low = range-low dir old c.requires.range in let same = books.made dir in omega (arith, low.1, same))
 
 pub returns-in-Serves-clause-few : goal.returns-in-Serves-clause-few
 returns-in-Serves-clause-few g c =
-    let view = g.B.Stacks.view.modules in
     let s = g.B.Blocks.value c.args.store.now in
     let on = c.call_on-bytes in
-    let old = state_in view s c.args.self.now in
-    let begun = state_in view s c.begin_module_turn.new.self in
-    let st = state_in view (g.B.Blocks.value on.new.store) on.new.self in
-    let new = state_in view (g.B.Blocks.value on.new.store) c.end_module_turn.new.self in
+    let old = state_in s c.args.self.now in
+    let begun = state_in s c.begin_module_turn.new.self in
+    let st = state_in (g.B.Blocks.value on.new.store) on.new.self in
+    let new = state_in (g.B.Blocks.value on.new.store) c.end_module_turn.new.self in
     let is = turned-by c.args.name c.in-Serves.here on.result old begun st c.args.told.now on.new.told c.in-Serves.ensures.begins on.ensures.treats in
     let shows : new ≡ (module_turned plain c.args.name (Moved on.result) old).state =
     c.end_module_turn.ensures.state ∙ ap (λ took. module_turn_ended c.args.name c.in-Serves.here took st) (some-taken on.result) ∙ sym (ap (λ (t : TurnOutcome ℕ). t.state) is) in

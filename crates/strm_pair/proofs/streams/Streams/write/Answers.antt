@@ -21,9 +21,9 @@ pub with_written-book-requires : goal.with_written-book-requires
 with_written-book-requires g c =
     let s = g.B.Blocks.value c.args.store.now in
     let t = g.B.Blocks.value c.send_chunks-taken.new.store in
-    let old = state_in g.B.Stacks.view.modules s c.args.self.now in
+    let old = state_in s c.args.self.now in
     let dir = direction_from c.args.side in
-    let is = ap (λ (b : Book). b.written) (c.book_of.ensures g.B.Stacks.view.modules t) in
+    let is = ap (λ (b : Book). b.written) (c.book_of.ensures t) in
     let sent = ap (λ (v : State ℕ). (book dir v).written) c.send_chunks-taken.ensures.state in
     let stays = (chunks-book plain c.args.side (chunks_of c.chunk_count-chunks.result c.args.bytes.now) old).written dir in
     omega (arith, book-low c.args.side old c.requires.in_range, is, sent, stays, c.send_chunks-taken.ensures.fits)
@@ -31,7 +31,7 @@ with_written-book-requires g c =
 pub returns-clause-answer : goal.returns-clause-answer
 returns-clause-answer g c =
     let s = g.B.Blocks.value c.args.store.now in
-    let old = state_in g.B.Stacks.view.modules s c.args.self.now in
+    let old = state_in s c.args.self.now in
     let e = wrote-chunks c.args.side c.args.bytes.now old c.chunk_count-chunks.result c.chunk_count-chunks.ensures.value in
     ap Count c.send_chunks-taken.ensures.taken ∙ ap (λ (o : Outcome ℕ). o.answer) (sym e)
 
@@ -40,12 +40,12 @@ returns-clause-state g c =
     let s = g.B.Blocks.value c.args.store.now in
     let t = g.B.Blocks.value c.send_chunks-taken.new.store in
     let side = c.args.side in
-    let old = state_in g.B.Stacks.view.modules s c.args.self.now in
-    let sent = state_in g.B.Stacks.view.modules t c.send_chunks-taken.new.self in
+    let old = state_in s c.args.self.now in
+    let sent = state_in t c.send_chunks-taken.new.self in
     let dir = direction_from side in
     let e = wrote-chunks side c.args.bytes.now old c.chunk_count-chunks.result c.chunk_count-chunks.ensures.value in
-    c.keep_book.ensures.state g.B.Stacks.view.modules t
-    ∙ ap (λ (b : Book). with_book dir b sent) (c.with_written-book.ensures ∙ ap (with_written c.send_chunks-taken.result) (c.book_of.ensures g.B.Stacks.view.modules t))
+    c.keep_book.ensures.state t
+    ∙ ap (λ (b : Book). with_book dir b sent) (c.with_written-book.ensures ∙ ap (with_written c.send_chunks-taken.result) (c.book_of.ensures t))
     ∙ ap (λ n. with_book dir (with_written n (book dir sent)) sent) c.send_chunks-taken.ensures.taken
     ∙ ap (λ (v : State ℕ). with_book dir (with_written (chunks-written side c.chunk_count-chunks.result c.args.bytes.now old).taken (book dir v)) v) c.send_chunks-taken.ensures.state
     ∙ ap (λ (o : Outcome ℕ). o.state) (sym e)
@@ -53,7 +53,7 @@ returns-clause-state g c =
 pub returns-clause-told : goal.returns-clause-told
 returns-clause-told g c =
     let s = g.B.Blocks.value c.args.store.now in
-    let old = state_in g.B.Stacks.view.modules s c.args.self.now in
+    let old = state_in s c.args.self.now in
     c.send_chunks-taken.ensures.told ∙ ap (λ (t : Wrote ℕ). tallied t.gone c.args.told.now) (sym (chunks-are c.args.side c.args.bytes.now old c.chunk_count-chunks.result c.chunk_count-chunks.ensures.value))
 
 pub returns-clause-held : goal.returns-clause-held
@@ -63,7 +63,7 @@ pub returns-clause-left : goal.returns-clause-left
 returns-clause-left g c =
     let t = g.B.Blocks.value c.send_chunks-taken.new.store in
     let dir = direction_from c.args.side in
-    let sent = state_in g.B.Stacks.view.modules t c.send_chunks-taken.new.self in
-    let kept = c.keep_book.ensures.state g.B.Stacks.view.modules t
-    ∙ ap (λ (b : Book). with_book dir b sent) (c.with_written-book.ensures ∙ ap (with_written c.send_chunks-taken.result) (c.book_of.ensures g.B.Stacks.view.modules t)) in
+    let sent = state_in t c.send_chunks-taken.new.self in
+    let kept = c.keep_book.ensures.state t
+    ∙ ap (λ (b : Book). with_book dir b sent) (c.with_written-book.ensures ∙ ap (with_written c.send_chunks-taken.result) (c.book_of.ensures t)) in
     omega (arith, c.send_chunks-taken.ensures.left, ap spare kept, written-spare dir c.send_chunks-taken.result sent)

@@ -1,6 +1,7 @@
 -- What a put did, in the frame's words.
 use Rattle.strm_frame.proofs.Handing.{can-in_hand}
 use Rattle.strm_pty.proofs.module.PtemModule.put.Goals as goal
+use Rattle.strm_blocks.specs.Blocks.{token}
 
 pub put-requires-clause-in_hand : goal.put-requires-clause-in_hand
-put-requires-clause-in_hand g c = can-in_hand (g.B.Blocks.value c.args.store.now) (g.B.Blocks.name c.args.message) (λ _. 0) c.audit.ensures c.requires.can_put
+put-requires-clause-in_hand g c = can-in_hand (g.B.Blocks.value c.args.store.now) (token c.args.message) (λ _. 0) c.audit.ensures c.requires.can_put

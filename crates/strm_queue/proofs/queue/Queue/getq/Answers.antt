@@ -1,6 +1,6 @@
 -- The message that was taken is part of its band's count.
 use Rattle.std.proofs.Common.{ap, subst, ◌∙◌, arith}
-use Rattle.strm_blocks.specs.Blocks.{in_hand, list_at, placed}
+use Rattle.strm_blocks.specs.Blocks.{in_hand, list_at, placed, token}
 use Rattle.strm_queue.specs.Kept.{AllBands}
 use Rattle.strm_queue.proofs.Stored.{held-chain, take-counted, list-placed}
 use Rattle.strm_queue.proofs.Marks.{set-removed}
@@ -11,7 +11,7 @@ returns-clause-counted g c =
     let s = g.B.Blocks.value c.args.store.now in
     let k = c.args.self.now.list in
     let p = c.in_ok-message.ensures in
-    let i = g.B.Blocks.name c.in_ok-message.message in
+    let i = token c.in_ok-message.message in
     let chain_is = ap (λ v. in_hand v i) p.after ∙ held-chain (placed s k p.rest) i p.message in
     let low = (subst AllBands p.joined c.requires.bands).0 in
     let list_is = ap (λ v. list_at v k) p.after ∙ list-placed s k p.rest (omega (arith, c.audit.ensures.eight, c.args.self.now.on_list)) in

@@ -1,6 +1,6 @@
 -- The message's bytes are counted in the band that it counts in.
 use Rattle.std.proofs.Common.{arith}
-use Rattle.strm_blocks.specs.Blocks.{in_hand}
+use Rattle.strm_blocks.specs.Blocks.{in_hand, token}
 use Rattle.strm_queue.specs.Kept.{band_of}
 use Rattle.strm_queue.proofs.Stored.{count-fits, put-counted}
 use Rattle.strm_queue.proofs.Marks.{set-added}
@@ -9,13 +9,13 @@ use Rattle.strm_queue.proofs.queue.Queue.putq.Goals as goal
 pub count_in-requires-clause-few : goal.count_in-requires-clause-few
 count_in-requires-clause-few g c =
     let s = g.B.Blocks.value c.args.store.now in
-    let i = g.B.Blocks.name c.args.message in
+    let i = token c.args.message in
     rw (c.share_of-share.ensures.band, c.share_of-share.ensures.bytes) (omega (arith, count-fits s c.args.self.now.list i (band_of (in_hand s i)) c.args.self.now.flows c.audit.ensures c.requires.counted c.requires.band))
 
 pub returns-clause-counted : goal.returns-clause-counted
 returns-clause-counted g c =
     let s = g.B.Blocks.value c.args.store.now in
-    let i = g.B.Blocks.name c.args.message in
+    let i = token c.args.message in
     rw (c.count_in.ensures.flows, c.count_in.ensures.others.list, c.insert_back.ensures, c.share_of-share.ensures.band, c.share_of-share.ensures.bytes, c.share_of-share.ensures.kind)
     (put-counted s c.args.self.now.list i c.args.self.now.flows c.audit.ensures c.args.self.now.on_list c.requires.counted c.requires.band)
 

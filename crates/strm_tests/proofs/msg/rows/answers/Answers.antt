@@ -1,5 +1,5 @@
 use Rattle.std.proofs.Common.{refl, ap}
-use Rattle.strm_blocks.specs.Blocks.{dropped}
+use Rattle.strm_blocks.specs.Blocks.{dropped, token}
 use Rattle.strm_tests.proofs.msg.rows.answers.Goals as goal
 
 pub returns-in-Adjust-clause-in_hand : goal.returns-in-Adjust-clause-in_hand
@@ -15,22 +15,22 @@ pub returns-in-Take-clause-others : goal.returns-in-Take-clause-others
 returns-in-Take-clause-others g c = c.takes-same.ensures.others
 
 pub returns-in-Pull-clause-in_hand : goal.returns-in-Pull-clause-in_hand
-returns-in-Pull-clause-in_hand g c = c.pulled-message.ensures.in_hand
+returns-in-Pull-clause-in_hand g c = c.pulled-refusal.ensures.in_hand
 
 pub returns-in-Pull-clause-others : goal.returns-in-Pull-clause-others
-returns-in-Pull-clause-others g c = c.pulled-message.ensures.others
+returns-in-Pull-clause-others g c = c.pulled-refusal.ensures.others
 
 pub returns-in-Dup-clause-in_hand : goal.returns-in-Dup-clause-in_hand
 returns-in-Dup-clause-in_hand g c = rw c.seen_of_dup-seen.ensures c.requires
 
 pub returns-in-Dup-clause-others : goal.returns-in-Dup-clause-others
-returns-in-Dup-clause-others g c = ap (λ s. dropped s (g.B.Blocks.name c.args.message)) c.seen_of_dup-seen.ensures
+returns-in-Dup-clause-others g c = ap (λ s. dropped s (token c.args.message)) c.seen_of_dup-seen.ensures
 
 pub returns-in-Copy-clause-in_hand : goal.returns-in-Copy-clause-in_hand
 returns-in-Copy-clause-in_hand g c = rw c.seen_of_copy-seen.ensures c.requires
 
 pub returns-in-Copy-clause-others : goal.returns-in-Copy-clause-others
-returns-in-Copy-clause-others g c = ap (λ s. dropped s (g.B.Blocks.name c.args.message)) c.seen_of_copy-seen.ensures
+returns-in-Copy-clause-others g c = ap (λ s. dropped s (token c.args.message)) c.seen_of_copy-seen.ensures
 
 pub returns-in-Show-clause-in_hand : goal.returns-in-Show-clause-in_hand
 returns-in-Show-clause-in_hand g c = c.requires

@@ -4,11 +4,11 @@ use Rattle.strm_tests.proofs.msg.rows.walk.Goals as goal
 pub loop-at-init : goal.loop-at-init
 loop-at-init g c = record { here = c.requires; others = refl }
 
-pub answers-kept-requires : goal.answers-kept-requires
-answers-kept-requires g c = c.loop-at.invariant.here
+pub answers-answered-requires : goal.answers-answered-requires
+answers-answered-requires g c = c.loop-at.invariant.here
 
 pub loop-at-preserved : goal.loop-at-preserved
-loop-at-preserved g c = record { here = c.answers-kept.ensures.in_hand; others = c.answers-kept.ensures.others ∙ c.loop-at.invariant.others }
+loop-at-preserved g c = record { here = c.answers-answered.ensures.in_hand; others = c.answers-answered.ensures.others ∙ c.loop-at.invariant.others }
 
 pub free-requires : goal.free-requires
 free-requires g c = c.loop-at.invariant.here
@@ -17,4 +17,4 @@ pub returns : goal.returns
 returns g c = c.free.ensures ∙ c.loop-at.invariant.others
 
 pub seen-requires : goal.seen-requires
-seen-requires g c = c.answers-kept.ensures.in_hand
+seen-requires g c = c.answers-answered.ensures.in_hand

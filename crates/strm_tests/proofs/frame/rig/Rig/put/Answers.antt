@@ -1,5 +1,5 @@
 -- The message is the only one in hand, and none is when all is delivered.
-use Rattle.strm_blocks.specs.Blocks.{in_hand}
+use Rattle.strm_blocks.specs.Blocks.{in_hand, token}
 use Rattle.strm_frame.specs.Outboxes.{message_in}
 use Rattle.strm_frame.specs.Stacks.{all_of}
 use Rattle.strm_frame.proofs.Handing.{alone-can, none-left}
@@ -9,17 +9,17 @@ use Rattle.strm_tests.proofs.frame.rig.Rig.put.Goals as goal
 pub deliver-requires-clause-can_put : goal.deliver-requires-clause-can_put
 deliver-requires-clause-can_put g c =
     let s = g.B.Blocks.value c.args.store.now in
-    let n = g.B.Blocks.name c.args.message in
+    let n = token c.args.message in
     let xs = c.args.self.now.modules.modules.items in
     alone-can s n (in_hand s n) (all_of (λ y i. 0) xs) c.requires.alone (kept-none xs)
 
 pub deliver-requires-clause-low : goal.deliver-requires-clause-low
-deliver-requires-clause-low g c = near-low c.args.to (message_in (g.B.Blocks.value c.args.store.now) (g.B.Blocks.name c.args.message)) c.requires.near
+deliver-requires-clause-low g c = near-low c.args.to (message_in (g.B.Blocks.value c.args.store.now) (token c.args.message)) c.requires.near
 
 pub returns : goal.returns
 returns g c =
     let s = g.B.Blocks.value c.args.store.now in
-    let n = g.B.Blocks.name c.args.message in
+    let n = token c.args.message in
     let xs = c.args.self.now.modules.modules.items in
     let ys = c.deliver.new.stations.modules.modules.items in
     record {

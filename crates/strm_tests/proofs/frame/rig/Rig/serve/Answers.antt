@@ -12,6 +12,7 @@ use Rattle.strm_tests.specs.ToyLaws.{stock_in}
 use Rattle.strm_frame.proofs.Beside.{rest-in}
 use Rattle.strm_tests.proofs.RigSteps.{none-taken, kept-none, sent-can, sent-chain, sent-low, sent-rest, none-rest}
 use Rattle.strm_tests.proofs.frame.rig.Rig.serve.Goals as goal
+use Rattle.strm_blocks.specs.Blocks.{token}
 
 pub serve-served-requires : goal.serve-served-requires
 serve-served-requires g c =
@@ -31,7 +32,7 @@ deliver-requires-clause-can_put g c =
     let t = g.B.Blocks.value c.serve-served.new.store in
     let xs = c.args.self.now.modules.modules.items in
     let ys = c.serve-served.new.self.modules.items in
-    rw c.note_all.ensures (sent-can g.B.Blocks.name s t (all_of (λ y i. 0) xs) (all_of (λ y i. 0) ys) _ c.requires.rest.hand (kept-none xs) (kept-none ys) c.serve-served.ensures.hands c.in-Some.next _ c.in-Some.ensures)
+    rw c.note_all.ensures (sent-can s t (all_of (λ y i. 0) xs) (all_of (λ y i. 0) ys) _ c.requires.rest.hand (kept-none xs) (kept-none ys) c.serve-served.ensures.hands c.in-Some.next _ c.in-Some.ensures)
 
 pub deliver-requires-clause-chain : goal.deliver-requires-clause-chain
 deliver-requires-clause-chain g c =
@@ -39,7 +40,7 @@ deliver-requires-clause-chain g c =
     let t = g.B.Blocks.value c.serve-served.new.store in
     let xs = c.args.self.now.modules.modules.items in
     let ys = c.serve-served.new.self.modules.items in
-    sent-chain g.B.Blocks.name s t (all_of (λ y i. 0) xs) (all_of (λ y i. 0) ys) _ c.requires.rest.hand (kept-none xs) (kept-none ys) c.serve-served.ensures.hands c.in-Some.next _ c.in-Some.ensures c.serve-served.ensures.chains
+    sent-chain s t (all_of (λ y i. 0) xs) (all_of (λ y i. 0) ys) _ c.requires.rest.hand (kept-none xs) (kept-none ys) c.serve-served.ensures.hands c.in-Some.next _ c.in-Some.ensures c.serve-served.ensures.chains
 
 pub deliver-requires-clause-low : goal.deliver-requires-clause-low
 deliver-requires-clause-low g c =
@@ -47,7 +48,7 @@ deliver-requires-clause-low g c =
     let t = g.B.Blocks.value c.serve-served.new.store in
     let xs = c.args.self.now.modules.modules.items in
     let ys = c.serve-served.new.self.modules.items in
-    sent-low g.B.Blocks.name s t (all_of (λ y i. 0) xs) (all_of (λ y i. 0) ys) _ c.requires.rest.hand (kept-none xs) (kept-none ys) c.serve-served.ensures.hands c.in-Some.next _ c.in-Some.ensures
+    sent-low s t (all_of (λ y i. 0) xs) (all_of (λ y i. 0) ys) _ c.requires.rest.hand (kept-none xs) (kept-none ys) c.serve-served.ensures.hands c.in-Some.next _ c.in-Some.ensures
     (record { side = Slave; at = c.args.at; way = Down }) c.serve-served.ensures.falls
 
 pub returns-in_default : goal.returns-in_default
@@ -58,7 +59,7 @@ returns-in_default g c =
     let ys = c.serve-served.new.self.modules.items in
     rw c.note_all.ensures (record {
       are = record { held = c.serve-served.ensures.held; two = c.serve-served.ensures.length ∙ c.requires.rest.are.two };
-      hand = none-rest g.B.Blocks.name s t (all_of (λ y i. 0) xs) (all_of (λ y i. 0) ys) _ c.requires.rest.hand (kept-none xs) (kept-none ys) c.serve-served.ensures.hands c.in_default.ensures.0;
+      hand = none-rest s t (all_of (λ y i. 0) xs) (all_of (λ y i. 0) ys) _ c.requires.rest.hand (kept-none xs) (kept-none ys) c.serve-served.ensures.hands c.in_default.ensures.0;
     })
 
 pub returns : goal.returns
@@ -66,7 +67,7 @@ returns g c =
     let s = g.B.Blocks.value c.args.store.now in
     let t = g.B.Blocks.value c.serve-served.new.store in
     let u = g.B.Blocks.value c.deliver.new.store in
-    let n = g.B.Blocks.name c.in-Some.next.message in
+    let n = token c.in-Some.next.message in
     let xs = c.args.self.now.modules.modules.items in
     let ys = c.serve-served.new.self.modules.items in
     let zs = c.deliver.new.stations.modules.modules.items in
@@ -74,6 +75,6 @@ returns g c =
     let carried : Hands t u n (all_of (λ y i. 0) ys) (all_of (λ y i. 0) zs) (λ _. 0) = subst (λ (m : Stream toy.Stock). Hands t u n (all_of (λ y i. 0) m.modules.items) (all_of (λ y i. 0) zs) (λ _. 0)) c.note_all.ensures c.deliver.ensures.hands in
     record {
       are = c.deliver.ensures.held;
-      hand = sent-rest g.B.Blocks.name s t (all_of (λ y i. 0) xs) (all_of (λ y i. 0) ys) _ c.requires.rest.hand (kept-none xs) (kept-none ys) c.serve-served.ensures.hands c.in-Some.next _ c.in-Some.ensures
+      hand = sent-rest s t (all_of (λ y i. 0) xs) (all_of (λ y i. 0) ys) _ c.requires.rest.hand (kept-none xs) (kept-none ys) c.serve-served.ensures.hands c.in-Some.next _ c.in-Some.ensures
           here false (stop_of c.serve-served.result) _ (map (λ y. stock_in s y.name y.queue) xs) u (all_of (λ y i. 0) zs) c.serve-served.ensures.sent (kept-none zs) carried;
     }

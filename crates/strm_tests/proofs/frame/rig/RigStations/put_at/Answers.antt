@@ -1,6 +1,6 @@
 -- Past both modules the message is freed, and else it is put at one.
 use Rattle.std.proofs.Common.{◌<◌, ◌≤◌, ◌-◌, length, map, sym, ap, ◌∙◌, arith}
-use Rattle.strm_blocks.specs.Blocks.{dropped}
+use Rattle.strm_blocks.specs.Blocks.{dropped, token}
 use Rattle.strm_frame.specs.Hands.{once}
 use Rattle.strm_frame.specs.Outboxes.{message_in, parcels_in, sent_of}
 use Rattle.strm_frame.specs.Stacks.{all_of}
@@ -17,34 +17,34 @@ free-requires g c = can-in_hand _ _ _ c.audit.ensures c.requires.can_put
 
 pub returns-then-is_end-clause-sent : goal.returns-then-is_end-clause-sent
 returns-then-is_end-clause-sent g c =
-    no-parts g.B.Blocks.name _ _ c.none.ensures ∙ ap (λ v. v.sent) (sym (rig-ends c.args.to (message_in (g.B.Blocks.value c.args.store.now) (g.B.Blocks.name c.args.message)) _ c.is_end.result c.is_end.ensures.is c.if-is_end.true))
+    no-parts _ _ c.none.ensures ∙ ap (λ v. v.sent) (sym (rig-ends c.args.to (message_in (g.B.Blocks.value c.args.store.now) (token c.args.message)) _ c.is_end.result c.is_end.ensures.is c.if-is_end.true))
 
 pub returns-then-is_end-clause-held : goal.returns-then-is_end-clause-held
 returns-then-is_end-clause-held g c =
     let s = g.B.Blocks.value c.args.store.now in
-    let n = g.B.Blocks.name c.args.message in
+    let n = token c.args.message in
     let xs = c.args.self.now.modules.modules.items in
     rw (c.free.ensures, c.leave.ensures) (rig-frame (λ y. y.name) (λ y. y.queue) s (dropped s n) xs (freed-same s n (all_of (λ y i. 0) xs) c.audit.ensures c.requires.can_put) c.requires.held).1
 
 pub returns-then-is_end-clause-chains : goal.returns-then-is_end-clause-chains
-returns-then-is_end-clause-chains g c = none-chains g.B.Blocks.name _ _ c.none.ensures
+returns-then-is_end-clause-chains g c = none-chains _ _ c.none.ensures
 
 pub returns-then-is_end-clause-falls : goal.returns-then-is_end-clause-falls
-returns-then-is_end-clause-falls g c = none-lower g.B.Blocks.name _ far _ _ c.none.ensures
+returns-then-is_end-clause-falls g c = none-lower _ far _ _ c.none.ensures
 
 pub returns-then-is_end-clause-hands : goal.returns-then-is_end-clause-hands
 returns-then-is_end-clause-hands g c =
     let s = g.B.Blocks.value c.args.store.now in
-    let n = g.B.Blocks.name c.args.message in
+    let n = token c.args.message in
     let xs = c.args.self.now.modules.modules.items in
-    none-hands g.B.Blocks.name _ _ (once n) (all_of (λ y i. 0) xs) (all_of (λ y i. 0) c.leave.new.self.modules.modules.items) _ c.none.ensures
+    none-hands _ _ (once n) (all_of (λ y i. 0) xs) (all_of (λ y i. 0) c.leave.new.self.modules.modules.items) _ c.none.ensures
     (rw (c.free.ensures, c.leave.ensures) (freed-hands s n (all_of (λ y i. 0) xs) c.audit.ensures c.requires.can_put))
 
 pub returns-then-is_end-clause-takes : goal.returns-then-is_end-clause-takes
 returns-then-is_end-clause-takes g c =
     let s = g.B.Blocks.value c.args.store.now in
-    let n = g.B.Blocks.name c.args.message in
-    free-takes _ _ _ (none-spends g.B.Blocks.name _ _ nothing _ _ c.none.ensures (rw c.free.ensures (freed-spends s n (all_of (λ y i. 0) c.args.self.now.modules.modules.items) 0 c.audit.ensures c.requires.can_put)))
+    let n = token c.args.message in
+    free-takes _ _ _ (none-spends _ _ nothing _ _ c.none.ensures (rw c.free.ensures (freed-spends s n (all_of (λ y i. 0) c.args.self.now.modules.modules.items) 0 c.audit.ensures c.requires.can_put)))
 
 pub returns-clause-held : goal.returns-clause-held
 returns-clause-held g c = rw c.note_all.ensures (record { held = c.put-acts.ensures.held; two = c.put-acts.ensures.length ∙ c.requires.held.two })
@@ -67,5 +67,5 @@ returns-clause-takes g c =
     let t = g.B.Blocks.value c.put-acts.new.store in
     let none = none-taken (map (λ y. stock_in s y.name y.queue) xs) (c.args.to.at - 1) in
     let spends = c.put-acts.ensures.spends in
-    let free = nothing-free (parcels_in g.B.Blocks.name t (sent_of c.put-acts.result.sent)) in
+    let free = nothing-free (parcels_in t (sent_of c.put-acts.result.sent)) in
     free-takes s t _ (record { mblks = omega arith; dblks = omega arith })

@@ -2,7 +2,7 @@
 use Rattle.std.proofs.Common.{ℕ, [], ◌∷◌, None, sym, ap, ◌∙◌}
 use Rattle.strm_types.specs.declared.spots.Spot.{Spot}
 use Rattle.strm_types.specs.Service.{Serving}
-use Rattle.strm_blocks.specs.Blocks.{list_at}
+use Rattle.strm_blocks.specs.Blocks.{list_at, token}
 use Rattle.strm_queue.specs.Stored.{messages_on}
 use Rattle.strm_frame.specs.Outboxes.{message_in}
 use Rattle.strm_tests.specs.Toys.{Stock, far, nothing}
@@ -16,29 +16,29 @@ pub returns-then-is_empty-clause-sent : goal.returns-then-is_empty-clause-sent
 returns-then-is_empty-clause-sent g c =
     let s = g.B.Blocks.value c.args.store.now in
     let none = none-listed (list_at s c.args.self.now.queue.list) c.is_empty.result c.is_empty.ensures c.if-is_empty.true in
-    no-parts g.B.Blocks.name _ _ c.none.ensures
+    no-parts _ _ c.none.ensures
     ∙ ap (λ (v : Serving ℕ Stock). v.acted.sent) (sym (serves-none c.args.here c.args._again None (stock_in s c.args.self.now.name c.args.self.now.queue) none))
 
 pub returns-then-is_empty-clause-chains : goal.returns-then-is_empty-clause-chains
-returns-then-is_empty-clause-chains g c = none-chains g.B.Blocks.name _ _ c.none.ensures
+returns-then-is_empty-clause-chains g c = none-chains _ _ c.none.ensures
 
 pub returns-then-is_empty-clause-falls : goal.returns-then-is_empty-clause-falls
-returns-then-is_empty-clause-falls g c = none-lower g.B.Blocks.name _ far _ _ c.none.ensures
+returns-then-is_empty-clause-falls g c = none-lower _ far _ _ c.none.ensures
 
 pub returns-then-is_empty-clause-hands : goal.returns-then-is_empty-clause-hands
-returns-then-is_empty-clause-hands g c = none-hands g.B.Blocks.name _ _ (λ _. 0) (λ _. 0) (λ _. 0) _ c.none.ensures (still-hands _ (λ _. 0))
+returns-then-is_empty-clause-hands g c = none-hands _ _ (λ _. 0) (λ _. 0) (λ _. 0) _ c.none.ensures (still-hands _ (λ _. 0))
 
 pub returns-then-is_empty-clause-room : goal.returns-then-is_empty-clause-room
-returns-then-is_empty-clause-room g c = no-room g.B.Blocks.name (g.B.Blocks.value c.args.store.now) nothing 0 _ c.none.ensures
+returns-then-is_empty-clause-room g c = no-room (g.B.Blocks.value c.args.store.now) nothing 0 _ c.none.ensures
 
 pub returns-clause-sent : goal.returns-clause-sent
 returns-clause-sent g c =
     let s = g.B.Blocks.value c.args.store.now in
     let t = g.B.Blocks.value c.dequeue.new.store in
-    let m = message_in t (g.B.Blocks.name c.in-Some.message) in
+    let m = message_in t (token c.in-Some.message) in
     let p = stock_in s c.args.self.now.name c.args.self.now.queue in
     let rest = messages_on t c.dequeue.new.queue.list in
-    one-parts g.B.Blocks.name t (record { to = c.toward.result; message = c.in-Some.message }) _ c.one.ensures
+    one-parts t (record { to = c.toward.result; message = c.in-Some.message }) _ c.one.ensures
     ∙ ap (λ (to : Spot). record { to = to; message = m } ∷ []) c.toward.ensures
     ∙ ap (λ (v : Serving ℕ Stock). v.acted.sent) (sym (serves-first c.args.here c.args._again None p m rest c.in-Some.ensures.first))
 
@@ -47,17 +47,17 @@ returns-clause-own g c = took-own _ _ _ _ _ c.in-Some.ensures
 
 pub returns-clause-chains : goal.returns-clause-chains
 returns-clause-chains g c =
-    one-chains g.B.Blocks.name (g.B.Blocks.value c.dequeue.new.store) (record { to = c.toward.result; message = c.in-Some.message }) _ c.one.ensures c.in-Some.ensures.chain
+    one-chains (g.B.Blocks.value c.dequeue.new.store) (record { to = c.toward.result; message = c.in-Some.message }) _ c.one.ensures c.in-Some.ensures.chain
 
 pub returns-clause-falls : goal.returns-clause-falls
 returns-clause-falls g c =
-    one-lower g.B.Blocks.name (g.B.Blocks.value c.dequeue.new.store) (record { to = c.toward.result; message = c.in-Some.message }) far _ _ c.one.ensures
+    one-lower (g.B.Blocks.value c.dequeue.new.store) (record { to = c.toward.result; message = c.in-Some.message }) far _ _ c.one.ensures
     (down-falls c.args.here c.toward.result c.requires.inside c.requires.small c.toward.ensures)
 
 pub returns-clause-hands : goal.returns-clause-hands
 returns-clause-hands g c =
-    took-hands g.B.Blocks.name (g.B.Blocks.value c.args.store.now) (g.B.Blocks.value c.dequeue.new.store) _ _ (record { to = c.toward.result; message = c.in-Some.message }) _ c.one.ensures c.in-Some.ensures
+    took-hands (g.B.Blocks.value c.args.store.now) (g.B.Blocks.value c.dequeue.new.store) _ _ (record { to = c.toward.result; message = c.in-Some.message }) _ c.one.ensures c.in-Some.ensures
 
 pub returns-clause-room : goal.returns-clause-room
 returns-clause-room g c =
-    one-room g.B.Blocks.name (g.B.Blocks.value c.dequeue.new.store) 0 (record { to = c.toward.result; message = c.in-Some.message }) _ c.one.ensures
+    one-room (g.B.Blocks.value c.dequeue.new.store) 0 (record { to = c.toward.result; message = c.in-Some.message }) _ c.one.ensures

@@ -1,0 +1,30 @@
+-- An ldterm keeps what the module does.
+use Rattle.std.proofs.Common.{ℕ, ◌≡◌, Bool, false, List, [], subst, arith}
+use Rattle.strm_types.specs.Deliver.{Parcel}
+use Rattle.strm_types.specs.Costs.{most_cost}
+use Rattle.strm_types.proofs.CostSums.{none-few}
+use Rattle.strm_blocks.specs.Blocks.{StoreValue}
+use Rattle.strm_frame.specs.Hands.{AreIn, HasRoom}
+use Rattle.strm_frame.specs.Outboxes.{parcels_in, sent_of}
+use Rattle.strm_frame.specs.Serves.{later_cost}
+use Rattle.strm_pair.specs.AnyModules.{keeps}
+use Rattle.strm_pair.proofs.modules.AnyModuleModule.serve.Goals as goal
+
+pub serve-requires-clause-kept : goal.serve-requires-clause-kept
+serve-requires-clause-kept g c = subst (λ x. AreIn (g.B.Blocks.value c.args.store.now) (λ _. 0) (keeps x)) c.in-Ldterm.is c.requires.kept
+
+-- the others send nothing
+none-sent : (s : StoreValue) (again : Bool) (next : ℕ) (ps : List (Parcel ℕ)) → again ≡ false → ps ≡ [] → HasRoom s (later_cost most_cost again next ps)
+none-sent s again next ps ends none = rw (ends, none) (let free = none-few {C = ℕ} most_cost 0 in record { mblks = omega (arith, free); dblks = omega (arith, free) })
+
+pub returns-in-Ptem-clause-room : goal.returns-in-Ptem-clause-room
+returns-in-Ptem-clause-room g c =
+    let t = g.B.Blocks.value c.serve-in-Ptem.new._store in
+    let r = c.serve-in-Ptem.result in
+    none-sent t r.again _ (parcels_in t (sent_of r.acts.sent)) c.serve-in-Ptem.ensures.again c.serve-in-Ptem.ensures.sent
+
+pub returns-in-Pckt-clause-room : goal.returns-in-Pckt-clause-room
+returns-in-Pckt-clause-room g c =
+    let t = g.B.Blocks.value c.serve-in-Pckt.new._store in
+    let r = c.serve-in-Pckt.result in
+    none-sent t r.again _ (parcels_in t (sent_of r.acts.sent)) c.serve-in-Pckt.ensures.again c.serve-in-Pckt.ensures.sent

@@ -1,0 +1,19 @@
+-- The lines of the reader's modules are counted.
+use Rattle.std.proofs.Common.{ℕ, length, ap, ◌≡◌, ◌∙◌, subst, sym}
+use Rattle.std.specs.Prelude.{sum_by}
+use Rattle.strm_types.specs.declared.names.Dir.{Dir}
+use Rattle.strm_laws.specs.Ledgers.{inline}
+use Rattle.strm_laws.specs.Stacked.{module_line}
+use Rattle.strm_laws.specs.State.{Stream}
+use Rattle.strm_pair.specs.Pairs.{state_in}
+use Rattle.strm_pair.proofs.streams.Streams.line_lens.Goals as goal
+
+pub returns-in-MasterToSlave : goal.returns-in-MasterToSlave
+returns-in-MasterToSlave c = λ s.
+    subst (λ (dir : Dir). c.line_lens.result ≡ inline dir (state_in s c.args.self.now)) (sym c.in-MasterToSlave.is)
+    (c.line_lens.ensures.lines s ∙ ap (λ (t : Stream ℕ). sum_by (λ p. length (module_line p)) t.modules) (c.end.ensures.stream s))
+
+pub returns-in-SlaveToMaster : goal.returns-in-SlaveToMaster
+returns-in-SlaveToMaster c = λ s.
+    subst (λ (dir : Dir). c.line_lens-in-SlaveToMaster.result ≡ inline dir (state_in s c.args.self.now)) (sym c.in-SlaveToMaster.is)
+    (c.line_lens-in-SlaveToMaster.ensures.lines s ∙ ap (λ (t : Stream ℕ). sum_by (λ p. length (module_line p)) t.modules) (c.end-in-SlaveToMaster.ensures.stream s))
