@@ -3,7 +3,6 @@
 
 use crate::Pair;
 use crate::stacks::Stacks;
-use crate::stored::{stored_answer, stored_event};
 use crate::tests::over_tables;
 use crate::tests::recount::PlainPair;
 use std::alloc::{AllocError, Global};
@@ -221,8 +220,8 @@ impl<B: Stacks + Drop> Walk<B> {
                 self.met.note_call(event);
                 let told = Entry::Called {
                     caller,
-                    event: stored_event(event.shape()),
-                    answer: stored_answer(answer),
+                    event: event.shape(),
+                    answer: answer.shortened(),
                 };
                 self.gains(wanted, &told, event.payload().0)
             }
