@@ -94,18 +94,7 @@ module _ {C : Type 0} (cells : Cells C) where
 pub content-bounded : (asked : Request) → content_max asked ≤ CONTENT_MAX
 content-bounded (Read n) = omega arith
 content-bounded (Get wanted cmax dmax) = omega arith
-content-bounded OpenMaster = omega arith
-content-bounded Unlock = omega arith
-content-bounded OpenSlave = omega arith
-content-bounded Shut = omega arith
-content-bounded (Push name) = omega arith
-content-bounded Pop = omega arith
-content-bounded Look = omega arith
-content-bounded (Flush what band) = omega arith
-content-bounded (Write bytes) = omega arith
-content-bounded (Put prio control body) = omega arith
-content-bounded (Mode mode) = omega arith
-content-bounded Nread = omega arith
 content-bounded (Ioctl command body) = omega arith
 content-bounded (IoctlResult number) = omega arith
 content-bounded Signals = omega arith
+content-bounded _ = omega arith

@@ -1,6 +1,6 @@
 -- What stands on the queues of a pair and in its lines, with what has gone, is what its books say: of each direction, and of each byte.
 use Rattle.std.proofs.Common.{ℕ, zero, suc, ◌≡◌, ◌<◌, ◌≤◌, ◌^◌, ◌+◌, Bool, true, false, cond, List, [], ◌∷◌, ◌++◌, length, refl, sym, ap, subst, ◌∙◌, length-append, arith}
-use Rattle.std.specs.Prelude.{◌&&◌, ◌||◌, nat_lt, count_by, drop, min, take, Option, None, Some}
+use Rattle.std.specs.Prelude.{◌||◌, nat_lt, count_by, drop, min, take, Option, None, Some}
 use Rattle.std.proofs.lemmas.Bool.Decides.{nat_tests}
 use Rattle.std.proofs.lemmas.List.{length-drop, length-take}
 use Rattle.strm_types.specs.declared.books.Book.{Book}
@@ -17,8 +17,7 @@ use Rattle.strm_types.specs.declared.names.Dir.TheVariants.{MasterToSlave, Slave
 use Rattle.strm_types.specs.declared.names.Side.{Side}
 use Rattle.strm_types.specs.declared.names.Side.TheVariants.{Master, Slave}
 use Rattle.strm_types.specs.declared.names.Way.TheVariants.{Down}
-use Rattle.strm_types.specs.declared.refusals.Refusal.{Refusal}
-use Rattle.strm_types.specs.declared.refusals.Refusal.TheVariants.{Einval, Enxio, Erange}
+use Rattle.strm_types.specs.declared.refusals.Refusal.TheVariants.{Einval, Erange}
 use Rattle.strm_types.specs.declared.rules.Rule.TheVariants.{EndClosed}
 use Rattle.strm_types.specs.declared.spots.Spot.{Spot}
 use Rattle.strm_types.specs.Books as books
@@ -40,14 +39,15 @@ use Rattle.strm_laws.specs.Places.{weight_made}
 use Rattle.strm_types.specs.PutMsg.{is_no_prio, is_too_long, put_refusal}
 use Rattle.strm_laws.specs.Pushes.{head_above, ioctl_dropped, named_by, with_modules}
 use Rattle.strm_laws.specs.Puts.{delivered, flushed_on}
-use Rattle.strm_laws.specs.Refusals.{blocks_asked, goes_down, in_range, may_ask, refused_at_once, refused_by_state}
-use Rattle.strm_types.specs.Refused.{is_a_band, or_else, unless}
+use Rattle.strm_laws.specs.Refusals.{blocks_asked, in_range, refused_at_once, refused_by_state}
+use Rattle.strm_types.specs.Refused.{or_else}
 use Rattle.strm_laws.specs.Stacked.{Module}
 use Rattle.strm_laws.specs.State.{State, book, stream, with_book}
 use Rattle.strm_laws.specs.Step.{after}
 use Rattle.strm_laws.specs.Turns.{turned}
 use Rattle.strm_types.specs.Write.{chunk_count, chunks_of}
 use Rattle.strm_laws.specs.Writes.{Wrote, below_head, cells_sent, chunks_sent, is_full_below}
+use Rattle.strm_laws.proofs.Replay.{allowed-met, both-true}
 use Rattle.strm_laws.proofs.ChangesMake.{close-none, get-none, pop-none, push-none, read-none}
 use Rattle.strm_laws.proofs.InOrder.{AreNext, BooksMade, InOrder, Numbered, books-both}
 use Rattle.strm_types.proofs.MadeCells.{made-long}
@@ -367,11 +367,6 @@ module _ {C : Type 0} (cells : Cells C) (p : Dir → C → Bool) (numbered : Num
   step-counts s (Called caller asked answer) = call-counts caller asked answer s
   step-counts s (Turned name turn) = omega (arith, books-count s (turned cells name turn s).state (turned cells name turn s).gone (turn-books cells name turn s))
 
-both-true : (a b : Bool) → (a && b) ≡ true → (a ≡ true) × (b ≡ true)
-both-true true true is = (refl, refl)
-both-true true false is = absurd (cc)
-both-true false b is = absurd (cc)
-
 has-room : (b : Book) → books.has_room b ≡ true → (b.written < BOOK_MAX) × (b.made < BOOK_MAX)
 has-room b room =
     let parts = both-true (nat_lt b.written BOOK_MAX) (nat_lt b.made BOOK_MAX) room in
@@ -403,14 +398,8 @@ written-by-blocks (Ioctl command body) n few enough = tt
 written-by-blocks (IoctlResult number) n few enough = tt
 written-by-blocks Signals n few enough = tt
 
--- a write and a putmsg that aren't refused find room in the books
-ranged : (goes : Bool) (first : Option Refusal) (range : Bool) (rest : Option Refusal) → or_else (or_else (unless goes Enxio) (or_else first (unless range Erange))) rest ≡ None → range ≡ true
-ranged true None true rest allowed = refl
-ranged true None false rest allowed = absurd (cc)
-ranged true (Some r) range rest allowed = absurd (cc)
-ranged false first range rest allowed = absurd (cc)
-
-pub parts-few : (prio : Prio) (control body : Option (List ℕ)) → put_refusal prio control body ≡ None → length (part control) + length (part body) < 2 ^ 62
+-- a putmsg with whose arguments nothing is wrong has few bytes
+pub parts-few : (prio : Prio) (control body : Option (List ℕ)) → put_refusal prio control body ≡ None → length (part control) + length (part body) ≤ CONTROL_MAX + DATA_MAX
 parts-few prio control body none = at (is_no_prio prio control) (is_too_long control body) refl none
   where
     few : (a b : Bool) → (a || b) ≡ false → (a ≡ false) × (b ≡ false)
@@ -418,7 +407,7 @@ parts-few prio control body none = at (is_no_prio prio control) (is_too_long con
     few true b is = absurd (cc)
     few false true is = absurd (cc)
 
-    at : (wrong long : Bool) → is_too_long control body ≡ long → cond wrong (Some Einval) (cond long (Some Erange) None) ≡ None → length (part control) + length (part body) < 2 ^ 62
+    at : (wrong long : Bool) → is_too_long control body ≡ long → cond wrong (Some Einval) (cond long (Some Erange) None) ≡ None → length (part control) + length (part body) ≤ CONTROL_MAX + DATA_MAX
     at true long is none = absurd (cc)
     at false true is none = absurd (cc)
     at false false is none =
@@ -428,18 +417,6 @@ parts-few prio control body none = at (is_no_prio prio control) (is_too_long con
         let one : length (part control) ≤ CONTROL_MAX = grind (arith, nat_tests) in
         let two : length (part body) ≤ DATA_MAX = grind (arith, nat_tests) in
         omega (arith, one, two)
-
--- where an ioctl isn't refused, more may be booked
-ioctl-ranged : (goes may range : Bool) (rest : Option Refusal) → or_else (or_else (unless goes Enxio) (unless (may && range) Erange)) rest ≡ None → range ≡ true
-ioctl-ranged true true true rest allowed = refl
-ioctl-ranged true true false rest allowed = absurd (cc)
-ioctl-ranged true false range rest allowed = absurd (cc)
-ioctl-ranged false may range rest allowed = absurd (cc)
-
-put-allowed : (goes : Bool) (first : Option Refusal) (range : Bool) (rest : Option Refusal) → or_else (or_else (unless goes Enxio) (or_else first (unless range Erange))) rest ≡ None → first ≡ None
-put-allowed true None range rest allowed = refl
-put-allowed true (Some r) range rest allowed = absurd (cc)
-put-allowed false first range rest allowed = absurd (cc)
 
 module _ {C : Type 0} where
   pub range-low : (dir : Dir) (s : State C) → in_range s ≡ true → ((book dir s).written < BOOK_MAX) × ((book dir s).made < BOOK_MAX)
@@ -469,12 +446,12 @@ module _ {C : Type 0} where
       let dir = direction_from caller.side in
       let xs = cells_written cells dir (book dir s).written bytes in
       let t = write_sent cells caller.side bytes s in
-      let range = ranged (goes_down caller.side s) None (in_range s) _ allowed in
+      let range = (allowed-met s caller (Write bytes) allowed).booked in
       written-few cells dir t.taken s t.state t.gone range
       (omega (arith, sent-few cells caller.side xs s, written-long cells dir (book dir s).written bytes, less)) (chunks-book cells caller.side (chunks_of (chunk_count (length xs)) xs) s) (made range)
   call-few cells caller (Put prio control body) s allowed less few made =
-      let range = ranged (goes_down caller.side s) (put_refusal prio control body) (in_range s) _ allowed in
-      at control body range (parts-few prio control body (put-allowed (goes_down caller.side s) (put_refusal prio control body) (in_range s) _ allowed)) (made range)
+      let may = allowed-met s caller (Put prio control body) allowed in
+      at control body may.booked (omega (arith, parts-few prio control body may.right)) (made may.booked)
     where
       sent : (n : ℕ) (m : Message C) → in_range s ≡ true → n < 2 ^ 62 → (let t = delivered cells (record { side = caller.side; at = 1; way = Down }) m s in
           let u = with_book (direction_from caller.side) (with_written n (book (direction_from caller.side) t.state)) t.state in MadeFew u → FewBooked u)
@@ -485,10 +462,10 @@ module _ {C : Type 0} where
       at None (Some ys) room less made = sent (0 + length ys) (message_put cells caller.side prio None (Some ys) s) room less made
       at (Some xs) b room less made = sent (length xs + length (part b)) (message_put cells caller.side prio (Some xs) b s) room less made
   call-few cells caller (Flush what band) s allowed less few made =
-      let range = ranged (goes_down caller.side s) (unless (is_a_band band) Einval) (in_range s) _ allowed in
+      let range = (allowed-met s caller (Flush what band) allowed).booked in
       turn-few cells s (flushed_on cells band caller.side what s).state (flushed_on cells band caller.side what s).gone range (flush-books cells caller.side what band s) (made range)
   call-few cells caller (Ioctl command body) s allowed less few made =
-      let range = ioctl-ranged (goes_down caller.side s) (may_ask body s) (in_range s) _ allowed in
+      let range = (allowed-met s caller (Ioctl command body) allowed).booked in
       turn-few cells s (called cells caller (Ioctl command body) s).state (ioctl_sent cells caller.side command body s).gone range (ioctl-books cells caller.side command body s) (made range)
   call-few cells caller OpenMaster s allowed less few made = same-few s _ (still-same cells caller OpenMaster s refl) few
   call-few cells caller Unlock s allowed less few made = same-few s _ (still-same cells caller Unlock s refl) few

@@ -97,8 +97,8 @@ pub enum Event<T> {
     Signals,
 }
 
-// The bytes of a part, none where it is absent.
-fn part_bytes<'a>(lent: Option<&'a [u8]>) -> &'a [u8]
+/// The bytes of a part, none where it is absent.
+pub(crate) fn part_bytes<'a>(lent: Option<&'a [u8]>) -> &'a [u8]
     ensures { result.now ≡ part (option_map (λ bytes. bytes.now) lent.entry) }
 {
     match lent {
