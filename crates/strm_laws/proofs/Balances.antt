@@ -1,6 +1,6 @@
 -- What stands on the queues of a pair and in its lines, with what has gone, is what its books say: of each direction, and of each byte.
 use Rattle.std.proofs.Common.{ℕ, zero, suc, ◌≡◌, ◌<◌, ◌≤◌, ◌^◌, ◌+◌, Bool, true, false, cond, List, [], ◌∷◌, ◌++◌, length, refl, sym, ap, subst, ◌∙◌, length-append, arith}
-use Rattle.std.specs.Prelude.{◌||◌, nat_lt, count_by, drop, min, take, Option, None, Some}
+use Rattle.std.specs.Prelude.{◌&&◌, ◌||◌, nat_lt, count_by, drop, min, take, Option, None, Some}
 use Rattle.std.proofs.lemmas.Bool.Decides.{nat_tests}
 use Rattle.std.proofs.lemmas.List.{length-drop, length-take}
 use Rattle.strm_types.specs.declared.books.Book.{Book}
@@ -47,7 +47,7 @@ use Rattle.strm_laws.specs.Step.{after}
 use Rattle.strm_laws.specs.Turns.{turned}
 use Rattle.strm_types.specs.Write.{chunk_count, chunks_of}
 use Rattle.strm_laws.specs.Writes.{Wrote, below_head, cells_sent, chunks_sent, is_full_below}
-use Rattle.strm_laws.proofs.Replay.{allowed-met, both-true}
+use Rattle.strm_laws.proofs.Replay.{allowed-met}
 use Rattle.strm_laws.proofs.ChangesMake.{close-none, get-none, pop-none, push-none, read-none}
 use Rattle.strm_laws.proofs.InOrder.{AreNext, BooksMade, InOrder, Numbered, books-both}
 use Rattle.strm_types.proofs.MadeCells.{made-long}
@@ -162,14 +162,7 @@ module _ {C : Type 0} (cells : Cells C) where
   still-none caller (Write bytes) answer s still = absurd (cc)
   still-none caller (Put prio control body) answer s still = absurd (cc)
   still-none caller (Ioctl command body) answer s still = absurd (cc)
-  still-none caller OpenMaster answer s still = refl
-  still-none caller Unlock answer s still = refl
-  still-none caller OpenSlave answer s still = refl
-  still-none caller Look answer s still = refl
-  still-none caller (Mode mode) answer s still = refl
-  still-none caller Nread answer s still = refl
-  still-none caller (IoctlResult number) answer s still = refl
-  still-none caller Signals answer s still = refl
+  still-none caller _ answer s still = refl
 
   -- a flush and an ioctl book what their deliveries make
   flush-books : (side : Side) (what : FlushQueues) (band : Option Band) (s : State C) → let t = flushed_on cells band side what s in Books s t.gone t.state
@@ -346,26 +339,19 @@ module _ {C : Type 0} (cells : Cells C) (p : Dir → C → Bool) (numbered : Num
   call-counts : (caller : Caller) (asked : Request) (answer : Reply) (s : State C) → Counts caller asked answer s
   call-counts caller (Write bytes) answer s = write-counts caller bytes answer s
   call-counts caller (Put prio control body) answer s = put-counts caller prio control body answer s
-  call-counts caller OpenMaster answer s = omega (arith, still-counts caller OpenMaster answer s refl)
-  call-counts caller Unlock answer s = omega (arith, still-counts caller Unlock answer s refl)
-  call-counts caller OpenSlave answer s = omega (arith, still-counts caller OpenSlave answer s refl)
-  call-counts caller Shut answer s = omega (arith, still-counts caller Shut answer s refl)
-  call-counts caller (Push name) answer s = omega (arith, still-counts caller (Push name) answer s refl)
-  call-counts caller Pop answer s = omega (arith, still-counts caller Pop answer s refl)
-  call-counts caller Look answer s = omega (arith, still-counts caller Look answer s refl)
   call-counts caller (Flush what band) answer s = omega (arith, books-count s (flushed_on cells band caller.side what s).state (flushed_on cells band caller.side what s).gone (flush-books cells caller.side what band s))
-  call-counts caller (Read n) answer s = omega (arith, still-counts caller (Read n) answer s refl)
-  call-counts caller (Get wanted cmax dmax) answer s = omega (arith, still-counts caller (Get wanted cmax dmax) answer s refl)
-  call-counts caller (Mode mode) answer s = omega (arith, still-counts caller (Mode mode) answer s refl)
-  call-counts caller Nread answer s = omega (arith, still-counts caller Nread answer s refl)
   call-counts caller (Ioctl command body) answer s = omega (arith, books-count s (called cells caller (Ioctl command body) s).state (ioctl_sent cells caller.side command body s).gone (ioctl-books cells caller.side command body s))
-  call-counts caller (IoctlResult number) answer s = omega (arith, still-counts caller (IoctlResult number) answer s refl)
-  call-counts caller Signals answer s = omega (arith, still-counts caller Signals answer s refl)
+  call-counts caller asked answer s = omega (arith, still-counts caller asked answer s refl)
 
   -- a step
   pub step-counts : (s : State C) (entry : PlainEntry) → count_came cells p s entry + weight_made p (gone cells s entry) + total s ≡ total (after cells s entry)
   step-counts s (Called caller asked answer) = call-counts caller asked answer s
   step-counts s (Turned name turn) = omega (arith, books-count s (turned cells name turn s).state (turned cells name turn s).gone (turn-books cells name turn s))
+
+both-true : (a b : Bool) → (a && b) ≡ true → (a ≡ true) × (b ≡ true)
+both-true true true is = (refl, refl)
+both-true true false is = absurd (cc)
+both-true false b is = absurd (cc)
 
 has-room : (b : Book) → books.has_room b ≡ true → (b.written < BOOK_MAX) × (b.made < BOOK_MAX)
 has-room b room =
@@ -381,22 +367,7 @@ WritesFew asked = Unit {0}
 pub written-by-blocks : (asked : Request) (n : ℕ) → n ≤ 65536 → blocks_asked asked ≤ n → WritesFew asked
 unfolding chunk_count
 written-by-blocks (Write bytes) n few enough = omega (arith, few, enough)
-written-by-blocks OpenMaster n few enough = tt
-written-by-blocks Unlock n few enough = tt
-written-by-blocks OpenSlave n few enough = tt
-written-by-blocks Shut n few enough = tt
-written-by-blocks (Push name) n few enough = tt
-written-by-blocks Pop n few enough = tt
-written-by-blocks Look n few enough = tt
-written-by-blocks (Flush what band) n few enough = tt
-written-by-blocks (Read most) n few enough = tt
-written-by-blocks (Put prio control body) n few enough = tt
-written-by-blocks (Get wanted cmax dmax) n few enough = tt
-written-by-blocks (Mode mode) n few enough = tt
-written-by-blocks Nread n few enough = tt
-written-by-blocks (Ioctl command body) n few enough = tt
-written-by-blocks (IoctlResult number) n few enough = tt
-written-by-blocks Signals n few enough = tt
+written-by-blocks _ n few enough = tt
 
 -- a putmsg with whose arguments nothing is wrong has few bytes
 pub parts-few : (prio : Prio) (control body : Option (List ℕ)) → put_refusal prio control body ≡ None → length (part control) + length (part body) ≤ CONTROL_MAX + DATA_MAX
@@ -467,16 +438,4 @@ module _ {C : Type 0} where
   call-few cells caller (Ioctl command body) s allowed less few made =
       let range = (allowed-met s caller (Ioctl command body) allowed).booked in
       turn-few cells s (called cells caller (Ioctl command body) s).state (ioctl_sent cells caller.side command body s).gone range (ioctl-books cells caller.side command body s) (made range)
-  call-few cells caller OpenMaster s allowed less few made = same-few s _ (still-same cells caller OpenMaster s refl) few
-  call-few cells caller Unlock s allowed less few made = same-few s _ (still-same cells caller Unlock s refl) few
-  call-few cells caller OpenSlave s allowed less few made = same-few s _ (still-same cells caller OpenSlave s refl) few
-  call-few cells caller Shut s allowed less few made = same-few s _ (still-same cells caller Shut s refl) few
-  call-few cells caller (Push name) s allowed less few made = same-few s _ (still-same cells caller (Push name) s refl) few
-  call-few cells caller Pop s allowed less few made = same-few s _ (still-same cells caller Pop s refl) few
-  call-few cells caller Look s allowed less few made = same-few s _ (still-same cells caller Look s refl) few
-  call-few cells caller (Read n) s allowed less few made = same-few s _ (still-same cells caller (Read n) s refl) few
-  call-few cells caller (Get wanted cmax dmax) s allowed less few made = same-few s _ (still-same cells caller (Get wanted cmax dmax) s refl) few
-  call-few cells caller (Mode mode) s allowed less few made = same-few s _ (still-same cells caller (Mode mode) s refl) few
-  call-few cells caller Nread s allowed less few made = same-few s _ (still-same cells caller Nread s refl) few
-  call-few cells caller (IoctlResult number) s allowed less few made = same-few s _ (still-same cells caller (IoctlResult number) s refl) few
-  call-few cells caller Signals s allowed less few made = same-few s _ (still-same cells caller Signals s refl) few
+  call-few cells caller asked s allowed less few made = same-few s _ (still-same cells caller asked s refl) few

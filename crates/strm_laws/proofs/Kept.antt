@@ -6,7 +6,7 @@ use Rattle.strm_types.specs.declared.limits.TheConstants.{READ_MAX}
 use Rattle.strm_types.specs.declared.answers.Answer.TheVariants.{Bytes}
 use Rattle.strm_types.specs.declared.entries.Entry.TheVariants.{Called, Turned}
 use Rattle.strm_types.specs.declared.events.Caller.{Caller}
-use Rattle.strm_types.specs.declared.events.Event.TheVariants.{OpenMaster, Unlock, OpenSlave, Shut, Push, Pop, Look, Flush, Write, Read, Put, Get, Mode, Nread, Ioctl, IoctlResult, Signals}
+use Rattle.strm_types.specs.declared.events.Event.TheVariants.{OpenMaster, Unlock, OpenSlave, Shut, Push, Pop, Flush, Write, Read, Put, Get, Mode, Ioctl, IoctlResult, Signals}
 use Rattle.strm_types.specs.declared.modes.Mode as modes
 use Rattle.strm_types.specs.declared.modes.Mode.TheVariants as chosen
 use Rattle.strm_types.specs.declared.modes.Wanted.{Wanted}
@@ -109,12 +109,9 @@ module _ {C : Type 0} where
     call-keeps : (cells : Cells C) (caller : Caller) (asked : Request) (answer : Reply) (s : State C) → NothingUnread s → AreIdle s → or_else (refused_at_once s caller asked) (refused_by_state s caller asked) ≡ None
         → let entry = Called caller asked answer in
         state_weight p (called cells caller asked s).state + weight_gone p (gone cells s entry) ≡ state_weight p s + (count_came cells p s entry + weight_made p (gone cells s entry))
-    call-keeps cells caller OpenMaster answer s unread idle allowed = refl
-    call-keeps cells caller Unlock answer s unread idle allowed = refl
     call-keeps cells caller Shut answer s unread idle allowed = omega (arith, closed_at-keeps p caller.side s (idle-at caller.side s idle))
     call-keeps cells caller (Push name) answer s unread idle allowed = omega (arith, push-keeps p caller.side name s)
     call-keeps cells caller Pop answer s unread idle allowed = omega (arith, pop-keeps p caller.side s (idle-at caller.side s idle))
-    call-keeps cells caller Look answer s unread idle allowed = refl
     call-keeps cells caller (Flush what band) answer s unread idle allowed = omega (arith, flushed_on-keeps cells p band caller.side what s)
     call-keeps cells caller OpenSlave answer s unread idle allowed =
         let by_state = or_else-none _ _ (or_else-none (refused_at_once s caller OpenSlave) _ allowed).1 in
@@ -126,10 +123,10 @@ module _ {C : Type 0} where
     call-keeps cells caller (Put prio control body) answer s unread idle allowed = put_at-keeps p cells caller.side prio control body s
     call-keeps cells caller (Get wanted cmax dmax) answer s unread idle allowed = omega (arith, get-keeps cells caller.side wanted cmax dmax s)
     call-keeps cells caller (Mode mode) answer s unread idle allowed = omega (arith, mode-keeps caller.side mode s)
-    call-keeps cells caller Nread answer s unread idle allowed = refl
     call-keeps cells caller (Ioctl command body) answer s unread idle allowed = omega (arith, sent-keeps p cells caller.side command body s)
     call-keeps cells caller (IoctlResult number) answer s unread idle allowed = omega (arith, told-keeps p caller.side s)
     call-keeps cells caller Signals answer s unread idle allowed = omega (arith, signals-keep p caller.side [] s)
+    call-keeps cells caller _ answer s unread idle allowed = refl
 
     -- what stands on the queues after a step, and what it took away, is what stood there before, what it brought, and what was
     -- made on the way
@@ -171,7 +168,6 @@ module _ {C : Type 0} where
   call-unread cells caller Shut s unread allowed = closed_at-unread caller.side s unread
   call-unread cells caller (Push name) s unread allowed = push-unread caller.side (named_by name) s unread
   call-unread cells caller Pop s unread allowed = pop-unread caller.side s unread
-  call-unread cells caller Look s unread allowed = unread
   call-unread cells caller (Flush what band) s unread allowed = flushed_on-unread cells band caller.side what s unread
   call-unread cells caller (Write bytes) s unread allowed = write-unread cells caller.side bytes s unread
   call-unread cells caller (Read n) s unread allowed =
@@ -187,11 +183,11 @@ module _ {C : Type 0} where
       taken-unread caller.side s (get_at cells caller.side wanted cmax dmax s).answer (get_queue wanted c d q) (get_lets_go wanted c d q) unread
       (allowed-met s caller (Get wanted cmax dmax) allowed).reached
   call-unread cells caller (Mode mode) s unread allowed = mode-unread caller.side mode s unread
-  call-unread cells caller Nread s unread allowed = unread
   call-unread cells caller (Ioctl command body) s unread allowed =
       told-unread caller.side (ioctl_sent cells caller.side command body s).state (sent-unread cells caller.side command body s unread)
   call-unread cells caller (IoctlResult number) s unread allowed = told-unread caller.side s unread
   call-unread cells caller Signals s unread allowed = signals-unread caller.side s unread
+  call-unread cells caller _ s unread allowed = unread
 
   pub step-unread : (cells : Cells C) (old new : State C) (entry : PlainEntry) → NothingUnread old → Step cells old entry new → NothingUnread new
   step-unread cells old new (Called caller asked answer) unread step = subst (λ (s : State C). NothingUnread s) step.leads (call-unread cells caller asked old unread step.allowed)

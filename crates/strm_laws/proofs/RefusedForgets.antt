@@ -5,7 +5,7 @@ use Rattle.std.specs.List.{list_any}
 use Rattle.std.proofs.lemmas.List.{length-map}
 use Rattle.strm_types.specs.declared.entries.Entry.TheVariants.{Called, Turned}
 use Rattle.strm_types.specs.declared.events.Caller.{Caller}
-use Rattle.strm_types.specs.declared.events.Event.TheVariants.{OpenMaster, Unlock, OpenSlave, Shut, Push, Pop, Look, Flush, Write, Read, Put, Get, Mode, Nread, Ioctl, IoctlResult, Signals}
+use Rattle.strm_types.specs.declared.events.Event.TheVariants.{Push, Pop, Look, Write, Read, Put, Get, Ioctl, IoctlResult}
 use Rattle.strm_types.specs.declared.limits.TheConstants.{MODULES}
 use Rattle.strm_types.specs.declared.modes.Prio.{Prio}
 use Rattle.strm_types.specs.declared.modes.Prio.TheVariants as prios
@@ -69,7 +69,7 @@ module _ {C D : Type 0} (f : C → D) where
   at-once : (s : State C) (caller : Caller) (asked : Request) → refused_at_once (map_state f s) caller asked ≡ refused_at_once s caller asked
   at-once s caller asked =
       let n = needs asked in
-      let rest = or_else (unless (not n.masters || is_master caller.side) Einval) (or_else n.wrong (unless ((not n.numbered || is_numbered s) && (not n.makes || in_range s)) Erange)) in
+      let rest = or_else (unless (not n.masters || is_master caller.side) Einval) (or_else n.wrong (or_else (unless (not n.numbered || is_numbered s) Erange) (unless (not n.makes || in_range s) Erange))) in
       ap (λ b. or_else (unless b Enxio) rest) (reached-same caller.side n.reach s)
 
   -- the end of input
@@ -141,8 +141,6 @@ module _ {C D : Type 0} (f : C → D) where
   slot-same Slave s = refl
 
   by-state : (s : State C) (caller : Caller) (asked : Request) → refused_by_state (map_state f s) caller asked ≡ refused_by_state s caller asked
-  by-state s caller OpenMaster = refl
-  by-state s caller OpenSlave = refl
   by-state s caller (Write bytes) = ap (λ b. unless (not b) Eagain) (full-same caller.side 0 s)
   by-state s caller (Read n) = read-same caller.side n s
   by-state s caller (Put prio control body) = ap (λ b. unless (not b) Eagain) (put-same prio control body caller.side s)
@@ -152,12 +150,7 @@ module _ {C D : Type 0} (f : C → D) where
   by-state s caller (Push name) = ap (λ b. unless b Einval) (push-same caller.side name s)
   by-state s caller Pop = ap (λ name. unless (is_some name) Einval) (top-forgets f caller.side s)
   by-state s caller Look = ap (λ name. unless (is_some name) Einval) (top-forgets f caller.side s)
-  by-state s caller Unlock = refl
-  by-state s caller Shut = refl
-  by-state s caller (Flush what band) = refl
-  by-state s caller (Mode mode) = refl
-  by-state s caller Nread = refl
-  by-state s caller Signals = refl
+  by-state s caller _ = refl
 
   pub refusals-forget : (s : State C) (caller : Caller) (asked : Request) → or_else (refused_at_once (map_state f s) caller asked) (refused_by_state (map_state f s) caller asked) ≡ or_else (refused_at_once s caller asked) (refused_by_state s caller asked)
   refusals-forget s caller asked = ap (λ r. or_else r (refused_by_state (map_state f s) caller asked)) (at-once s caller asked) ∙ ap (λ r. or_else (refused_at_once s caller asked) r) (by-state s caller asked)

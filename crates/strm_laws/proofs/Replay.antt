@@ -1,6 +1,6 @@
 -- Replaying longer journals, and what a call or a turn that isn't refused is.
 use Rattle.std.proofs.Common.{◌≡◌, Bool, true, false, List, [], ◌∷◌, ◌++◌, length, refl, sym, ap, subst, ◌∙◌}
-use Rattle.std.specs.Prelude.{Option, None, Some, ◌+◌, not, ◌&&◌, ◌||◌}
+use Rattle.std.specs.Prelude.{Option, None, Some, ◌+◌, not, ◌||◌}
 use Rattle.strm_types.specs.declared.events.Caller.{Caller}
 use Rattle.strm_types.specs.declared.limits.Config.{Config}
 use Rattle.strm_types.specs.declared.names.QueueName.{QueueName}
@@ -53,11 +53,6 @@ pub or_else-none : (a b : Option Refusal) → or_else a b ≡ None → (a ≡ No
 or_else-none None b h = (refl, h)
 or_else-none (Some r) b h = absurd (cc)
 
-pub both-true : (a b : Bool) → (a && b) ≡ true → (a ≡ true) × (b ≡ true)
-both-true true true is = (refl, refl)
-both-true true false is = absurd (cc)
-both-true false b is = absurd (cc)
-
 module _ {C : Type 0} where
   -- what is asked is there: the stream, arguments with which nothing is wrong, and room in the books
   pub record Met (s : State C) (side : Side) (n : Needs) : Type 0 where
@@ -70,8 +65,8 @@ module _ {C : Type 0} where
       let first = or_else-none (unless (is_reached side n.reach s) Enxio) _ none in
       let second = or_else-none (unless (not n.masters || is_master side) Einval) _ first.1 in
       let third = or_else-none n.wrong _ second.1 in
-      let room = both-true (not n.numbered || is_numbered s) (not n.makes || in_range s) (unless-none _ _ third.1) in
-      record { reached = unless-none _ _ first.0; right = third.0; booked = room.1 }
+      let fourth = or_else-none (unless (not n.numbered || is_numbered s) Erange) _ third.1 in
+      record { reached = unless-none _ _ first.0; right = third.0; booked = unless-none _ _ fourth.1 }
 
   -- and so of a call that isn't refused
   pub allowed-met : (s : State C) (caller : Caller) (asked : Request) → or_else (refused_at_once s caller asked) (refused_by_state s caller asked) ≡ None → Met s caller.side (needs asked)

@@ -94,15 +94,17 @@ module _ {C : Type 0} where
   abbrev pub is_numbered : State C → Bool
   is_numbered s = nat_lt s.next_ioctl IOCTL_END
 
-  -- what a call is refused for that asks so: the stream, then who may make it and its arguments, and then numbers and the books
+  -- what a call of a side is refused for before all else, by what it asks for: the stream, then who may make it and its arguments, and
+  -- then numbers and the books
   abbrev pub unmet : State C → Side → Needs → Option Refusal
   unmet s side n =
       or_else (unless (is_reached side n.reach s) Enxio)
       (or_else (unless (not n.masters || is_master side) Einval)
       (or_else n.wrong
-      (unless ((not n.numbered || is_numbered s) && (not n.makes || in_range s)) Erange)))
+      (or_else (unless (not n.numbered || is_numbered s) Erange)
+      (unless (not n.makes || in_range s) Erange))))
 
-  -- what a call is refused for before all else
+  -- and so a call
   abbrev pub refused_at_once : State C → Caller → Request → Option Refusal
   refused_at_once s caller asked = unmet s caller.side (needs asked)
 

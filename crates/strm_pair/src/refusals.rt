@@ -1,6 +1,6 @@
 //! What a call is refused for, by the streams alone.
 
-ghost use Rattle.std.specs.Prelude.{◌≡◌, not, None};
+ghost use Rattle.std.specs.Prelude.{◌≡◌, ◌||◌, not, None};
 ghost use Rattle.strm_types.specs.Events.{request};
 ghost use Rattle.strm_laws.specs.Pushes.{may_stand, named_by};
 ghost use Rattle.strm_laws.specs.Refusals.{at_end, in_range, is_reached, refused_at_once, refused_by_state, unmet};
@@ -29,6 +29,14 @@ pub(crate) fn or_else(first: Option<Refusal>, second: Option<Refusal>) -> Option
         Some(refusal) => Some(refusal),
         None => second,
     }
+}
+
+// A refusal where a condition is asked for that doesn't hold.
+#[inline(always)]
+fn needed(is_asked: bool, condition: bool, refusal: Refusal) -> Option<Refusal>
+    ensures { result ≡ unless (not is_asked || condition) refusal }
+{
+    unless(!is_asked || condition, refusal)
 }
 
 impl<S: Drop> Streams<S> {
@@ -133,17 +141,13 @@ impl<S: Drop> Streams<S> {
     pub fn unmet(&self, side: Side, needs: &Needs) -> Option<Refusal>
         ensures { (modules : Modules S) (s : StoreValue) → result ≡ unmet (state_in modules s self.now) side needs.now }
     {
-        let is_numbered = !needs.numbered || self.next_ioctl < IOCTL_END;
-        let is_booked = !needs.makes || self.in_range();
-        let is_allowed = !needs.masters || matches!(side, Side::Master);
+        let numbered = needed(needs.numbered, self.next_ioctl < IOCTL_END, Refusal::Erange);
+        let booked = needed(needs.makes, self.in_range(), Refusal::Erange);
         or_else(
             unless(self.is_reached(side, needs.reach), Refusal::Enxio),
             or_else(
-                unless(is_allowed, Refusal::Einval),
-                or_else(
-                    needs.wrong,
-                    unless(is_numbered && is_booked, Refusal::Erange),
-                ),
+                needed(needs.masters, side.is_master(), Refusal::Einval),
+                or_else(needs.wrong, or_else(numbered, booked)),
             ),
         )
     }

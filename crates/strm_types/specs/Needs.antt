@@ -27,25 +27,29 @@ only reach = record { reach = reach; masters = false; wrong = None; numbered = f
 abbrev pub change : Needs
 change = record (only Down) { makes = true; blocks = CHANGE_BLOCKS }
 
--- What a call asks for beside room for what it brings. open(2) of the master asks for nothing, of the slave for an open master. unlockpt(3C) is
--- a call of the master. A close asks for 2 blocks. I_PUSH takes the name of a module, I_FLUSHBAND a band that queues have; these and I_POP ask
--- for 8 blocks. A write and a putmsg ask for 32 blocks more than they may take; putmsg has arguments of its own, and getpmsg a band. An ioctl asks
--- for a number, and for 34 blocks; it sends no more than 256 bytes. What a read, a get, an answer of an ioctl and signals give at most
--- is the most that their caller asked for, up to the room that there is for it. All other calls ask for the caller's stream alone.
+-- what a call asks for beside the room for what it brings; where nothing else is said, the caller's stream alone
 abbrev asks : Request → Needs
+-- open(2) of the master asks for nothing, of the slave for an open master
 asks OpenMaster = only Nothing
 asks OpenSlave = only Master
+-- unlockpt(3C) is a call of the master
 asks Unlock = record (only Own) { masters = true }
+-- close(2) asks for 2 blocks of each kind
 asks Shut = record (only Own) { blocks = CLOSE_BLOCKS }
+-- streamio(7I): I_PUSH takes the name of a module, and I_FLUSHBAND a band that queues have
 asks (Push name) = record change { wrong = unless (is_some name) Einval }
 asks Pop = change
 asks (Flush what band) = record change { wrong = unless (is_a_band band) Einval }
+-- write(2) and putmsg(2) ask for 32 blocks more than they may take, as what they send may make other messages
 asks (Write bytes) = record (only Down) { makes = true; blocks = WRITE_BLOCKS + chunk_count (length bytes) }
-asks (Read n) = record (only Own) { gives = min n READ_MAX }
 asks (Put prio control body) = record (only Down) { wrong = put_refusal prio control body; makes = true; blocks = WRITE_BLOCKS + put_blocks control body }
+-- read(2) and getmsg(2) give as many bytes as they ask for, up to 4096 of each part; getpmsg(2) asks for a band that queues have
+asks (Read n) = record (only Own) { gives = min n READ_MAX }
 asks (Get wanted cmax dmax) = record (only Own) { wrong = unless (asks_a_band wanted) Einval; gives = min cmax READ_MAX + min dmax READ_MAX }
+-- I_STR sends 256 bytes at most, takes a number, and gives 256 bytes at most, as the question for its answer does
 asks (Ioctl command body) = record (only Down) { wrong = unless (nat_le (length body) IOCTL_MAX) Erange; numbered = true; makes = true; gives = IOCTL_MAX; blocks = IOCTL_BLOCKS }
 asks (IoctlResult number) = record (only Own) { gives = IOCTL_MAX }
+-- each signal that waits is a byte
 asks Signals = record (only Own) { gives = SIGNALS_MAX }
 asks _ = only Own
 

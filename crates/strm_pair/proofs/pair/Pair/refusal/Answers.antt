@@ -15,35 +15,35 @@ returns-then-not-has_room g c =
     let v = c.args.self.now in
     let asked = request c.args.event.now in
     let at_once : refused_at_once v.state c.args.caller asked ≡ None =
-    ap (λ (n : Needs). unmet v.state c.args.caller.side n) (sym c.needs.ensures.value)
-    ∙ ap (λ (x : PairState). unmet x.state c.args.caller.side c.needs.result) (sym c.self.view_is) ∙ sym (c.unmet.ensures g.B.Stacks.view.modules (g.B.Blocks.value c.self.inside.store)) ∙ c.in_default.is in
+    ap (λ (n : Needs). unmet v.state c.args.caller.side n) (sym c.needs-needs.ensures.value)
+    ∙ ap (λ (x : PairState). unmet x.state c.args.caller.side c.needs-needs.result) (sym c.self.view_is) ∙ sym (c.unmet.ensures g.B.Stacks.view.modules (g.B.Blocks.value c.self.inside.store)) ∙ c.in_default.is in
     full-told v c.args.caller asked at_once
-    (ap (λ (n : Needs). has_room v.journal v.limits (n.brings + n.gives)) (sym c.needs.ensures.value) ∙ sym c.has_room.ensures ∙ c.if-not-has_room.true)
+    (ap (λ (n : Needs). has_room v.journal v.limits (n.brings + n.gives)) (sym c.needs-needs.ensures.value) ∙ sym c.has_room.ensures ∙ c.if-not-has_room.true)
 
 pub returns-then-not-has_blocks : goal.returns-then-not-has_blocks
 returns-then-not-has_blocks g c =
     let v = c.args.self.now in
     let asked = request c.args.event.now in
     let at_once : refused_at_once v.state c.args.caller asked ≡ None =
-    ap (λ (n : Needs). unmet v.state c.args.caller.side n) (sym c.needs.ensures.value)
-    ∙ ap (λ (x : PairState). unmet x.state c.args.caller.side c.needs.result) (sym c.self.view_is) ∙ sym (c.unmet.ensures g.B.Stacks.view.modules (g.B.Blocks.value c.self.inside.store)) ∙ c.in_default.is in
+    ap (λ (n : Needs). unmet v.state c.args.caller.side n) (sym c.needs-needs.ensures.value)
+    ∙ ap (λ (x : PairState). unmet x.state c.args.caller.side c.needs-needs.result) (sym c.self.view_is) ∙ sym (c.unmet.ensures g.B.Stacks.view.modules (g.B.Blocks.value c.self.inside.store)) ∙ c.in_default.is in
     few-told v c.args.caller asked at_once
-    (ap (λ (n : Needs). has_room v.journal v.limits (n.brings + n.gives)) (sym c.needs.ensures.value) ∙ sym c.has_room.ensures ∙ c.if-not-has_room.false)
-    (ap (λ (n : Needs). enough n.blocks v.free) (sym c.needs.ensures.value) ∙ sym c.has_blocks.ensures ∙ c.if-not-has_blocks.true)
+    (ap (λ (n : Needs). has_room v.journal v.limits (n.brings + n.gives)) (sym c.needs-needs.ensures.value) ∙ sym c.has_room.ensures ∙ c.if-not-has_room.false)
+    (ap (λ (n : Needs). enough n.blocks v.free) (sym c.needs-needs.ensures.value) ∙ sym c.has_blocks.ensures ∙ c.if-not-has_blocks.true)
 
 pub returns : goal.returns
 returns g c =
     let v = c.args.self.now in
     let asked = request c.args.event.now in
     let at_once : refused_at_once v.state c.args.caller asked ≡ None =
-    ap (λ (n : Needs). unmet v.state c.args.caller.side n) (sym c.needs.ensures.value)
-    ∙ ap (λ (x : PairState). unmet x.state c.args.caller.side c.needs.result) (sym c.self.view_is) ∙ sym (c.unmet.ensures g.B.Stacks.view.modules (g.B.Blocks.value c.self.inside.store)) ∙ c.in_default.is in
+    ap (λ (n : Needs). unmet v.state c.args.caller.side n) (sym c.needs-needs.ensures.value)
+    ∙ ap (λ (x : PairState). unmet x.state c.args.caller.side c.needs-needs.result) (sym c.self.view_is) ∙ sym (c.unmet.ensures g.B.Stacks.view.modules (g.B.Blocks.value c.self.inside.store)) ∙ c.in_default.is in
     c.refused_by_state.ensures ∙ ap (λ (x : PairState). refused_by_state x.state c.args.caller asked) c.self.view_is
     ∙ state-told v c.args.caller asked at_once
-    (ap (λ (n : Needs). has_room v.journal v.limits (n.brings + n.gives)) (sym c.needs.ensures.value) ∙ sym c.has_room.ensures ∙ c.if-not-has_room.false)
-    (ap (λ (n : Needs). enough n.blocks v.free) (sym c.needs.ensures.value) ∙ sym c.has_blocks.ensures ∙ c.if-not-has_blocks.false)
+    (ap (λ (n : Needs). has_room v.journal v.limits (n.brings + n.gives)) (sym c.needs-needs.ensures.value) ∙ sym c.has_room.ensures ∙ c.if-not-has_room.false)
+    (ap (λ (n : Needs). enough n.blocks v.free) (sym c.needs-needs.ensures.value) ∙ sym c.has_blocks.ensures ∙ c.if-not-has_blocks.false)
 
 pub refused_by_state-requires-clause-allowed : goal.refused_by_state-requires-clause-allowed
 refused_by_state-requires-clause-allowed g c =
-    ap (λ (n : Needs). unmet (state_in g.B.Stacks.view.modules (g.B.Blocks.value c.self.inside.store) c.self.inside.streams) c.args.caller.side n) (sym c.needs.ensures.value)
+    ap (λ (n : Needs). unmet (state_in g.B.Stacks.view.modules (g.B.Blocks.value c.self.inside.store) c.self.inside.streams) c.args.caller.side n) (sym c.needs-needs.ensures.value)
     ∙ sym (c.unmet.ensures g.B.Stacks.view.modules (g.B.Blocks.value c.self.inside.store)) ∙ c.in_default.is
