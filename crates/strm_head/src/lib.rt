@@ -18,6 +18,6 @@ pub use head::{Head, Waiting};
 pub use ioctls::{IoctlBytes, make_ioctl};
 pub use putting::{Came, Down};
 pub use reading::read;
-pub use sending::{make_flush, make_message, put_refusal, write};
+pub use sending::{make_flush, make_message, write};
 pub use signals::Signals;
 pub use vectors::Vectored;

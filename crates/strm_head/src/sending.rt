@@ -1,49 +1,15 @@
 //! What write(2), putmsg(2), putpmsg(2) and flushes send down a stream.
 
-ghost use Rattle.std.specs.Prelude.{◌≡◌, ◌≤◌, ◌<◌, true, false, length, nat_lt, None, MatchOption};
+ghost use Rattle.std.specs.Prelude.{◌≡◌, ◌≤◌, ◌<◌, true, false, length, None, MatchOption};
 ghost use Rattle.strm_types.specs.Flushing.{flush_bytes, flush_message};
-ghost use Rattle.strm_types.specs.Message.{data_message, part};
+ghost use Rattle.strm_types.specs.Message.{data_message};
 ghost use Rattle.strm_types.specs.PutMsg as puts;
 ghost use Rattle.strm_blocks.specs.Blocks.{filled_block, free_m, free_d, token};
 ghost use Rattle.strm_blocks.specs.Outcomes.{Copied};
 ghost use Rattle.strm_head.specs.Sending.{control_kind, lent, Sends};
 
 use strm_blocks::{Blocks, InHand};
-use strm_types::{BANDS, Band, CONTROL_MAX, DATA_MAX, FlushAsked, MsgKind, Prio, Refusal};
-
-// Whether no message can have this priority: one of high priority has a control part, and bands are those that queues have.
-fn is_no_prio(prio: Prio, control: Option<&[u8]>) -> bool
-    ensures { result ≡ puts.is_no_prio prio (lent control.entry) }
-{
-    match prio {
-        Prio::High => control.is_none(),
-        Prio::Band(band) => usize::from(band.0) >= BANDS,
-    }
-}
-
-// Whether a part has more bytes than so many.
-fn is_longer(bytes: Option<&[u8]>, most: usize) -> bool
-    ensures { result ≡ nat_lt most (length (part (lent bytes.entry))) }
-{
-    match bytes {
-        Some(bytes) => most < bytes.len(),
-        None => false,
-    }
-}
-
-/// What a putmsg(2) or putpmsg(2) is refused for by its arguments alone: EINVAL for high priority without a control part and for
-/// a band above 7, else ERANGE for a control part of more than 64 bytes or a data part of more than 256.
-pub fn put_refusal(prio: Prio, control: Option<&[u8]>, body: Option<&[u8]>) -> Option<Refusal>
-    ensures { result ≡ puts.put_refusal prio (lent control.entry) (lent body.entry) }
-{
-    if is_no_prio(prio, control) {
-        return Some(Refusal::Einval);
-    }
-    if is_longer(control, CONTROL_MAX) || is_longer(body, DATA_MAX) {
-        return Some(Refusal::Erange);
-    }
-    None
-}
+use strm_types::{Band, DATA_MAX, FlushAsked, MsgKind, Prio};
 
 // The band of a priority.
 fn band_of(prio: Prio) -> Band

@@ -34,7 +34,8 @@ use Rattle.strm_types.specs.Ldterms.{new_ldterm}
 use Rattle.strm_types.specs.Write.{chunk_count}
 use Rattle.strm_types.specs.Message.{Message, cells_of, size_of, is_held, is_high_priority, rank_of, band_of, data_message}
 use Rattle.strm_types.specs.Names.{driver_of, is_closed}
-use Rattle.strm_laws.specs.Refusals.{blocks_asked, blocks_taken, is_known, at_end, in_range, refused, turn_refused}
+use Rattle.strm_laws.specs.Refusals.{blocks_asked, blocks_taken, at_end, in_range, refused, turn_refused}
+use Rattle.strm_types.specs.Needs.{needs}
 use Rattle.strm_types.specs.Refused.{is_a_band, has_no_data}
 use Rattle.strm_laws.specs.Stacked.{OfLdterm}
 use Rattle.strm_laws.specs.State.{State, Stream}
@@ -73,7 +74,7 @@ stored-changes = refl
 
 -- arguments
 
-pub modules-are-known : map is_known (None ∷ Some Ldterm ∷ Some Ptem ∷ Some Pckt ∷ []) ≡ false ∷ true ∷ true ∷ true ∷ []
+pub modules-are-known : map (λ name. (needs (Push name)).wrong) (None ∷ Some Ldterm ∷ Some Ptem ∷ Some Pckt ∷ []) ≡ Some Einval ∷ None ∷ None ∷ None ∷ []
 modules-are-known = refl
 
 pub bands-up-to-seven : map is_a_band (None ∷ band 0 ∷ band 7 ∷ band 8 ∷ band 255 ∷ []) ≡ true ∷ true ∷ true ∷ false ∷ false ∷ []

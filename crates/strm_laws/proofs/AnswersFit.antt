@@ -3,7 +3,7 @@ use Rattle.std.proofs.Common.{ℕ, ◌≡◌, ◌≤◌, ◌+◌, Bool, true, fa
 use Rattle.std.specs.Prelude.{min, Option, None, Some, option_map}
 use Rattle.std.proofs.lemmas.List.{length-map}
 use Rattle.strm_types.specs.declared.events.Caller.{Caller}
-use Rattle.strm_types.specs.declared.events.Event.TheVariants.{OpenMaster, Unlock, OpenSlave, Shut, Push, Pop, Look, Flush, Write, Read, Put, Get, Mode, Nread, Ioctl, IoctlResult, Signals}
+use Rattle.strm_types.specs.declared.events.Event.TheVariants.{Look, Read, Get, Ioctl, IoctlResult, Signals}
 use Rattle.strm_types.specs.declared.answers.Answer.TheVariants.{Done, Bytes}
 use Rattle.strm_types.specs.declared.limits.TheConstants.{READ_MAX, CONTENT_MAX, IOCTL_MAX}
 use Rattle.strm_types.specs.declared.modes.Wanted.{Wanted}
@@ -70,42 +70,18 @@ module _ {C : Type 0} (cells : Cells C) where
   name-fits (Some name) = omega arith
 
   pub content-fits : (caller : Caller) (asked : Request) (s : State C) → AreWithin s → length (content_of (called cells caller asked s).answer) ≤ content_max asked
-  content-fits caller OpenMaster s within = omega arith
-  content-fits caller Unlock s within = omega arith
-  content-fits caller OpenSlave s within = omega arith
-  content-fits caller Shut s within = omega arith
-  content-fits caller (Push name) s within = omega arith
-  content-fits caller Pop s within = omega arith
   content-fits caller Look s within = name-fits (top_on caller.side s)
-  content-fits caller (Flush what band) s within = omega arith
-  content-fits caller (Write bytes) s within = omega arith
   content-fits caller (Read n) s within = read-fits caller.side n s
-  content-fits caller (Put prio control body) s within = omega arith
   content-fits caller (Get wanted cmax dmax) s within = get-fits caller.side wanted cmax dmax s
-  content-fits caller (Mode mode) s within = omega arith
-  content-fits caller Nread s within = omega arith
   content-fits caller (Ioctl command body) s within =
       let sent = (ioctl_sent cells caller.side command body s).state in
       answer-fits (stream caller.side sent).head.ioctl
       (side-within caller.side sent (delivered-within cells (record { side = caller.side; at = 1; way = Down }) (ioctl_message (asking command s.next_ioctl) body) (ioctl_begun caller.side command s) (begun-within caller.side command s within))).answer
   content-fits caller (IoctlResult number) s within = answer-fits (stream caller.side s).head.ioctl (side-within caller.side s within).answer
   content-fits caller Signals s within = omega (arith, signals-fit (stream caller.side s).head.signals (side-within caller.side s within).signals)
+  content-fits caller _ s within = omega arith
 
 pub content-bounded : (asked : Request) → content_max asked ≤ CONTENT_MAX
 content-bounded (Read n) = omega arith
 content-bounded (Get wanted cmax dmax) = omega arith
-content-bounded OpenMaster = omega arith
-content-bounded Unlock = omega arith
-content-bounded OpenSlave = omega arith
-content-bounded Shut = omega arith
-content-bounded (Push name) = omega arith
-content-bounded Pop = omega arith
-content-bounded Look = omega arith
-content-bounded (Flush what band) = omega arith
-content-bounded (Write bytes) = omega arith
-content-bounded (Put prio control body) = omega arith
-content-bounded (Mode mode) = omega arith
-content-bounded Nread = omega arith
-content-bounded (Ioctl command body) = omega arith
-content-bounded (IoctlResult number) = omega arith
-content-bounded Signals = omega arith
+content-bounded _ = omega arith

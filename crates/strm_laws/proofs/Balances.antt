@@ -17,8 +17,7 @@ use Rattle.strm_types.specs.declared.names.Dir.TheVariants.{MasterToSlave, Slave
 use Rattle.strm_types.specs.declared.names.Side.{Side}
 use Rattle.strm_types.specs.declared.names.Side.TheVariants.{Master, Slave}
 use Rattle.strm_types.specs.declared.names.Way.TheVariants.{Down}
-use Rattle.strm_types.specs.declared.refusals.Refusal.{Refusal}
-use Rattle.strm_types.specs.declared.refusals.Refusal.TheVariants.{Einval, Enxio, Erange}
+use Rattle.strm_types.specs.declared.refusals.Refusal.TheVariants.{Einval, Erange}
 use Rattle.strm_types.specs.declared.rules.Rule.TheVariants.{EndClosed}
 use Rattle.strm_types.specs.declared.spots.Spot.{Spot}
 use Rattle.strm_types.specs.Books as books
@@ -40,14 +39,15 @@ use Rattle.strm_laws.specs.Places.{weight_made}
 use Rattle.strm_types.specs.PutMsg.{is_no_prio, is_too_long, put_refusal}
 use Rattle.strm_laws.specs.Pushes.{head_above, ioctl_dropped, named_by, with_modules}
 use Rattle.strm_laws.specs.Puts.{delivered, flushed_on}
-use Rattle.strm_laws.specs.Refusals.{blocks_asked, goes_down, in_range, may_ask, refused_at_once, refused_by_state}
-use Rattle.strm_types.specs.Refused.{is_a_band, or_else, unless}
+use Rattle.strm_laws.specs.Refusals.{blocks_asked, in_range, refused_at_once, refused_by_state}
+use Rattle.strm_types.specs.Refused.{or_else}
 use Rattle.strm_laws.specs.Stacked.{Module}
 use Rattle.strm_laws.specs.State.{State, book, stream, with_book}
 use Rattle.strm_laws.specs.Step.{after}
 use Rattle.strm_laws.specs.Turns.{turned}
 use Rattle.strm_types.specs.Write.{chunk_count, chunks_of}
 use Rattle.strm_laws.specs.Writes.{Wrote, below_head, cells_sent, chunks_sent, is_full_below}
+use Rattle.strm_laws.proofs.Replay.{allowed-met}
 use Rattle.strm_laws.proofs.ChangesMake.{close-none, get-none, pop-none, push-none, read-none}
 use Rattle.strm_laws.proofs.InOrder.{AreNext, BooksMade, InOrder, Numbered, books-both}
 use Rattle.strm_types.proofs.MadeCells.{made-long}
@@ -162,14 +162,7 @@ module _ {C : Type 0} (cells : Cells C) where
   still-none caller (Write bytes) answer s still = absurd (cc)
   still-none caller (Put prio control body) answer s still = absurd (cc)
   still-none caller (Ioctl command body) answer s still = absurd (cc)
-  still-none caller OpenMaster answer s still = refl
-  still-none caller Unlock answer s still = refl
-  still-none caller OpenSlave answer s still = refl
-  still-none caller Look answer s still = refl
-  still-none caller (Mode mode) answer s still = refl
-  still-none caller Nread answer s still = refl
-  still-none caller (IoctlResult number) answer s still = refl
-  still-none caller Signals answer s still = refl
+  still-none caller _ answer s still = refl
 
   -- a flush and an ioctl book what their deliveries make
   flush-books : (side : Side) (what : FlushQueues) (band : Option Band) (s : State C) → let t = flushed_on cells band side what s in Books s t.gone t.state
@@ -346,21 +339,9 @@ module _ {C : Type 0} (cells : Cells C) (p : Dir → C → Bool) (numbered : Num
   call-counts : (caller : Caller) (asked : Request) (answer : Reply) (s : State C) → Counts caller asked answer s
   call-counts caller (Write bytes) answer s = write-counts caller bytes answer s
   call-counts caller (Put prio control body) answer s = put-counts caller prio control body answer s
-  call-counts caller OpenMaster answer s = omega (arith, still-counts caller OpenMaster answer s refl)
-  call-counts caller Unlock answer s = omega (arith, still-counts caller Unlock answer s refl)
-  call-counts caller OpenSlave answer s = omega (arith, still-counts caller OpenSlave answer s refl)
-  call-counts caller Shut answer s = omega (arith, still-counts caller Shut answer s refl)
-  call-counts caller (Push name) answer s = omega (arith, still-counts caller (Push name) answer s refl)
-  call-counts caller Pop answer s = omega (arith, still-counts caller Pop answer s refl)
-  call-counts caller Look answer s = omega (arith, still-counts caller Look answer s refl)
   call-counts caller (Flush what band) answer s = omega (arith, books-count s (flushed_on cells band caller.side what s).state (flushed_on cells band caller.side what s).gone (flush-books cells caller.side what band s))
-  call-counts caller (Read n) answer s = omega (arith, still-counts caller (Read n) answer s refl)
-  call-counts caller (Get wanted cmax dmax) answer s = omega (arith, still-counts caller (Get wanted cmax dmax) answer s refl)
-  call-counts caller (Mode mode) answer s = omega (arith, still-counts caller (Mode mode) answer s refl)
-  call-counts caller Nread answer s = omega (arith, still-counts caller Nread answer s refl)
   call-counts caller (Ioctl command body) answer s = omega (arith, books-count s (called cells caller (Ioctl command body) s).state (ioctl_sent cells caller.side command body s).gone (ioctl-books cells caller.side command body s))
-  call-counts caller (IoctlResult number) answer s = omega (arith, still-counts caller (IoctlResult number) answer s refl)
-  call-counts caller Signals answer s = omega (arith, still-counts caller Signals answer s refl)
+  call-counts caller asked answer s = omega (arith, still-counts caller asked answer s refl)
 
   -- a step
   pub step-counts : (s : State C) (entry : PlainEntry) → count_came cells p s entry + weight_made p (gone cells s entry) + total s ≡ total (after cells s entry)
@@ -386,31 +367,10 @@ WritesFew asked = Unit {0}
 pub written-by-blocks : (asked : Request) (n : ℕ) → n ≤ 65536 → blocks_asked asked ≤ n → WritesFew asked
 unfolding chunk_count
 written-by-blocks (Write bytes) n few enough = omega (arith, few, enough)
-written-by-blocks OpenMaster n few enough = tt
-written-by-blocks Unlock n few enough = tt
-written-by-blocks OpenSlave n few enough = tt
-written-by-blocks Shut n few enough = tt
-written-by-blocks (Push name) n few enough = tt
-written-by-blocks Pop n few enough = tt
-written-by-blocks Look n few enough = tt
-written-by-blocks (Flush what band) n few enough = tt
-written-by-blocks (Read most) n few enough = tt
-written-by-blocks (Put prio control body) n few enough = tt
-written-by-blocks (Get wanted cmax dmax) n few enough = tt
-written-by-blocks (Mode mode) n few enough = tt
-written-by-blocks Nread n few enough = tt
-written-by-blocks (Ioctl command body) n few enough = tt
-written-by-blocks (IoctlResult number) n few enough = tt
-written-by-blocks Signals n few enough = tt
+written-by-blocks _ n few enough = tt
 
--- a write and a putmsg that aren't refused find room in the books
-ranged : (goes : Bool) (first : Option Refusal) (range : Bool) (rest : Option Refusal) → or_else (or_else (unless goes Enxio) (or_else first (unless range Erange))) rest ≡ None → range ≡ true
-ranged true None true rest allowed = refl
-ranged true None false rest allowed = absurd (cc)
-ranged true (Some r) range rest allowed = absurd (cc)
-ranged false first range rest allowed = absurd (cc)
-
-pub parts-few : (prio : Prio) (control body : Option (List ℕ)) → put_refusal prio control body ≡ None → length (part control) + length (part body) < 2 ^ 62
+-- a putmsg with whose arguments nothing is wrong has few bytes
+pub parts-few : (prio : Prio) (control body : Option (List ℕ)) → put_refusal prio control body ≡ None → length (part control) + length (part body) ≤ CONTROL_MAX + DATA_MAX
 parts-few prio control body none = at (is_no_prio prio control) (is_too_long control body) refl none
   where
     few : (a b : Bool) → (a || b) ≡ false → (a ≡ false) × (b ≡ false)
@@ -418,7 +378,7 @@ parts-few prio control body none = at (is_no_prio prio control) (is_too_long con
     few true b is = absurd (cc)
     few false true is = absurd (cc)
 
-    at : (wrong long : Bool) → is_too_long control body ≡ long → cond wrong (Some Einval) (cond long (Some Erange) None) ≡ None → length (part control) + length (part body) < 2 ^ 62
+    at : (wrong long : Bool) → is_too_long control body ≡ long → cond wrong (Some Einval) (cond long (Some Erange) None) ≡ None → length (part control) + length (part body) ≤ CONTROL_MAX + DATA_MAX
     at true long is none = absurd (cc)
     at false true is none = absurd (cc)
     at false false is none =
@@ -428,18 +388,6 @@ parts-few prio control body none = at (is_no_prio prio control) (is_too_long con
         let one : length (part control) ≤ CONTROL_MAX = grind (arith, nat_tests) in
         let two : length (part body) ≤ DATA_MAX = grind (arith, nat_tests) in
         omega (arith, one, two)
-
--- where an ioctl isn't refused, more may be booked
-ioctl-ranged : (goes may range : Bool) (rest : Option Refusal) → or_else (or_else (unless goes Enxio) (unless (may && range) Erange)) rest ≡ None → range ≡ true
-ioctl-ranged true true true rest allowed = refl
-ioctl-ranged true true false rest allowed = absurd (cc)
-ioctl-ranged true false range rest allowed = absurd (cc)
-ioctl-ranged false may range rest allowed = absurd (cc)
-
-put-allowed : (goes : Bool) (first : Option Refusal) (range : Bool) (rest : Option Refusal) → or_else (or_else (unless goes Enxio) (or_else first (unless range Erange))) rest ≡ None → first ≡ None
-put-allowed true None range rest allowed = refl
-put-allowed true (Some r) range rest allowed = absurd (cc)
-put-allowed false first range rest allowed = absurd (cc)
 
 module _ {C : Type 0} where
   pub range-low : (dir : Dir) (s : State C) → in_range s ≡ true → ((book dir s).written < BOOK_MAX) × ((book dir s).made < BOOK_MAX)
@@ -469,12 +417,12 @@ module _ {C : Type 0} where
       let dir = direction_from caller.side in
       let xs = cells_written cells dir (book dir s).written bytes in
       let t = write_sent cells caller.side bytes s in
-      let range = ranged (goes_down caller.side s) None (in_range s) _ allowed in
+      let range = (allowed-met s caller (Write bytes) allowed).booked in
       written-few cells dir t.taken s t.state t.gone range
       (omega (arith, sent-few cells caller.side xs s, written-long cells dir (book dir s).written bytes, less)) (chunks-book cells caller.side (chunks_of (chunk_count (length xs)) xs) s) (made range)
   call-few cells caller (Put prio control body) s allowed less few made =
-      let range = ranged (goes_down caller.side s) (put_refusal prio control body) (in_range s) _ allowed in
-      at control body range (parts-few prio control body (put-allowed (goes_down caller.side s) (put_refusal prio control body) (in_range s) _ allowed)) (made range)
+      let may = allowed-met s caller (Put prio control body) allowed in
+      at control body may.booked (omega (arith, parts-few prio control body may.right)) (made may.booked)
     where
       sent : (n : ℕ) (m : Message C) → in_range s ≡ true → n < 2 ^ 62 → (let t = delivered cells (record { side = caller.side; at = 1; way = Down }) m s in
           let u = with_book (direction_from caller.side) (with_written n (book (direction_from caller.side) t.state)) t.state in MadeFew u → FewBooked u)
@@ -485,21 +433,9 @@ module _ {C : Type 0} where
       at None (Some ys) room less made = sent (0 + length ys) (message_put cells caller.side prio None (Some ys) s) room less made
       at (Some xs) b room less made = sent (length xs + length (part b)) (message_put cells caller.side prio (Some xs) b s) room less made
   call-few cells caller (Flush what band) s allowed less few made =
-      let range = ranged (goes_down caller.side s) (unless (is_a_band band) Einval) (in_range s) _ allowed in
+      let range = (allowed-met s caller (Flush what band) allowed).booked in
       turn-few cells s (flushed_on cells band caller.side what s).state (flushed_on cells band caller.side what s).gone range (flush-books cells caller.side what band s) (made range)
   call-few cells caller (Ioctl command body) s allowed less few made =
-      let range = ioctl-ranged (goes_down caller.side s) (may_ask body s) (in_range s) _ allowed in
+      let range = (allowed-met s caller (Ioctl command body) allowed).booked in
       turn-few cells s (called cells caller (Ioctl command body) s).state (ioctl_sent cells caller.side command body s).gone range (ioctl-books cells caller.side command body s) (made range)
-  call-few cells caller OpenMaster s allowed less few made = same-few s _ (still-same cells caller OpenMaster s refl) few
-  call-few cells caller Unlock s allowed less few made = same-few s _ (still-same cells caller Unlock s refl) few
-  call-few cells caller OpenSlave s allowed less few made = same-few s _ (still-same cells caller OpenSlave s refl) few
-  call-few cells caller Shut s allowed less few made = same-few s _ (still-same cells caller Shut s refl) few
-  call-few cells caller (Push name) s allowed less few made = same-few s _ (still-same cells caller (Push name) s refl) few
-  call-few cells caller Pop s allowed less few made = same-few s _ (still-same cells caller Pop s refl) few
-  call-few cells caller Look s allowed less few made = same-few s _ (still-same cells caller Look s refl) few
-  call-few cells caller (Read n) s allowed less few made = same-few s _ (still-same cells caller (Read n) s refl) few
-  call-few cells caller (Get wanted cmax dmax) s allowed less few made = same-few s _ (still-same cells caller (Get wanted cmax dmax) s refl) few
-  call-few cells caller (Mode mode) s allowed less few made = same-few s _ (still-same cells caller (Mode mode) s refl) few
-  call-few cells caller Nread s allowed less few made = same-few s _ (still-same cells caller Nread s refl) few
-  call-few cells caller (IoctlResult number) s allowed less few made = same-few s _ (still-same cells caller (IoctlResult number) s refl) few
-  call-few cells caller Signals s allowed less few made = same-few s _ (still-same cells caller Signals s refl) few
+  call-few cells caller asked s allowed less few made = same-few s _ (still-same cells caller asked s refl) few

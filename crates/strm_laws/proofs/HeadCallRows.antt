@@ -34,7 +34,8 @@ use Rattle.strm_laws.specs.Kept.{came, gone}
 use Rattle.strm_types.specs.Message.{Message, rank_of, band_of, size_of, cells_of, is_held, is_high_priority}
 use Rattle.strm_types.specs.Names.{driver_of}
 use Rattle.strm_types.specs.Queue.{Queue, Flow}
-use Rattle.strm_laws.specs.Refusals.{asks_a_band, blocks_asked, refused_at_once, refused_by_state}
+use Rattle.strm_types.specs.Needs.{asks_a_band}
+use Rattle.strm_laws.specs.Refusals.{blocks_asked, refused_at_once, refused_by_state}
 use Rattle.strm_types.specs.Heads.{Head}
 use Rattle.strm_laws.specs.State.{State, Stream}
 use Rattle.strm_laws.proofs.Samples.{flow, queue, ordinary, proto, urgent}

@@ -28,40 +28,22 @@ second-more control body bytes more le =
 
 -- bytes behind a call's own change nothing of it
 request_in-more : (shape : Event ℕ) (bytes more : List ℕ) → event_len shape ≤ length bytes → request_in shape (bytes ++ more) ≡ request_in shape bytes
-request_in-more shapes.OpenMaster bytes more le = refl
-request_in-more shapes.Unlock bytes more le = refl
-request_in-more shapes.OpenSlave bytes more le = refl
-request_in-more shapes.Shut bytes more le = refl
-request_in-more (shapes.Push name) bytes more le = refl
-request_in-more shapes.Pop bytes more le = refl
-request_in-more shapes.Look bytes more le = refl
-request_in-more (shapes.Flush what band) bytes more le = refl
 request_in-more (shapes.Write len) bytes more le = ap shapes.Write (take-append-le len bytes more le)
-request_in-more (shapes.Read n) bytes more le = refl
 request_in-more (shapes.Put prio control body) bytes more le =
     let first : part_len control ≤ length bytes = omega (arith, le) in
     ap (λ c. shapes.Put prio c (part_in body (drop (part_len control) (bytes ++ more)))) (part_in-more control bytes more first)
     ∙ ap (λ d. shapes.Put prio (part_in control bytes) d) (second-more control body bytes more le)
-request_in-more (shapes.Get wanted cmax dmax) bytes more le = refl
-request_in-more (shapes.Mode mode) bytes more le = refl
-request_in-more shapes.Nread bytes more le = refl
 request_in-more (shapes.Ioctl command len) bytes more le = ap (λ body. shapes.Ioctl command body) (take-append-le len bytes more le)
-request_in-more (shapes.IoctlResult number) bytes more le = refl
-request_in-more shapes.Signals bytes more le = refl
+request_in-more _ bytes more le = refl
 
 reply_in-more : (shape : Answer ℕ) (bytes more : List ℕ) → answer_len shape ≤ length bytes → reply_in shape (bytes ++ more) ≡ reply_in shape bytes
-reply_in-more told.Done bytes more le = refl
-reply_in-more (told.Name name) bytes more le = refl
-reply_in-more (told.Count n) bytes more le = refl
 reply_in-more (told.Bytes len) bytes more le = ap told.Bytes (take-append-le len bytes more le)
 reply_in-more (told.Msg prio control body more_control more_data) bytes more le =
     let first : part_len control ≤ length bytes = omega (arith, le) in
     ap (λ c. told.Msg prio c (part_in body (drop (part_len control) (bytes ++ more))) more_control more_data) (part_in-more control bytes more first)
     ∙ ap (λ d. told.Msg prio (part_in control bytes) d more_control more_data) (second-more control body bytes more le)
-reply_in-more (told.Sizes first messages) bytes more le = refl
-reply_in-more (told.Pending number) bytes more le = refl
-reply_in-more (told.Nak refusal) bytes more le = refl
 reply_in-more (told.Signals len) bytes more le = ap told.Signals (take-append-le len bytes more le)
+reply_in-more _ bytes more le = refl
 
 -- bytes behind an entry's own change nothing of it
 entry_in-more : (entry : Entry ℕ) (bytes more : List ℕ) → entry_len entry ≤ length bytes → entry_in entry (bytes ++ more) ≡ entry_in entry bytes
@@ -107,34 +89,16 @@ parts-length control body bytes le =
     )
 
 payload-len : (shape : Event ℕ) (bytes : List ℕ) → event_len shape ≤ length bytes → length (payload_of (request_in shape bytes)) ≡ event_len shape
-payload-len shapes.OpenMaster bytes le = refl
-payload-len shapes.Unlock bytes le = refl
-payload-len shapes.OpenSlave bytes le = refl
-payload-len shapes.Shut bytes le = refl
-payload-len (shapes.Push name) bytes le = refl
-payload-len shapes.Pop bytes le = refl
-payload-len shapes.Look bytes le = refl
-payload-len (shapes.Flush what band) bytes le = refl
 payload-len (shapes.Write len) bytes le = length-take-le len bytes le
-payload-len (shapes.Read n) bytes le = refl
 payload-len (shapes.Put prio control body) bytes le = parts-length control body bytes le
-payload-len (shapes.Get wanted cmax dmax) bytes le = refl
-payload-len (shapes.Mode mode) bytes le = refl
-payload-len shapes.Nread bytes le = refl
 payload-len (shapes.Ioctl command len) bytes le = length-take-le len bytes le
-payload-len (shapes.IoctlResult number) bytes le = refl
-payload-len shapes.Signals bytes le = refl
+payload-len _ bytes le = refl
 
 content-len : (shape : Answer ℕ) (bytes : List ℕ) → answer_len shape ≤ length bytes → length (content_of (reply_in shape bytes)) ≡ answer_len shape
-content-len told.Done bytes le = refl
-content-len (told.Name name) bytes le = refl
-content-len (told.Count n) bytes le = refl
 content-len (told.Bytes len) bytes le = length-take-le len bytes le
 content-len (told.Msg prio control body more_control more_data) bytes le = parts-length control body bytes le
-content-len (told.Sizes first messages) bytes le = refl
-content-len (told.Pending number) bytes le = refl
-content-len (told.Nak refusal) bytes le = refl
 content-len (told.Signals len) bytes le = length-take-le len bytes le
+content-len _ bytes le = refl
 
 entry_room : (entry : Entry ℕ) (bytes : List ℕ) → entry_len entry ≤ length bytes → room_of (entry_in entry bytes) ≡ entry_len entry
 entry_room (Called caller event answer) bytes le =

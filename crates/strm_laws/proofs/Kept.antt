@@ -6,7 +6,7 @@ use Rattle.strm_types.specs.declared.limits.TheConstants.{READ_MAX}
 use Rattle.strm_types.specs.declared.answers.Answer.TheVariants.{Bytes}
 use Rattle.strm_types.specs.declared.entries.Entry.TheVariants.{Called, Turned}
 use Rattle.strm_types.specs.declared.events.Caller.{Caller}
-use Rattle.strm_types.specs.declared.events.Event.TheVariants.{OpenMaster, Unlock, OpenSlave, Shut, Push, Pop, Look, Flush, Write, Read, Put, Get, Mode, Nread, Ioctl, IoctlResult, Signals}
+use Rattle.strm_types.specs.declared.events.Event.TheVariants.{OpenMaster, Unlock, OpenSlave, Shut, Push, Pop, Flush, Write, Read, Put, Get, Mode, Ioctl, IoctlResult, Signals}
 use Rattle.strm_types.specs.declared.modes.Mode as modes
 use Rattle.strm_types.specs.declared.modes.Mode.TheVariants as chosen
 use Rattle.strm_types.specs.declared.modes.Wanted.{Wanted}
@@ -17,7 +17,7 @@ use Rattle.strm_types.specs.declared.names.Dir.{Dir}
 use Rattle.strm_types.specs.declared.names.Dir.TheVariants.{MasterToSlave, SlaveToMaster}
 use Rattle.strm_types.specs.declared.names.Side.{Side}
 use Rattle.strm_types.specs.declared.names.Side.TheVariants.{Master, Slave}
-use Rattle.strm_types.specs.declared.refusals.Refusal.TheVariants.{Einval, Enxio}
+use Rattle.strm_types.specs.declared.refusals.Refusal.TheVariants.{Einval}
 use Rattle.strm_types.specs.declared.names.Way.TheVariants.{Up}
 use Rattle.strm_types.specs.Cells.{Cells, cells_written, bytes_of}
 use Rattle.strm_types.specs.Names.{direction_from, direction_of, head_of, is_open, direction_at}
@@ -32,8 +32,8 @@ use Rattle.strm_types.specs.Events.{Request, Reply}
 use Rattle.strm_laws.specs.Calls.{read_at, write_sent, wrote, get_at, mode_set, ioctl_sent, called}
 use Rattle.strm_types.specs.GetQueues.{get_queue, get_lets_go, get_gone}
 use Rattle.strm_types.specs.Journal.{PlainEntry}
-use Rattle.strm_types.specs.Refused.{or_else, unless}
-use Rattle.strm_laws.specs.Refusals.{asks_a_band, refused_at_once, refused_by_state}
+use Rattle.strm_types.specs.Refused.{or_else}
+use Rattle.strm_laws.specs.Refusals.{refused_at_once, refused_by_state}
 use Rattle.strm_laws.specs.Step.{Step}
 use Rattle.strm_laws.specs.Turns.{turned}
 use Rattle.strm_laws.specs.Places.{weight_gone, weight_made}
@@ -47,7 +47,7 @@ use Rattle.strm_laws.proofs.IoctlCalls.{sent-keeps, sent-unread, signals-keep, s
 use Rattle.strm_laws.proofs.PutMessages.{put_at-keeps, put_at-unread}
 use Rattle.strm_types.proofs.ReadKeeps.{head_draw-keeps}
 use Rattle.strm_laws.proofs.TurnKeeps.{turn-keeps, turn-unread}
-use Rattle.strm_laws.proofs.Replay.{unless-none, or_else-none}
+use Rattle.strm_laws.proofs.Replay.{allowed-met, unless-none, or_else-none}
 use Rattle.strm_laws.proofs.ForgettingSteps.{taken_from}
 
 closed-of : (b : Bool) → not b ≡ true → b ≡ false
@@ -109,15 +109,12 @@ module _ {C : Type 0} where
     call-keeps : (cells : Cells C) (caller : Caller) (asked : Request) (answer : Reply) (s : State C) → NothingUnread s → AreIdle s → or_else (refused_at_once s caller asked) (refused_by_state s caller asked) ≡ None
         → let entry = Called caller asked answer in
         state_weight p (called cells caller asked s).state + weight_gone p (gone cells s entry) ≡ state_weight p s + (count_came cells p s entry + weight_made p (gone cells s entry))
-    call-keeps cells caller OpenMaster answer s unread idle allowed = refl
-    call-keeps cells caller Unlock answer s unread idle allowed = refl
     call-keeps cells caller Shut answer s unread idle allowed = omega (arith, closed_at-keeps p caller.side s (idle-at caller.side s idle))
     call-keeps cells caller (Push name) answer s unread idle allowed = omega (arith, push-keeps p caller.side name s)
     call-keeps cells caller Pop answer s unread idle allowed = omega (arith, pop-keeps p caller.side s (idle-at caller.side s idle))
-    call-keeps cells caller Look answer s unread idle allowed = refl
     call-keeps cells caller (Flush what band) answer s unread idle allowed = omega (arith, flushed_on-keeps cells p band caller.side what s)
     call-keeps cells caller OpenSlave answer s unread idle allowed =
-        let by_state = or_else-none _ _ (or_else-none (unless (is_open s.master.opened) Enxio) _ allowed).1 in
+        let by_state = or_else-none _ _ (or_else-none (refused_at_once s caller OpenSlave) _ allowed).1 in
         let closed = closed-of (is_open s.slave.opened) (unless-none (not (is_open s.slave.opened)) Einval by_state.0) in
         let nothing = ap (λ (q : List (Message C)). weight (p (direction_at Up Slave)) q) (unread.slave closed) in
         omega (arith, nothing)
@@ -126,10 +123,10 @@ module _ {C : Type 0} where
     call-keeps cells caller (Put prio control body) answer s unread idle allowed = put_at-keeps p cells caller.side prio control body s
     call-keeps cells caller (Get wanted cmax dmax) answer s unread idle allowed = omega (arith, get-keeps cells caller.side wanted cmax dmax s)
     call-keeps cells caller (Mode mode) answer s unread idle allowed = omega (arith, mode-keeps caller.side mode s)
-    call-keeps cells caller Nread answer s unread idle allowed = refl
     call-keeps cells caller (Ioctl command body) answer s unread idle allowed = omega (arith, sent-keeps p cells caller.side command body s)
     call-keeps cells caller (IoctlResult number) answer s unread idle allowed = omega (arith, told-keeps p caller.side s)
     call-keeps cells caller Signals answer s unread idle allowed = omega (arith, signals-keep p caller.side [] s)
+    call-keeps cells caller _ answer s unread idle allowed = refl
 
     -- what stands on the queues after a step, and what it took away, is what stood there before, what it brought, and what was
     -- made on the way
@@ -171,28 +168,26 @@ module _ {C : Type 0} where
   call-unread cells caller Shut s unread allowed = closed_at-unread caller.side s unread
   call-unread cells caller (Push name) s unread allowed = push-unread caller.side (named_by name) s unread
   call-unread cells caller Pop s unread allowed = pop-unread caller.side s unread
-  call-unread cells caller Look s unread allowed = unread
   call-unread cells caller (Flush what band) s unread allowed = flushed_on-unread cells band caller.side what s unread
   call-unread cells caller (Write bytes) s unread allowed = write-unread cells caller.side bytes s unread
   call-unread cells caller (Read n) s unread allowed =
       let h = (stream caller.side s).head in
       let most = min n READ_MAX in
       taken-unread caller.side s (Bytes (bytes_of cells (head_draw h.read_mode h.control_mode most h.queue.messages).given)) (read_queue h.read_mode h.control_mode most h.queue) (read_lets_go h.read_mode h.control_mode most h.queue) unread
-      (unless-none (is_open (stream caller.side s).opened) Enxio (or_else-none (unless (is_open (stream caller.side s).opened) Enxio) _ allowed).0)
+      (allowed-met s caller (Read n) allowed).reached
   call-unread cells caller (Put prio control body) s unread allowed = put_at-unread cells caller.side prio control body s unread
   call-unread cells caller (Get wanted cmax dmax) s unread allowed =
       let q = (stream caller.side s).head.queue in
       let c = min cmax READ_MAX in
       let d = min dmax READ_MAX in
-      let at_once = or_else-none (or_else (unless (is_open (stream caller.side s).opened) Enxio) (unless (asks_a_band wanted) Einval)) _ allowed in
       taken-unread caller.side s (get_at cells caller.side wanted cmax dmax s).answer (get_queue wanted c d q) (get_lets_go wanted c d q) unread
-      (unless-none (is_open (stream caller.side s).opened) Enxio (or_else-none (unless (is_open (stream caller.side s).opened) Enxio) (unless (asks_a_band wanted) Einval) at_once.0).0)
+      (allowed-met s caller (Get wanted cmax dmax) allowed).reached
   call-unread cells caller (Mode mode) s unread allowed = mode-unread caller.side mode s unread
-  call-unread cells caller Nread s unread allowed = unread
   call-unread cells caller (Ioctl command body) s unread allowed =
       told-unread caller.side (ioctl_sent cells caller.side command body s).state (sent-unread cells caller.side command body s unread)
   call-unread cells caller (IoctlResult number) s unread allowed = told-unread caller.side s unread
   call-unread cells caller Signals s unread allowed = signals-unread caller.side s unread
+  call-unread cells caller _ s unread allowed = unread
 
   pub step-unread : (cells : Cells C) (old new : State C) (entry : PlainEntry) → NothingUnread old → Step cells old entry new → NothingUnread new
   step-unread cells old new (Called caller asked answer) unread step = subst (λ (s : State C). NothingUnread s) step.leads (call-unread cells caller asked old unread step.allowed)

@@ -5,7 +5,7 @@ use Rattle.std.specs.List.{list_any}
 use Rattle.std.proofs.lemmas.List.{length-map}
 use Rattle.strm_types.specs.declared.entries.Entry.TheVariants.{Called, Turned}
 use Rattle.strm_types.specs.declared.events.Caller.{Caller}
-use Rattle.strm_types.specs.declared.events.Event.TheVariants.{OpenMaster, Unlock, OpenSlave, Shut, Push, Pop, Look, Flush, Write, Read, Put, Get, Mode, Nread, Ioctl, IoctlResult, Signals}
+use Rattle.strm_types.specs.declared.events.Event.TheVariants.{Push, Pop, Look, Write, Read, Put, Get, Ioctl, IoctlResult}
 use Rattle.strm_types.specs.declared.limits.TheConstants.{MODULES}
 use Rattle.strm_types.specs.declared.modes.Prio.{Prio}
 use Rattle.strm_types.specs.declared.modes.Prio.TheVariants as prios
@@ -14,6 +14,8 @@ use Rattle.strm_types.specs.declared.names.ModuleName.{ModuleName}
 use Rattle.strm_types.specs.declared.names.Side.{Side}
 use Rattle.strm_types.specs.declared.names.Side.TheVariants.{Master, Slave}
 use Rattle.strm_types.specs.declared.names.Way.TheVariants.{Up, Down}
+use Rattle.strm_types.specs.declared.needs.Reach.{Reach}
+use Rattle.strm_types.specs.declared.needs.Reach.TheVariants as reaches
 use Rattle.strm_types.specs.declared.refusals.Refusal.TheVariants.{Eagain, Einval, Enxio, Erange}
 use Rattle.strm_types.specs.Events.{Request}
 use Rattle.strm_types.specs.Cells.{AreCells, Cells, plain}
@@ -24,12 +26,13 @@ use Rattle.strm_types.specs.Message.{Message}
 use Rattle.strm_types.specs.ModuleQueues.{messages_at}
 use Rattle.strm_types.specs.Modules.{may_push, stands}
 use Rattle.strm_types.specs.Names.{is_closed, is_master, is_open, same_module}
-use Rattle.strm_types.specs.PutMsg.{no_parts, put_refusal, put_waits}
+use Rattle.strm_types.specs.PutMsg.{no_parts, put_waits}
 use Rattle.strm_laws.specs.Pushes.{may_stand, named_by}
 use Rattle.strm_types.specs.Queue.{map_messages}
 use Rattle.strm_types.specs.Reads.{read_refusal}
-use Rattle.strm_laws.specs.Refusals.{asks_a_band, at_end, goes_down, in_range, is_known, may_ask, none_waits_up, refused_at_once, refused_by_state}
-use Rattle.strm_types.specs.Refused.{has_no_data, is_a_band, or_else, unless}
+use Rattle.strm_types.specs.Needs.{needs}
+use Rattle.strm_laws.specs.Refusals.{at_end, goes_down, in_range, is_numbered, is_reached, none_waits_up, refused_at_once, refused_by_state}
+use Rattle.strm_types.specs.Refused.{has_no_data, or_else, unless}
 use Rattle.strm_types.specs.Slots.{is_free, result_refusal}
 use Rattle.strm_laws.specs.Stacked.{Module, OfLdterm, OfPtem, OfPckt, map_module, module_name, module_queue}
 use Rattle.strm_laws.specs.State.{State, map_state, opening, stream}
@@ -57,24 +60,17 @@ module _ {C D : Type 0} (f : C → D) where
   full-same : (side : Side) (band : ℕ) (s : State C) → is_full_below band side (map_state f s) ≡ is_full_below band side s
   full-same side band s = ap (λ room. not room) (room-forgets f side Down 0 band s)
 
+  reached-same : (side : Side) (reach : Reach) (s : State C) → is_reached side reach (map_state f s) ≡ is_reached side reach s
+  reached-same side reaches.Nothing s = refl
+  reached-same side reaches.Master s = refl
+  reached-same side reaches.Own s = open-same side s
+  reached-same side reaches.Down s = goes-same side s
+
   at-once : (s : State C) (caller : Caller) (asked : Request) → refused_at_once (map_state f s) caller asked ≡ refused_at_once s caller asked
-  at-once s caller OpenMaster = refl
-  at-once s caller Unlock = ap (λ b. or_else (unless b Enxio) (unless (is_master caller.side) Einval)) (open-same caller.side s)
-  at-once s caller OpenSlave = refl
-  at-once s caller (Write bytes) = ap (λ b. or_else (unless b Enxio) (unless (in_range s) Erange)) (goes-same caller.side s)
-  at-once s caller (Push name) = ap (λ b. or_else (unless b Enxio) (or_else (unless (is_known name) Einval) (unless (in_range s) Erange))) (goes-same caller.side s)
-  at-once s caller Pop = ap (λ b. or_else (unless b Enxio) (unless (in_range s) Erange)) (goes-same caller.side s)
-  at-once s caller (Flush what band) = ap (λ b. or_else (unless b Enxio) (or_else (unless (is_a_band band) Einval) (unless (in_range s) Erange))) (goes-same caller.side s)
-  at-once s caller (Put prio control body) = ap (λ b. or_else (unless b Enxio) (or_else (put_refusal prio control body) (unless (in_range s) Erange))) (goes-same caller.side s)
-  at-once s caller (Get wanted cmax dmax) = ap (λ b. or_else (unless b Enxio) (unless (asks_a_band wanted) Einval)) (open-same caller.side s)
-  at-once s caller (Ioctl command body) = ap (λ b. or_else (unless b Enxio) (unless (may_ask body s && in_range s) Erange)) (goes-same caller.side s)
-  at-once s caller Shut = ap (λ b. unless b Enxio) (open-same caller.side s)
-  at-once s caller Look = ap (λ b. unless b Enxio) (open-same caller.side s)
-  at-once s caller (Read n) = ap (λ b. unless b Enxio) (open-same caller.side s)
-  at-once s caller (Mode mode) = ap (λ b. unless b Enxio) (open-same caller.side s)
-  at-once s caller Nread = ap (λ b. unless b Enxio) (open-same caller.side s)
-  at-once s caller (IoctlResult number) = ap (λ b. unless b Enxio) (open-same caller.side s)
-  at-once s caller Signals = ap (λ b. unless b Enxio) (open-same caller.side s)
+  at-once s caller asked =
+      let n = needs asked in
+      let rest = or_else (unless (not n.masters || is_master caller.side) Einval) (or_else n.wrong (or_else (unless (not n.numbered || is_numbered s) Erange) (unless (not n.makes || in_range s) Erange))) in
+      ap (λ b. or_else (unless b Enxio) rest) (reached-same caller.side n.reach s)
 
   -- the end of input
   any-held : (ms : List (Message C)) → list_any (λ m. is_held m.kind) (map_messages f ms) ≡ list_any (λ m. is_held m.kind) ms
@@ -145,8 +141,6 @@ module _ {C D : Type 0} (f : C → D) where
   slot-same Slave s = refl
 
   by-state : (s : State C) (caller : Caller) (asked : Request) → refused_by_state (map_state f s) caller asked ≡ refused_by_state s caller asked
-  by-state s caller OpenMaster = refl
-  by-state s caller OpenSlave = refl
   by-state s caller (Write bytes) = ap (λ b. unless (not b) Eagain) (full-same caller.side 0 s)
   by-state s caller (Read n) = read-same caller.side n s
   by-state s caller (Put prio control body) = ap (λ b. unless (not b) Eagain) (put-same prio control body caller.side s)
@@ -156,12 +150,7 @@ module _ {C D : Type 0} (f : C → D) where
   by-state s caller (Push name) = ap (λ b. unless b Einval) (push-same caller.side name s)
   by-state s caller Pop = ap (λ name. unless (is_some name) Einval) (top-forgets f caller.side s)
   by-state s caller Look = ap (λ name. unless (is_some name) Einval) (top-forgets f caller.side s)
-  by-state s caller Unlock = refl
-  by-state s caller Shut = refl
-  by-state s caller (Flush what band) = refl
-  by-state s caller (Mode mode) = refl
-  by-state s caller Nread = refl
-  by-state s caller Signals = refl
+  by-state s caller _ = refl
 
   pub refusals-forget : (s : State C) (caller : Caller) (asked : Request) → or_else (refused_at_once (map_state f s) caller asked) (refused_by_state (map_state f s) caller asked) ≡ or_else (refused_at_once s caller asked) (refused_by_state s caller asked)
   refusals-forget s caller asked = ap (λ r. or_else r (refused_by_state (map_state f s) caller asked)) (at-once s caller asked) ∙ ap (λ r. or_else (refused_at_once s caller asked) r) (by-state s caller asked)

@@ -1,18 +1,21 @@
 -- Replaying longer journals, and what a call or a turn that isn't refused is.
 use Rattle.std.proofs.Common.{◌≡◌, Bool, true, false, List, [], ◌∷◌, ◌++◌, length, refl, sym, ap, subst, ◌∙◌}
-use Rattle.std.specs.Prelude.{Option, None, Some, ◌+◌}
+use Rattle.std.specs.Prelude.{Option, None, Some, ◌+◌, not, ◌||◌}
 use Rattle.strm_types.specs.declared.events.Caller.{Caller}
 use Rattle.strm_types.specs.declared.limits.Config.{Config}
 use Rattle.strm_types.specs.declared.names.QueueName.{QueueName}
 use Rattle.strm_types.specs.declared.refusals.Refusal.{Refusal}
-use Rattle.strm_types.specs.declared.refusals.Refusal.TheVariants.{Einval, Enosr, Erange, JournalFull}
-use Rattle.strm_types.specs.Names.{is_enabled}
+use Rattle.strm_types.specs.declared.refusals.Refusal.TheVariants.{Einval, Enosr, Enxio, Erange, JournalFull}
+use Rattle.strm_types.specs.declared.names.Side.{Side}
+use Rattle.strm_types.specs.declared.needs.Needs.{Needs}
+use Rattle.strm_types.specs.Names.{is_enabled, is_master}
+use Rattle.strm_types.specs.Needs.{needs}
 use Rattle.strm_laws.specs.State.{State}
 use Rattle.strm_types.specs.Events.{Request, payload_of}
 use Rattle.strm_types.specs.declared.entries.Entry.TheVariants.{Called, Turned}
 use Rattle.strm_types.specs.Cells.{Cells}
 use Rattle.strm_types.specs.Journal.{PlainEntry, content_max}
-use Rattle.strm_laws.specs.Refusals.{in_range, has_room, refused, refused_at_once, refused_by_state, turn_refused}
+use Rattle.strm_laws.specs.Refusals.{in_range, is_numbered, is_reached, has_room, refused, refused_at_once, refused_by_state, turn_refused, unmet}
 use Rattle.strm_types.specs.Refused.{or_else, unless}
 use Rattle.strm_laws.specs.Step.{Step, after, replay, IsLegal}
 
@@ -51,6 +54,24 @@ or_else-none None b h = (refl, h)
 or_else-none (Some r) b h = absurd (cc)
 
 module _ {C : Type 0} where
+  -- what is asked is there: the stream, arguments with which nothing is wrong, and room in the books
+  pub record Met (s : State C) (side : Side) (n : Needs) : Type 0 where
+    pub reached : is_reached side n.reach s ≡ true
+    pub right : n.wrong ≡ None
+    pub booked : (not n.makes || in_range s) ≡ true
+
+  pub met : (s : State C) (side : Side) (n : Needs) → unmet s side n ≡ None → Met s side n
+  met s side n none =
+      let first = or_else-none (unless (is_reached side n.reach s) Enxio) _ none in
+      let second = or_else-none (unless (not n.masters || is_master side) Einval) _ first.1 in
+      let third = or_else-none n.wrong _ second.1 in
+      let fourth = or_else-none (unless (not n.numbered || is_numbered s) Erange) _ third.1 in
+      record { reached = unless-none _ _ first.0; right = third.0; booked = unless-none _ _ fourth.1 }
+
+  -- and so of a call that isn't refused
+  pub allowed-met : (s : State C) (caller : Caller) (asked : Request) → or_else (refused_at_once s caller asked) (refused_by_state s caller asked) ≡ None → Met s caller.side (needs asked)
+  allowed-met s caller asked allowed = met s caller.side (needs asked) (or_else-none (refused_at_once s caller asked) _ allowed).0
+
   -- a call that isn't refused: nothing refuses it at once or by the state, the journal has room, blocks are free
   pub call-allowed : (s : State C) (es : List PlainEntry) (limits : Config) (has_blocks : Bool) (caller : Caller) (asked : Request) → refused s es limits has_blocks caller asked ≡ None
       → (or_else (refused_at_once s caller asked) (refused_by_state s caller asked) ≡ None)

@@ -1,6 +1,6 @@
 -- A put makes no more than what it takes of blocks says, so that the books have room for what it gives rise to.
-use Rattle.std.proofs.Common.{ℕ, zero, suc, ◌≡◌, ◌<◌, ◌≤◌, ◌+◌, ◌-◌, Bool, true, false, cond, List, [], ◌∷◌, length, map, refl, sym, ap, subst, ◌∙◌, arith}
-use Rattle.std.specs.Prelude.{min, ◌*◌, ◌/◌, ◌^◌, ◌==◌, ◌&&◌, None, slice_index_or}
+use Rattle.std.proofs.Common.{ℕ, zero, suc, ◌≡◌, ◌<◌, ◌≤◌, ◌+◌, ◌-◌, Bool, true, false, cond, List, [], ◌∷◌, length, map, refl, ap, ◌∙◌, arith}
+use Rattle.std.specs.Prelude.{min, ◌*◌, ◌^◌, ◌==◌, ◌&&◌, None, slice_index_or}
 use Rattle.std.specs.Bool.{OnTrue}
 use Rattle.strm_types.specs.declared.books.Book.{Book}
 use Rattle.strm_types.specs.declared.events.Caller.{Caller}

@@ -5,7 +5,7 @@ use Rattle.strm_types.specs.declared.answers.Turn.{Turn}
 use Rattle.strm_types.specs.declared.books.Book.{Book}
 use Rattle.strm_types.specs.declared.entries.Entry.TheVariants.{Called, Turned}
 use Rattle.strm_types.specs.declared.events.Caller.{Caller}
-use Rattle.strm_types.specs.declared.events.Event.TheVariants.{OpenMaster, Unlock, OpenSlave, Shut, Push, Pop, Look, Flush, Write, Read, Put, Get, Mode, Nread, Ioctl, IoctlResult, Signals}
+use Rattle.strm_types.specs.declared.events.Event.TheVariants.{OpenMaster, Unlock, OpenSlave, Shut, Push, Pop, Flush, Write, Read, Put, Get, Mode, Ioctl, IoctlResult, Signals}
 use Rattle.strm_types.specs.declared.modes.Mode as modes
 use Rattle.strm_types.specs.declared.modes.Mode.TheVariants as chosen
 use Rattle.strm_types.specs.declared.modes.Prio.{Prio}
@@ -175,19 +175,18 @@ module _ {C : Type 0} where
   call-idle cells caller Shut s idle = closed-idle caller.side s idle
   call-idle cells caller (Push name) s idle = push-idle caller.side name s idle
   call-idle cells caller Pop s idle = pop-idle caller.side s idle
-  call-idle cells caller Look s idle = idle
   call-idle cells caller (Flush what band) s idle = delivered-idle cells (below caller.side) (flush_message (flush_bytes (asked_of what band))) s idle
   call-idle cells caller (Write bytes) s idle = write-idle cells caller.side bytes s idle
   call-idle cells caller (Read n) s idle = read-idle cells caller.side n s idle
   call-idle cells caller (Put prio control body) s idle = put_at-idle cells caller.side prio control body s idle
   call-idle cells caller (Get wanted cmax dmax) s idle = get-idle cells caller.side wanted cmax dmax s idle
   call-idle cells caller (Mode mode) s idle = mode-idle caller.side mode s idle
-  call-idle cells caller Nread s idle = idle
   call-idle cells caller (Ioctl command body) s idle =
       told-idle caller.side (ioctl_sent cells caller.side command body s).state
       (delivered-idle cells (below caller.side) (ioctl_message (asking command s.next_ioctl) body) (ioctl_begun caller.side command s) (begun-idle caller.side command s idle))
   call-idle cells caller (IoctlResult number) s idle = told-idle caller.side s idle
   call-idle cells caller Signals s idle = with-head-idle caller.side (record (stream caller.side s).head { signals = [] }) s idle
+  call-idle cells caller _ s idle = idle
 
   pub step-idle : (cells : Cells C) (old new : State C) (entry : PlainEntry) → AreIdle old → Step cells old entry new → AreIdle new
   step-idle cells old new (Called caller asked answer) idle step = subst (λ (s : State C). AreIdle s) step.leads (call-idle cells caller asked old idle)

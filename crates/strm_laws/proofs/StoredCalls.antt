@@ -46,68 +46,28 @@ both-size : (control body : Option (List ℕ)) → part_len (part_shape control)
 both-size control body = omega (arith, part-size control, part-size body, length-append (part control) (part body))
 
 pub request-back : (asked : Request) (more : List ℕ) → request_in (shape_of asked) (payload_of asked ++ more) ≡ asked
-request-back shapes.OpenMaster more = refl
-request-back shapes.Unlock more = refl
-request-back shapes.OpenSlave more = refl
-request-back shapes.Shut more = refl
-request-back (shapes.Push name) more = refl
-request-back shapes.Pop more = refl
-request-back shapes.Look more = refl
-request-back (shapes.Flush what band) more = refl
 request-back (shapes.Write bytes) more = ap shapes.Write (take-append_seam bytes more)
-request-back (shapes.Read n) more = refl
 request-back (shapes.Put prio control body) more =
     ap (λ c. shapes.Put prio c (part_in (part_shape body) (drop (part_len (part_shape control)) ((part control ++ part body) ++ more)))) (first-back control body more)
     ∙ ap (λ d. shapes.Put prio control d) (second-back control body more)
-request-back (shapes.Get wanted cmax dmax) more = refl
-request-back (shapes.Mode mode) more = refl
-request-back shapes.Nread more = refl
 request-back (shapes.Ioctl command body) more = ap (λ xs. shapes.Ioctl command xs) (take-append_seam body more)
-request-back (shapes.IoctlResult number) more = refl
-request-back shapes.Signals more = refl
+request-back _ more = refl
 
 pub request-size : (asked : Request) → event_len (shape_of asked) ≡ length (payload_of asked)
-request-size shapes.OpenMaster = refl
-request-size shapes.Unlock = refl
-request-size shapes.OpenSlave = refl
-request-size shapes.Shut = refl
-request-size (shapes.Push name) = refl
-request-size shapes.Pop = refl
-request-size shapes.Look = refl
-request-size (shapes.Flush what band) = refl
-request-size (shapes.Write bytes) = refl
-request-size (shapes.Read n) = refl
 request-size (shapes.Put prio control body) = both-size control body
-request-size (shapes.Get wanted cmax dmax) = refl
-request-size (shapes.Mode mode) = refl
-request-size shapes.Nread = refl
-request-size (shapes.Ioctl command body) = refl
-request-size (shapes.IoctlResult number) = refl
-request-size shapes.Signals = refl
+request-size _ = refl
 
 pub reply-back : (reply : Reply) (more : List ℕ) → reply_in (told_of reply) (content_of reply ++ more) ≡ reply
-reply-back told.Done more = refl
-reply-back (told.Name name) more = refl
-reply-back (told.Count n) more = refl
 reply-back (told.Bytes bytes) more = ap told.Bytes (take-append_seam bytes more)
 reply-back (told.Msg prio control body more_control more_data) more =
     ap (λ c. told.Msg prio c (part_in (part_shape body) (drop (part_len (part_shape control)) ((part control ++ part body) ++ more))) more_control more_data) (first-back control body more)
     ∙ ap (λ d. told.Msg prio control d more_control more_data) (second-back control body more)
-reply-back (told.Sizes first messages) more = refl
-reply-back (told.Pending number) more = refl
-reply-back (told.Nak refusal) more = refl
 reply-back (told.Signals bytes) more = ap told.Signals (take-append_seam bytes more)
+reply-back _ more = refl
 
 pub reply-size : (reply : Reply) → answer_len (told_of reply) ≡ length (content_of reply)
-reply-size told.Done = refl
-reply-size (told.Name name) = refl
-reply-size (told.Count n) = refl
-reply-size (told.Bytes bytes) = refl
 reply-size (told.Msg prio control body more_control more_data) = both-size control body
-reply-size (told.Sizes first messages) = refl
-reply-size (told.Pending number) = refl
-reply-size (told.Nak refusal) = refl
-reply-size (told.Signals bytes) = refl
+reply-size _ = refl
 
 -- an entry, of an answer whose bytes stand behind those of its call
 pub entry-back : (caller : Caller) (asked : Request) (answer : Answer ℕ) (content : List ℕ) → entry_in (Called caller (shape_of asked) answer) (payload_of asked ++ content) ≡ Called caller asked (reply_in answer content)

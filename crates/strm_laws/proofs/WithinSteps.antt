@@ -5,7 +5,7 @@ use Rattle.strm_types.specs.declared.answers.Turn.{Turn}
 use Rattle.strm_types.specs.declared.books.Book.{Book}
 use Rattle.strm_types.specs.declared.entries.Entry.TheVariants.{Called, Turned}
 use Rattle.strm_types.specs.declared.events.Caller.{Caller}
-use Rattle.strm_types.specs.declared.events.Event.TheVariants.{OpenMaster, Unlock, OpenSlave, Shut, Push, Pop, Look, Flush, Write, Read, Put, Get, Mode, Nread, Ioctl, IoctlResult, Signals}
+use Rattle.strm_types.specs.declared.events.Event.TheVariants.{OpenMaster, Unlock, OpenSlave, Shut, Push, Pop, Flush, Write, Read, Put, Get, Mode, Ioctl, IoctlResult, Signals}
 use Rattle.strm_types.specs.declared.modes.Mode as modes
 use Rattle.strm_types.specs.declared.modes.Mode.TheVariants as chosen
 use Rattle.strm_types.specs.declared.modes.Prio.{Prio}
@@ -178,19 +178,18 @@ module _ {C : Type 0} where
   call-within cells caller Shut s within = closed-within caller.side s within
   call-within cells caller (Push name) s within = push-within caller.side (named_by name) s within
   call-within cells caller Pop s within = pop-within caller.side s within
-  call-within cells caller Look s within = within
   call-within cells caller (Flush what band) s within = delivered-within cells (below caller.side) (flush_message (flush_bytes (asked_of what band))) s within
   call-within cells caller (Write bytes) s within = write-within cells caller.side bytes s within
   call-within cells caller (Read n) s within = read-within cells caller.side n s within
   call-within cells caller (Put prio control body) s within = put_at-within cells caller.side prio control body s within
   call-within cells caller (Get wanted cmax dmax) s within = get-within cells caller.side wanted cmax dmax s within
   call-within cells caller (Mode mode) s within = mode-within caller.side mode s within
-  call-within cells caller Nread s within = within
   call-within cells caller (Ioctl command body) s within =
       told-within caller.side (ioctl_sent cells caller.side command body s).state
       (delivered-within cells (below caller.side) (ioctl_message (asking command s.next_ioctl) body) (ioctl_begun caller.side command s) (begun-within caller.side command s within))
   call-within cells caller (IoctlResult number) s within = told-within caller.side s within
   call-within cells caller Signals s within = signals-within caller.side s within
+  call-within cells caller _ s within = within
 
   pub step-within : (cells : Cells C) (old new : State C) (entry : PlainEntry) → AreWithin old → Step cells old entry new → AreWithin new
   step-within cells old new (Called caller asked answer) within step = subst (λ (s : State C). AreWithin s) step.leads (call-within cells caller asked old within)

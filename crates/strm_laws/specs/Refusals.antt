@@ -1,16 +1,16 @@
 -- Which refusal a call or a turn meets: the first whose condition holds, in this order. A side that isn't open; an
 -- argument; a book that is full; a full journal; too few free blocks; what the state says.
-use Rattle.std.specs.Prelude.{ℕ, Bool, true, false, not, ◌&&◌, ◌||◌, nat_lt, nat_le, ◌+◌, ◌-◌, List, length, Option, None, Some, is_some}
+use Rattle.std.specs.Prelude.{ℕ, Bool, true, not, ◌&&◌, ◌||◌, nat_lt, nat_le, ◌+◌, ◌-◌, List, length, Option, None, is_some}
 use Rattle.strm_types.specs.declared.limits.Config.{Config}
 use Rattle.strm_types.specs.declared.events.Caller.{Caller}
 use Rattle.strm_types.specs.declared.names.QueueName.{QueueName}
 use Rattle.strm_types.specs.declared.refusals.Refusal.{Refusal}
 use Rattle.strm_types.specs.declared.refusals.Refusal.TheVariants.{Einval, Eagain, Enxio, Enosr, Erange, JournalFull}
-use Rattle.strm_types.specs.declared.modes.Wanted.{Wanted}
-use Rattle.strm_types.specs.declared.modes.Wanted.TheVariants.{Any, High, Band}
 use Rattle.strm_types.specs.declared.names.Side.{Side}
 use Rattle.strm_types.specs.declared.names.Side.TheVariants.{Master, Slave}
-use Rattle.strm_types.specs.declared.names.ModuleName.{ModuleName}
+use Rattle.strm_types.specs.declared.needs.Needs.{Needs}
+use Rattle.strm_types.specs.declared.needs.Reach.{Reach}
+use Rattle.strm_types.specs.declared.needs.Reach.TheVariants as reaches
 use Rattle.std.specs.List.{list_any}
 use Rattle.strm_types.specs.Names.{is_master, is_enabled, is_open, is_never, is_closed}
 use Rattle.strm_laws.specs.Pushes.{may_stand, named_by, top_on}
@@ -19,17 +19,18 @@ use Rattle.strm_types.specs.Slots.{is_free, result_refusal}
 use Rattle.strm_types.specs.Write.{chunk_count}
 use Rattle.strm_types.specs.Reads.{read_refusal}
 use Rattle.strm_types.specs.Gets.{get_refusal}
-use Rattle.strm_types.specs.PutMsg.{put_blocks, put_refusal, put_waits}
-use Rattle.strm_types.specs.declared.limits.TheConstants.{BANDS, WRITE_BLOCKS, CHANGE_BLOCKS, CLOSE_BLOCKS, IOCTL_BLOCKS, IOCTL_END, IOCTL_MAX}
-use Rattle.strm_types.specs.declared.events.Event.TheVariants.{OpenMaster, Unlock, OpenSlave, Shut, Push, Pop, Look, Flush, Write, Read, Put, Get, Ioctl, IoctlResult}
+use Rattle.strm_types.specs.PutMsg.{put_blocks, put_waits}
+use Rattle.strm_types.specs.declared.limits.TheConstants.{IOCTL_END}
+use Rattle.strm_types.specs.declared.events.Event.TheVariants.{OpenMaster, OpenSlave, Push, Pop, Look, Write, Read, Put, Get, Ioctl, IoctlResult}
 use Rattle.strm_types.specs.Books as books
-use Rattle.strm_types.specs.Events.{Request, payload_of}
-use Rattle.strm_types.specs.Journal.{PlainEntry, content_max, room_used}
+use Rattle.strm_types.specs.Events.{Request}
+use Rattle.strm_types.specs.Needs.{needs}
+use Rattle.strm_types.specs.Journal.{PlainEntry, room_used}
 use Rattle.strm_laws.specs.Writes.{is_full_below}
 use Rattle.strm_laws.specs.Stacked.{Module, module_queue}
 use Rattle.strm_types.specs.ModuleQueues.{messages_at}
 use Rattle.strm_types.specs.declared.names.Way.TheVariants.{Up}
-use Rattle.strm_types.specs.Refused.{or_else, unless, is_a_band, has_no_data}
+use Rattle.strm_types.specs.Refused.{or_else, unless, has_no_data}
 
 -- how many blocks of each kind are free
 pub record Free : Type 0 where
@@ -52,33 +53,14 @@ blocks_taken (Put prio control body) = put_blocks control body
 blocks_taken (Ioctl command body) = 2
 blocks_taken _ = 0
 
--- how many blocks of each kind have to be free for a call: a write and a putmsg want 32 more than they may take, a flush, a
--- push and a pop want 8, a close 2, an ioctl 34
+-- how many blocks of each kind have to be free for a call
 abbrev pub blocks_asked : Request → ℕ
-blocks_asked (Write bytes) = WRITE_BLOCKS + chunk_count (length bytes)
-blocks_asked (Put prio control body) = WRITE_BLOCKS + put_blocks control body
-blocks_asked (Push name) = CHANGE_BLOCKS
-blocks_asked Pop = CHANGE_BLOCKS
-blocks_asked (Flush what band) = CHANGE_BLOCKS
-blocks_asked Shut = CLOSE_BLOCKS
-blocks_asked (Ioctl command body) = IOCTL_BLOCKS
-blocks_asked _ = 0
+blocks_asked asked = (needs asked).blocks
 
 -- the journal takes one more entry with so many bytes
 abbrev pub has_room : List PlainEntry → Config → ℕ → Bool
 has_room entries limits bytes =
     nat_lt (length entries) limits.journal_events && nat_le (room_used entries + bytes) limits.journal_bytes
-
--- the name of a module that may be pushed: so far pckt isn't built
-abbrev pub is_known : Option ModuleName → Bool
-is_known None = false
-is_known (Some name) = true
-
--- and so is a band that a get asks for
-abbrev pub asks_a_band : Wanted → Bool
-asks_a_band Any = true
-asks_a_band High = true
-asks_a_band (Band band) = nat_lt band.0 BANDS
 
 module _ {C : Type 0} where
   -- the stream of a side is open, and the other end isn't gone
@@ -101,29 +83,30 @@ module _ {C : Type 0} where
   abbrev pub in_range : State C → Bool
   in_range s = books.has_room s.from_master && books.has_room s.from_slave
 
-  -- an ioctl sends no more than it may, and there is a number for it
-  abbrev pub may_ask : List ℕ → State C → Bool
-  may_ask body s = nat_le (length body) IOCTL_MAX && nat_lt s.next_ioctl IOCTL_END
+  -- the stream that a call asks for is there
+  abbrev pub is_reached : Side → Reach → State C → Bool
+  is_reached side reaches.Nothing s = true
+  is_reached side reaches.Master s = is_open s.master.opened
+  is_reached side reaches.Own s = is_open (stream side s).opened
+  is_reached side reaches.Down s = goes_down side s
 
-  -- what a call is refused for before all else: its side, then its arguments, and then the books
+  -- a number is left for the next ioctl
+  abbrev pub is_numbered : State C → Bool
+  is_numbered s = nat_lt s.next_ioctl IOCTL_END
+
+  -- what a call of a side is refused for before all else, by what it asks for: the stream, then who may make it and its arguments, and
+  -- then numbers and the books
+  abbrev pub unmet : State C → Side → Needs → Option Refusal
+  unmet s side n =
+      or_else (unless (is_reached side n.reach s) Enxio)
+      (or_else (unless (not n.masters || is_master side) Einval)
+      (or_else n.wrong
+      (or_else (unless (not n.numbered || is_numbered s) Erange)
+      (unless (not n.makes || in_range s) Erange))))
+
+  -- and so a call
   abbrev pub refused_at_once : State C → Caller → Request → Option Refusal
-  refused_at_once s caller OpenMaster = None
-  refused_at_once s caller Unlock =
-      or_else (unless (is_open (stream caller.side s).opened) Enxio) (unless (is_master caller.side) Einval)
-  refused_at_once s caller OpenSlave = unless (is_open s.master.opened) Enxio
-  refused_at_once s caller (Write bytes) = or_else (unless (goes_down caller.side s) Enxio) (unless (in_range s) Erange)
-  refused_at_once s caller (Push name) =
-      or_else (unless (goes_down caller.side s) Enxio) (or_else (unless (is_known name) Einval) (unless (in_range s) Erange))
-  refused_at_once s caller Pop = or_else (unless (goes_down caller.side s) Enxio) (unless (in_range s) Erange)
-  refused_at_once s caller (Flush what band) =
-      or_else (unless (goes_down caller.side s) Enxio) (or_else (unless (is_a_band band) Einval) (unless (in_range s) Erange))
-  refused_at_once s caller (Put prio control body) =
-      or_else (unless (goes_down caller.side s) Enxio) (or_else (put_refusal prio control body) (unless (in_range s) Erange))
-  refused_at_once s caller (Get wanted cmax dmax) =
-      or_else (unless (is_open (stream caller.side s).opened) Enxio) (unless (asks_a_band wanted) Einval)
-  refused_at_once s caller (Ioctl command body) =
-      or_else (unless (goes_down caller.side s) Enxio) (unless (may_ask body s && in_range s) Erange)
-  refused_at_once s caller _ = unless (is_open (stream caller.side s).opened) Enxio
+  refused_at_once s caller asked = unmet s caller.side (needs asked)
 
   -- what a call is refused for after all else: what the state says
   abbrev pub refused_by_state : State C → Caller → Request → Option Refusal
@@ -147,7 +130,7 @@ module _ {C : Type 0} where
   abbrev pub refused : State C → List PlainEntry → Config → Bool → Caller → Request → Option Refusal
   refused s entries limits has_blocks caller asked =
       or_else (refused_at_once s caller asked)
-      (or_else (unless (has_room entries limits (length (payload_of asked) + content_max asked)) JournalFull)
+      (or_else (unless (has_room entries limits ((needs asked).brings + (needs asked).gives)) JournalFull)
       (or_else (unless has_blocks Enosr)
       (refused_by_state s caller asked)))
 

@@ -28,7 +28,7 @@ pub mod Shown
 pub mod DataLemmas
 pub mod Sends
 pub mod JournalLemmas
-pub mod ReadBack
+pub mod FewBytes
 pub mod ChunkSteps
 mod Refusing
 mod Fresh

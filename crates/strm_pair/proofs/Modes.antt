@@ -26,7 +26,6 @@ use Rattle.strm_types.specs.Options.{mode_message, mode_number}
 use Rattle.strm_laws.specs.Pushes.{enable_waiting, head_above, let_come, may_stand, mode_on_push, mode_put, named_by, pushed_named, with_modules}
 use Rattle.strm_laws.specs.Puts.{delivered}
 use Rattle.strm_types.specs.Queue.{is_none_left}
-use Rattle.strm_laws.specs.Refusals.{is_known}
 use Rattle.strm_laws.specs.Stacked.{Module, OfLdterm, OfPtem, OfPckt, module_name, module_queue}
 use Rattle.strm_laws.specs.State.{State, stream, with_stream}
 use Rattle.strm_laws.proofs.FlushDelivered.{carries, went_on}
@@ -116,7 +115,7 @@ mode-among side (Some mode) ms s =
     ∙ ap (among side ms) (sym (puts-mode side mode s))
 
 -- the module that a name makes may stand where there is room and none of its name stands
-pub may-known : (name : ModuleName) (ms : List (Module ℕ)) → (is_known (Some name) && (nat_lt (length ms) MODULES && not (stands module_name name ms))) ≡ may_stand (named_by (Some name)) ms
+pub may-known : (name : ModuleName) (ms : List (Module ℕ)) → (nat_lt (length ms) MODULES && not (stands module_name name ms)) ≡ may_stand (named_by (Some name)) ms
 may-known names.Ldterm ms = refl
 may-known names.Ptem ms = refl
 may-known names.Pckt ms = refl

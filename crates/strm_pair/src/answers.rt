@@ -1,33 +1,21 @@
 //! Answers with their bytes in buffers of their own.
 
-ghost use Rattle.std.specs.Prelude.{◌≡◌, ◌≤◌, length, take, option_map};
+ghost use Rattle.std.specs.Prelude.{◌≡◌, ◌≤◌, length, take};
 ghost use Rattle.strm_types.specs.Events.{map_answer};
-ghost use Rattle.strm_types.specs.Journal.{answer_len, part_in, part_len, reply_in};
+ghost use Rattle.strm_types.specs.Journal.{answer_len, reply_in};
 ghost use Rattle.strm_pair.specs.Parts.{longest_part};
 
-use strm_types::{Answer, ReadBytes};
+use strm_types::{Answer, READ_MAX, ReadBytes};
 
-// The first so many bytes.
-fn front(len: usize, bytes: &[u8]) -> ReadBytes
-    requires has { len ≤ length bytes.now }
-    requires room { len ≤ 4096 }
-    ensures { result.items ≡ take len bytes.now }
+// So many bytes of the front, in a buffer of their own, which has room for 4096.
+fn owned(len: usize, bytes: &[u8]) -> ReadBytes
+    ensures { len ≤ 4096 → result.items ≡ take len bytes.now }
 {
     let mut owned = ReadBytes::new();
-    owned.try_extend_from_slice(&bytes[..len]).unwrap();
     owned
-}
-
-// A part with its bytes, which stand in front of others.
-fn part_of(stored: Option<usize>, bytes: &[u8]) -> Option<ReadBytes>
-    requires has { part_len stored ≤ length bytes.now }
-    requires room { part_len stored ≤ 4096 }
-    ensures { option_map (λ owned. owned.items) result ≡ part_in stored bytes.now }
-{
-    match stored {
-        Some(len) => Some(front(len, bytes)),
-        None => None,
-    }
+        .try_extend_from_slice(&bytes[..len.min(bytes.len()).min(READ_MAX)])
+        .unwrap();
+    owned
 }
 
 /// An answer with its bytes, which stand in front of others, those of a control part first. The cost is a copy of each byte.
@@ -37,26 +25,22 @@ pub(crate) fn own(answer: Answer<usize>, bytes: &[u8]) -> Answer<ReadBytes>
     ensures { map_answer (λ owned. owned.items) result ≡ reply_in answer bytes.now }
 {
     match answer {
-        Answer::Done => Answer::Done,
-        Answer::Name(name) => Answer::Name(name),
-        Answer::Count(n) => Answer::Count(n),
-        Answer::Bytes(len) => Answer::Bytes(front(len, bytes)),
         Answer::Msg {
             prio,
             control,
             body,
             more_control,
             more_data,
-        } => Answer::Msg {
-            prio,
-            control: part_of(control, bytes),
-            body: part_of(body, &bytes[control.unwrap_or(0)..]),
-            more_control,
-            more_data,
-        },
-        Answer::Sizes { first, messages } => Answer::Sizes { first, messages },
-        Answer::Pending(number) => Answer::Pending(number),
-        Answer::Nak(refusal) => Answer::Nak(refusal),
-        Answer::Signals(len) => Answer::Signals(front(len, bytes)),
+        } => {
+            let behind = &bytes[control.unwrap_or(0)..];
+            Answer::Msg {
+                prio,
+                control: control.map(|len| owned(len, bytes)),
+                body: body.map(|len| owned(len, behind)),
+                more_control,
+                more_data,
+            }
+        }
+        _ => answer.map(|len| owned(*len, bytes)),
     }
 }

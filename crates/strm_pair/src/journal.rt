@@ -6,7 +6,6 @@ ghost use Rattle.strm_types.specs.Events.{request, payload_of};
 ghost use Rattle.strm_types.specs.Journal.{entry_in, entry_len, answer_len, reply_in};
 ghost use Rattle.strm_pair.specs.Journals.{IsStored, has_room_for};
 
-use crate::stored::{stored_answer, stored_event};
 use std::alloc::{AllocError, Global};
 use strm_types::{Answer, Caller, Entry, Event, QueueName, Turn};
 
@@ -108,8 +107,8 @@ impl Journal {
     {
         let entry = Entry::Called {
             caller,
-            event: stored_event(event.shape()),
-            answer: stored_answer(answer),
+            event: event.shape(),
+            answer: answer.shortened(),
         };
         let (first, second) = event.payload();
         self.add(entry, first, second, content);

@@ -22,7 +22,6 @@ mod refusals;
 mod room;
 mod serving;
 mod stacks;
-mod stored;
 mod streams;
 mod turning;
 mod writing;

@@ -23,14 +23,14 @@ ghost use Rattle.strm_pair.specs.PairViews.{sizes_over};
 use crate::answers::own;
 use crate::journal::Journal;
 use crate::ledgers::sum;
-use crate::refusals::{blocks_asked, content_most, or_else, unless};
+use crate::refusals::or_else;
 use crate::streams::Streams;
 use strm_blocks::Blocks;
 use std::alloc::Global;
 use std::marker::Model;
 use strm_types::{
     Answer, BANDS, Band, Caller, Config, Content, Dir, Entry, Event, Fates, LISTS, Ledger,
-    NoMemory, Place, QueueName, READ_MAX, ReadBytes, Refusal, Side, Turn, turn_blocks,
+    NoMemory, Place, QueueName, READ_MAX, ReadBytes, Refusal, Side, Turn, turn_blocks, unless,
 };
 
 /// A pair of a master and a slave, whose messages stand in a store of its own. Contracts see it as its plain state, its
@@ -236,14 +236,14 @@ impl<B: Blocks + Drop> Pair<B> {
     fn refusal(&self, caller: Caller, event: &Event<&[u8]>) -> Option<Refusal>
         ensures { result ≡ call_refused self.now caller (request event.now) }
     {
-        if let Some(refusal) = self.streams.refused_at_once(caller, event) {
+        let needs = event.needs();
+        if let Some(refusal) = self.streams.unmet(caller.side, &needs) {
             return Some(refusal);
         }
-        let (first, second) = event.payload();
-        if !self.has_room(first.len() + second.len() + content_most(event)) {
+        if !self.has_room(needs.brings + needs.gives) {
             return Some(Refusal::JournalFull);
         }
-        if !self.has_blocks(blocks_asked(event)) {
+        if !self.has_blocks(needs.blocks) {
             return Some(Refusal::Enosr);
         }
         self.streams.refused_by_state(&self.store, caller, event)

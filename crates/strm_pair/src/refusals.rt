@@ -1,15 +1,13 @@
 //! What a call is refused for, by the streams alone.
 
-ghost use Rattle.std.specs.Prelude.{ℕ, ◌≡◌, ◌+◌, ◌≤◌, ◌<◌, ◌^◌, ◌&&◌, not, option_map, None};
+ghost use Rattle.std.specs.Prelude.{◌≡◌, ◌||◌, not, None};
 ghost use Rattle.strm_types.specs.Events.{request};
-ghost use Rattle.strm_types.specs.Journal.{content_max};
 ghost use Rattle.strm_laws.specs.Pushes.{may_stand, named_by};
-ghost use Rattle.strm_laws.specs.Refusals.{refused_at_once, refused_by_state, blocks_asked, in_range, goes_down, at_end, is_known, asks_a_band, may_ask};
-ghost use Rattle.strm_types.specs.Refused.{unless, or_else, is_a_band};
-ghost use Rattle.strm_types.specs.PutMsg.{part_blocks};
+ghost use Rattle.strm_laws.specs.Refusals.{at_end, in_range, is_reached, refused_at_once, refused_by_state, unmet};
+ghost use Rattle.strm_types.specs.Refused.{unless, or_else};
 ghost use Rattle.strm_laws.specs.Writes.{is_full_below};
 ghost use Rattle.strm_pair.specs.Parts.{IsLow, is_held_back};
-ghost use Rattle.strm_types.specs.declared.refusals.Refusal.TheVariants.{Eagain, Einval, Enxio, Erange};
+ghost use Rattle.strm_types.specs.declared.refusals.Refusal.TheVariants.{Eagain, Einval, Erange};
 ghost use Rattle.strm_types.specs.Names.{is_never, is_open};
 ghost use Rattle.strm_laws.specs.State.{stream};
 
@@ -17,20 +15,11 @@ use crate::ends::End;
 use crate::stacks::module_count;
 use crate::streams::Streams;
 use strm_blocks::Blocks;
-use strm_head::put_refusal;
 use strm_queue::standing::has_no_data;
 use strm_types::{
-    BANDS, Band, CHANGE_BLOCKS, CLOSE_BLOCKS, Caller, Event, IOCTL_BLOCKS, IOCTL_END, IOCTL_MAX,
-    MODULES, ModuleName, Openness, Prio, READ_MAX, Refusal, SIGNALS_MAX, Side, WRITE_BLOCKS,
-    Wanted, chunk_count,
+    Band, Caller, Event, IOCTL_END, MODULES, ModuleName, Needs, Openness, Prio, Reach, Refusal,
+    Side, unless,
 };
-
-/// A refusal unless a condition holds.
-pub(crate) fn unless(condition: bool, refusal: Refusal) -> Option<Refusal>
-    ensures { result ≡ unless condition refusal }
-{
-    if condition { None } else { Some(refusal) }
-}
 
 /// The first refusal, else the second.
 pub(crate) fn or_else(first: Option<Refusal>, second: Option<Refusal>) -> Option<Refusal>
@@ -42,75 +31,12 @@ pub(crate) fn or_else(first: Option<Refusal>, second: Option<Refusal>) -> Option
     }
 }
 
-// Whether a name is that of a module.
-fn is_known(name: Option<ModuleName>) -> bool
-    ensures { result ≡ is_known name }
-{
-    name.is_some()
-}
-
-// Whether a band, where one is named, is one of those that queues have.
-fn is_a_band(band: Option<Band>) -> bool
-    ensures { result ≡ is_a_band band }
-{
-    match band {
-        Some(band) => usize::from(band.0) < BANDS,
-        None => true,
-    }
-}
-
-// Whether a band that a get asks for is one of those that queues have.
-fn asks_a_band(wanted: Wanted) -> bool
-    ensures { result ≡ asks_a_band wanted }
-{
-    match wanted {
-        Wanted::Any | Wanted::High => true,
-        Wanted::Band(band) => usize::from(band.0) < BANDS,
-    }
-}
-
-// How many blocks a part takes: it fits in one.
-fn part_blocks(part: Option<&[u8]>) -> usize
-    ensures { result ≡ part_blocks (option_map (λ bytes. bytes.now) part.entry) }
-{
-    match part {
-        Some(_) => 1,
-        None => 0,
-    }
-}
-
-/// How many blocks of each kind have to be free for a call.
+// A refusal where a condition is asked for that doesn't hold.
 #[inline(always)]
-pub(crate) fn blocks_asked(event: &Event<&[u8]>) -> usize
-    ensures { result ≡ blocks_asked (request event.now) }
+fn needed(is_asked: bool, condition: bool, refusal: Refusal) -> Option<Refusal>
+    ensures { result ≡ unless (not is_asked || condition) refusal }
 {
-    match event {
-        Event::Write { bytes } => WRITE_BLOCKS + chunk_count(bytes.len()),
-        Event::Push { .. } | Event::Pop | Event::Flush { .. } => CHANGE_BLOCKS,
-        Event::Put { control, body, .. } => {
-            WRITE_BLOCKS + (part_blocks(*control) + part_blocks(*body))
-        }
-        Event::Shut => CLOSE_BLOCKS,
-        Event::Ioctl { .. } => IOCTL_BLOCKS,
-        _ => 0,
-    }
-}
-
-/// The most bytes that the answer of a call can have.
-#[inline(always)]
-pub(crate) fn content_most(event: &Event<&[u8]>) -> usize
-    ensures value { result ≡ content_max (request event.now) }
-    ensures small { result ≤ 8192 }
-{
-    match event {
-        Event::Read { n } => (*n as usize).min(READ_MAX),
-        Event::Get { cmax, dmax, .. } => {
-            (*cmax as usize).min(READ_MAX) + (*dmax as usize).min(READ_MAX)
-        }
-        Event::Ioctl { .. } | Event::IoctlResult { .. } => IOCTL_MAX,
-        Event::Signals => SIGNALS_MAX,
-        _ => 0,
-    }
+    unless(!is_asked || condition, refusal)
 }
 
 impl Streams {
@@ -129,42 +55,32 @@ impl Streams {
         }
     }
 
-    // ENXIO where a side isn't open.
-    fn unopened(&self, side: Side) -> Option<Refusal>
-        ensures { (s : StoreValue) →
-            result ≡ unless (is_open (stream side (state_in s self.now)).opened) Enxio }
+    // Whether the stream is there that a call of a side asks for.
+    #[inline(always)]
+    fn is_reached(&self, side: Side, reach: Reach) -> bool
+        ensures { (s : StoreValue) → result ≡ is_reached side reach (state_in s self.now) }
     {
-        unless(self.end(side).opened.is_open(), Refusal::Enxio)
+        match reach {
+            Reach::Nothing => true,
+            Reach::Master => self.master.opened.is_open(),
+            Reach::Own => self.end(side).opened.is_open(),
+            Reach::Down => self.end(side).opened.is_open() && !self.end(side).head.hung_up,
+        }
     }
 
-    // ENXIO where a side isn't open, or its other end is gone.
-    fn unreached(&self, side: Side) -> Option<Refusal>
-        ensures { (s : StoreValue) → result ≡ unless (goes_down side (state_in s self.now)) Enxio }
+    // Whether the books of both directions have room.
+    #[inline(always)]
+    fn in_range(&self) -> bool
+        ensures { (s : StoreValue) → result ≡ in_range (state_in s self.now) }
     {
-        let end = self.end(side);
-        unless(end.opened.is_open() && !end.head.hung_up, Refusal::Enxio)
+        self.from_master.has_room() && self.from_slave.has_room()
     }
 
     /// ERANGE where the books of a direction are full.
     pub(crate) fn beyond(&self) -> Option<Refusal>
         ensures { (s : StoreValue) → result ≡ unless (in_range (state_in s self.now)) Erange }
     {
-        unless(
-            self.from_master.has_room() && self.from_slave.has_room(),
-            Refusal::Erange,
-        )
-    }
-
-    // ERANGE where an ioctl sends more than it may, there is no number left for it, or the books of a direction are full.
-    fn unasked(&self, body: &[u8]) -> Option<Refusal>
-        ensures { (s : StoreValue) →
-            result ≡ unless (may_ask body.now (state_in s self.now) && in_range (state_in s self.now)) Erange }
-    {
-        let may_ask = body.len() <= IOCTL_MAX && self.next_ioctl < IOCTL_END;
-        unless(
-            may_ask && self.from_master.has_room() && self.from_slave.has_room(),
-            Refusal::Erange,
-        )
+        unless(self.in_range(), Refusal::Erange)
     }
 
     // EINVAL where the master was opened before.
@@ -219,48 +135,25 @@ impl Streams {
         }
     }
 
-    /// What a call is refused for before all else: its side, and then its arguments.
+    /// What a call of a side is refused for before all else, by what it asks for: the stream, then its arguments, then numbers
+    /// and books.
     #[inline(always)]
-    pub fn refused_at_once(&self, caller: Caller, event: &Event<&[u8]>) -> Option<Refusal>
-        ensures { (s : StoreValue) →
-            result ≡ refused_at_once (state_in s self.now) caller (request event.now) }
+    pub fn unmet(&self, side: Side, needs: &Needs) -> Option<Refusal>
+        ensures { (s : StoreValue) → result ≡ unmet (state_in s self.now) side needs.now }
     {
-        match event {
-            Event::OpenMaster => None,
-            Event::Unlock => or_else(
-                self.unopened(caller.side),
-                unless(matches!(caller.side, Side::Master), Refusal::Einval),
+        let numbered = needed(needs.numbered, self.next_ioctl < IOCTL_END, Refusal::Erange);
+        let booked = needed(needs.makes, self.in_range(), Refusal::Erange);
+        or_else(
+            unless(self.is_reached(side, needs.reach), Refusal::Enxio),
+            or_else(
+                needed(needs.masters, side.is_master(), Refusal::Einval),
+                or_else(needs.wrong, or_else(numbered, booked)),
             ),
-            Event::OpenSlave => self.unopened(Side::Master),
-            Event::Write { .. } => or_else(self.unreached(caller.side), self.beyond()),
-            Event::Pop => or_else(self.unreached(caller.side), self.beyond()),
-            Event::Push { name } => or_else(
-                self.unreached(caller.side),
-                or_else(unless(is_known(*name), Refusal::Einval), self.beyond()),
-            ),
-            Event::Flush { band, .. } => or_else(
-                self.unreached(caller.side),
-                or_else(unless(is_a_band(*band), Refusal::Einval), self.beyond()),
-            ),
-            Event::Put {
-                prio,
-                control,
-                body,
-            } => or_else(
-                self.unreached(caller.side),
-                or_else(put_refusal(*prio, *control, *body), self.beyond()),
-            ),
-            Event::Get { wanted, .. } => or_else(
-                self.unopened(caller.side),
-                unless(asks_a_band(*wanted), Refusal::Einval),
-            ),
-            Event::Ioctl { body, .. } => or_else(self.unreached(caller.side), self.unasked(body)),
-            _ => self.unopened(caller.side),
-        }
+        )
     }
 
     // Whether a module of a name may be pushed on a side's stream: there is room, and none of its name stands there.
-    fn may_push(&self, side: Side, name: Option<ModuleName>) -> bool
+    fn may_push<B: Blocks>(&self, side: Side, name: Option<ModuleName>) -> bool
         ensures { (s : StoreValue) → result ≡ may_stand (named_by name) (stream side (state_in s self.now)).modules }
     {
         let Some(kind) = name else {

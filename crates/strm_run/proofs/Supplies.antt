@@ -21,6 +21,7 @@ use Rattle.strm_types.specs.Slots.{PlainSlot, unless_same, result_refusal}
 use Rattle.strm_laws.specs.State.{State, stream}
 use Rattle.strm_types.specs.declared.events.Event.TheVariants as calls
 use Rattle.strm_types.specs.Events.{Request}
+use Rattle.strm_types.specs.Needs.{needs}
 use Rattle.strm_types.specs.Refused.{or_else, unless}
 use Rattle.strm_laws.specs.Refusals.{at_end, refused_at_once, refused_by_state}
 use Rattle.strm_run.specs.Script.{Command, Open, Call, Flush, Put, Get, Turn as TurnOf, Run, Show, Ledger}
@@ -57,27 +58,17 @@ put-want prio control body = at (is_no_prio prio control) (is_too_long control b
     at false true = refl
     at false false = refl
 
+-- and any call
+wrong-want : (asked : Request) → is_want (needs asked).wrong ≡ false
+wrong-want (calls.Push name) = unless-want _ Einval refl
+wrong-want (calls.Flush what band) = unless-want _ Einval refl
+wrong-want (calls.Put prio control body) = put-want prio control body
+wrong-want (calls.Get wanted cmax dmax) = unless-want _ Einval refl
+wrong-want (calls.Ioctl command sent) = unless-want _ Erange refl
+wrong-want _ = none-want
+
 at_once-want : (s : State ℕ) (caller : Caller) (asked : Request) → is_want (refused_at_once s caller asked) ≡ false
-at_once-want s caller calls.OpenMaster = none-want
-at_once-want s caller calls.Unlock = or_else-want _ _ (unless-want _ Enxio refl) (unless-want _ Einval refl)
-at_once-want s caller calls.OpenSlave = unless-want _ Enxio refl
-at_once-want s caller calls.Shut = unless-want _ Enxio refl
-at_once-want s caller (calls.Push name) =
-    or_else-want _ _ (unless-want _ Enxio refl) (or_else-want _ _ (unless-want _ Einval refl) (unless-want _ Erange refl))
-at_once-want s caller calls.Pop = or_else-want _ _ (unless-want _ Enxio refl) (unless-want _ Erange refl)
-at_once-want s caller calls.Look = unless-want _ Enxio refl
-at_once-want s caller (calls.Flush what band) =
-    or_else-want _ _ (unless-want _ Enxio refl) (or_else-want _ _ (unless-want _ Einval refl) (unless-want _ Erange refl))
-at_once-want s caller (calls.Write cells) = or_else-want _ _ (unless-want _ Enxio refl) (unless-want _ Erange refl)
-at_once-want s caller (calls.Read n) = unless-want _ Enxio refl
-at_once-want s caller (calls.Put prio control body) =
-    or_else-want _ _ (unless-want _ Enxio refl) (or_else-want _ _ (put-want prio control body) (unless-want _ Erange refl))
-at_once-want s caller (calls.Get wanted cmax dmax) = or_else-want _ _ (unless-want _ Enxio refl) (unless-want _ Einval refl)
-at_once-want s caller (calls.Mode mode) = unless-want _ Enxio refl
-at_once-want s caller calls.Nread = unless-want _ Enxio refl
-at_once-want s caller (calls.Ioctl command sent) = or_else-want _ _ (unless-want _ Enxio refl) (unless-want _ Erange refl)
-at_once-want s caller (calls.IoctlResult number) = unless-want _ Enxio refl
-at_once-want s caller calls.Signals = unless-want _ Enxio refl
+at_once-want s caller asked = or_else-want _ _ (unless-want _ Enxio refl) (or_else-want _ _ (unless-want _ Einval refl) (or_else-want _ _ (wrong-want asked) (or_else-want _ _ (unless-want _ Erange refl) (unless-want _ Erange refl))))
 
 -- a read is refused for what stands there
 read-want : (control : ControlMode) (end : Bool) (n : ℕ) (q : List (Message ℕ)) → is_want (read_refusal control end n q) ≡ false
@@ -126,22 +117,17 @@ answer-want asked (Nacked number command refusal) = same-want number asked None 
 
 by_state-want : (s : State ℕ) (caller : Caller) (asked : Request) → is_want (refused_by_state s caller asked) ≡ false
 by_state-want s caller calls.OpenMaster = unless-want _ Einval refl
-by_state-want s caller calls.Unlock = none-want
 by_state-want s caller calls.OpenSlave = or_else-want _ _ (unless-want _ Einval refl) (unless-want _ Eagain refl)
-by_state-want s caller calls.Shut = none-want
 by_state-want s caller (calls.Push name) = unless-want _ Einval refl
 by_state-want s caller calls.Pop = unless-want _ Einval refl
 by_state-want s caller calls.Look = unless-want _ Einval refl
-by_state-want s caller (calls.Flush what band) = none-want
 by_state-want s caller (calls.Write cells) = unless-want _ Eagain refl
 by_state-want s caller (calls.Read n) = let h = (stream caller.side s).head in read-want h.control_mode (at_end caller.side s) n h.queue.messages
 by_state-want s caller (calls.Put prio control body) = unless-want _ Eagain refl
 by_state-want s caller (calls.Get wanted cmax dmax) = get-want wanted (at_end caller.side s) (stream caller.side s).head.queue.messages
-by_state-want s caller (calls.Mode mode) = none-want
-by_state-want s caller calls.Nread = none-want
 by_state-want s caller (calls.Ioctl command sent) = unless-want _ Eagain refl
 by_state-want s caller (calls.IoctlResult number) = answer-want number (stream caller.side s).head.ioctl
-by_state-want s caller calls.Signals = none-want
+by_state-want s caller _ = none-want
 
 pub call_happens-short : (o : Option Refusal) (p : PlainPair) (caller : Caller) (asked : Request) → (call_happens o p caller asked).is_short ≡ is_want o
 unfolding is_want

@@ -1,5 +1,5 @@
 -- Calls and answers over what stands for their bytes: the bytes themselves, where they stand, or how many they are.
-use Rattle.std.specs.Prelude.{ℕ, List, [], ◌++◌, option_map}
+use Rattle.std.specs.Prelude.{ℕ, ◌≡◌, List, [], ◌++◌, Option, None, Some, option_map, ⊤}
 use denote.Ref.{Bor}
 use Rattle.strm_types.specs.declared.answers.Answer.{Answer}
 use Rattle.strm_types.specs.declared.answers.Answer.TheVariants.{Done, Name, Count, Bytes, Msg, Sizes, Pending, Nak, Signals}
@@ -39,6 +39,48 @@ map_answer f (Sizes first messages) = Sizes first messages
 map_answer f (Pending number) = Pending number
 map_answer f (Nak refusal) = Nak refusal
 map_answer f (Signals bytes) = Signals (f bytes)
+
+module _ {A B : Type 0} (R : A → B → Type 0) where
+  -- two parts that both are there and related, or both absent
+  abbrev pub PartsAlike : Option A → Option B → Type 0
+  PartsAlike None None = ⊤
+  PartsAlike (Some x) (Some y) = R x y
+  PartsAlike _ _ = ⊥
+
+  -- two calls that are one but for what stands for their bytes, which is related
+  abbrev pub CallsAlike : Event A → Event B → Type 0
+  CallsAlike OpenMaster OpenMaster = ⊤
+  CallsAlike Unlock Unlock = ⊤
+  CallsAlike OpenSlave OpenSlave = ⊤
+  CallsAlike Shut Shut = ⊤
+  CallsAlike (Push name) (Push name') = name ≡ name'
+  CallsAlike Pop Pop = ⊤
+  CallsAlike Look Look = ⊤
+  CallsAlike (Flush what band) (Flush what' band') = (what ≡ what') × (band ≡ band')
+  CallsAlike (Write x) (Write y) = R x y
+  CallsAlike (Read n) (Read n') = n ≡ n'
+  CallsAlike (Put prio control body) (Put prio' control' body') = (prio ≡ prio') × PartsAlike control control' × PartsAlike body body'
+  CallsAlike (Get wanted cmax dmax) (Get wanted' cmax' dmax') = (wanted ≡ wanted') × (cmax ≡ cmax') × (dmax ≡ dmax')
+  CallsAlike (Mode mode) (Mode mode') = mode ≡ mode'
+  CallsAlike Nread Nread = ⊤
+  CallsAlike (Ioctl command x) (Ioctl command' y) = (command ≡ command') × R x y
+  CallsAlike (IoctlResult number) (IoctlResult number') = number ≡ number'
+  CallsAlike events.Signals events.Signals = ⊤
+  CallsAlike _ _ = ⊥
+
+  -- two answers that are one but for what stands for their bytes, which is related
+  abbrev pub AnswersAlike : Answer A → Answer B → Type 0
+  AnswersAlike Done Done = ⊤
+  AnswersAlike (Name name) (Name name') = name ≡ name'
+  AnswersAlike (Count n) (Count n') = n ≡ n'
+  AnswersAlike (Bytes x) (Bytes y) = R x y
+  AnswersAlike (Msg prio control body more_control more_data) (Msg prio' control' body' more_control' more_data') =
+      (prio ≡ prio') × PartsAlike control control' × PartsAlike body body' × (more_control ≡ more_control') × (more_data ≡ more_data')
+  AnswersAlike (Sizes first messages) (Sizes first' messages') = (first ≡ first') × (messages ≡ messages')
+  AnswersAlike (Pending number) (Pending number') = number ≡ number'
+  AnswersAlike (Nak refusal) (Nak refusal') = refusal ≡ refusal'
+  AnswersAlike (Signals x) (Signals y) = R x y
+  AnswersAlike _ _ = ⊥
 
 -- a call with its bytes, and an answer with its bytes
 abbrev pub Request : Type 0

@@ -1,14 +1,14 @@
 -- The journal: entries of calls and turns, and the bytes that an entry takes.
-use Rattle.std.specs.Prelude.{ℕ, min, List, [], ◌∷◌, ◌+◌, length, sum_by, take, drop, Option, option_map, unwrap_or}
-use Rattle.strm_types.specs.declared.limits.TheConstants.{READ_MAX, IOCTL_MAX, SIGNALS_MAX}
+use Rattle.std.specs.Prelude.{ℕ, List, [], ◌∷◌, ◌+◌, length, sum_by, take, drop, Option, option_map, unwrap_or}
 use Rattle.strm_types.specs.declared.answers.Answer.{Answer}
 use Rattle.strm_types.specs.declared.answers.Answer.TheVariants.{Bytes, Msg}
 use Rattle.strm_types.specs.declared.answers.Answer.TheVariants as answers
 use Rattle.strm_types.specs.declared.events.Event.{Event}
-use Rattle.strm_types.specs.declared.events.Event.TheVariants.{Write, Read, Put, Get, Ioctl, IoctlResult, Signals}
+use Rattle.strm_types.specs.declared.events.Event.TheVariants.{Write, Put, Ioctl}
 use Rattle.strm_types.specs.declared.entries.Entry.{Entry}
 use Rattle.strm_types.specs.declared.entries.Entry.TheVariants.{Called, Turned}
 use Rattle.strm_types.specs.Events.{Request, Reply, payload_of, content_of, map_event, map_answer}
+use Rattle.strm_types.specs.Needs.{needs}
 
 -- an entry with its bytes: a caller's call and what it was answered, or a queue's turn
 abbrev pub PlainEntry : Type 0
@@ -16,12 +16,7 @@ PlainEntry = Entry (List ℕ)
 
 -- the most bytes that a call's answer can have
 abbrev pub content_max : Request → ℕ
-content_max (Read n) = min n READ_MAX
-content_max (Get wanted cmax dmax) = min cmax READ_MAX + min dmax READ_MAX
-content_max (Ioctl command body) = IOCTL_MAX
-content_max (IoctlResult number) = IOCTL_MAX
-content_max Signals = SIGNALS_MAX
-content_max _ = 0
+content_max asked = (needs asked).gives
 
 -- how many bytes of the journal's buffer an entry takes
 abbrev pub room_of : PlainEntry → ℕ

@@ -29,6 +29,7 @@ pub mod Far
 pub mod Costs
 pub mod Events
 pub mod Refused
+pub mod Needs
 pub mod Journal
 pub mod Numbers
 pub mod Signals

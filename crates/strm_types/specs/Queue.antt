@@ -2,7 +2,7 @@
 use Rattle.std.specs.Prelude.{ℕ, zero, suc, Bool, true, false, not, ◌&&◌, ◌||◌, ◌==◌, nat_le, nat_lt, if◌then◌else◌, List, [], ◌∷◌, map, sum_by, replicate, slice_index_or, Option, None, Some}
 use Rattle.strm_types.specs.declared.limits.TheConstants.{BANDS}
 use Rattle.strm_types.specs.Ranked as ranked
-use Rattle.strm_types.specs.Message.{Message, rank_of, band_of, size_of, weight_of, is_high_priority, map_message, is_held}
+use Rattle.strm_types.specs.Message.{Message, rank_of, band_of, size_of, weight_of, is_high_priority, map_message}
 
 -- the flow control of one band of a queue
 pub record Flow : Type 0 where

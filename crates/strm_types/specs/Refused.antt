@@ -4,7 +4,6 @@ use Rattle.std.specs.Prelude.{ℕ, Bool, true, false, not, nat_lt, List, Option,
 use Rattle.strm_types.specs.declared.refusals.Refusal.{Refusal}
 use Rattle.strm_types.specs.declared.kinds.Band as bands
 use Rattle.strm_types.specs.declared.limits.TheConstants.{BANDS, STOP_BLOCKS, TURN_BLOCKS}
-use Rattle.strm_types.specs.declared.modes.Wanted.TheVariants.{Band}
 use Rattle.strm_types.specs.declared.names.Place.{Place}
 use Rattle.strm_types.specs.declared.names.Place.TheVariants as places
 use Rattle.strm_types.specs.Message.{Message, is_held}

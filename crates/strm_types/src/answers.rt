@@ -1,9 +1,11 @@
 //! What calls and turns answer.
 
-ghost use Rattle.std.specs.Prelude.{◌≡◌, ◌≤◌, length, option_map};
-ghost use Rattle.strm_types.specs.Events.{map_answer};
-ghost use Rattle.strm_types.specs.Journal.{answer_len, part_in, part_len, reply_in};
+ghost use Rattle.std.specs.Fn.{FnReturnsAt};
+ghost use Rattle.std.specs.Prelude.{◌≡◌, ◌≤◌, ◌<◌, ◌^◌, length, take};
+ghost use Rattle.strm_types.specs.Events.{AnswersAlike, map_answer};
+ghost use Rattle.strm_types.specs.Journal.{answer_len, reply_in};
 
+use crate::events::{map_part, short};
 use crate::limits::{CONTENT_MAX, READ_MAX};
 use crate::modes::Prio;
 use crate::names::ModuleName;
@@ -50,14 +52,46 @@ pub enum Answer<T> {
     Signals(T),
 }
 
-// A part over its bytes, which stand in front of others.
-fn part_over<'a>(stored: Option<usize>, bytes: &'a [u8]) -> Option<&'a [u8]>
-    requires { part_len stored ≤ length bytes.now }
-    ensures { option_map (λ lent. lent.now) result ≡ part_in stored bytes.now }
+// So many bytes of the front.
+fn front(len: usize, bytes: &[u8]) -> &[u8]
+    ensures { result.now ≡ take len bytes.now }
 {
-    match stored {
-        Some(len) => Some(&bytes[..len]),
-        None => None,
+    &bytes[..len.min(bytes.len())]
+}
+
+impl<T> Answer<T> {
+    /// The same answer over what a function makes of what stands for its bytes.
+    #[inline(always)]
+    pub fn map<'a, U, F: Fn(&'a T) -> U>(&'a self, f: F) -> Answer<U>
+        requires { F.IsAlwaysCallable f }
+        ensures { AnswersAlike (λ x y. FnReturnsAt F.Fn f x y) self.now result }
+    {
+        match self {
+            Answer::Done => Answer::Done,
+            Answer::Name(name) => Answer::Name(*name),
+            Answer::Count(n) => Answer::Count(*n),
+            Answer::Bytes(bytes) => Answer::Bytes(f(bytes)),
+            Answer::Msg {
+                prio,
+                control,
+                body,
+                more_control,
+                more_data,
+            } => Answer::Msg {
+                prio: *prio,
+                control: map_part(control, &f),
+                body: map_part(body, &f),
+                more_control: *more_control,
+                more_data: *more_data,
+            },
+            Answer::Sizes { first, messages } => Answer::Sizes {
+                first: *first,
+                messages: *messages,
+            },
+            Answer::Pending(number) => Answer::Pending(*number),
+            Answer::Nak(refusal) => Answer::Nak(*refusal),
+            Answer::Signals(bytes) => Answer::Signals(f(bytes)),
+        }
     }
 }
 
@@ -68,28 +102,32 @@ impl Answer<usize> {
         ensures { map_answer (λ lent. lent.now) result ≡ reply_in self.now bytes.now }
     {
         match *self {
-            Answer::Done => Answer::Done,
-            Answer::Name(name) => Answer::Name(name),
-            Answer::Count(n) => Answer::Count(n),
-            Answer::Bytes(len) => Answer::Bytes(&bytes[..len]),
             Answer::Msg {
                 prio,
                 control,
                 body,
                 more_control,
                 more_data,
-            } => Answer::Msg {
-                prio,
-                control: part_over(control, bytes),
-                body: part_over(body, &bytes[control.unwrap_or(0)..]),
-                more_control,
-                more_data,
-            },
-            Answer::Sizes { first, messages } => Answer::Sizes { first, messages },
-            Answer::Pending(number) => Answer::Pending(number),
-            Answer::Nak(refusal) => Answer::Nak(refusal),
-            Answer::Signals(len) => Answer::Signals(&bytes[..len]),
+            } => {
+                let behind = &bytes[control.unwrap_or(0)..];
+                Answer::Msg {
+                    prio,
+                    control: control.map(|len| front(len, bytes)),
+                    body: body.map(|len| front(len, behind)),
+                    more_control,
+                    more_data,
+                }
+            }
+            _ => self.map(|len| front(*len, bytes)),
         }
+    }
+
+    /// The answer as a journal keeps it: its lengths in 32 bits.
+    #[inline(always)]
+    pub fn shortened(&self) -> Answer<u32>
+        ensures { answer_len self.now < 2 ^ 32 → result ≡ self.now }
+    {
+        self.map(|len| short(*len))
     }
 }
 

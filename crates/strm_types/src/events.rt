@@ -1,8 +1,8 @@
 //! The calls on a pair.
 
-ghost use Rattle.std.specs.Prelude.{◌≡◌, ◌++◌, option_map};
-ghost use Rattle.strm_types.specs.Events.{request, payload_of, map_event};
-ghost use Rattle.std.specs.Prelude.{length};
+ghost use Rattle.std.specs.Fn.{FnReturnsAt};
+ghost use Rattle.std.specs.Prelude.{◌≡◌, ◌<◌, ◌^◌, ◌++◌, length, option_map};
+ghost use Rattle.strm_types.specs.Events.{CallsAlike, PartsAlike, map_event, payload_of, request};
 ghost use Rattle.strm_types.specs.Message.{part};
 
 use crate::kinds::Band;
@@ -25,7 +25,7 @@ pub enum FlushQueues {
 }
 
 /// A call on a pair, over what stands for its bytes: a caller lends them (`Event<&[u8]>`), a journal's entry has how many
-/// they are (`Event<usize>`), and definitions have them as lists.
+/// they are (`Event<u32>`), and definitions have them as lists.
 #[derive(Clone, Copy, PartialEq)]
 pub enum Event<T> {
     /// Opens the master, once in a pair's life: `open(2)` of the master device.
@@ -97,8 +97,8 @@ pub enum Event<T> {
     Signals,
 }
 
-// The bytes of a part, none where it is absent.
-fn part_bytes<'a>(lent: Option<&'a [u8]>) -> &'a [u8]
+/// The bytes of a part, none where it is absent.
+pub(crate) fn part_bytes<'a>(lent: Option<&'a [u8]>) -> &'a [u8]
     ensures { result.now ≡ part (option_map (λ bytes. bytes.now) lent.entry) }
 {
     match lent {
@@ -107,46 +107,24 @@ fn part_bytes<'a>(lent: Option<&'a [u8]>) -> &'a [u8]
     }
 }
 
-// How many bytes a part has, where it is there.
-fn part_len(lent: Option<&[u8]>) -> Option<usize>
-    ensures { result ≡ option_map (λ bytes. length bytes.now) lent.entry }
+/// What a function makes of a part, where it is there.
+#[inline(always)]
+pub(crate) fn map_part<'a, T, U, F: Fn(&'a T) -> U>(part: &'a Option<T>, f: &F) -> Option<U>
+    requires { F.IsAlwaysCallable f.now }
+    ensures { PartsAlike (λ x y. FnReturnsAt F.Fn f.now x y) part.now result }
 {
-    match lent {
-        Some(bytes) => Some(bytes.len()),
+    match part {
+        Some(bytes) => Some(f(bytes)),
         None => None,
     }
 }
 
-// A part over its bytes where they stand.
-fn lend_part(owned: &Option<Vec<u8>>) -> Option<&[u8]>
-    ensures { option_map (λ bytes. bytes.now) result ≡ option_map (λ bytes. bytes.items) owned.now }
-{
-    match owned {
-        Some(bytes) => Some(bytes.as_slice()),
-        None => None,
-    }
-}
-
-impl<'a> Event<&'a [u8]> {
-    /// The bytes of a call: those that are written, or those of a control part and then those of a data part.
-    pub fn payload(&self) -> (&'a [u8], &'a [u8])
-        ensures { result.0.now ++ result.1.now ≡ payload_of (request self.now) }
-    {
-        match self {
-            Event::Write { bytes } => (bytes, &[]),
-            Event::Put { control, body, .. } => (part_bytes(*control), part_bytes(*body)),
-            Event::OpenMaster | Event::Unlock | Event::OpenSlave | Event::Shut => (&[], &[]),
-            Event::Push { .. } | Event::Pop | Event::Look => (&[], &[]),
-            Event::Flush { .. } | Event::Read { .. } => (&[], &[]),
-            Event::Get { .. } | Event::Mode { .. } | Event::Nread => (&[], &[]),
-            Event::Ioctl { body, .. } => (body, &[]),
-            Event::IoctlResult { .. } | Event::Signals => (&[], &[]),
-        }
-    }
-
-    /// The call without its bytes.
-    pub fn shape(&self) -> Event<usize>
-        ensures { result ≡ map_event (λ bytes. length bytes) (request self.now) }
+impl<T> Event<T> {
+    /// The same call over what a function makes of what stands for its bytes.
+    #[inline(always)]
+    pub fn map<'a, U, F: Fn(&'a T) -> U>(&'a self, f: F) -> Event<U>
+        requires { F.IsAlwaysCallable f }
+        ensures { CallsAlike (λ x y. FnReturnsAt F.Fn f x y) self.now result }
     {
         match self {
             Event::OpenMaster => Event::OpenMaster,
@@ -160,7 +138,7 @@ impl<'a> Event<&'a [u8]> {
                 what: *what,
                 band: *band,
             },
-            Event::Write { bytes } => Event::Write { bytes: bytes.len() },
+            Event::Write { bytes } => Event::Write { bytes: f(bytes) },
             Event::Read { n } => Event::Read { n: *n },
             Event::Put {
                 prio,
@@ -168,8 +146,8 @@ impl<'a> Event<&'a [u8]> {
                 body,
             } => Event::Put {
                 prio: *prio,
-                control: part_len(*control),
-                body: part_len(*body),
+                control: map_part(control, &f),
+                body: map_part(body, &f),
             },
             Event::Get { wanted, cmax, dmax } => Event::Get {
                 wanted: *wanted,
@@ -180,11 +158,43 @@ impl<'a> Event<&'a [u8]> {
             Event::Nread => Event::Nread,
             Event::Ioctl { command, body } => Event::Ioctl {
                 command: *command,
-                body: body.len(),
+                body: f(body),
             },
             Event::IoctlResult { number } => Event::IoctlResult { number: *number },
             Event::Signals => Event::Signals,
         }
+    }
+}
+
+/// A length in 32 bits. Those of what has stood in blocks fit, as no store has more than 16 MiB.
+#[inline(always)]
+pub(crate) fn short(len: usize) -> u32
+    ensures { len < 2 ^ 32 → result ≡ len }
+{
+    u32::try_from(len).unwrap_or(u32::MAX)
+}
+
+impl<'a> Event<&'a [u8]> {
+    /// The bytes of a call: those that are written, those of a control part and then those of a data part, or what an ioctl
+    /// sends.
+    pub fn payload(&self) -> (&'a [u8], &'a [u8])
+        ensures { result.0.now ++ result.1.now ≡ payload_of (request self.now) }
+    {
+        match self {
+            Event::Write { bytes } => (bytes, &[]),
+            Event::Put { control, body, .. } => (part_bytes(*control), part_bytes(*body)),
+            Event::Ioctl { body, .. } => (body, &[]),
+            _ => (&[], &[]),
+        }
+    }
+
+    /// The call without its bytes, as a journal keeps it: how many they are, in 32 bits.
+    #[inline(always)]
+    pub fn shape(&self) -> Event<u32>
+        ensures { length (payload_of (request self.now)) < 2 ^ 32 →
+            result ≡ map_event (λ bytes. length bytes) (request self.now) }
+    {
+        self.map(|bytes| short(bytes.len()))
     }
 }
 
@@ -193,44 +203,6 @@ impl Event<Vec<u8>> {
     pub fn lend(&self) -> Event<&[u8]>
         ensures { request result ≡ map_event (λ bytes. bytes.items) self.now }
     {
-        match self {
-            Event::OpenMaster => Event::OpenMaster,
-            Event::Unlock => Event::Unlock,
-            Event::OpenSlave => Event::OpenSlave,
-            Event::Shut => Event::Shut,
-            Event::Push { name } => Event::Push { name: *name },
-            Event::Pop => Event::Pop,
-            Event::Look => Event::Look,
-            Event::Flush { what, band } => Event::Flush {
-                what: *what,
-                band: *band,
-            },
-            Event::Write { bytes } => Event::Write {
-                bytes: bytes.as_slice(),
-            },
-            Event::Read { n } => Event::Read { n: *n },
-            Event::Put {
-                prio,
-                control,
-                body,
-            } => Event::Put {
-                prio: *prio,
-                control: lend_part(control),
-                body: lend_part(body),
-            },
-            Event::Get { wanted, cmax, dmax } => Event::Get {
-                wanted: *wanted,
-                cmax: *cmax,
-                dmax: *dmax,
-            },
-            Event::Mode { mode } => Event::Mode { mode: *mode },
-            Event::Nread => Event::Nread,
-            Event::Ioctl { command, body } => Event::Ioctl {
-                command: *command,
-                body: body.as_slice(),
-            },
-            Event::IoctlResult { number } => Event::IoctlResult { number: *number },
-            Event::Signals => Event::Signals,
-        }
+        self.map(|bytes| bytes.as_slice())
     }
 }

@@ -22,6 +22,13 @@ impl Side {
         }
     }
 
+    /// Whether it is the master's.
+    pub fn is_master(self) -> bool
+        ensures { result ≡ names.is_master self }
+    {
+        matches!(self, Side::Master)
+    }
+
     /// The direction of what this side writes.
     pub fn direction(self) -> Dir
         ensures { result ≡ names.direction_from self }

@@ -2,6 +2,7 @@
 
 ghost use Rattle.std.specs.Prelude.{◌≡◌};
 ghost use Rattle.strm_types.specs.Numbers.{number_of, refusal_numbered};
+ghost use Rattle.strm_types.specs.Refused.{unless};
 
 use thiserror::Error;
 
@@ -60,4 +61,11 @@ impl Refusal {
             _ => Refusal::Einval,
         }
     }
+}
+
+/// A refusal unless a condition holds.
+pub fn unless(condition: bool, refusal: Refusal) -> Option<Refusal>
+    ensures { result ≡ unless condition refusal }
+{
+    if condition { None } else { Some(refusal) }
 }

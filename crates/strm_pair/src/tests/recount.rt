@@ -3,7 +3,6 @@
 
 use crate::Recorded;
 use crate::pair::kept::Kept;
-use crate::stored::stored_answer;
 use std::alloc::{AllocError, Global};
 use std::collections::VecDeque;
 use strm_types::{
@@ -442,7 +441,7 @@ impl PlainPair {
         answer: Answer<u32>,
         bytes: &[u8],
     ) -> Result<bool, AllocError> {
-        let told = answer == stored_answer(Answer::Bytes(bytes.len()));
+        let told = answer == Answer::Bytes(bytes.len()).shortened();
         let head = &mut self.end_mut(side).head;
         if n == 0 || head.sizes.is_empty() {
             return Ok(told && bytes.is_empty());

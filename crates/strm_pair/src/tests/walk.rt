@@ -2,7 +2,6 @@
 //! leads on.
 
 use crate::Pair;
-use crate::stored::{stored_answer, stored_event};
 use crate::tests::over_tables;
 use crate::tests::recount::PlainPair;
 use strm_blocks::Blocks;
@@ -221,8 +220,8 @@ impl<B: Blocks + Drop> Walk<B> {
                 self.met.note_call(event);
                 let told = Entry::Called {
                     caller,
-                    event: stored_event(event.shape()),
-                    answer: stored_answer(answer),
+                    event: event.shape(),
+                    answer: answer.shortened(),
                 };
                 self.gains(wanted, &told, event.payload().0)
             }

@@ -8,8 +8,8 @@ use std::alloc::Global;
 use std::process::Abort;
 use std::test::Fail;
 use strm_blocks::{Blocks, TableStore};
-use strm_head::{Gotten, Head, getmsg, make_message, put_refusal};
-use strm_types::{Band, Content, Dir, Fates, Prio, Refusal, Wanted};
+use strm_head::{Gotten, Head, getmsg, make_message};
+use strm_types::{Band, Content, Dir, Fates, Prio, Refusal, Wanted, put_refusal};
 
 // The priority and the parts of a message.
 pub(super) type Sent<'a> = (Prio, Option<&'a [u8]>, Option<&'a [u8]>);

@@ -14,6 +14,7 @@ use Rattle.strm_laws.specs.Ledgers.{FewBooked}
 use Rattle.strm_laws.specs.Step.{IsCall, after}
 use Rattle.strm_laws.specs.Refusals.{enough, blocks_asked, refused_at_once, refused_by_state}
 use Rattle.strm_laws.specs.Pair.{PairState, AddsEntry, call_refused}
+use Rattle.strm_laws.proofs.AnswersFit.{content-bounded}
 use Rattle.strm_laws.proofs.Balances.{call-few, written-by-blocks}
 use Rattle.strm_laws.proofs.StackSpares.{call-low}
 use Rattle.strm_laws.proofs.Replay.{call-allowed, or_else-none}
@@ -22,7 +23,7 @@ use Rattle.strm_blocks.proofs.Laws.{free_m-is}
 use Rattle.strm_pair.specs.Pairs.{state_in, journal_of, free_in}
 use Rattle.strm_pair.specs.PairViews.{pair_of}
 use Rattle.strm_pair.proofs.JournalLemmas.{room-less}
-use Rattle.strm_pair.proofs.ReadBack.{content-few, few-kept}
+use Rattle.strm_pair.proofs.FewBytes.{few-kept}
 use Rattle.strm_pair.proofs.Steps.{kept-step, led-idle, step-shown}
 use Rattle.strm_pair.proofs.pair.Pair.make.Goals as goal
 
@@ -137,7 +138,7 @@ pub add_call-requires-clause-few : goal.add_call-requires-clause-few
 add_call-requires-clause-few g c =
     let long = ap length c.as_slice.ensures.value in
     let most = c.carry_out-answer.ensures.content in
-    omega (arith, long, most, content-few (request c.args.event.now))
+    omega (arith, long, most, content-bounded (request c.args.event.now))
 
 pub add_call-requires-clause-room : goal.add_call-requires-clause-room
 add_call-requires-clause-room g c =
