@@ -1,5 +1,5 @@
 -- Each kind of step keeps the rule of the word.
-use Rattle.std.proofs.Common.{◌≡◌, ◌≢◌, ℕ, zero, suc, ◌+◌, ◌<◌, ◌≤◌, List, [], ◌∷◌, ◌++◌, length, get_or, set, sym, refl, ap, ◌∙◌, subst, arith, length-set, get_or-set_same}
+use Rattle.std.proofs.Common.{◌≡◌, ◌≢◌, ℕ, zero, suc, ◌+◌, ◌<◌, ◌≤◌, List, [], ◌∷◌, ◌++◌, get_or, set, sym, refl, ap, ◌∙◌, subst, arith, length-set, get_or-set_same}
 use mathlib.Core.Logic.{dite}
 use mathlib.Core.Option.{none, some, some-injective, some-ne-none}
 use native.Mathlib.Decide.{ℕ_discrete, dec_le}
@@ -10,7 +10,7 @@ use Rattle.std.specs.Int.RustNames.{bit_or}
 use Rattle.std.proofs.lemmas.Nat.Bits.{bit_at_and, bit_at_or, bit_at-lt, bit_at-zero, bit_at_above, same_from_bits}
 use Rattle.atomic_table.specs.Table.{State, step, keeps, stepped, Allows, Splits, Joins}
 use Rattle.strm_minors.specs.declared.view.View.{View}
-use Rattle.strm_minors.specs.Rule.{knows, holds_in, holders, IsMarked, Sat, IsBit, Tries, tried, released, looked}
+use Rattle.strm_minors.specs.Rule.{knows, holds_in, holders, IsMarked, Mine, IsBit, tried, released, looked}
 
 abbrev St : Type 0
 St = State (Unit {0}) View
@@ -41,7 +41,7 @@ abbrev Follows : ℕ → ℕ → View → View → ℕ → Type 0
 Follows n n' v w k = bit_at n' k + holds_in v k ≡ bit_at n k + holds_in w k
 
 -- a step that changes the word to n, and this view to w
-moved : (pairs : ℕ) (s : St) → IsMarked pairs s → (id n : ℕ) (me : Sat) (w : View) → get_elem? s.views id ≡ some me.0
+moved : (pairs : ℕ) (s : St) → IsMarked pairs s → (id n : ℕ) (me : Mine) (w : View) → get_elem? s.views id ≡ some me.0
     → ((k : ℕ) → Follows (get_or s.words 0 0) n me.0 w k) → ((k : ℕ) → pairs ≤ k → bit_at n k ≡ 0) → IsMarked pairs (stepped s 0 n id me.1 w keeps)
 moved pairs s rule id n me w at follows clear =
     let one = rule.one_word in let is : get_or (set s.words 0 n) 0 0 ≡ n = get_or-set_same s.words 0 n 0 (omega arith) in record {
@@ -56,7 +56,7 @@ one_bit : (b j k : ℕ) → IsBit b j → IsBit b k → k ≡ j
 one_bit b j k x y = dite (ℕ_discrete k j) (λ e. e) (λ e. let a = x.others k e in let c = y.here in absurd (omega arith))
 
 -- a try of the minor j, by a mask b with its bit alone
-pub tries : (pairs slots id : ℕ) (me : Sat) (b j : ℕ) → IsBit b j → j < pairs → Allows (IsMarked pairs) slots id me 0 (λ n. bit_or n b) (tried (step slots 0 b 0 none) me)
+pub tries : (pairs slots id : ℕ) (me : Mine) (b j : ℕ) → IsBit b j → j < pairs → Allows (IsMarked pairs) slots id me 0 (λ n. bit_or n b) (tried (step slots 0 b 0 none) me)
 tries pairs slots id me b j bit near s rule deep at small = let n : ℕ = get_or s.words 0 0 in
     let clear : (k : ℕ) → pairs ≤ k → bit_at (bit_or n b) k ≡ 0 = λ k far.
     (let other : k ≢ j = (λ e. let low : k < pairs = subst (λ (i : ℕ). i < pairs) (sym e) near in omega arith) in
@@ -95,7 +95,7 @@ tries pairs slots id me b j bit near s rule deep at small = let n : ℕ = get_or
     ))
 
 -- a release by a mask in which no bit is clear but of minors that this opener holds
-pub releases : (pairs slots id : ℕ) (me : Sat) (mask : ℕ) → ((i : ℕ) → i < 64 → bit_at mask i ≡ 0 → bit_at me.0.held i ≡ 1)
+pub releases : (pairs slots id : ℕ) (me : Mine) (mask : ℕ) → ((i : ℕ) → i < 64 → bit_at mask i ≡ 0 → bit_at me.0.held i ≡ 1)
     → Allows (IsMarked pairs) slots id me 0 (λ n. bit_and n mask) (released (step slots 0 mask 0 none) me)
 releases pairs slots id me mask own s rule deep at small = let n : ℕ = get_or s.words 0 0 in
     let w : View = knows (bit_and me.0.held mask) me.0.joining me.0.passed in (
@@ -133,7 +133,7 @@ joins pairs id v other w passed first second s rule at apart there = record {
 }
 
 -- a look at the word tells that what was joined had no minor in common
-pub looks : (pairs slots id : ℕ) (me : Sat) → Allows (IsMarked pairs) slots id me 0 (λ n. n) (looked (step slots 0 0 0 none) me)
+pub looks : (pairs slots id : ℕ) (me : Mine) → Allows (IsMarked pairs) slots id me 0 (λ n. n) (looked (step slots 0 0 0 none) me)
 looks pairs slots id me s rule deep at small = let n : ℕ = get_or s.words 0 0 in let w : View = knows (bit_or me.0.held me.0.joining) 0 me.0.passed in
     let few : (k : ℕ) → bit_at me.0.held k + bit_at me.0.joining k < 2 = λ k. (let a = holders-at k s.views id me.0 at in let o = rule.one_holder k in
     let b = bit_at-lt n k in omega arith) in (

@@ -1,5 +1,5 @@
 -- What masks of one bit and unions do to the minors that an opener holds.
-use Rattle.std.proofs.Common.{◌≡◌, ◌≢◌, ℕ, ◌+◌, ◌-◌, ◌*◌, ◌%◌, ◌^◌, ◌<◌, ◌≤◌, List, [], ◌∷◌, ◌++◌, ◌⊎◌, inl, inr, ⊎_elim, ap, ◌∙◌, arith}
+use Rattle.std.proofs.Common.{◌≡◌, ℕ, ◌+◌, ◌-◌, ◌*◌, ◌%◌, ◌^◌, ◌<◌, List, [], ◌∷◌, ◌++◌, inl, inr, ⊎_elim, ap, ◌∙◌, arith}
 use mathlib.Core.Logic.{dite}
 use native.Mathlib.Decide.{ℕ_discrete, dec_le}
 use lib.Bits.{bit_and}
@@ -9,7 +9,7 @@ use Rattle.std.specs.Int.RustNames.{bit_or}
 use Rattle.std.proofs.Math.Nat.{mod-lt}
 use Rattle.std.proofs.lemmas.Nat.Bits.{bit_at_and, bit_at_or, bit_at-lt, bit_at-zero, bit_at_above, bit_at_set_same, bit_at_set_other, bit_at_clear_same, bit_at_clear_other, bit_at_not}
 use Rattle.atomic_table.specs.Seated.{TableId}
-use Rattle.strm_minors.specs.Openers.{Holding, Holds, Gains, Loses, Unites, passing}
+use Rattle.strm_minors.specs.Openers.{Holding, Gains, Loses, Unites, passing}
 use Rattle.strm_minors.specs.Rule.{IsBit}
 
 -- `1 << k`, and `!(1 << k)`

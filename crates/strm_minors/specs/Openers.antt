@@ -4,7 +4,7 @@ use Rattle.std.specs.Int.{bit_at}
 use Rattle.atomic_table.specs.Seated.{TableId}
 
 -- a `Minors`: the table that has its word, and how many pairs there are
-pub record Range : Type 0 where
+pub record MinorSpace : Type 0 where
   pub table : TableId
   pub pairs : ℕ
 
@@ -14,15 +14,15 @@ pub record Holding : Type 0 where
   pub held : ℕ
   pub passed : List ℕ
 
-abbrev pub IsOf : Range → Holding → Type 0
-IsOf range opener = opener.table ≡ range.table
+abbrev pub IsOf : MinorSpace → Holding → Type 0
+IsOf space opener = opener.table ≡ space.table
 
 abbrev pub Holds : Holding → ℕ → Type 0
 Holds opener k = bit_at opener.held k ≡ 1
 
 -- a new opener holds nothing
-abbrev pub opening : Range → Holding
-opening range = record { table = range.table; held = 0; passed = [] }
+abbrev pub opening : MinorSpace → Holding
+opening space = record { table = space.table; held = 0; passed = [] }
 
 -- the opener that found the minor k taken
 abbrev pub passing : ℕ → Holding → Holding

@@ -29,11 +29,11 @@ pub record IsWord (words key pairs : ℕ) : Type 0 where
   pub of_pairs : key ≡ pairs
   pub at_most : pairs ≤ 64
 
-abbrev pub Sat : Type 0
-Sat = Me (Unit {0}) View
+abbrev pub Mine : Type 0
+Mine = Me (Unit {0}) View
 
 -- an opener's seat, where the opener holds these minors: it has no slot, and nothing is being joined to it
-pub record IsSeated (seat : Sat) (held : ℕ) : Type 0 where
+pub record IsSeated (seat : Mine) (held : ℕ) : Type 0 where
   pub holds : seat.0.held ≡ held
   pub alone : seat.0.joining ≡ 0
   pub no_slot : seat.1 ≡ []
@@ -44,17 +44,17 @@ pub record IsBit (mask k : ℕ) : Type 0 where
   pub others : (i : ℕ) → i ≢ k → bit_at mask i ≡ 0
 
 -- A try by the mask of one minor: where it was free, this opener did not hold it and does now; where it was taken, the opener has passed it by
-pub record Tries (mask found : ℕ) (m m' : Sat) (k : ℕ) : Type 0 where
+pub record Tries (mask found : ℕ) (m m' : Mine) (k : ℕ) : Type 0 where
   pub free : bit_at found k ≡ 0 → (bit_at m.0.held k ≡ 0) × (m' ≡ (knows (bit_or m.0.held mask) m.0.joining m.0.passed, m.1))
   pub taken : bit_at found k ≢ 0 → m' ≡ (knows m.0.held m.0.joining (m.0.passed ++ k ∷ []), m.1)
 
-abbrev pub tried : Step (Unit {0}) → Sat → ℕ → Sat → Type 0
+abbrev pub tried : Step (Unit {0}) → Mine → ℕ → Mine → Type 0
 tried st m found m' = (k : ℕ) → IsBit st.first k → Tries st.first found m m' k
 
 -- a release by the mask of all others
-abbrev pub released : Step (Unit {0}) → Sat → ℕ → Sat → Type 0
+abbrev pub released : Step (Unit {0}) → Mine → ℕ → Mine → Type 0
 released st m found m' = m' ≡ (knows (bit_and m.0.held st.first) m.0.joining m.0.passed, m.1)
 
 -- a look: the two sets of a view have no minor in common, and are one since
-abbrev pub looked : Step (Unit {0}) → Sat → ℕ → Sat → Type 0
+abbrev pub looked : Step (Unit {0}) → Mine → ℕ → Mine → Type 0
 looked st m found m' = ((k : ℕ) → bit_at m.0.held k + bit_at m.0.joining k < 2) × (m' ≡ (knows (bit_or m.0.held m.0.joining) 0 m.0.passed, m.1))

@@ -5,15 +5,15 @@ ghost use Rattle.std.specs.Prelude.{◌≡◌, ◌<◌};
 use std::marker::Model;
 use thiserror::Error;
 
-/// No minor could be claimed, as each was found taken.
+/// No minor could be claimed, as each was found taken. The opener holds what it held.
 #[derive(Clone, Copy, Debug, Error)]
 #[error("each minor number is taken")]
 pub struct NoMinor;
 
 /// The minor number of a pair that an opener holds, from 0: the N of `/dev/pts/N` (pts(4)).
 ///
-/// A claim alone makes one, and it can't be copied; a release takes it. The minor of one that is dropped stays claimed. Contracts see
-/// a minor as its number, and not whose it is: `Opener::holds` tells that.
+/// A claim alone makes one, and it can't be copied; a release takes it. The minor of one that is dropped stays held. Contracts see the
+/// number, and not whose it is: `Opener::holds` tells that.
 #[derive(Drop)]
 pub struct Minor {
     pub(crate) number: u32,

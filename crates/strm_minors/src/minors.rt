@@ -11,8 +11,8 @@ use atomic_table::Table;
 use std::alloc::{AllocError, Global};
 use std::marker::Model;
 
-/// The minors of 1 to 64 pairs, from 0 up, each free or held by one opener. It is one atomic word, shared by a `&`: every call is a step or
-/// a few on it, and none waits. Each opener that is handed in is of this `Minors`: it was made with it, or split or joined from such.
+/// The minors of up to 64 pairs, from 0 up, each free or held by one opener: one atomic word, which threads share by a `&`. Each call takes
+/// a step or a few on it, and none waits. An opener that is handed in is of this word: it was made with it, or split or joined from such.
 ///
 /// Contracts see which word it is, and the number of pairs.
 #[derive(Drop)]
@@ -22,10 +22,10 @@ pub struct Minors {
 }
 
 impl Model for Minors {
-    ghost use Rattle.strm_minors.specs.Openers.{Range};
+    ghost use Rattle.strm_minors.specs.Openers.{MinorSpace};
     ghost use Rattle.strm_minors.specs.Rule.{IsWord};
 
-    ghost Value = { Range };
+    ghost Value = { MinorSpace };
 
     ghost view = { λ m. record { table = m.table.shared.table_id; pairs = m.pairs } };
 
@@ -33,8 +33,8 @@ impl Model for Minors {
 }
 
 impl Minors {
-    /// The minors of `pairs` pairs, 1 to 64, each free, and their first opener, which holds none. It is refused for want of memory alone,
-    /// and no later call takes any.
+    /// A word with the minors of so many pairs, up to 64, each free, and its first opener, which holds none. It is refused for want of
+    /// memory alone, and no later call takes any.
     pub fn new(alloc: Global, pairs: u32) -> Result<(Minors, Opener), AllocError>
         requires { pairs ≤ 64 }
         ensures pairs { IfOk result (λ made. made.0.pairs ≡ pairs) }
@@ -44,11 +44,10 @@ impl Minors {
         Ok((Minors { table, pairs }, Opener { seat, held: 0 }))
     }
 
-    /// Claims the first minor that it finds free. It tries them from 0 up, each by exactly one step that sets the minor's bit and tells
-    /// whether it was clear, as an open of `/dev/ptmx` takes the first pseudoterminal that is free (ptm(7D)).
+    /// Claims the first minor that it finds free, which is what an open of the clone device `/dev/ptmx` asks for (ptm(7D)). It tries them
+    /// from 0 up, each by exactly one step, which sets the minor's bit and tells whether it was clear: at most 64 steps.
     ///
-    /// `NoMinor` where each was found taken at its own try, which is not to say that all were at one time; the opener holds what it held.
-    /// At most 64 steps.
+    /// `NoMinor` where each was found taken at its own try, which is not to say that all were at one time. The opener holds what it held.
     pub fn claim(&self, opener: &mut Opener) -> Result<Minor, NoMinor>
         requires { IsOf self.now opener.old }
         ensures within { IfOk result (λ minor. minor < self.now.pairs) }
@@ -79,7 +78,7 @@ impl Minors {
         true
     }
 
-    /// Releases a minor, which the opener holds: it is free, and the opener holds it no more. One step, which clears its bit alone.
+    /// Releases a minor that the opener holds. It is free then, and may be claimed by any opener: one step, which clears its bit alone.
     pub fn release(&self, opener: &mut Opener, minor: Minor)
         requires own { IsOf self.now opener.old }
         requires held { Holds opener.old minor }
@@ -110,7 +109,7 @@ impl Minors {
         )
     }
 
-    /// One opener of two, which holds the minors of both. They had none in common.
+    /// One opener of two, which holds the minors of both. They had none in common, as no two openers have.
     pub fn join_openers(&self, first: Opener, second: Opener) -> Opener
         requires first { IsOf self.now first }
         requires second { IsOf self.now second }

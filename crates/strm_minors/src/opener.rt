@@ -8,12 +8,12 @@ use crate::view::View;
 use atomic_table::Seat;
 use std::marker::Model;
 
-/// Who claims minors of a `Minors`, and holds those that it claimed. A thread that is to claim has one of its own:
-/// `Minors::split_opener` makes a second of one, and `Minors::join_openers` one of two.
+/// The right to claim minors of a word, with those that it holds. A thread that claims has one of its own: `Minors::split_opener` makes a
+/// second of one, and `Minors::join_openers` one of two.
 ///
 /// It may be sent to another thread. One that is dropped holds its minors for good: nobody can claim them again.
 ///
-/// Contracts see the set of its minors as a number with a bit for each, and with it, in order, each minor that its claims found taken.
+/// Contracts see the set of its minors as a number with a bit for each, and beside it, in order, each minor that its claims found taken.
 #[derive(Drop)]
 pub struct Opener {
     pub(crate) seat: Seat<(), View>,
@@ -32,7 +32,7 @@ impl Model for Opener {
 }
 
 impl Opener {
-    /// Whether it holds a minor. The minor is of the same `Minors`, as any number means that of its own word. It takes no step.
+    /// Whether it holds the minor, which is one of the same word: a number says nothing of whose it is. It takes no step.
     pub fn holds(&self, minor: &Minor) -> bool
         ensures { IsTrue result ↔ Holds self.now minor.now }
     {
