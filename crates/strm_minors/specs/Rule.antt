@@ -29,6 +29,7 @@ pub record IsWord (words key pairs : ℕ) : Type 0 where
   pub of_pairs : key ≡ pairs
   pub at_most : pairs ≤ 64
 
+-- what an opener's seat knows, with the slots that it has taken
 abbrev pub Mine : Type 0
 Mine = Me (Unit {0}) View
 
@@ -43,7 +44,7 @@ pub record IsBit (mask k : ℕ) : Type 0 where
   pub here : bit_at mask k ≡ 1
   pub others : (i : ℕ) → i ≢ k → bit_at mask i ≡ 0
 
--- A try by the mask of one minor: where it was free, this opener did not hold it and does now; where it was taken, the opener has passed it by
+-- A try by a mask of the minor k alone: where it was free, this opener did not hold it and does now; where it was taken, the opener has passed it by
 pub record Tries (mask found : ℕ) (m m' : Mine) (k : ℕ) : Type 0 where
   pub free : bit_at found k ≡ 0 → (bit_at m.0.held k ≡ 0) × (m' ≡ (knows (bit_or m.0.held mask) m.0.joining m.0.passed, m.1))
   pub taken : bit_at found k ≢ 0 → m' ≡ (knows m.0.held m.0.joining (m.0.passed ++ k ∷ []), m.1)
@@ -51,7 +52,7 @@ pub record Tries (mask found : ℕ) (m m' : Mine) (k : ℕ) : Type 0 where
 abbrev pub tried : Step (Unit {0}) → Mine → ℕ → Mine → Type 0
 tried st m found m' = (k : ℕ) → IsBit st.first k → Tries st.first found m m' k
 
--- a release by the mask of all others
+-- a release by a mask in which only bits of minors are clear that go
 abbrev pub released : Step (Unit {0}) → Mine → ℕ → Mine → Type 0
 released st m found m' = m' ≡ (knows (bit_and m.0.held st.first) m.0.joining m.0.passed, m.1)
 

@@ -36,30 +36,24 @@ fn two_openers_claim_all_in_turn(rt: HostRuntime) -> Result<(), Fail> {
     Ok(())
 }
 
+fn may_be_sent<T: Send>(_: &T) {}
+
+fn may_be_shared<T: Sync>(_: &T) {}
+
+// Threads may share the word, and have openers of their own.
 #[test]
 fn a_single_pair_is_claimed_again_once_it_is_released(rt: HostRuntime) -> Result<(), Fail> {
     let (minors, opener) = Minors::new(rt.alloc(), 1)?;
     let (mut first, mut second) = minors.split_opener(opener);
     let only = minors.claim(&mut second)?;
+    may_be_shared(&minors);
+    may_be_sent(&second);
+    may_be_sent(&only);
     assert_eq!(rt; only.number(), 0);
     assert!(rt; minors.claim(&mut first).is_err());
     minors.release(&mut second, only);
     let only = minors.claim(&mut first)?;
     assert_eq!(rt; only.number(), 0);
     assert!(rt; first.holds(&only) && !second.holds(&only));
-    Ok(())
-}
-
-fn may_be_sent<T: Send>(_: &T) {}
-
-fn may_be_shared<T: Sync>(_: &T) {}
-
-#[test]
-fn threads_share_the_word_and_have_openers_of_their_own(rt: HostRuntime) -> Result<(), Fail> {
-    let (minors, mut opener) = Minors::new(rt.alloc(), 2)?;
-    let minor = minors.claim(&mut opener)?;
-    may_be_shared(&minors);
-    may_be_sent(&opener);
-    may_be_sent(&minor);
     Ok(())
 }
