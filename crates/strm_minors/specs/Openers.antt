@@ -14,13 +14,14 @@ pub record Holding : Type 0 where
   pub held : ℕ
   pub passed : List ℕ
 
+-- the opener is of this word
 abbrev pub IsOf : MinorSpace → Holding → Type 0
 IsOf space opener = opener.table ≡ space.table
 
 abbrev pub Holds : Holding → ℕ → Type 0
 Holds opener k = bit_at opener.held k ≡ 1
 
--- a new opener holds nothing
+-- a new opener of a word: it holds nothing
 abbrev pub opening : MinorSpace → Holding
 opening space = record { table = space.table; held = 0; passed = [] }
 
@@ -37,7 +38,7 @@ below (suc n) = below n ++ n ∷ []
 abbrev pub past : ℕ → Holding → Holding
 past n opener = record opener { passed = opener.passed ++ below n }
 
--- the opener held no minor k, and holds it now; nothing else changed
+-- the opener comes to hold the minor k, which it did not hold; nothing else changes
 pub record Gains (old new : Holding) (k : ℕ) : Type 0 where
   pub table : new.table ≡ old.table
   pub passed : new.passed ≡ old.passed
@@ -45,7 +46,7 @@ pub record Gains (old new : Holding) (k : ℕ) : Type 0 where
   pub gained : Holds new k
   pub others : (i : ℕ) → i ≢ k → bit_at new.held i ≡ bit_at old.held i
 
--- the opener holds the minor k no more; nothing else changed
+-- the opener gives up the minor k; nothing else changes
 pub record Loses (old new : Holding) (k : ℕ) : Type 0 where
   pub table : new.table ≡ old.table
   pub passed : new.passed ≡ old.passed

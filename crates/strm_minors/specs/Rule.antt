@@ -44,7 +44,7 @@ pub record IsBit (mask k : ℕ) : Type 0 where
   pub here : bit_at mask k ≡ 1
   pub others : (i : ℕ) → i ≢ k → bit_at mask i ≡ 0
 
--- A try by a mask of the minor k alone: where it was free, this opener did not hold it and does now; where it was taken, the opener has passed it by
+-- A try by a mask of the minor k alone: where it was found free, the opener comes to hold it, and did not before; where it was found taken, the opener has passed it by
 pub record Tries (mask found : ℕ) (m m' : Mine) (k : ℕ) : Type 0 where
   pub free : bit_at found k ≡ 0 → (bit_at m.0.held k ≡ 0) × (m' ≡ (knows (bit_or m.0.held mask) m.0.joining m.0.passed, m.1))
   pub taken : bit_at found k ≢ 0 → m' ≡ (knows m.0.held m.0.joining (m.0.passed ++ k ∷ []), m.1)
