@@ -1,0 +1,235 @@
+-- What a message block that is given back leaves of a store, and a reference that is given up.
+use Rattle.std.proofs.Common.{ℕ, ◌≡◌, ◌≢◌, ◌<◌, ◌+◌, ◌-◌, cond, eqb, List, [], ◌∷◌, length, refl, sym, ap, ◌∙◌, subst, arith, inl, inr}
+use Rattle.std.proofs.Math.ListN.{set, length-set}
+use Rattle.std.specs.Prelude.{◌⊎◌, sum_by, count_by, Option, Some, option_map}
+use Rattle.std.proofs.lemmas.Bool.Decides.{nat_tests}
+use Rattle.std.proofs.lemmas.Bool.{cases_eq}
+use Rattle.std.proofs.lemmas.List.{get_or-set_same, get_or-set_other}
+use Rattle.std.proofs.lemmas.List.Sums.{sum_by-cons, sum_by-set}
+use Rattle.strm_blocks.specs.Blocks.{Block, in_hand, dropped}
+use Rattle.strm_raw.specs.Numbered.{Nodes, Row, DataRow, row_at, data_at, no_row, no_data, msg_number, data_number, IsData, IsDataOrNone}
+use Rattle.strm_raw.specs.Roster.{Msg, Roster}
+use Rattle.strm_raw.specs.Raw.{ids, times, chain_of, held_of, block_no, shown, value_of, naming, breaks, broken, IsRaw, next_of, free_after, is_there, is_named, askew, IsHere, without_in, GivesLast, GivesOne}
+use Rattle.strm_raw.specs.declared.msg_nodes.MsgLink.{MsgLink}
+use Rattle.strm_raw.specs.declared.data_nodes.DataLink.{DataLink}
+use Rattle.strm_raw.proofs.Apart.{times-cons, breaks-apart, weigh-apart, apart-head, apart-tail, map-same, maps-same, gap-self, weigh-same}
+use Rattle.strm_raw.proofs.Taking.{bytes-kept, shown-kept}
+use Rattle.strm_raw.proofs.Finding.{found, found-head, found-len, without-value}
+use Rattle.strm_raw.proofs.Parting.{row-keeps, map-ext, split, out-tail, out-free, out-others}
+
+-- the data blocks of a store, where one reference to one of them is given up
+pub record Drops (v : Nodes) (number : ℕ) (datas : List DataRow) (first_d : Option DataLink) (spare_d : ℕ) (free_d : List ℕ) : Type 0 where
+  pub len : length datas ≡ length v.datas
+  pub bytes : (e : ℕ) → (data_at e datas).bytes ≡ (data_at e v.datas).bytes
+  pub fewer : (e : ℕ) → (data_at e v.datas).references ≡ (data_at e datas).references + cond (eqb number e) 1 0
+  pub counted : length free_d ≡ count_by (λ (r : DataRow). eqb r.references 0) datas
+  pub owned : (e : ℕ) → times e free_d + is_named e datas ≡ is_there e (length datas)
+  pub linked : breaks (free_after datas) (option_map (data_number v.dat) first_d) free_d ≡ 0
+  pub count : spare_d ≡ length free_d
+  pub there : IsDataOrNone v.dat (length datas) first_d
+
+module _ {v : Nodes} {b : Roster} {first_m : Option MsgLink} {first_d : Option DataLink} {spare_m spare_d : ℕ} (is : IsRaw v first_m first_d spare_m spare_d b)
+    (k : DataLink) (there : IsData v.dat (length v.datas) k) where
+  abbrev d : ℕ
+  d = data_number v.dat k
+
+  within : d < length v.datas
+  within = there.0
+
+  module _ (x : DataRow) where
+    new-is : data_at d (set v.datas d x) ≡ x
+    new-is = get_or-set_same v.datas d x no_data within
+
+    old-is : (e : ℕ) → e ≢ d → data_at e (set v.datas d x) ≡ data_at e v.datas
+    old-is e other = get_or-set_other v.datas d e x no_data other
+
+  first-linked : (x : DataRow) → x.next ≡ option_map (data_number v.dat) first_d → times d b.free_d ≡ 0 → breaks (free_after (set v.datas d x)) (Some d) (d ∷ b.free_d) ≡ 0
+  unfolding breaks
+  first-linked x same out =
+      let g = gap-self (Some d) in
+      let e = ap (λ o. breaks (free_after (set v.datas d x)) o b.free_d) (ap (λ (r : DataRow). r.next) (new-is x) ∙ same) in
+      let a = breaks-apart d (free_after v.datas) (free_after (set v.datas d x)) (λ e n. ap (λ (r : DataRow). r.next) (old-is x e n)) (option_map (data_number v.dat) first_d) b.free_d out in
+      let l = is.linked_d in omega arith
+
+  pub drops-last : (data_at d v.datas).references ≡ 1
+      → Drops v d (set v.datas d (record { next = option_map (data_number v.dat) first_d; references = 0; bytes = (data_at d v.datas).bytes })) (Some k) (spare_d + 1) (d ∷ b.free_d)
+  drops-last one =
+      let x : DataRow = record { next = option_map (data_number v.dat) first_d; references = 0; bytes = (data_at d v.datas).bytes } in
+      let len = length-set v.datas d x in
+      let new = ap (λ (r : DataRow). r.references) (new-is x) in
+      let out : times d b.free_d ≡ 0 = let o = is.owned_d d in grind (arith, nat_tests) in
+      record {
+        len = len;
+        bytes = bytes-kept v.datas d x refl;
+        fewer = λ e. elim (cases_eq e d) [
+          | inl i ↦ (let a = ap (λ j. (data_at j (set v.datas d x)).references) i ∙ new in let o = ap (λ j. (data_at j v.datas).references) i in grind (arith, nat_tests))
+          | inr n ↦ (let a = ap (λ (r : DataRow). r.references) (old-is x e n) in grind (arith, nat_tests))
+        ];
+        counted =
+            let s = sum_by-set (λ (r : DataRow). cond (eqb r.references 0) 1 0) v.datas d x no_data within in
+            let was : cond {A = ℕ} (eqb (data_at d v.datas).references 0) 1 0 ≡ 0 = grind (arith, nat_tests) in
+            let c = is.counted_d in omega arith;
+        owned = λ e. (
+            let o = is.owned_d e in let i = ap (λ j. is_there e j) len in let t = times-cons e d b.free_d in
+            elim (cases_eq e d) [
+              | inl h ↦ (let a = ap (λ j. (data_at j (set v.datas d x)).references) h ∙ new in let w = ap (λ j. (data_at j v.datas).references) h in grind (arith, nat_tests))
+              | inr n ↦ (let a = ap (λ (r : DataRow). cond {A = ℕ} (eqb r.references 0) 0 1) (old-is x e n) in let c : cond {A = ℕ} (eqb d e) 1 0 ≡ 0 = grind (arith, nat_tests) in omega arith)
+            ]);
+        linked = first-linked x refl out;
+        count = let c = is.count_d in omega arith;
+        there = (subst (λ n. d < n) (sym len) within, there.1);
+      }
+
+  pub drops-one : 0 < (data_at d v.datas).references → (data_at d v.datas).references ≢ 1
+      → Drops v d (set v.datas d (record { next = (data_at d v.datas).next; references = (data_at d v.datas).references - 1; bytes = (data_at d v.datas).bytes })) first_d spare_d b.free_d
+  drops-one some more =
+      let x : DataRow = record { next = (data_at d v.datas).next; references = (data_at d v.datas).references - 1; bytes = (data_at d v.datas).bytes } in
+      let len = length-set v.datas d x in
+      let new = ap (λ (r : DataRow). r.references) (new-is x) in
+      let out : times d b.free_d ≡ 0 = let o = is.owned_d d in grind (arith, nat_tests) in
+      record {
+        len = len;
+        bytes = bytes-kept v.datas d x refl;
+        fewer = λ e. elim (cases_eq e d) [
+          | inl i ↦ (let a = ap (λ j. (data_at j (set v.datas d x)).references) i ∙ new in let o = ap (λ j. (data_at j v.datas).references) i in grind (arith, nat_tests))
+          | inr n ↦ (let a = ap (λ (r : DataRow). r.references) (old-is x e n) in grind (arith, nat_tests))
+        ];
+        counted =
+            let s = sum_by-set (λ (r : DataRow). cond (eqb r.references 0) 1 0) v.datas d x no_data within in
+            let was : cond {A = ℕ} (eqb (data_at d v.datas).references 0) 1 0 ≡ 0 = grind (arith, nat_tests) in
+            let now : cond {A = ℕ} (eqb x.references 0) 1 0 ≡ 0 = grind (arith, nat_tests) in
+            let c = is.counted_d in omega arith;
+        owned = λ e. (
+            let o = is.owned_d e in let i = ap (λ j. is_there e j) len in
+            elim (cases_eq e d) [
+              | inl h ↦ (let a = ap (λ j. (data_at j (set v.datas d x)).references) h ∙ new in let w = ap (λ j. (data_at j v.datas).references) h in grind (arith, nat_tests))
+              | inr n ↦ (let a = ap (λ (r : DataRow). cond {A = ℕ} (eqb r.references 0) 0 1) (old-is x e n) in omega arith)
+            ]);
+        linked = breaks-apart d (free_after v.datas) (free_after (set v.datas d x)) (λ e n. ap (λ (r : DataRow). r.next) (old-is x e n)) (option_map (data_number v.dat) first_d) b.free_d out ∙ is.linked_d;
+        count = is.count_d;
+        there = rw len is.there_d;
+      }
+
+empty : {A : Type 0} (xs : List A) → length xs ≡ 0 → xs ≡ []
+empty [] z = refl
+empty (x ∷ xs) z = absurd (omega arith)
+
+-- a message in hand of one block is given back
+module _ {v : Nodes} {b : Roster} {first_m : Option MsgLink} {first_d : Option DataLink} {spare_m spare_d : ℕ} (is : IsRaw v first_m first_d spare_m spare_d b)
+    (l : MsgLink) (here : IsHere v b l) (single : length (in_hand (value_of v b) (msg_number v.mat l)) ≡ 1)
+    (datas : List DataRow) (first_d' : Option DataLink) (spare_d' : ℕ) (free_d' : List ℕ) (drops : Drops v (row_at (msg_number v.mat l) v.rows).number datas first_d' spare_d' free_d') where
+  abbrev i : ℕ
+  i = msg_number v.mat l
+
+  abbrev m : Msg
+  m = found is l here
+
+  abbrev others : List Msg
+  others = without_in i b.hand
+
+  abbrev r : Row
+  r = record (row_at i v.rows) { next = option_map (msg_number v.mat) first_m }
+
+  abbrev pub given_nodes : Nodes
+  given_nodes = record v { rows = set v.rows i r; datas = datas }
+
+  abbrev pub given_roster : Roster
+  given_roster = record b { free_m = i ∷ b.free_m; free_d = free_d'; hand = others }
+
+  inside : i < length v.rows
+  inside = (here.0).0
+
+  no-tail : m.tail ≡ []
+  no-tail = empty m.tail (omega (arith, found-len is l here, single))
+
+  sum-m : (g : ℕ → ℕ) → sum_by g (ids m) ≡ g i
+  sum-m g = let c = sum_by-cons g m.head m.tail in let h = ap g (found-head is l here) in let t = ap (λ xs. sum_by g xs) no-tail in omega arith
+
+  next-old : (j : ℕ) → j ≢ i → next_of (set v.rows i r) j ≡ next_of v.rows j
+  next-old j other = ap (λ (x : Row). x.next) (get_or-set_other v.rows i j r no_row other)
+
+  next-new : next_of (set v.rows i r) i ≡ option_map (msg_number v.mat) first_m
+  next-new = ap (λ (x : Row). x.next) (get_or-set_same v.rows i r no_row inside)
+
+  broken-old : (x : Msg) → times i (ids x) ≡ 0 → broken (set v.rows i r) x ≡ broken v.rows x
+  broken-old x z =
+      ap (λ o. breaks (next_of (set v.rows i r)) o x.tail) (next-old x.head (apart-head i x.head x.tail z))
+      ∙ breaks-apart i (next_of v.rows) (next_of (set v.rows i r)) next-old (next_of v.rows x.head) x.tail (apart-tail i x.head x.tail z)
+
+  naming-same : (e : ℕ) (x : Msg) → naming (set v.rows i r) e x ≡ naming v.rows e x
+  naming-same e x = Rattle.strm_raw.proofs.Parting.sum-ext _ _ (row-keeps (λ (y : Row). cond {A = ℕ} (eqb y.number e) 1 0) v.rows i r inside refl) (ids x)
+
+  linked-first : breaks (next_of (set v.rows i r)) (Some i) (i ∷ b.free_m) ≡ 0
+  unfolding breaks
+  linked-first =
+      let g = gap-self (Some i) in
+      let e = ap (λ o. breaks (next_of (set v.rows i r)) o b.free_m) next-new in
+      let a = breaks-apart i (next_of v.rows) (next_of (set v.rows i r)) next-old (option_map (msg_number v.mat) first_m) b.free_m (out-free is l here) in
+      let c = is.linked_m in omega arith
+
+  pub given-raw : IsRaw given_nodes (Some l) first_d' (spare_m + 1) spare_d' given_roster
+  given-raw =
+      let len = length-set v.rows i r in
+      record {
+        same = is.same;
+        same_d = is.same_d;
+        eight = is.eight;
+        few_m = rw len is.few_m;
+        few_d = rw drops.len is.few_d;
+        counted_m = let c = is.counted_m in let s = split is l here (λ m. length (ids m)) in let n = ap length no-tail in omega arith;
+        counted_d = drops.counted;
+        owned_m = λ k. (let o = is.owned_m k in let s = split is l here (λ m. times k (ids m)) in let t = times-cons k i b.free_m in let p = sum-m (λ x. cond (eqb x k) 1 0) in let n = ap (λ n. is_there k n) len in omega arith);
+        owned_d = drops.owned;
+        referenced = λ e. (
+            let o = is.referenced e in let f = drops.fewer e in let s = split is l here (naming v.rows e) in let p = sum-m (λ x. cond (eqb (row_at x v.rows).number e) 1 0) in
+            let w = weigh-same (naming (set v.rows i r) e) (naming v.rows e) (naming-same e) b.lists others in omega arith);
+        bounded = λ e. (let o = is.bounded e in let f = drops.fewer e in omega arith);
+        linked_m = linked-first;
+        linked_d = drops.linked;
+        chained = let c = is.chained in let s = split is l here (broken v.rows) in let a = weigh-apart i (broken (set v.rows i r)) (broken v.rows) broken-old b.lists others (out-others is l here) in omega arith;
+        straight = λ k. row-keeps askew v.rows i r inside refl k ∙ is.straight k;
+        count_m = let c = is.count_m in omega arith;
+        count_d = drops.count;
+        there_m = (subst (λ n. i < n) (sym len) inside, (here.0).1);
+        there_d = drops.there;
+      }
+
+  chain-same : (x : Msg) → chain_of given_nodes x ≡ chain_of v x
+  chain-same x = map-ext (block_no given_nodes) (block_no v) (λ j. shown-kept v.datas datas drops.bytes (row_at j (set v.rows i r)) ∙ row-keeps (shown v.datas) v.rows i r inside refl j) (ids x)
+
+  held-same : (x : Msg) → held_of given_nodes x ≡ held_of v x
+  held-same x = ap (λ (c : List Block). record { name = x.head; chain = c }) (chain-same x)
+
+  pub given-value : value_of given_nodes given_roster ≡ dropped (value_of v b) (msg_number v.mat l)
+  given-value = λ k. record {
+    lists = maps-same (chain_of given_nodes) (chain_of v) chain-same b.lists k;
+    hand = (map-same (held_of given_nodes) (held_of v) held-same others ∙ sym (without-value v i b.hand)) k;
+    mblks = length-set v.rows i r k;
+    dblks = drops.len k;
+  }
+
+-- what giving up a reference leaves
+pub record Released (v v1 : Nodes) (b b1 : Roster) (number : ℕ) (first_d : Option DataLink) (spare_d : ℕ) : Type 0 where
+  pub datas : List DataRow
+  pub free_d : List ℕ
+  pub drops : Drops v number datas first_d spare_d free_d
+  pub memory : v1 ≡ record v { datas = datas }
+  pub roster : b1 ≡ record b { free_d = free_d }
+
+pub released : {v : Nodes} {b : Roster} {first_m : Option MsgLink} {first_d : Option DataLink} {spare_m spare_d : ℕ} (is : IsRaw v first_m first_d spare_m spare_d b)
+    (k : DataLink) (there : IsData v.dat (length v.datas) k) (some : 0 < (data_at (data_number v.dat k) v.datas).references) (v1 : Nodes) (b1 : Roster) (first' : Option DataLink) (spare' : ℕ)
+    → GivesLast v v1 b b1 k first_d first' spare_d spare' ⊎ GivesOne v v1 b b1 k first_d first' spare_d spare' → Released v v1 b b1 (data_number v.dat k) first' spare'
+released {v = v} {b = b} {first_d = first_d} {spare_d = spare_d} is k there some v1 b1 first' spare' (inl g) = record {
+  datas = set v.datas (data_number v.dat k) (record { next = option_map (data_number v.dat) first_d; references = 0; bytes = (data_at (data_number v.dat k) v.datas).bytes });
+  free_d = data_number v.dat k ∷ b.free_d;
+  drops = subst (λ (x : Option DataLink × ℕ). Drops v (data_number v.dat k) (set v.datas (data_number v.dat k) (record { next = option_map (data_number v.dat) first_d; references = 0; bytes = (data_at (data_number v.dat k) v.datas).bytes })) x.0 x.1 (data_number v.dat k ∷ b.free_d)) (λ j. (sym g.first_is j, sym g.spare_is j)) (drops-last is k there g.last);
+  memory = g.memory;
+  roster = g.roster ∙ ap (λ dat. record b { free_d = data_number dat k ∷ b.free_d }) is.same_d;
+}
+released {v = v} {b = b} {first_d = first_d} {spare_d = spare_d} is k there some v1 b1 first' spare' (inr g) = record {
+  datas = set v.datas (data_number v.dat k) (record { next = (data_at (data_number v.dat k) v.datas).next; references = (data_at (data_number v.dat k) v.datas).references - 1; bytes = (data_at (data_number v.dat k) v.datas).bytes });
+  free_d = b.free_d;
+  drops = subst (λ (x : Option DataLink × ℕ). Drops v (data_number v.dat k) (set v.datas (data_number v.dat k) (record { next = (data_at (data_number v.dat k) v.datas).next; references = (data_at (data_number v.dat k) v.datas).references - 1; bytes = (data_at (data_number v.dat k) v.datas).bytes })) x.0 x.1 b.free_d) (λ j. (sym g.first_is j, sym g.spare_is j)) (drops-one is k there some g.more);
+  memory = g.memory;
+  roster = g.roster;
+}

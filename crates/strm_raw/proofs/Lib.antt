@@ -1,0 +1,14 @@
+pub mod Placed
+pub mod Lent
+pub mod Numbered
+pub mod Made
+pub mod Apart
+pub mod Standing
+pub mod Finding
+pub mod Taking
+pub mod Parting
+pub mod Giving
+pub mod Walks
+pub mod Threads
+pub mod Fresh
+pub mod Freeing

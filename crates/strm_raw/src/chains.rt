@@ -1,0 +1,26 @@
+//! Walks along the links of a chain.
+ghost use Rattle.std.specs.Prelude.{ℕ, ◌≡◌, ◌<◌, ◌-◌, List, length, slice_index_or};
+ghost use Rattle.strm_raw.specs.Numbered.{IsMsg, msg_number};
+ghost use Rattle.strm_raw.specs.Raw.{IsChain};
+
+use crate::memory::Memory;
+use crate::msg_nodes::MsgLink;
+
+/// Block `at` of a chain, counted from the one to which a pointer leads.
+pub(crate) fn block_link(memory: &Memory, first: MsgLink, at: usize) -> MsgLink
+    requires { IsMsg memory.now.mat (length memory.now.rows) first }
+    ensures there { IsMsg memory.now.mat (length memory.now.rows) result }
+    ensures number { (is : List ℕ) → IsChain memory.now.rows (msg_number memory.now.mat first) is → at < length is
+        → msg_number memory.now.mat result ≡ slice_index_or is at 0 }
+{
+    let mut link = first;
+    let mut left = at;
+    while left > 0 {
+        let Some(next) = memory.message(link).next else {
+            return link;
+        };
+        link = next;
+        left -= 1;
+    }
+    link
+}

@@ -1,0 +1,18 @@
+//! Message blocks and data blocks as nodes in raw memory.
+#![tactic(auto)]
+
+mod chains;
+mod data_nodes;
+mod ledger;
+mod making;
+mod memory;
+mod msg_nodes;
+mod nodes;
+mod raw;
+mod sending;
+#[cfg(test)]
+mod tests;
+mod threading;
+
+pub use raw::RawStore;
+pub use sending::sent;

@@ -1,0 +1,31 @@
+//! Message blocks as nodes.
+use crate::data_nodes::DataLink;
+use std::marker::{Send, Sync};
+use strm_types::MsgKind;
+
+/// A message block: its own number, its kind and band, its data block, and of that the read place and the write place.
+/// `next` is b_cont, or the next free one. Of the first block of a message, `ahead` and `behind` are its neighbours on a
+/// list.
+#[derive(Clone, Copy)]
+pub(crate) struct MsgNode {
+    pub(crate) kind: MsgKind,
+    pub(crate) band: u8,
+    pub(crate) name: u32,
+    pub(crate) number: DataLink,
+    pub(crate) start: usize,
+    pub(crate) end: usize,
+    pub(crate) next: Option<MsgLink>,
+    pub(crate) ahead: Option<MsgLink>,
+    pub(crate) behind: Option<MsgLink>,
+}
+
+/// Where a message block lies. It owns nothing.
+#[derive(Clone, Copy)]
+pub(crate) struct MsgLink {
+    pub(crate) at: *mut MsgNode,
+}
+
+// A link owns nothing: what lies there is reached through the owner of the nodes alone.
+unsafe impl Send for MsgLink {}
+
+unsafe impl Sync for MsgLink {}

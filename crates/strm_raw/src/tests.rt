@@ -1,0 +1,71 @@
+//! What a caller sees of a store, with answers worked out by hand.
+ghost use Rattle.std.specs.Prelude.{◌≡◌, ◌<◌, length};
+ghost use Rattle.strm_blocks.specs.Blocks.{IsInHand, in_hand, token};
+
+use crate::raw::RawStore;
+use std::test::Fail;
+use strm_blocks::{InHand, NoBlocks};
+use strm_types::MsgKind;
+
+// Whether a block more of the message's data block is refused, after so many were taken, each of which is given back.
+fn is_refused_after(store: &mut RawStore, message: &InHand, count: usize) -> Result<bool, NoBlocks>
+    requires in_hand { IsInHand store.old (token message.now) }
+    requires some { 0 < length (in_hand store.old (token message.now)) }
+    ensures { store.new ≡ store.old }
+{
+    let more = match store.dup(message, 0) {
+        Ok(more) => more,
+        Err(NoBlocks) if count == 0 => return Ok(true),
+        Err(NoBlocks) => return Err(NoBlocks),
+    };
+    let answer = if count == 0 {
+        Ok(false)
+    } else {
+        is_refused_after(store, &more, count - 1)
+    };
+    store.free(more);
+    answer
+}
+
+#[test]
+fn a_data_block_has_at_most_255_references(rt: HostRuntime) -> Result<(), Fail> {
+    let mut store = RawStore::new(rt.alloc(), 300, 2)?;
+    let message = store.alloc(MsgKind::Data)?;
+    assert!(rt; !is_refused_after(&mut store, &message, 253)?);
+    assert!(rt; is_refused_after(&mut store, &message, 254)?);
+    assert_eq!(rt; store.free_blocks(), (299, 1));
+    store.free(message);
+    assert_eq!(rt; store.free_blocks(), (300, 2));
+    Ok(())
+}
+
+#[test]
+fn the_block_freed_last_is_taken_first(rt: HostRuntime) -> Result<(), Fail> {
+    let mut store = RawStore::new(rt.alloc(), 3, 3)?;
+    let message = store.alloc(MsgKind::Proto)?;
+    let (first, rest) = store.unlink(message);
+    assert!(rt; rest.is_none());
+    assert!(rt; store.bytes_at(&first, 0).is_empty());
+    let name = first.name();
+    store.free(first);
+    let again = store.alloc(MsgKind::Data)?;
+    assert_eq!(rt; again.name(), name);
+    store.free(again);
+    assert_eq!(rt; store.free_blocks(), (3, 3));
+    Ok(())
+}
+
+#[test]
+fn two_stores_give_out_equal_numbers(rt: HostRuntime) -> Result<(), Fail> {
+    let (mut one, mut other) = (
+        RawStore::new(rt.alloc(), 2, 2)?,
+        RawStore::new(rt.alloc(), 3, 3)?,
+    );
+    let (a, b) = (one.alloc(MsgKind::Data)?, other.alloc(MsgKind::Data)?);
+    assert_eq!(rt; a.name(), b.name());
+    one.free(a);
+    assert_eq!(rt; (one.free_blocks(), other.free_blocks()), ((2, 2), (2, 2)));
+    other.free(b);
+    assert_eq!(rt; other.free_blocks(), (3, 3));
+    Ok(())
+}
