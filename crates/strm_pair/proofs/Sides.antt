@@ -292,11 +292,11 @@ module _ (s t : StoreValue) (p : Streams) (e : End) (beside : AreBeside s p) whe
   renewed-state Master same stays keeps =
       ap (λ m. state_with p m (stream_in t p.slave)) (as-stream p.master same stays)
       ∙ ap (λ (v : State ℕ). record v { master = record v.master { opened = e.opened } })
-        (head-state s t p beside (still s t (kept_by p) keeps.hand keeps.mblks keeps.dblks) Master e.head (only-kept s t p.master.head.queue e.head.queue keeps))
+      (head-state s t p beside (still s t (kept_by p) keeps.hand keeps.mblks keeps.dblks) Master e.head (only-kept s t p.master.head.queue e.head.queue keeps))
   renewed-state Slave same stays keeps =
       ap (λ m. state_with p (stream_in t p.master) m) (as-stream p.slave same stays)
       ∙ ap (λ (v : State ℕ). record v { slave = record v.slave { opened = e.opened } })
-        (head-state s t p beside (still s t (kept_by p) keeps.hand keeps.mblks keeps.dblks) Slave e.head (only-kept s t p.slave.head.queue e.head.queue keeps))
+      (head-state s t p beside (still s t (kept_by p) keeps.hand keeps.mblks keeps.dblks) Slave e.head (only-kept s t p.slave.head.queue e.head.queue keeps))
 
 -- the queue of a side's head, or of its driver, once messages went from it, and a writer before it
 module _ (s t : StoreValue) (p : Streams) (beside : AreBeside s p) (q q' : Queue) (plain : state.Queue ℕ) (goes goes' : Bool) (changes : Changes s t q q') where
@@ -305,8 +305,8 @@ module _ (s t : StoreValue) (p : Streams) (beside : AreBeside s p) (q q' : Queue
 
   pub head-went : (side : Side) → q ≡ (end_at side p).head.queue → queue_in t q' ≡ plain → goes ≡ goes'
       → let e = end_at side p in let st = state_in s p in
-        record (state_in t (with_end side (record e { head = record e.head { queue = q' } }) p)) { enabled = enable_some goes (before_head side st) p.enabled }
-        ≡ record (with_stream side (with_head_queue plain (stream side st)) st) { enabled = enable_some goes' (before_head side st) st.enabled }
+      record (state_in t (with_end side (record e { head = record e.head { queue = q' } }) p)) { enabled = enable_some goes (before_head side st) p.enabled }
+      ≡ record (with_stream side (with_head_queue plain (stream side st)) st) { enabled = enable_some goes' (before_head side st) st.enabled }
   head-went side there is same =
       let e = end_at side p in
       let st = state_in s p in
@@ -316,15 +316,15 @@ module _ (s t : StoreValue) (p : Streams) (beside : AreBeside s p) (q q' : Queue
       ∙ at side same
     where
       at : (side : Side) → goes ≡ goes' → let e = end_at side p in let st = state_in s p in
-        record (with_stream side (record (stream side st) { head = record (head_in s e.head) { queue = plain } }) st) { enabled = enable_some goes (before_head side st) p.enabled }
-        ≡ record (with_stream side (with_head_queue plain (stream side st)) st) { enabled = enable_some goes' (before_head side st) st.enabled }
+          record (with_stream side (record (stream side st) { head = record (head_in s e.head) { queue = plain } }) st) { enabled = enable_some goes (before_head side st) p.enabled }
+          ≡ record (with_stream side (with_head_queue plain (stream side st)) st) { enabled = enable_some goes' (before_head side st) st.enabled }
       at Master same = let st = state_in s p in ap (λ b. record (with_stream Master (with_head_queue plain (stream Master st)) st) { enabled = enable_some b (before_head Master st) st.enabled }) same
       at Slave same = let st = state_in s p in ap (λ b. record (with_stream Slave (with_head_queue plain (stream Slave st)) st) { enabled = enable_some b (before_head Slave st) st.enabled }) same
 
   pub driver-went : (side : Side) → q ≡ (end_at side p).driver → queue_in t q' ≡ plain → goes ≡ goes'
       → let st = state_in s p in
-        record (state_in t (with_end side (record (end_at side p) { driver = q' }) p)) { enabled = enable_some goes (before_driver side st) p.enabled }
-        ≡ record (with_stream side (with_driver_queue plain (stream side st)) st) { enabled = enable_some goes' (before_driver side st) st.enabled }
+      record (state_in t (with_end side (record (end_at side p) { driver = q' }) p)) { enabled = enable_some goes (before_driver side st) p.enabled }
+      ≡ record (with_stream side (with_driver_queue plain (stream side st)) st) { enabled = enable_some goes' (before_driver side st) st.enabled }
   driver-went side there is same =
       let e = end_at side p in
       let st = state_in s p in

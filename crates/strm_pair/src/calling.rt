@@ -118,13 +118,7 @@ impl Streams {
 
     // The module at a place serves a call of a turn: what it says of its queues goes by how the stream was before, and what it made is
     // booked.
-    fn act<B: Blocks>(
-        &mut self,
-        store: &mut B,
-        here: Spot,
-        again: bool,
-        told: &mut Fates,
-    ) -> Served
+    fn act<B: Blocks>(&mut self, store: &mut B, here: Spot, again: bool, told: &mut Fates) -> Served
         requires beside { AreBeside (B.value store.old) self.old }
         requires inside { 0 < here.at }
         requires within { here.at ≤ length (stream here.side (state_in (B.value store.old) self.old)).modules }

@@ -207,12 +207,7 @@ impl Streams {
     /// Pops the module that is on top of a side's stream: what it has goes, and the head is told its read mode. The ioctl under way ends as
     /// refused where its M_IOCTL went with the module, as nobody will answer it any more. Nothing where no module stands (streamio(7I): I_POP).
     #[inline(never)]
-    pub fn pop<B: Blocks>(
-        &mut self,
-        store: &mut B,
-        side: Side,
-        told: &mut Fates,
-    ) -> Answer<usize>
+    pub fn pop<B: Blocks>(&mut self, store: &mut B, side: Side, told: &mut Fates) -> Answer<usize>
         requires held { AreHeld (B.value store.old) self.old }
         requires idle { AreIdle (state_in (B.value store.old) self.old) }
         requires room { HasRoom (B.value store.old) 1 }

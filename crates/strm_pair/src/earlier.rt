@@ -96,12 +96,7 @@ impl Streams {
     }
 
     /// The nearest earlier queue with service before a place of a side's stream, as messages of a way go.
-    pub(crate) fn before(
-        &self,
-        side: Side,
-        way: Way,
-        at: usize,
-    ) -> Option<QueueName>
+    pub(crate) fn before(&self, side: Side, way: Way, at: usize) -> Option<QueueName>
         ensures { (s : StoreValue) → result ≡ before_at side way at (state_in s self.now) }
     {
         let stack = &self.end(side).stack;
@@ -112,13 +107,7 @@ impl Streams {
     }
 
     /// Enables that queue, where a waiting writer is let go.
-    pub(crate) fn let_go(
-        &mut self,
-        side: Side,
-        way: Way,
-        at: usize,
-        lets_go: bool,
-    )
+    pub(crate) fn let_go(&mut self, side: Side, way: Way, at: usize, lets_go: bool)
         ensures { (s : StoreValue) → self.new ≡ record self.old {
           enabled =
               enable_some lets_go (before_at side way at (state_in s self.old)) self.old.enabled;
@@ -141,13 +130,7 @@ impl Streams {
     }
 
     /// Does what a put says of the queues of a place of a side's stream.
-    pub(crate) fn note(
-        &mut self,
-        side: Side,
-        place: Option<Place>,
-        at: usize,
-        notes: &[Note],
-    )
+    pub(crate) fn note(&mut self, side: Side, place: Option<Place>, at: usize, notes: &[Note])
         ensures { (s : StoreValue) → self.new ≡ record self.old {
           enabled = noted side place (earlier_at side at (state_in s self.old)) notes.now self.old.enabled;
         } }

@@ -7,7 +7,7 @@ ghost use Rattle.strm_queue.specs.Stored.{IsReady, Keeps};
 ghost use Rattle.strm_head.specs.Heads.{head_in};
 
 use crate::stacks::Stack;
-use strm_blocks::{Blocks};
+use strm_blocks::Blocks;
 use strm_head::Head;
 use strm_queue::{Flush, HEAD_HIGH, HEAD_LOW, Queue};
 use strm_types::Openness;

@@ -85,11 +85,7 @@ impl Streams {
     /// Tells what became of the ioctl under way on a side's stream, once: its answer, with its bytes in `out`, or its number
     /// while it waits.
     #[inline(never)]
-    pub fn tell_ioctl(
-        &mut self,
-        side: Side,
-        out: &mut Content,
-    ) -> Answer<usize>
+    pub fn tell_ioctl(&mut self, side: Side, out: &mut Content) -> Answer<usize>
         requires fresh { out.old.items ≡ [] }
         ensures answer { (s : StoreValue) → reply_in result out.new.items ≡ (ioctl_told side (state_in s self.old)).answer }
         ensures filled { answer_len result ≡ length out.new.items }
@@ -138,11 +134,7 @@ impl Streams {
 
     /// Hands out the signals that wait at a side's head, in `out`.
     #[inline(never)]
-    pub fn take_signals(
-        &mut self,
-        side: Side,
-        out: &mut Content,
-    ) -> Answer<usize>
+    pub fn take_signals(&mut self, side: Side, out: &mut Content) -> Answer<usize>
         requires fresh { out.old.items ≡ [] }
         ensures answer { (s : StoreValue) → reply_in result out.new.items ≡ (signals_told side (state_in s self.old)).answer }
         ensures filled { answer_len result ≡ length out.new.items }

@@ -104,7 +104,13 @@ impl Module for AnyModule {
         }
     }
 
-    fn put<B: Blocks>(&mut self, store: &mut B, here: Spot, message: InHand, told: &mut Fates) -> Acts {
+    fn put<B: Blocks>(
+        &mut self,
+        store: &mut B,
+        here: Spot,
+        message: InHand,
+        told: &mut Fates,
+    ) -> Acts {
         match self {
             AnyModule::Ldterm(ldterm) => ldterm.put(store, here, message, told),
             AnyModule::Ptem(ptem) => ptem.put(store, here, message, told),
@@ -184,7 +190,13 @@ impl Module for AnyModule {
         }
     }
 
-    fn serve<B: Blocks>(&mut self, store: &mut B, here: Spot, again: bool, told: &mut Fates) -> Served {
+    fn serve<B: Blocks>(
+        &mut self,
+        store: &mut B,
+        here: Spot,
+        again: bool,
+        told: &mut Fates,
+    ) -> Served {
         match self {
             AnyModule::Ldterm(ldterm) => ldterm.serve(store, here, again, told),
             AnyModule::Ptem(ptem) => ptem.serve(store, here, false, told),

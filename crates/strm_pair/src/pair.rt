@@ -25,9 +25,9 @@ use crate::journal::Journal;
 use crate::ledgers::sum;
 use crate::refusals::or_else;
 use crate::streams::Streams;
-use strm_blocks::Blocks;
 use std::alloc::Global;
 use std::marker::Model;
+use strm_blocks::Blocks;
 use strm_types::{
     Answer, BANDS, Band, Caller, Config, Content, Dir, Entry, Event, Fates, LISTS, Ledger,
     NoMemory, Place, QueueName, READ_MAX, ReadBytes, Refusal, Side, Turn, turn_blocks, unless,

@@ -91,13 +91,7 @@ impl Streams {
     }
 
     // A message that comes to the head of a side that isn't open, where nobody reads: its bytes go.
-    fn lose<B: Blocks>(
-        &self,
-        store: &mut B,
-        to: Spot,
-        message: InHand,
-        told: &mut Fates,
-    ) -> Outbox
+    fn lose<B: Blocks>(&self, store: &mut B, to: Spot, message: InHand, told: &mut Fates) -> Outbox
         requires beside { AreBeside (B.value store.old) self.now }
         requires can_put { CanPut (B.value store.old) (token message) (kept_by self.now) }
         requires chain { IsChain (in_hand (B.value store.old) (token message)) }
@@ -348,13 +342,7 @@ impl<B: Blocks> Stations<B> for Streams {
 
     ghost spare = { spare };
 
-    fn put_at(
-        &mut self,
-        store: &mut B,
-        to: Spot,
-        message: InHand,
-        told: &mut Fates,
-    ) -> Outbox {
+    fn put_at(&mut self, store: &mut B, to: Spot, message: InHand, told: &mut Fates) -> Outbox {
         store.audit();
         self.put(store, to, message, told)
     }

@@ -205,12 +205,8 @@ impl Streams {
             }
             Event::Ioctl { .. } => unless(self.end(caller.side).head.is_idle(), Refusal::Eagain),
             Event::IoctlResult { number } => self.end(caller.side).head.result_refusal(*number),
-            Event::Push { name } => {
-                unless(self.may_push(caller.side, *name), Refusal::Einval)
-            }
-            Event::Pop | Event::Look => {
-                unless(self.top(caller.side).is_some(), Refusal::Einval)
-            }
+            Event::Push { name } => { unless(self.may_push(caller.side, *name), Refusal::Einval) }
+            Event::Pop | Event::Look => { unless(self.top(caller.side).is_some(), Refusal::Einval) }
             Event::Unlock | Event::Shut | Event::Flush { .. } => None,
             Event::Mode { .. } | Event::Nread | Event::Signals => None,
         }

@@ -98,12 +98,7 @@ impl Streams {
     }
 
     /// Whether a band is full of the first queue below a side's head (canput(9F)).
-    pub(crate) fn is_full_below<B: Blocks>(
-        &self,
-        store: &B,
-        side: Side,
-        band: Band,
-    ) -> bool
+    pub(crate) fn is_full_below<B: Blocks>(&self, store: &B, side: Side, band: Band) -> bool
         requires beside { AreBeside (B.value store.now) self.now }
         requires band { band.0 < BANDS }
         ensures { result ≡ is_full_below band.0 side (state_in (B.value store.now) self.now) }
@@ -113,13 +108,7 @@ impl Streams {
 
     /// Has a writer wait for room in a band past a place of a side's stream, as messages of a way go: want-write is set on the nearest
     /// queue there.
-    pub(crate) fn wait_past(
-        &mut self,
-        side: Side,
-        way: Way,
-        at: usize,
-        band: Band,
-    )
+    pub(crate) fn wait_past(&mut self, side: Side, way: Way, at: usize, band: Band)
         requires { band.0 < BANDS }
         ensures state { (s : StoreValue) → state_in s self.new
             ≡ writer_waits side way at band.0 (state_in s self.old) }

@@ -34,11 +34,7 @@ impl Streams {
     ghost use Rattle.strm_pair.specs.Pairs.{state_in, AreBeside, AreHeld, SamePool, kept_by};
 
     /// The place of the module on a side's stream whose queues have a name.
-    pub(crate) fn module_named(
-        &self,
-        side: Side,
-        name: Place,
-    ) -> Option<usize>
+    pub(crate) fn module_named(&self, side: Side, name: Place) -> Option<usize>
         ensures { (s : StoreValue) → result ≡ place_named name (stream side (state_in s self.now)).modules }
     {
         place_named(&self.end(side).stack, name)
@@ -81,11 +77,7 @@ impl Streams {
     /// Begins a turn of a module's queue, which is off the list of enabled queues. Where no module has such a queue, or nothing stands
     /// there, the turn is over as an idle one; where its first message may not go on, as a blocked one, and a writer waits for room
     /// where that is what it asks for. Nothing of a turn is under way.
-    pub(crate) fn begin_module_turn<B: Blocks>(
-        &mut self,
-        store: &B,
-        name: QueueName,
-    ) -> Begun
+    pub(crate) fn begin_module_turn<B: Blocks>(&mut self, store: &B, name: QueueName) -> Begun
         requires held { AreHeld (B.value store.now) self.old }
         requires rests { AreIdle (state_in (B.value store.now) self.old) }
         ensures begins { BeginsAs (state_in (B.value store.now) self.old) (state_in (B.value store.now) self.new)
@@ -115,13 +107,7 @@ impl Streams {
     }
 
     // The end of a turn in which messages were treated.
-    fn end_module_turn<B: Blocks>(
-        &mut self,
-        store: &B,
-        name: QueueName,
-        here: Spot,
-        took: bool,
-    )
+    fn end_module_turn<B: Blocks>(&mut self, store: &B, name: QueueName, here: Spot, took: bool)
         requires beside { AreBeside (B.value store.now) self.old }
         requires inside { 0 < here.at }
         requires within { here.at ≤ length (stream here.side (state_in (B.value store.now) self.old)).modules }

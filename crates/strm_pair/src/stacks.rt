@@ -76,12 +76,7 @@ pub(crate) fn take_top<B: Blocks>(
 
 /// Pushes a module on top of a stack, as its name makes it: one that may stand there (streamio(7I): I_PUSH). The queues of the
 /// stack stand on two lists, behind those of its stream's ends, which start from a number on.
-pub(crate) fn push_named<B: Blocks>(
-    stack: &mut Stack,
-    store: &B,
-    name: ModuleName,
-    first: usize,
-)
+pub(crate) fn push_named<B: Blocks>(stack: &mut Stack, store: &B, name: ModuleName, first: usize)
     requires small { first ≤ 4 }
     requires may_stand { may_stand (named_by (Some name)) (modules_in (B.value store.now) stack.old) ≡ true }
     requires held { IsStackHeld (B.value store.now) stack.old }

@@ -221,12 +221,7 @@ impl Streams {
     }
 
     /// A turn of an enabled queue.
-    pub fn turn<B: Blocks>(
-        &mut self,
-        store: &mut B,
-        name: QueueName,
-        told: &mut Fates,
-    ) -> Turn
+    pub fn turn<B: Blocks>(&mut self, store: &mut B, name: QueueName, told: &mut Fates) -> Turn
         requires held { AreHeld (B.value store.old) self.old }
         requires idle { AreIdle (state_in (B.value store.old) self.old) }
         requires room { HasRoom (B.value store.old) (turn_blocks name.place) }

@@ -82,12 +82,7 @@ impl Streams {
     }
 
     // A driver's first message goes up the other side's stream, with all that it gives rise to.
-    fn move_across<B: Blocks>(
-        &mut self,
-        store: &mut B,
-        side: Side,
-        told: &mut Fates,
-    ) -> Turn
+    fn move_across<B: Blocks>(&mut self, store: &mut B, side: Side, told: &mut Fates) -> Turn
         requires held { AreHeld (B.value store.old) self.old }
         requires idle { AreIdle (state_in (B.value store.old) self.old) }
         requires room { HasRoom (B.value store.old) 8 }
@@ -129,13 +124,7 @@ impl Streams {
     }
 
     // Whether flow control stops a message of this kind and band at the nearest queue past a side's driver, on the way up.
-    fn is_stopped<B: Blocks>(
-        &self,
-        store: &B,
-        side: Side,
-        kind: MsgKind,
-        band: Band,
-    ) -> bool
+    fn is_stopped<B: Blocks>(&self, store: &B, side: Side, kind: MsgKind, band: Band) -> bool
         requires beside { AreBeside (B.value store.now) self.now }
         requires band { band.0 < BANDS }
         ensures { let st = state_in (B.value store.now) self.now in

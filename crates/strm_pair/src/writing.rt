@@ -47,13 +47,7 @@ impl Streams {
     }
 
     // Makes an ordinary message of bytes, and delivers it from below a side's head.
-    fn send_chunk<B: Blocks>(
-        &mut self,
-        store: &mut B,
-        side: Side,
-        chunk: &[u8],
-        told: &mut Fates,
-    )
+    fn send_chunk<B: Blocks>(&mut self, store: &mut B, side: Side, chunk: &[u8], told: &mut Fates)
         requires held { AreHeld (B.value store.old) self.old }
         requires idle { AreIdle (state_in (B.value store.old) self.old) }
         requires small { length chunk.now ≤ 256 }

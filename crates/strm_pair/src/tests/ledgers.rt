@@ -4,9 +4,9 @@
 
 use crate::Pair;
 use crate::tests::over_tables;
-use strm_blocks::Blocks;
 use std::process::Abort;
 use std::test::Fail;
+use strm_blocks::Blocks;
 use strm_types::{
     Answer, Band, Caller, Config, Content, Dir, Event, FlushQueues, Ledger, Mode, ModuleName,
     Place, Prio, QueueName, ReadMode, Rule, Side, Wanted, Way,

@@ -4,10 +4,10 @@
 use crate::Pair;
 use crate::tests::over_tables;
 use crate::tests::recount::PlainPair;
-use strm_blocks::Blocks;
 use std::alloc::{AllocError, Global};
 use std::process::Abort;
 use std::test::Fail;
+use strm_blocks::Blocks;
 use strm_types::{
     Band, Caller, Config, Content, Entry, Event, FlushQueues, ModuleName, Place, QueueName,
     Refusal, Side, Turn, Way,

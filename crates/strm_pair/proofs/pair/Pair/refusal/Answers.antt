@@ -53,5 +53,5 @@ returns-in-Some g c =
     let v = c.args.self.now in
     let asked = request c.args.event.now in
     let at_once = sym c.in-Some.is ∙ c.unmet.ensures (g.B.Blocks.value c.self.inside.store) ∙ ap (λ (x : PairState). unmet x.state c.args.caller.side c.needs-needs.result) c.self.view_is
-        ∙ ap (λ (n : Needs). unmet v.state c.args.caller.side n) c.needs-needs.ensures.value in
+    ∙ ap (λ (n : Needs). unmet v.state c.args.caller.side n) c.needs-needs.ensures.value in
     first-told c.in-Some.refusal (refused_at_once v.state c.args.caller asked) _ at_once

@@ -21,9 +21,25 @@ put-requires g c =
     let st = state_in s c.args.self.now in
     let to = c.args.to in
     let there = subst (λ sd. to.at ≤ modules_on sd st) c.in-Master.is c.requires.within in
-    let few = length-map c.args.self.now.master.stack.modules.items (module_in s) in
-    (omega arith, (c.requires.inside, (omega (arith, there, few), (c.requires.beside.master.stack, (record { apart = λ i. omega (arith, c.requires.can_put.apart i) }, (c.requires.chain,
-    subst (λ sd. HasRoom s (at_place (module_takes to (message_in s (token c.args.message))) 0 to.at (stream sd st).modules)) c.in-Master.is c.requires.room))))))
+    let few = length-map c.args.self.now.master.stack.modules.items (module_in s) in (
+      omega arith,
+      (
+        c.requires.inside,
+        (
+          omega (arith, there, few),
+          (
+            c.requires.beside.master.stack,
+            (
+              record { apart = λ i. omega (arith, c.requires.can_put.apart i) },
+              (
+                c.requires.chain,
+                subst (λ sd. HasRoom s (at_place (module_takes to (message_in s (token c.args.message))) 0 to.at (stream sd st).modules)) c.in-Master.is c.requires.room,
+              ),
+            ),
+          ),
+        ),
+      ),
+    )
 
 pub put-requires-in-Slave : goal.put-requires-in-Slave
 put-requires-in-Slave g c =
@@ -31,9 +47,25 @@ put-requires-in-Slave g c =
     let st = state_in s c.args.self.now in
     let to = c.args.to in
     let there = subst (λ sd. to.at ≤ modules_on sd st) c.in-Slave.is c.requires.within in
-    let few = length-map c.args.self.now.slave.stack.modules.items (module_in s) in
-    (omega arith, (c.requires.inside, (omega (arith, there, few), (c.requires.beside.slave.stack, (record { apart = λ i. omega (arith, c.requires.can_put.apart i) }, (c.requires.chain,
-    subst (λ sd. HasRoom s (at_place (module_takes to (message_in s (token c.args.message))) 0 to.at (stream sd st).modules)) c.in-Slave.is c.requires.room))))))
+    let few = length-map c.args.self.now.slave.stack.modules.items (module_in s) in (
+      omega arith,
+      (
+        c.requires.inside,
+        (
+          omega (arith, there, few),
+          (
+            c.requires.beside.slave.stack,
+            (
+              record { apart = λ i. omega (arith, c.requires.can_put.apart i) },
+              (
+                c.requires.chain,
+                subst (λ sd. HasRoom s (at_place (module_takes to (message_in s (token c.args.message))) 0 to.at (stream sd st).modules)) c.in-Slave.is c.requires.room,
+              ),
+            ),
+          ),
+        ),
+      ),
+    )
 
 pub returns-in-Master-clause-takes : goal.returns-in-Master-clause-takes
 returns-in-Master-clause-takes g c =

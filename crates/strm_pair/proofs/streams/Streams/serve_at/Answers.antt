@@ -21,9 +21,25 @@ serve-requires g c =
     let there = subst (λ sd. here.at ≤ length (stream sd st).modules) c.in-Master.is c.requires.within in
     let few = length-map c.args.self.now.master.stack.modules.items (module_in s) in
     let turn = subst (λ sd. HoldsAt (MayServe here.way c.args.again) (stream sd st).modules (here.at - 1)) c.in-Master.is
-        (may-serve here.way c.args.again (here.at - 1) (stream here.side st).modules (omega (arith, c.requires.inside, c.requires.within)) c.requires.begins) in
-    (omega arith, (c.requires.inside, (omega (arith, there, few), (c.requires.beside.master.stack, (turn, (record { apart = λ i. omega (arith, c.requires.hand i) },
-    subst (λ sd. HasRoom s (at_place (turn_cost here c.args.again) 0 here.at (stream sd st).modules)) c.in-Master.is c.requires.room))))))
+    (may-serve here.way c.args.again (here.at - 1) (stream here.side st).modules (omega (arith, c.requires.inside, c.requires.within)) c.requires.begins) in (
+      omega arith,
+      (
+        c.requires.inside,
+        (
+          omega (arith, there, few),
+          (
+            c.requires.beside.master.stack,
+            (
+              turn,
+              (
+                record { apart = λ i. omega (arith, c.requires.hand i) },
+                subst (λ sd. HasRoom s (at_place (turn_cost here c.args.again) 0 here.at (stream sd st).modules)) c.in-Master.is c.requires.room,
+              ),
+            ),
+          ),
+        ),
+      ),
+    )
 
 pub serve-requires-in-Slave : goal.serve-requires-in-Slave
 serve-requires-in-Slave g c =
@@ -33,9 +49,25 @@ serve-requires-in-Slave g c =
     let there = subst (λ sd. here.at ≤ length (stream sd st).modules) c.in-Slave.is c.requires.within in
     let few = length-map c.args.self.now.slave.stack.modules.items (module_in s) in
     let turn = subst (λ sd. HoldsAt (MayServe here.way c.args.again) (stream sd st).modules (here.at - 1)) c.in-Slave.is
-        (may-serve here.way c.args.again (here.at - 1) (stream here.side st).modules (omega (arith, c.requires.inside, c.requires.within)) c.requires.begins) in
-    (omega arith, (c.requires.inside, (omega (arith, there, few), (c.requires.beside.slave.stack, (turn, (record { apart = λ i. omega (arith, c.requires.hand i) },
-    subst (λ sd. HasRoom s (at_place (turn_cost here c.args.again) 0 here.at (stream sd st).modules)) c.in-Slave.is c.requires.room))))))
+    (may-serve here.way c.args.again (here.at - 1) (stream here.side st).modules (omega (arith, c.requires.inside, c.requires.within)) c.requires.begins) in (
+      omega arith,
+      (
+        c.requires.inside,
+        (
+          omega (arith, there, few),
+          (
+            c.requires.beside.slave.stack,
+            (
+              turn,
+              (
+                record { apart = λ i. omega (arith, c.requires.hand i) },
+                subst (λ sd. HasRoom s (at_place (turn_cost here c.args.again) 0 here.at (stream sd st).modules)) c.in-Slave.is c.requires.room,
+              ),
+            ),
+          ),
+        ),
+      ),
+    )
 
 pub returns-in-Master-clause-serves : goal.returns-in-Master-clause-serves
 returns-in-Master-clause-serves g c =
