@@ -1,11 +1,11 @@
 #!/usr/bin/env python3
 """Runs `rt ci` and says what each part of it costs: the table of docs/GATE.md.
 
-    tools/gate.py [--anew] [--write]
+    tools/gate.py [--anew] [--write] [CRATE..]
 
 Run it at the top of the repository; .ci/run does. The output is that of `rt ci`, then the table, and then the closing line of `rt ci`
 once more; the status is that of `rt ci`, which passes over what an earlier run on this machine passed: with --anew it proves and tries
-all. --write puts the table into docs/GATE.md too, for a run with nothing else at work on the machine. It looks twice a second at the
+all. With crates it is `rt ci` of these and those below them, and the table has those that were at work. --write puts the table into docs/GATE.md too, for a run with nothing else at work on the machine. It looks twice a second at the
 checker's processes: what each has used of the processor counts for the proof, the tests or an edit of its crate. A crate's edits are
 tried in the order of their names: the first one pays for the crate's check from nothing too, and behind the last one the crate is
 checked once more as it is; these two are told apart as further checks.
@@ -133,7 +133,7 @@ def table(seen, wall, used, closing):
     for process in seen:
         parts[process.crate, process.part].append(process.seconds)
     rows = []
-    for crate in crates():
+    for crate in [name for name in crates() if any(parts[name, part] for part in ("proof", "tests", "edits"))]:
         edits, further = edits_cost(crate, parts[crate, "edits"])
         proof, tests = (sum(parts[crate, part]) for part in ("proof", "tests"))
         rows.append((crate, lines_of(crate), proof, tests, len(edits_of(crate)), edits, further))
@@ -157,9 +157,10 @@ def main():
     parser = argparse.ArgumentParser(description=__doc__, formatter_class=argparse.RawDescriptionHelpFormatter)
     parser.add_argument("--anew", action="store_true")
     parser.add_argument("--write", action="store_true")
+    parser.add_argument("names", nargs="*")
     asked = parser.parse_args()
     with tempfile.TemporaryDirectory(prefix="gate-") as room:
-        status, seen, wall, used = run_gate(f"{room}/log", ["--anew"] if asked.anew else [])
+        status, seen, wall, used = run_gate(f"{room}/log", [*(["--anew"] if asked.anew else []), *asked.names])
         closing = (text_of(f"{room}/log").rstrip("\n").splitlines() or ["0 passed, 1 failed"])[-1]
     lines = [*table(seen, wall, used, closing)]
     print("\n".join(["", *lines, "", closing]), flush=True)

@@ -132,7 +132,13 @@ pub trait Module: Drop {
         ensures { (s : StoreValue) → result ≡ name_of (plain s self.now) };
 
     /// Puts a message in hand here, on its way up or down, and says what it does: `put(9E)`.
-    fn put<B: Blocks>(&mut self, store: &mut B, here: Spot, message: InHand, told: &mut Fates) -> Acts
+    fn put<B: Blocks>(
+        &mut self,
+        store: &mut B,
+        here: Spot,
+        message: InHand,
+        told: &mut Fates,
+    ) -> Acts
         requires held { IsHeld (B.value store.old) self.old }
         requires can_put { CanPut (B.value store.old) (token message) (keeps self.old) }
         requires chain { IsChain (in_hand (B.value store.old) (token message)) }
@@ -218,7 +224,13 @@ pub trait Module: Drop {
     /// is delivered that the last one sent. It is called so only where the last call asked for that, and for the first time in a
     /// turn only where nothing of a turn is under way. It may stop within the message only where fewer than `STOP_BLOCKS` blocks of
     /// some kind are left.
-    fn serve<B: Blocks>(&mut self, store: &mut B, here: Spot, again: bool, told: &mut Fates) -> Served
+    fn serve<B: Blocks>(
+        &mut self,
+        store: &mut B,
+        here: Spot,
+        again: bool,
+        told: &mut Fates,
+    ) -> Served
         requires held { IsHeld (B.value store.old) self.old }
         requires turn { MayServe here.way again (plain (B.value store.old) self.old) }
         requires kept { AreIn (B.value store.old) (λ _. 0) (keeps self.old) }

@@ -95,12 +95,7 @@ fn let_wait_among<M: Module>(modules: &mut [M], at: usize, way: Way, band: Band)
 }
 
 // The same at a place, where there is one.
-fn let_wait_at<M: Module>(
-    modules: &mut [M],
-    place: Option<usize>,
-    way: Way,
-    band: Band,
-)
+fn let_wait_at<M: Module>(modules: &mut [M], place: Option<usize>, way: Way, band: Band)
     requires place { IsPlace (length modules.old) place }
     requires band { band.0 < BANDS }
     ensures length { length modules.new ≡ length modules.old }

@@ -106,12 +106,7 @@ pub(crate) fn next_byte<B: Blocks>(ldterm: &mut Ldterm, store: &mut B) -> Option
 }
 
 // A byte begins. Where output is stopped, and the byte starts it, an M_START goes down.
-fn begin_with<B: Blocks>(
-    ldterm: &mut Ldterm,
-    store: &mut B,
-    here: Spot,
-    byte: u8,
-) -> Outbox
+fn begin_with<B: Blocks>(ldterm: &mut Ldterm, store: &mut B, here: Spot, byte: u8) -> Outbox
     requires held { IsHeld (B.value store.old) ldterm.old }
     requires kept { AreIn (B.value store.old) (λ _. 0) (keeps ldterm.old) }
     requires inside { 0 < here.at }
@@ -137,11 +132,7 @@ fn begin_with<B: Blocks>(
 
 /// The next byte of the message in work begins. Where output is stopped, and the byte starts it, an M_START goes down. Where no byte
 /// is left, nothing happens. It takes a block at most. All bytes of a message cost a step each, and one for each of its blocks.
-pub(crate) fn begin<B: Blocks>(
-    ldterm: &mut Ldterm,
-    store: &mut B,
-    here: Spot,
-) -> Outbox
+pub(crate) fn begin<B: Blocks>(ldterm: &mut Ldterm, store: &mut B, here: Spot) -> Outbox
     requires held { IsHeld (B.value store.old) ldterm.old }
     requires kept { AreIn (B.value store.old) (λ _. 0) (keeps ldterm.old) }
     requires inside { 0 < here.at }

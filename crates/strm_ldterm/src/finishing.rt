@@ -79,11 +79,7 @@ fn return_work<B: Blocks>(ldterm: &mut Ldterm, store: &mut B)
 }
 
 /// What was gathered goes up as one message, where there is any.
-pub(crate) fn send_gathered<B: Blocks>(
-    ldterm: &mut Ldterm,
-    store: &B,
-    here: Spot,
-) -> Option<Sent>
+pub(crate) fn send_gathered<B: Blocks>(ldterm: &mut Ldterm, store: &B, here: Spot) -> Option<Sent>
     requires held { IsHeld (B.value store.now) ldterm.old }
     requires inside { 0 < here.at }
     requires small { here.at ≤ MODULES }
@@ -105,11 +101,7 @@ pub(crate) fn send_gathered<B: Blocks>(
 /// on, what is left of the message in work goes back to the front of its queue, and what was gathered goes up as one M_DATA. It takes no
 /// block, and frees none where bytes of the message in work are left. The cost is a step for each block of these messages, and for each
 /// message of a higher rank on the read queue.
-pub(crate) fn finish<B: Blocks>(
-    ldterm: &mut Ldterm,
-    store: &mut B,
-    here: Spot,
-) -> Outbox
+pub(crate) fn finish<B: Blocks>(ldterm: &mut Ldterm, store: &mut B, here: Spot) -> Outbox
     requires held { IsHeld (B.value store.old) ldterm.old }
     requires kept { AreIn (B.value store.old) (λ _. 0) (keeps ldterm.old) }
     requires inside { 0 < here.at }

@@ -71,12 +71,7 @@ fn flush_queue<B: Blocks>(
 }
 
 /// The unfinished line goes, where a flush takes band 0.
-pub(crate) fn flush_line(
-    ldterm: &mut Ldterm,
-    here: Spot,
-    band: Option<Band>,
-    told: &mut Fates,
-)
+pub(crate) fn flush_line(ldterm: &mut Ldterm, here: Spot, band: Option<Band>, told: &mut Fates)
     ensures { (s : StoreValue) → IsHeld s ldterm.old →
         Flushes s s ldterm.old ldterm.new [] told.old told.new (line_flushed here band (ldterm_in s ldterm.old)) }
 {

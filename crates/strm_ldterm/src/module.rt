@@ -74,7 +74,13 @@ impl Module for Ldterm {
         ldterm::name()
     }
 
-    fn put<B: Blocks>(&mut self, store: &mut B, here: Spot, message: InHand, told: &mut Fates) -> Acts {
+    fn put<B: Blocks>(
+        &mut self,
+        store: &mut B,
+        here: Spot,
+        message: InHand,
+        told: &mut Fates,
+    ) -> Acts {
         store.audit();
         putting::put(self, store, here, message, told)
     }
@@ -119,7 +125,13 @@ impl Module for Ldterm {
         queues::asks(self, store, way)
     }
 
-    fn serve<B: Blocks>(&mut self, store: &mut B, here: Spot, again: bool, told: &mut Fates) -> Served {
+    fn serve<B: Blocks>(
+        &mut self,
+        store: &mut B,
+        here: Spot,
+        again: bool,
+        told: &mut Fates,
+    ) -> Served {
         self.audit();
         store.audit();
         serving::serve(self, store, here, again, told)

@@ -59,11 +59,7 @@ fn goes_out(termios: &Termios, kind: MsgKind, bytes: usize) -> bool
 
 /// A turn of the write queue begins with what stands first there: M_DATA with bytes comes into work under OPOST, and all else goes down
 /// whole. It takes no block. The cost is a step for each block of the message.
-pub(crate) fn begin_output<B: Blocks>(
-    ldterm: &mut Ldterm,
-    store: &mut B,
-    here: Spot,
-) -> OutputBegun
+pub(crate) fn begin_output<B: Blocks>(ldterm: &mut Ldterm, store: &mut B, here: Spot) -> OutputBegun
     requires held { IsHeld (B.value store.old) ldterm.old }
     requires rests { (i : ℕ) → keeps ldterm.old i ≡ 0 }
     requires inside { 0 < here.at }
@@ -97,11 +93,7 @@ pub(crate) fn begin_output<B: Blocks>(
 
 /// A turn of the read queue begins with what stands first there: M_DATA comes into work, and all else goes up whole. It takes no
 /// block. The cost is a step for each block of the message.
-pub(crate) fn begin_input<B: Blocks>(
-    ldterm: &mut Ldterm,
-    store: &mut B,
-    here: Spot,
-) -> InputBegun
+pub(crate) fn begin_input<B: Blocks>(ldterm: &mut Ldterm, store: &mut B, here: Spot) -> InputBegun
     requires held { IsHeld (B.value store.old) ldterm.old }
     requires rests { (i : ℕ) → keeps ldterm.old i ≡ 0 }
     requires inside { 0 < here.at }

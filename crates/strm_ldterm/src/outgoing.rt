@@ -62,12 +62,7 @@ fn reband<B: Blocks>(store: &mut B, message: &InHand, band: Band)
 }
 
 // What was gathered goes down as one message of a band, where there is any.
-fn send_output<B: Blocks>(
-    ldterm: &mut Ldterm,
-    store: &mut B,
-    here: Spot,
-    band: Band,
-) -> Outbox
+fn send_output<B: Blocks>(ldterm: &mut Ldterm, store: &mut B, here: Spot, band: Band) -> Outbox
     requires held { IsHeld (B.value store.old) ldterm.old }
     requires kept { AreIn (B.value store.old) (λ _. 0) (keeps ldterm.old) }
     requires inside { 0 < here.at }
@@ -92,12 +87,7 @@ fn send_output<B: Blocks>(
 // Ends a turn in which bytes went out: what is left of the message in work goes back to the front of the write queue, and what was gathered goes
 // down. It takes no block, and frees none where bytes are left. The cost is a step for each block of these messages, and for each message
 // of a higher rank on the write queue.
-fn let_go<B: Blocks>(
-    ldterm: &mut Ldterm,
-    store: &mut B,
-    here: Spot,
-    band: Band,
-) -> Outbox
+fn let_go<B: Blocks>(ldterm: &mut Ldterm, store: &mut B, here: Spot, band: Band) -> Outbox
     requires held { IsHeld (B.value store.old) ldterm.old }
     requires kept { AreIn (B.value store.old) (λ _. 0) (keeps ldterm.old) }
     requires quiet { is_some ldterm.old.echo ≡ false }

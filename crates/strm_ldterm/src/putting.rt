@@ -162,12 +162,7 @@ pub(crate) fn pass_on<B: Blocks>(
 }
 
 // A message waits for the turn of its queue.
-fn wait<B: Blocks>(
-    ldterm: &mut Ldterm,
-    store: &mut B,
-    way: Way,
-    message: InHand,
-) -> Acts
+fn wait<B: Blocks>(ldterm: &mut Ldterm, store: &mut B, way: Way, message: InHand) -> Acts
     requires held { IsHeld (B.value store.old) ldterm.old }
     requires can_put { CanPut (B.value store.old) (token message) (keeps ldterm.old) }
     requires chain { IsChain (in_hand (B.value store.old) (token message)) }

@@ -79,12 +79,7 @@ pub(crate) fn stop<B: Blocks>(
 }
 
 // The line goes up with what ends it, at most a byte, and is empty then.
-fn send_line<B: Blocks>(
-    ldterm: &mut Ldterm,
-    store: &mut B,
-    here: Spot,
-    ending: &[u8],
-) -> Outbox
+fn send_line<B: Blocks>(ldterm: &mut Ldterm, store: &mut B, here: Spot, ending: &[u8]) -> Outbox
     requires held { IsHeld (B.value store.old) ldterm.old }
     requires kept { AreIn (B.value store.old) (λ _. 0) (keeps ldterm.old) }
     requires inside { 0 < here.at }

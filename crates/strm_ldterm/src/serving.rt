@@ -105,12 +105,7 @@ fn treat_bytes<B: Blocks>(
 }
 
 // A call that stands between two bytes.
-fn treat_on<B: Blocks>(
-    ldterm: &mut Ldterm,
-    store: &mut B,
-    here: Spot,
-    told: &mut Fates,
-) -> Served
+fn treat_on<B: Blocks>(ldterm: &mut Ldterm, store: &mut B, here: Spot, told: &mut Fates) -> Served
     requires held { IsHeld (B.value store.old) ldterm.old }
     requires kept { AreIn (B.value store.old) (λ _. 0) (keeps ldterm.old) }
     requires inside { 0 < here.at }

@@ -36,7 +36,7 @@ use Rattle.strm_queue.proofs.Placed.{ready-same}
 use Rattle.strm_frame.specs.declared.modules.Acts.{Acts}
 use Rattle.strm_frame.specs.Hands.{AreIn, CanPut, Handles, OnlyOwn, SamePool, Spends, once}
 use Rattle.strm_frame.specs.Outboxes.{message_in, sent_of, times_sent}
-use Rattle.strm_pair.specs.declared.ends.End.{End}
+use Rattle.strm_pair.specs.declared.ends.StreamEnd.{StreamEnd}
 use Rattle.strm_pair.specs.declared.streams.Streams.{Streams}
 use Rattle.strm_pair.specs.Pairs.{state_in, end_at, with_end, AreBeside, Stays, kept_by}
 use Rattle.strm_pair.specs.ModuleServed.{BookTakes, between}
@@ -54,7 +54,7 @@ none : (n : ℕ) → (0 < n → ⊥) → n ≡ 0
 none zero not = refl
 none (suc n) not = absurd (not (omega arith))
 
-module _ (s t : StoreValue) (first : ℕ) (e : End) (x : Stack) (is : IsSide s first e) (own : OnlyOwn s t (stack_owns e.stack) (stack_owns x)) where
+module _ (s t : StoreValue) (first : ℕ) (e : StreamEnd) (x : Stack) (is : IsSide s first e) (own : OnlyOwn s t (stack_owns e.stack) (stack_owns x)) where
   -- a list that isn't one of the two for the modules of this side
   apart : (k : ℕ) → (first + 2 ≤ k → k < first + 4 → ⊥) → list_at t k ≡ list_at s k
   apart k away = own.lists k (none (stack_owns e.stack k) (λ some. let within = is.owned k some in away within.0 within.1))
@@ -144,7 +144,7 @@ stack-modules Master t p x names a b = refl
 stack-modules Slave t p x names a b = refl
 
 -- the books stay where a stream changes, and the queues that are enabled do
-pub books-same : (side : Side) (e : End) (p : Streams) → ((with_end side e p).from_master ≡ p.from_master) × ((with_end side e p).from_slave ≡ p.from_slave) × ((with_end side e p).enabled ≡ p.enabled)
+pub books-same : (side : Side) (e : StreamEnd) (p : Streams) → ((with_end side e p).from_master ≡ p.from_master) × ((with_end side e p).from_slave ≡ p.from_slave) × ((with_end side e p).enabled ≡ p.enabled)
 books-same Master e p = (refl, refl, refl)
 books-same Slave e p = (refl, refl, refl)
 

@@ -9,7 +9,7 @@ use Rattle.strm_laws.specs.Stacked.{Module, module_name}
 use Rattle.strm_laws.specs.State.{stream}
 use Rattle.strm_laws.proofs.StackOnce.{push-once}
 use Rattle.strm_blocks.specs.Blocks.{StoreValue, list_at}
-use Rattle.strm_pair.specs.declared.ends.End.{End}
+use Rattle.strm_pair.specs.declared.ends.StreamEnd.{StreamEnd}
 use Rattle.strm_pair.specs.declared.streams.Streams.{Streams}
 use Rattle.strm_pair.specs.Framing.{state_with, stream_with}
 use Rattle.strm_pair.specs.Pairs.{state_in, end_at, with_end, AreHeld}
@@ -22,7 +22,7 @@ pushed-once None new old may is each = absurd (cc)
 pushed-once (Some p) new old may is each = subst AreApart (sym is) (push-once p old may each)
 
 module _ (s : StoreValue) where
-  side-put : (first : ℕ) (e : End) (y : Stack) → IsSide s first e → IsStackHeld s y → AreApart (modules_in s y) → ((k : ℕ) → 0 < stack_owns y k → (first + 2 ≤ k) × (k < first + 4)) → ((k : ℕ) → first + 2 ≤ k → k < first + 4 → stack_owns y k ≡ 0 → list_at s k ≡ []) → IsSide s first (record e { stack = y })
+  side-put : (first : ℕ) (e : StreamEnd) (y : Stack) → IsSide s first e → IsStackHeld s y → AreApart (modules_in s y) → ((k : ℕ) → 0 < stack_owns y k → (first + 2 ≤ k) × (k < first + 4)) → ((k : ℕ) → first + 2 ≤ k → k < first + 4 → stack_owns y k ≡ 0 → list_at s k ≡ []) → IsSide s first (record e { stack = y })
   side-put first e y is held once owned spare = record {
     head_list = is.head_list;
     driver_list = is.driver_list;
@@ -35,7 +35,7 @@ module _ (s : StoreValue) where
   }
 
   -- one of modules of the same names, whose lists are the same
-  pub side-changed : (first : ℕ) (e : End) (y : Stack) → IsSide s first e → IsStackHeld s y → ((k : ℕ) → stack_owns y k ≡ stack_owns e.stack k) → map module_name (modules_in s y) ≡ map module_name (modules_in s e.stack)
+  pub side-changed : (first : ℕ) (e : StreamEnd) (y : Stack) → IsSide s first e → IsStackHeld s y → ((k : ℕ) → stack_owns y k ≡ stack_owns e.stack k) → map module_name (modules_in s y) ≡ map module_name (modules_in s e.stack)
       → IsSide s first (record e { stack = y })
   side-changed first e y is held owns names =
       side-put first e y is held (subst EachOnce (sym names) is.once) (λ k some. is.owned k (omega (arith, some, owns k))) (λ k low high none. is.spare k low high (omega (arith, none, owns k)))

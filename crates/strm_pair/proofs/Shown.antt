@@ -13,7 +13,7 @@ use Rattle.strm_blocks.specs.Blocks.{Block, StoreValue, IsStore, list_at, empty_
 use Rattle.strm_blocks.proofs.Laws.{free_m-is}
 use Rattle.strm_msg.specs.Messages.{message_of}
 use Rattle.strm_queue.specs.Stored.{queue_in}
-use Rattle.strm_pair.specs.declared.ends.End.{End}
+use Rattle.strm_pair.specs.declared.ends.StreamEnd.{StreamEnd}
 use Rattle.strm_pair.specs.declared.streams.Streams.{Streams}
 use Rattle.strm_pair.specs.ModuleLists.{ordered-map}
 use Rattle.strm_pair.specs.Pairs.{state_in, free_in, AreHeld}
@@ -28,7 +28,7 @@ all-joined P [] ys all more = more
 all-joined P (x ∷ xs) ys all more = (all.0, all-joined P xs ys all.1 more)
 
 -- what a side's lists show of its stream, while nothing of a turn is under way
-module _ (s : StoreValue) (first : ℕ) (e : End) (is : IsSide s first e) (idle : AllByRecursion (λ p. IsAtRest p) (modules_in s e.stack)) where
+module _ (s : StoreValue) (first : ℕ) (e : StreamEnd) (is : IsSide s first e) (idle : AllByRecursion (λ p. IsAtRest p) (modules_in s e.stack)) where
   lists-for : AreFor s (first + 2) (stack_owns e.stack)
   lists-for = record {
     owned = λ k some. let own = is.owned k some in (own.0, omega (arith, own.1));

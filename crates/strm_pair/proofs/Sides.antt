@@ -23,7 +23,7 @@ use Rattle.strm_queue.specs.Stored.{queue_in, HoldsReadable, IsHeadQueue, IsRead
 use Rattle.strm_queue.proofs.Placed.{ready-same}
 use Rattle.strm_frame.proofs.Seeking.{all-gone}
 use Rattle.strm_pty.specs.Does.{OnlyQueue}
-use Rattle.strm_pair.specs.declared.ends.End.{End}
+use Rattle.strm_pair.specs.declared.ends.StreamEnd.{StreamEnd}
 use Rattle.strm_pair.specs.declared.streams.Streams.{Streams}
 use Rattle.strm_pair.specs.Framing.{state_with, stack-same, stays-master, stays-slave, still}
 use Rattle.strm_pair.specs.Streams.{stream_in, IsBlank, IsSide, AreApart}
@@ -83,7 +83,7 @@ pub queue-same : (s t : StoreValue) (q : Queue) → list_at t q.list ≡ list_at
 queue-same s t q same = ap (λ l. record { messages = map message_of l; flows = plain_flows q.flows; want_read = q.want_read; no_enable = q.no_enable }) same
 
 -- a stream by its two queues and its modules
-abbrev pub stream_of : End → state.Queue ℕ → List (stacked.Module ℕ) → state.Queue ℕ → streams.Stream ℕ
+abbrev pub stream_of : StreamEnd → state.Queue ℕ → List (stacked.Module ℕ) → state.Queue ℕ → streams.Stream ℕ
 stream_of e h ms d = record {
   opened = e.opened;
   head = record { queue = h; read_mode = e.head.read_mode; control_mode = e.head.control_mode; hung_up = e.head.hung_up; signals = e.head.signals; ioctl = plain_slot e.head.ioctl };
@@ -91,7 +91,7 @@ stream_of e h ms d = record {
   driver = record { queue = d };
 }
 
-module _ (s t : StoreValue) (first : ℕ) (e : End) (is : IsSide s first e) (stays : Stays s t (stack_keeps e.stack)) where
+module _ (s t : StoreValue) (first : ℕ) (e : StreamEnd) (is : IsSide s first e) (stays : Stays s t (stack_keeps e.stack)) where
   -- all lists of the side stay
   abbrev Stay : Type 0
   Stay = (k : ℕ) → first ≤ k → k < first + 4 → list_at t k ≡ list_at s k
@@ -178,7 +178,7 @@ module _ (s t : StoreValue) (first : ℕ) (e : End) (is : IsSide s first e) (sta
         ∙ ap (λ ms. record { opened = e.opened; head = head_in t h; modules = ms; driver = record { queue = queue_in s e.driver } }) (stack-same s t first e is stays head-apart).0
 
 -- a stream that was closed has the same driver
-as-side : (t : StoreValue) (first : ℕ) (e e' : End) → e'.driver ≡ e.driver → e'.stack ≡ e.stack → IsSide t first (record e { head = e'.head }) → IsSide t first e'
+as-side : (t : StoreValue) (first : ℕ) (e e' : StreamEnd) → e'.driver ≡ e.driver → e'.stack ≡ e.stack → IsSide t first (record e { head = e'.head }) → IsSide t first e'
 as-side t first e e' same stays is = record {
   head_list = is.head_list;
   driver_list = ap (λ d. d.list) same ∙ is.driver_list;
@@ -270,19 +270,19 @@ head-is s p Master = refl
 head-is s p Slave = refl
 
 -- a side whose head's queue was emptied, and whose driver stays
-pub master-renewed : (s t : StoreValue) (p : Streams) (e : End) → AreBeside s p → e.driver ≡ p.master.driver → e.stack ≡ p.master.stack → Keeps s t p.master.head.queue e.head.queue → AreBeside t (with_end Master e p)
+pub master-renewed : (s t : StoreValue) (p : Streams) (e : StreamEnd) → AreBeside s p → e.driver ≡ p.master.driver → e.stack ≡ p.master.stack → Keeps s t p.master.head.queue e.head.queue → AreBeside t (with_end Master e p)
 master-renewed s t p e beside same stays keeps =
     let all = head-changed s t p beside (still s t (kept_by p) keeps.hand keeps.mblks keeps.dblks) Master e.head (only-kept s t p.master.head.queue e.head.queue keeps) (readable-kept s t p.master.head.queue e.head.queue beside.master.head keeps) in
     record { master = as-side t 0 p.master e same stays all.master; slave = all.slave }
 
-pub slave-renewed : (s t : StoreValue) (p : Streams) (e : End) → AreBeside s p → e.driver ≡ p.slave.driver → e.stack ≡ p.slave.stack → Keeps s t p.slave.head.queue e.head.queue → AreBeside t (with_end Slave e p)
+pub slave-renewed : (s t : StoreValue) (p : Streams) (e : StreamEnd) → AreBeside s p → e.driver ≡ p.slave.driver → e.stack ≡ p.slave.stack → Keeps s t p.slave.head.queue e.head.queue → AreBeside t (with_end Slave e p)
 slave-renewed s t p e beside same stays keeps =
     let all = head-changed s t p beside (still s t (kept_by p) keeps.hand keeps.mblks keeps.dblks) Slave e.head (only-kept s t p.slave.head.queue e.head.queue keeps) (readable-kept s t p.slave.head.queue e.head.queue beside.slave.head keeps) in
     record { master = all.master; slave = as-side t 4 p.slave e same stays all.slave }
 
 -- what a renewed side stands for: its head alone, and whether it was opened
-module _ (s t : StoreValue) (p : Streams) (e : End) (beside : AreBeside s p) where
-  as-stream : (e' : End) → e.driver ≡ e'.driver → e.stack ≡ e'.stack → stream_in t e ≡ record (stream_in t (record e' { head = e.head })) { opened = e.opened }
+module _ (s t : StoreValue) (p : Streams) (e : StreamEnd) (beside : AreBeside s p) where
+  as-stream : (e' : StreamEnd) → e.driver ≡ e'.driver → e.stack ≡ e'.stack → stream_in t e ≡ record (stream_in t (record e' { head = e.head })) { opened = e.opened }
   as-stream e' same stays =
       ap (λ d. record { opened = e.opened; head = head_in t e.head; modules = modules_in t e.stack; driver = record { queue = queue_in t d } }) same
       ∙ ap (λ x. record { opened = e.opened; head = head_in t e.head; modules = modules_in t x; driver = record { queue = queue_in t e'.driver } }) stays

@@ -18,7 +18,7 @@ use Rattle.strm_laws.proofs.StackOnce.{pop-once}
 use Rattle.strm_blocks.specs.Blocks.{StoreValue, list_at}
 use Rattle.strm_queue.specs.Stored.{queue_in, HoldsReadable}
 use Rattle.strm_queue.proofs.Placed.{ready-same}
-use Rattle.strm_pair.specs.declared.ends.End.{End}
+use Rattle.strm_pair.specs.declared.ends.StreamEnd.{StreamEnd}
 use Rattle.strm_pair.specs.declared.stacks.Taken.{Taken}
 use Rattle.strm_pair.specs.declared.streams.Streams.{Streams}
 use Rattle.strm_pair.specs.Framing.{stays-master, stays-slave, still}
@@ -38,7 +38,7 @@ zero-if zero never = refl
 zero-if (suc n) never = absurd (let one : 0 < suc n = omega arith in omega (arith, never one))
 
 module _ (s t : StoreValue) where
-  module _ (first : ℕ) (e : End) (is : IsSide s first e) where
+  module _ (first : ℕ) (e : StreamEnd) (is : IsSide s first e) where
     -- a stack owns no list but its two
     pub unowned-below : (k : ℕ) → k < first + 2 → stack_owns e.stack k ≡ 0
     unowned-below k low = zero-if (stack_owns e.stack k) (λ some. let own = is.owned k some in omega (arith, low, own.0))
@@ -105,7 +105,7 @@ modules-are s p Master = refl
 modules-are s p Slave = refl
 
 -- the same queues are enabled where only a stack changed
-same-enabled : (p : Streams) (side : Side) (e : End) → (with_end side e p).enabled ≡ p.enabled
+same-enabled : (p : Streams) (side : Side) (e : StreamEnd) → (with_end side e p).enabled ≡ p.enabled
 same-enabled p Master e = refl
 same-enabled p Slave e = refl
 

@@ -36,7 +36,7 @@ use Rattle.strm_queue.specs.Stored.{messages_on, Dequeued}
 use Rattle.strm_msg.proofs.Chains.{kind-is}
 use Rattle.strm_queue.proofs.Chains.{held-band, stopped-held}
 use Rattle.strm_pty.specs.Does.{OnlyQueue}
-use Rattle.strm_pair.specs.declared.ends.End.{End}
+use Rattle.strm_pair.specs.declared.ends.StreamEnd.{StreamEnd}
 use Rattle.strm_pair.specs.declared.streams.Streams.{Streams}
 use Rattle.strm_pair.specs.Framing.{rests}
 use Rattle.strm_pair.specs.Pairs.{state_in, end_at, with_end, AreBeside, Stays, kept_by}
@@ -169,13 +169,13 @@ opened-at s p Slave = refl
 abbrev full_above : Side → State ℕ → ℕ → Bool
 full_above side st band = not (has_room_past (other side) Up (driver_place (other side) st) band st)
 
-module _ (s : StoreValue) (p : Streams) (side : Side) (e x : End) (e_is : e ≡ end_at side p) (x_is : x ≡ end_at (other side) p) (opened : is_open x.opened ≡ true)
+module _ (s : StoreValue) (p : Streams) (side : Side) (e x : StreamEnd) (e_is : e ≡ end_at side p) (x_is : x ≡ end_at (other side) p) (opened : is_open x.opened ≡ true)
     (peek : Peek) (seen : PeekedFirst s e.driver.list peek) (stops : Bool) (asked : stops ≡ (is_held peek.kind && full_above side (state_in s p) peek.band.0)) where
   is-open-there : is_open (stream (other side) (state_in s p)).opened ≡ true
-  is-open-there = ap is_open (opened-at s p (other side) ∙ ap (λ (y : End). y.opened) (sym x_is)) ∙ opened
+  is-open-there = ap is_open (opened-at s p (other side) ∙ ap (λ (y : StreamEnd). y.opened) (sym x_is)) ∙ opened
 
   stands : (stream side (state_in s p)).driver.queue.messages ≡ message_of seen.message ∷ map message_of seen.rest
-  stands = ap (λ (q : plain.Queue ℕ). q.messages) (driver-is s p side) ∙ ap (λ (y : End). messages_on s y.driver.list) (sym e_is) ∙ seen-before s e.driver.list peek seen
+  stands = ap (λ (q : plain.Queue ℕ). q.messages) (driver-is s p side) ∙ ap (λ (y : StreamEnd). messages_on s y.driver.list) (sym e_is) ∙ seen-before s e.driver.list peek seen
 
   stopped-is : is_stopped_across side (message_of seen.message) (state_in s p) ≡ stops
   stopped-is = sym (seen-stopped s e.driver.list peek seen (full_above side (state_in s p))) ∙ sym asked

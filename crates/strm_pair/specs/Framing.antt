@@ -18,7 +18,7 @@ use Rattle.strm_frame.specs.Hands.{SameFor}
 use Rattle.strm_head.specs.Heads.{head_in}
 use Rattle.strm_queue.specs.Stored.{queue_in, HoldsReadable}
 use Rattle.strm_queue.proofs.Placed.{ready-same}
-use Rattle.strm_pair.specs.declared.ends.End.{End}
+use Rattle.strm_pair.specs.declared.ends.StreamEnd.{StreamEnd}
 use Rattle.strm_pair.specs.declared.streams.Streams.{Streams}
 use Rattle.strm_pair.specs.Pairs.{state_in, AreBeside, Stays, kept_by}
 use Rattle.strm_pair.specs.Streams.{stream_in, IsSide, AreApart}
@@ -30,7 +30,7 @@ pub still : (s t : StoreValue) (keeps : ℕ → ℕ) → t.hand ≡ s.hand → t
 still s t keeps hand mblks dblks = record { mblks = mblks; dblks = dblks; kept = λ i some. ap (λ h. in_hand (record s { hand = h }) i) hand }
 
 -- a stream with these modules
-abbrev pub stream_with : StoreValue → End → List (plain.Module ℕ) → state.Stream ℕ
+abbrev pub stream_with : StoreValue → StreamEnd → List (plain.Module ℕ) → state.Stream ℕ
 stream_with s e modules = record {
   opened = e.opened;
   head = head_in s e.head;
@@ -51,7 +51,7 @@ state_with p m sl = record {
 }
 
 -- a stack that rests keeps nothing
-none-kept : (s : StoreValue) (first : ℕ) (e : End) → IsSide s first e → AllByRecursion (λ p. IsAtRest p) (modules_in s e.stack) → (i : ℕ) → stack_keeps e.stack i ≡ 0
+none-kept : (s : StoreValue) (first : ℕ) (e : StreamEnd) → IsSide s first e → AllByRecursion (λ p. IsAtRest p) (modules_in s e.stack) → (i : ℕ) → stack_keeps e.stack i ≡ 0
 none-kept s first e is idle i = stack-idle s e.stack is.stack idle i
 
 pub rests : (s : StoreValue) (p : Streams) → AreBeside s p → AreIdle (state_in s p) → (i : ℕ) → kept_by p i ≡ 0
@@ -65,7 +65,7 @@ module _ (s t : StoreValue) where
   stays-slave p stays = record { mblks = stays.mblks; dblks = stays.dblks; kept = λ i some. stays.kept i (omega (arith, some)) }
 
   -- a stack stands for the same, and fits, where its lists are the same and what it keeps is
-  pub stack-same : (first : ℕ) (e : End) → IsSide s first e → Stays s t (stack_keeps e.stack) → ((k : ℕ) → first + 2 ≤ k → k < first + 4 → list_at t k ≡ list_at s k) → (modules_in t e.stack ≡ modules_in s e.stack) × IsStackHeld t e.stack
+  pub stack-same : (first : ℕ) (e : StreamEnd) → IsSide s first e → Stays s t (stack_keeps e.stack) → ((k : ℕ) → first + 2 ≤ k → k < first + 4 → list_at t k ≡ list_at s k) → (modules_in t e.stack ≡ modules_in s e.stack) × IsStackHeld t e.stack
   stack-same first e is stays same = stack-frame s t e.stack (record {
     lists = λ k some. let own = is.owned k some in same k own.0 own.1;
     mblks = stays.mblks;
@@ -77,7 +77,7 @@ module _ (s t : StoreValue) where
     at : (k : ℕ) → list_at t k ≡ list_at s k
     at k = ap (λ ls. slice_index_or ls k []) same
 
-    side-fits : (first : ℕ) (e : End) → IsSide s first e → Stays s t (stack_keeps e.stack) → IsSide t first e
+    side-fits : (first : ℕ) (e : StreamEnd) → IsSide s first e → Stays s t (stack_keeps e.stack) → IsSide t first e
     side-fits first e is stays = record {
       head_list = is.head_list;
       driver_list = is.driver_list;
@@ -89,7 +89,7 @@ module _ (s t : StoreValue) where
       spare = λ k low high none. at k ∙ is.spare k low high none;
     }
 
-    side-same : (first : ℕ) (e : End) → IsSide s first e → Stays s t (stack_keeps e.stack) → stream_in t e ≡ stream_in s e
+    side-same : (first : ℕ) (e : StreamEnd) → IsSide s first e → Stays s t (stack_keeps e.stack) → stream_in t e ≡ stream_in s e
     side-same first e is stays =
         ap (λ ls. stream_with (record s { lists = ls }) e (modules_in t e.stack)) same
         ∙ ap (stream_with s e) (stack-same first e is stays (λ k low high. at k)).0

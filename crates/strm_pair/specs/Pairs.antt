@@ -7,7 +7,7 @@ use Rattle.strm_laws.specs.Refusals.{Free}
 use Rattle.strm_types.specs.Journal.{PlainEntry, entries_in}
 use Rattle.strm_blocks.specs.Blocks.{StoreValue, free_m, free_d, in_hand}
 use Rattle.strm_pair.specs.declared.streams.Streams.{Streams}
-use Rattle.strm_pair.specs.declared.ends.End.{End}
+use Rattle.strm_pair.specs.declared.ends.StreamEnd.{StreamEnd}
 use Rattle.strm_pair.specs.declared.journal.Journal.{Journal}
 use Rattle.strm_pair.specs.Streams.{stream_in, AreSides}
 use Rattle.strm_pair.specs.Stacks.{stack_keeps}
@@ -25,12 +25,12 @@ state_in s p = record {
 }
 
 -- the stream of a side
-abbrev pub end_at : Side → Streams → End
+abbrev pub end_at : Side → Streams → StreamEnd
 end_at Master p = p.master
 end_at Slave p = p.slave
 
 -- the streams with another stream on a side
-abbrev pub with_end : Side → End → Streams → Streams
+abbrev pub with_end : Side → StreamEnd → Streams → Streams
 with_end Master e p = record p { master = e }
 with_end Slave e p = record p { slave = e }
 

@@ -9,7 +9,7 @@ use Rattle.strm_laws.specs.Stacked.{IsAtRest}
 use Rattle.strm_laws.specs.State.{Stream}
 use Rattle.strm_blocks.specs.Blocks.{StoreValue, list_at}
 use Rattle.strm_frame.specs.Hands.{SameOwn}
-use Rattle.strm_pair.specs.declared.ends.End.{End}
+use Rattle.strm_pair.specs.declared.ends.StreamEnd.{StreamEnd}
 use Rattle.strm_head.specs.Heads.{head_in}
 use Rattle.strm_queue.specs.Stored.{messages_on, queue_in, IsReady, IsHeadQueue}
 use Rattle.strm_pair.specs.Named.{messages_queued}
@@ -29,7 +29,7 @@ pub record AreShown (s : StoreValue) (first : ℕ) (ps : List (plain.Module ℕ)
   pub many : sum_by (λ q. length q.messages) (plain.queues_of_modules ps) ≡ length (list_at s first) + length (list_at s (first + 1))
 
 -- the plain stream of a side
-abbrev pub stream_in : StoreValue → End → Stream ℕ
+abbrev pub stream_in : StoreValue → StreamEnd → Stream ℕ
 stream_in s e = record {
   opened = e.opened;
   head = head_in s e.head;
@@ -50,7 +50,7 @@ AreApart ps = EachOnce (map plain.module_name ps)
 
 -- A side's queues stand on lists of their own, from a number on: the head's, which has what readers may read alone, and the
 -- driver's, with their kept numbers right; two more are for the queues of a module, and empty where none has them. Each module stands there once.
-pub record IsSide (s : StoreValue) (first : ℕ) (e : End) : Type 0 where
+pub record IsSide (s : StoreValue) (first : ℕ) (e : StreamEnd) : Type 0 where
   pub head_list : e.head.queue.list ≡ first
   pub driver_list : e.driver.list ≡ first + 1
   pub head : IsHeadQueue s e.head.queue
@@ -61,6 +61,6 @@ pub record IsSide (s : StoreValue) (first : ℕ) (e : End) : Type 0 where
   pub spare : (k : ℕ) → first + 2 ≤ k → k < first + 4 → stack_owns e.stack k ≡ 0 → list_at s k ≡ []
 
 -- Both sides beside their store, whatever is in hand: the master's lists are 0 to 3, the slave's 4 to 7.
-pub record AreSides (s : StoreValue) (m sl : End) : Type 0 where
+pub record AreSides (s : StoreValue) (m sl : StreamEnd) : Type 0 where
   pub master : IsSide s 0 m
   pub slave : IsSide s 4 sl

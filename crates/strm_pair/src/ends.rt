@@ -14,14 +14,14 @@ use strm_types::Openness;
 
 /// The stream of one side: its head, its modules and its driver's queue, and whether it was opened.
 #[derive(Drop)]
-pub(crate) struct End {
+pub(crate) struct StreamEnd {
     pub opened: Openness,
     pub head: Head,
     pub stack: Stack,
     pub driver: Queue,
 }
 
-impl End {
+impl StreamEnd {
     // Makes the head as new, with nothing on its queue.
     fn renew_head<B: Blocks>(&mut self, store: &mut B)
         requires { IsReady (B.value store.old) self.old.head.queue }

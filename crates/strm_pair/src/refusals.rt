@@ -11,7 +11,7 @@ ghost use Rattle.strm_types.specs.declared.refusals.Refusal.TheVariants.{Eagain,
 ghost use Rattle.strm_types.specs.Names.{is_never, is_open};
 ghost use Rattle.strm_laws.specs.State.{stream};
 
-use crate::ends::End;
+use crate::ends::StreamEnd;
 use crate::stacks::module_count;
 use crate::streams::Streams;
 use strm_blocks::Blocks;
@@ -45,7 +45,7 @@ impl Streams {
     ghost use Rattle.strm_pair.specs.Pairs.{state_in, end_at, AreHeld};
 
     /// The stream of a side.
-    pub(crate) fn end(&self, side: Side) -> &End
+    pub(crate) fn end(&self, side: Side) -> &StreamEnd
         ensures end { result.now ≡ end_at side self.now }
         ensures stream { (s : StoreValue) → stream_in s result.now ≡ stream side (state_in s self.now) }
     {
@@ -153,7 +153,7 @@ impl Streams {
     }
 
     // Whether a module of a name may be pushed on a side's stream: there is room, and none of its name stands there.
-    fn may_push<B: Blocks>(&self, side: Side, name: Option<ModuleName>) -> bool
+    fn may_push(&self, side: Side, name: Option<ModuleName>) -> bool
         ensures { (s : StoreValue) → result ≡ may_stand (named_by name) (stream side (state_in s self.now)).modules }
     {
         let Some(kind) = name else {

@@ -23,7 +23,7 @@ ghost use Rattle.strm_blocks.specs.Blocks.{StoreValue, free_m, free_d, empty_sto
 ghost use Rattle.strm_pair.specs.Streams.{IsBlank, IsSide, stream_in};
 ghost use Rattle.strm_pair.specs.Parts.{longest_part};
 
-use crate::ends::End;
+use crate::ends::StreamEnd;
 use strm_blocks::Blocks;
 use strm_frame::{Enabled, Stream};
 use strm_head::Head;
@@ -37,8 +37,8 @@ use strm_types::{
 /// and what was booked of each direction.
 #[derive(Drop)]
 pub(crate) struct Streams {
-    pub master: End,
-    pub slave: End,
+    pub master: StreamEnd,
+    pub slave: StreamEnd,
     pub locked: bool,
     pub enabled: Enabled,
     pub next_ioctl: u32,
@@ -48,12 +48,12 @@ pub(crate) struct Streams {
 
 // A stream that nobody opened, whose queues stand on the lists from a number on: the head's, the driver's, and two that
 // are kept for the queues of a module.
-fn new_end(first: usize) -> End
+fn new_end(first: usize) -> StreamEnd
     requires { first ≤ 4 }
     ensures side { (s : StoreValue) → IsBlank s first → IsSide s first result }
     ensures stream { (s : StoreValue) → IsBlank s first → stream_in s result ≡ new_stream }
 {
-    End {
+    StreamEnd {
         opened: Openness::Never,
         head: Head::new(Queue::new(first, HEAD_HIGH, HEAD_LOW)),
         stack: Stream::new(),

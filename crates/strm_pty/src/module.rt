@@ -64,7 +64,13 @@ impl Module for Pckt {
         ModuleName::Pckt
     }
 
-    fn put<B: Blocks>(&mut self, store: &mut B, here: Spot, message: InHand, told: &mut Fates) -> Acts {
+    fn put<B: Blocks>(
+        &mut self,
+        store: &mut B,
+        here: Spot,
+        message: InHand,
+        told: &mut Fates,
+    ) -> Acts {
         store.audit();
         pckt::put(store, here, message, told)
     }
@@ -209,7 +215,13 @@ impl Module for Ptem {
         ModuleName::Ptem
     }
 
-    fn put<B: Blocks>(&mut self, store: &mut B, here: Spot, message: InHand, _told: &mut Fates) -> Acts {
+    fn put<B: Blocks>(
+        &mut self,
+        store: &mut B,
+        here: Spot,
+        message: InHand,
+        _told: &mut Fates,
+    ) -> Acts {
         store.audit();
         ptem::put(self, store, here, message)
     }

@@ -100,12 +100,7 @@ fn pack<B: Blocks>(store: &mut B, message: InHand) -> InHand
 }
 
 // Makes the packet of a message that comes up, and tells which bytes are made for it.
-fn send_packet<B: Blocks>(
-    store: &mut B,
-    here: Spot,
-    message: InHand,
-    told: &mut Fates,
-) -> Sent
+fn send_packet<B: Blocks>(store: &mut B, here: Spot, message: InHand, told: &mut Fates) -> Sent
     requires passes { MayPass (B.value store.old) (token message) here }
     requires goes { here.way ≡ Up }
     requires room { HasRoom (B.value store.old) 1 }

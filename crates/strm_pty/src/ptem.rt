@@ -79,13 +79,7 @@ fn tell_termios<B: Blocks>(
 }
 
 // TIOCGWINSZ: the size of the window is told.
-fn tell_window<B: Blocks>(
-    ptem: &Ptem,
-    store: &mut B,
-    here: Spot,
-    ioc: Ioc,
-    message: InHand,
-) -> Acts
+fn tell_window<B: Blocks>(ptem: &Ptem, store: &mut B, here: Spot, ioc: Ioc, message: InHand) -> Acts
     requires { MayAnswer (B.value store.old) (token message) here Down }
     ensures { Puts (B.value store.old) (B.value store.new) ptem.now ptem.now (token message) here result
         (λ m. acks Up here ioc (winsize_bytes ptem.now.window)) }
@@ -162,13 +156,7 @@ fn hear_window<B: Blocks>(
 }
 
 // TIOCSIGNAL from below: the other side has sent a signal.
-fn hear_signal<B: Blocks>(
-    ptem: &Ptem,
-    store: &mut B,
-    here: Spot,
-    ioc: Ioc,
-    message: InHand,
-) -> Acts
+fn hear_signal<B: Blocks>(ptem: &Ptem, store: &mut B, here: Spot, ioc: Ioc, message: InHand) -> Acts
     requires { MayAnswer (B.value store.old) (token message) here Up }
     ensures { Puts (B.value store.old) (B.value store.new) ptem.now ptem.now (token message) here result
         (λ m. signal_told here ioc (signal_in (payload m.plain))) }

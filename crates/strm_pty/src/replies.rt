@@ -72,12 +72,7 @@ fn signal_up<B: Blocks>(store: &mut B, here: Spot, signal: u8) -> Sent
 }
 
 // Makes it for SIGWINCH, where the size of the window changed.
-fn signal_change<B: Blocks>(
-    store: &mut B,
-    here: Spot,
-    old: Winsize,
-    new: Winsize,
-) -> Option<Sent>
+fn signal_change<B: Blocks>(store: &mut B, here: Spot, old: Winsize, new: Winsize) -> Option<Sent>
     requires room { HasRoom (B.value store.old) 1 }
     requires inside { 0 < here.at }
     requires small { here.at < 2 ^ 63 }

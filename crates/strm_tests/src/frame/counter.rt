@@ -29,13 +29,7 @@ impl<B: Blocks> Stations<B> for Counter {
 
     ghost spare = { λ p. 0 };
 
-    fn put_at(
-        &mut self,
-        store: &mut B,
-        to: Spot,
-        message: InHand,
-        _told: &mut Fates,
-    ) -> Outbox {
+    fn put_at(&mut self, store: &mut B, to: Spot, message: InHand, _told: &mut Fates) -> Outbox {
         store.audit();
         self.seen = self.seen.wrapping_add(1);
         if to.at == 0 {

@@ -223,13 +223,7 @@ impl<B: Blocks> Stations<B> for Rig {
 
     ghost spare = { λ p. 0 };
 
-    fn put_at(
-        &mut self,
-        store: &mut B,
-        to: Spot,
-        message: InHand,
-        told: &mut Fates,
-    ) -> Outbox {
+    fn put_at(&mut self, store: &mut B, to: Spot, message: InHand, told: &mut Fates) -> Outbox {
         store.audit();
         if is_end(to.at) {
             self.leave(to.way);

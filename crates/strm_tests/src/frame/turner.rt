@@ -91,7 +91,13 @@ impl Module for Turner {
         self.name
     }
 
-    fn put<B: Blocks>(&mut self, store: &mut B, here: Spot, message: InHand, _told: &mut Fates) -> Acts {
+    fn put<B: Blocks>(
+        &mut self,
+        store: &mut B,
+        here: Spot,
+        message: InHand,
+        _told: &mut Fates,
+    ) -> Acts {
         store.audit();
         let kind = store.kind(&message, 0);
         Acts {

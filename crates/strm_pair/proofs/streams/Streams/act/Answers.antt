@@ -8,7 +8,7 @@ use Rattle.strm_laws.specs.Earlier.{places_of}
 use Rattle.strm_laws.specs.Puts.{noted}
 use Rattle.strm_laws.specs.State as state
 use Rattle.strm_laws.specs.TurnCalls.{called}
-use Rattle.strm_pair.specs.declared.ends.End.{End}
+use Rattle.strm_pair.specs.declared.ends.StreamEnd.{StreamEnd}
 use Rattle.strm_pair.specs.declared.calling.Made.{Made}
 use Rattle.strm_pair.specs.declared.streams.Streams.{Streams}
 use Rattle.strm_pair.specs.ModuleServed.{between, call_of, stop_in}
@@ -26,7 +26,7 @@ place_at-place-requires-clause-within g c = λ s.
     let here = c.args.here in
     let low = within-any (g.B.Blocks.value c.args.store.now) s p here.side here.at c.requires.within in
     let same = ap length (modules-are s p here.side) in
-    let there = ap (λ (e : End). length (modules_in s e.stack)) c.end.ensures.end in
+    let there = ap (λ (e : StreamEnd). length (modules_in s e.stack)) c.end.ensures.end in
     omega (arith, low, same, there)
 
 pub book_made-requires-clause-master : goal.book_made-requires-clause-master

@@ -6,7 +6,7 @@ use Rattle.strm_laws.specs.Past.{waits_on}
 use Rattle.strm_laws.specs.Stacked.{Module, module_name, module_queue, with_module_queue}
 use Rattle.strm_laws.proofs.StackStays.{waits-names}
 use Rattle.strm_pair.proofs.Puttings.{side-changed}
-use Rattle.strm_pair.proofs.ends.End.wait_past.Goals as goal
+use Rattle.strm_pair.proofs.ends.StreamEnd.wait_past.Goals as goal
 use Rattle.strm_pair.specs.Stacks.{modules_in}
 use Rattle.strm_pair.specs.Streams.{stream_in}
 

@@ -6,7 +6,7 @@ use Rattle.strm_types.specs.declared.slots.Slot.TheVariants.{Free}
 use Rattle.strm_blocks.specs.Blocks.{list_at}
 use Rattle.strm_queue.specs.Stored.{Keeps}
 use Rattle.strm_queue.proofs.Renewed.{fresh-queue, cleared, renewed-keeps}
-use Rattle.strm_pair.proofs.ends.End.renew_head.Goals as goal
+use Rattle.strm_pair.proofs.ends.StreamEnd.renew_head.Goals as goal
 
 pub returns-clause-head : goal.returns-clause-head
 returns-clause-head g c =
