@@ -1,6 +1,6 @@
 -- The message in hand that a pointer names.
 use Rattle.std.proofs.Common.{ℕ, zero, suc, ◌≡◌, ◌<◌, ◌+◌, true, false, cond, eqb, List, [], ◌∷◌, length, get_or, map, refl, sym, ap, ◌∙◌, subst, arith}
-use Rattle.std.specs.Prelude.{sum_by, Option, Some}
+use Rattle.std.specs.Prelude.{sum_by, Option, Some, None}
 use Rattle.std.proofs.lemmas.Bool.Decides.{nat_tests}
 use Rattle.std.proofs.lemmas.List.Sums.{sum_by-cons, get_or-le-sum_by}
 use Rattle.std.proofs.lemmas.List.{length-map, get_or-map}
@@ -139,6 +139,18 @@ next-in rows i (j ∷ l ∷ is) (suc k) c within =
     let tail : breaks (next_of rows) (next_of rows j) (l ∷ is) ≡ 0 = omega arith in
     let at : next_of rows j ≡ Some l = gap-same (next_of rows j) (Some l) (omega arith) in
     next-in rows l (l ∷ is) k (ap (λ o. breaks (next_of rows) o (l ∷ is)) (sym at) ∙ tail) (omega arith) ∙ ap (λ n. Some (get_or (j ∷ l ∷ is) n 0)) (sym e)
+
+-- the last block of a chain has no link
+pub ends-in : (rows : List Row) (i : ℕ) (is : List ℕ) (k : ℕ) → IsChain rows i is → k + 1 ≡ length is → next_of rows (get_or is k 0) ≡ None
+unfolding breaks
+ends-in rows i [] k c e = absurd (omega arith)
+ends-in rows i (j ∷ []) zero c e = gap-same (next_of rows j) None (omega arith)
+ends-in rows i (j ∷ []) (suc k) c e = absurd (omega arith)
+ends-in rows i (j ∷ l ∷ is) zero c e = absurd (omega arith)
+ends-in rows i (j ∷ l ∷ is) (suc k) c e =
+    let tail : breaks (next_of rows) (next_of rows j) (l ∷ is) ≡ 0 = omega arith in
+    let at : next_of rows j ≡ Some l = gap-same (next_of rows j) (Some l) (omega arith) in
+    ends-in rows l (l ∷ is) k (ap (λ o. breaks (next_of rows) o (l ∷ is)) (sym at) ∙ tail) (omega arith)
 
 -- the data block that a block of the message names has a reference
 pub found-named : {v : Nodes} {b : Roster} {first_m : Option MsgLink} {first_d : Option DataLink} {spare_m spare_d : ℕ} (is : IsRaw v first_m first_d spare_m spare_d b)

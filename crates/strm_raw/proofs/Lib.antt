@@ -12,3 +12,5 @@ pub mod Walks
 pub mod Threads
 pub mod Fresh
 pub mod Freeing
+pub mod Ends
+pub mod Joining

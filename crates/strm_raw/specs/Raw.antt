@@ -1,5 +1,5 @@
 -- What a raw store stands for, and what holds of its fields.
-use Rattle.std.specs.Prelude.{◌≢◌, ℕ, zero, suc, ◌≡◌, ◌≤◌, ◌+◌, ◌-◌, ◌==◌, nat_lt, if◌then◌else◌, List, [], ◌∷◌, length, map, drop, slice_index_or, replicate, sum_by, count_by, slice_range, Option, None, Some, option_map}
+use Rattle.std.specs.Prelude.{◌≢◌, ℕ, zero, suc, ◌≡◌, ◌≤◌, ◌+◌, ◌-◌, ◌==◌, nat_lt, if◌then◌else◌, List, [], ◌∷◌, ◌++◌, length, map, drop, slice_index_or, replicate, sum_by, count_by, slice_range, Option, None, Some, option_map}
 use Rattle.strm_blocks.specs.Blocks.{Block, Held, StoreValue, times_in}
 use Rattle.strm_raw.specs.Numbered.{Nodes, Row, DataRow, row_at, data_at, msg_number, data_number, with_data, IsMsg, IsMsgOrNone, IsDataOrNone}
 use Rattle.strm_raw.specs.Roster.{Msg, Roster}
@@ -154,6 +154,14 @@ alone i = record { head = i; tail = [] }
 -- a message in hand is parted into its first block and the rest
 abbrev pub parted : MsgLink → Roster → Roster
 parted l b = let i = msg_number b.mat l in record b { hand = rest_of (msg_in i b.hand) ∷ with_in i (alone i) b.hand }
+
+-- two messages as one
+abbrev pub joined : Msg → Msg → Msg
+joined m p = record { head = m.head; tail = m.tail ++ ids p }
+
+-- a message in hand hangs behind another one
+abbrev pub linked : MsgLink → ℕ → Roster → Roster
+linked l j b = let i = msg_number b.mat l in record b { hand = with_in i (joined (msg_in i b.hand) (msg_in j b.hand)) (without_in j b.hand) }
 
 -- a message in hand of one block is free
 abbrev pub given : MsgLink → Roster → Roster

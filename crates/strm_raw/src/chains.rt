@@ -1,5 +1,5 @@
 //! Walks along the links of a chain.
-ghost use Rattle.std.specs.Prelude.{ℕ, ◌≡◌, ◌<◌, ◌-◌, List, length, slice_index_or};
+ghost use Rattle.std.specs.Prelude.{ℕ, ◌≡◌, ◌<◌, ◌≤◌, ◌-◌, List, length, slice_index_or};
 ghost use Rattle.strm_raw.specs.Numbered.{IsMsg, msg_number};
 ghost use Rattle.strm_raw.specs.Raw.{IsChain};
 
@@ -15,6 +15,25 @@ pub(crate) fn block_link(memory: &Memory, first: MsgLink, at: usize) -> MsgLink
 {
     let mut link = first;
     let mut left = at;
+    while left > 0 {
+        let Some(next) = memory.message(link).next else {
+            return link;
+        };
+        link = next;
+        left -= 1;
+    }
+    link
+}
+
+/// The last block of a chain of at most so many blocks.
+pub(crate) fn last_link(memory: &Memory, first: MsgLink, most: usize) -> MsgLink
+    requires { IsMsg memory.now.mat (length memory.now.rows) first }
+    ensures there { IsMsg memory.now.mat (length memory.now.rows) result }
+    ensures number { (is : List ℕ) → IsChain memory.now.rows (msg_number memory.now.mat first) is → length is ≤ most
+        → msg_number memory.now.mat result ≡ slice_index_or is (length is - 1) 0 }
+{
+    let mut link = first;
+    let mut left = most;
     while left > 0 {
         let Some(next) = memory.message(link).next else {
             return link;

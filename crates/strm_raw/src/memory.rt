@@ -41,6 +41,13 @@ impl Memory {
         Ok(Memory { msgs, datas })
     }
 
+    /// How many message blocks there are.
+    pub(crate) fn messages(&self) -> usize
+        ensures { result ≡ length self.now.rows }
+    {
+        self.msgs.len()
+    }
+
     /// Where a message block lies.
     pub(crate) fn message_link(&self, index: usize) -> MsgLink
         requires { index < length self.now.rows }

@@ -1,11 +1,11 @@
 //! The store whose blocks are nodes in raw memory.
-ghost use Rattle.std.specs.Prelude.{◌≡◌, ◌<◌, ◌≤◌, ◌^◌, ◌⊎◌, length, IfOk, MatchResult, MatchOption};
-ghost use Rattle.strm_blocks.specs.Blocks.{IsInHand, token, in_hand, block_at, dropped, empty_store, free_m, free_d};
+ghost use Rattle.std.specs.Prelude.{◌≡◌, ◌≢◌, ◌++◌, ◌<◌, ◌≤◌, ◌^◌, ◌⊎◌, length, IfOk, MatchResult, MatchOption};
+ghost use Rattle.strm_blocks.specs.Blocks.{IsInHand, token, in_hand, block_at, dropped, changed, empty_store, free_m, free_d};
 ghost use Rattle.strm_blocks.specs.Outcomes.{Allocated, Duplicated, Unlinked, UnlinkedLast, NoneFree, NoneShared};
 ghost use Rattle.strm_raw.specs.Raw.{GivesLast, GivesOne};
 ghost use Rattle.strm_raw.specs.Numbered.{IsData, IsDataOrNone, data_at, data_number};
 
-use crate::chains::block_link;
+use crate::chains::{block_link, last_link};
 use crate::data_nodes::{DataLink, DataNode};
 use crate::ledger::Ledger;
 use crate::memory::Memory;
@@ -193,6 +193,32 @@ impl RawStore {
         self.memory.set_message(at, MsgNode { next: None, ..node });
         self.ledger.note(at.at, node.number.at, 0, 0);
         (message, Some(InHand::of(name)))
+    }
+
+    /// Hangs the second message behind the first: `linkb(9F)`. It takes a step for each block of the first.
+    pub fn link(&mut self, first: InHand, second: InHand) -> InHand
+        requires first_in_hand { IsInHand self.old (token first) }
+        requires second_in_hand { IsInHand self.old (token second) }
+        requires apart { token first ≢ token second }
+        ensures kept_name { token result ≡ token first }
+        ensures linked { let s = self.old in
+            self.new ≡ changed (dropped s (token second)) (token first)
+            (in_hand s (token first) ++ in_hand s (token second)) }
+    {
+        let head = self.memory.message_link(first.name() as usize);
+        let behind = second.name() as usize;
+        let next = self.memory.message_link(behind);
+        let last = last_link(&self.memory, head, self.memory.messages());
+        let node = self.memory.message(last);
+        self.memory.set_message(
+            last,
+            MsgNode {
+                next: Some(next),
+                ..node
+            },
+        );
+        self.ledger.note(head.at, null_mut(), behind, 0);
+        first
     }
 
     /// Gives back all message blocks of a message, and each data block that no other message block names: `freemsg(9F)`.

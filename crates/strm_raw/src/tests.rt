@@ -40,18 +40,22 @@ fn a_data_block_has_at_most_255_references(rt: HostRuntime) -> Result<(), Fail> 
 }
 
 #[test]
-fn the_block_freed_last_is_taken_first(rt: HostRuntime) -> Result<(), Fail> {
+fn a_message_is_linked_parted_and_freed(rt: HostRuntime) -> Result<(), Fail> {
     let mut store = RawStore::new(rt.alloc(), 3, 3)?;
-    let message = store.alloc(MsgKind::Proto)?;
+    let (head, tail) = (store.alloc(MsgKind::Proto)?, store.alloc(MsgKind::Data)?);
+    let names = (head.name(), tail.name());
+    let message = store.link(head, tail);
     let (first, rest) = store.unlink(message);
-    assert!(rt; rest.is_none());
-    assert!(rt; store.bytes_at(&first, 0).is_empty());
-    let name = first.name();
-    store.free(first);
-    let again = store.alloc(MsgKind::Data)?;
-    assert_eq!(rt; again.name(), name);
-    store.free(again);
+    let Some(rest) = rest else {
+        return Err(Fail::new("the second block is lost"));
+    };
+    assert_eq!(rt; (first.name(), rest.name()), names);
+    let message = store.link(rest, first);
+    store.free(message);
     assert_eq!(rt; store.free_blocks(), (3, 3));
+    let last = store.alloc(MsgKind::Data)?;
+    assert_eq!(rt; last.name(), names.0);
+    store.free(last);
     Ok(())
 }
 
