@@ -46,20 +46,6 @@ module _ (i : ℕ) where
   breaks-apart next next' same from (j ∷ xs) z =
       ap (λ n. gap from (Some j) + n) (ap (λ o. breaks next' o xs) (same j (apart-head i j xs z)) ∙ breaks-apart next next' same (next j) xs (apart-tail i j xs z))
 
-  -- sums and lists over messages to which i doesn't belong
-  module _ {B : Type 0} (f g : Msg → B) (same : (m : Msg) → times i (ids m) ≡ 0 → f m ≡ g m) where
-    pub hand-apart : (q : List Msg) → sum_by (λ m. times i (ids m)) q ≡ 0 → map f q ≡ map g q
-    hand-apart [] z = refl
-    hand-apart (m ∷ q) z =
-        let s = sum_by-cons (λ (m : Msg). times i (ids m)) m q in
-        λ k. same m (omega arith) k ∷ hand-apart q (omega arith) k
-
-    pub lists-apart : (lists : List (List Msg)) → sum_by (λ q. sum_by (λ m. times i (ids m)) q) lists ≡ 0 → map (λ q. map f q) lists ≡ map (λ q. map g q) lists
-    lists-apart [] z = refl
-    lists-apart (q ∷ lists) z =
-        let s = sum_by-cons (λ (q : List Msg). sum_by (λ m. times i (ids m)) q) q lists in
-        λ k. hand-apart q (omega arith) k ∷ lists-apart lists (omega arith) k
-
   module _ (f g : Msg → ℕ) (same : (m : Msg) → times i (ids m) ≡ 0 → f m ≡ g m) where
     sum-hand : (q : List Msg) → sum_by (λ m. times i (ids m)) q ≡ 0 → sum_by f q ≡ sum_by g q
     sum-hand [] z = refl
@@ -77,6 +63,20 @@ module _ (i : ℕ) where
 
     pub weigh-apart : (lists : List (List Msg)) (hand : List Msg) → weigh (λ m. times i (ids m)) lists hand ≡ 0 → weigh f lists hand ≡ weigh g lists hand
     weigh-apart lists hand z = let a = sum-lists lists (omega arith) in let b = sum-hand hand (omega arith) in omega arith
+
+-- lists over messages that have none of something
+module _ (h : Msg → ℕ) {B : Type 0} (f g : Msg → B) (same : (m : Msg) → h m ≡ 0 → f m ≡ g m) where
+  pub hand-apart : (q : List Msg) → sum_by h q ≡ 0 → map f q ≡ map g q
+  hand-apart [] z = refl
+  hand-apart (m ∷ q) z =
+      let s = sum_by-cons h m q in
+      λ k. same m (omega arith) k ∷ hand-apart q (omega arith) k
+
+  pub lists-apart : (lists : List (List Msg)) → sum_by (λ q. sum_by h q) lists ≡ 0 → map (λ q. map f q) lists ≡ map (λ q. map g q) lists
+  lists-apart [] z = refl
+  lists-apart (q ∷ lists) z =
+      let s = sum_by-cons (λ (q : List Msg). sum_by h q) q lists in
+      λ k. hand-apart q (omega arith) k ∷ lists-apart lists (omega arith) k
 
 -- sums and lists over any messages
 module _ {B : Type 0} (f g : Msg → B) (same : (m : Msg) → f m ≡ g m) where

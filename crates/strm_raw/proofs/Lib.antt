@@ -14,3 +14,4 @@ pub mod Fresh
 pub mod Freeing
 pub mod Ends
 pub mod Joining
+pub mod Writing

@@ -205,8 +205,8 @@ module _ {v : Nodes} {b : Roster} {first_m : Option MsgLink} {first_d : Option D
       let name = first-is in
       let block : block_no with_new (get_or b.free_m 0 0) ≡ shown datas r = ap (λ j. block_no with_new j) first-is ∙ ap (λ (x : Row). shown datas x) row-new in
       λ j. record {
-        lists = lists-apart n (chain_of with_new) (chain_of v) chain-old b.lists zero-lists j;
-        hand = record { name = name j; chain = block j ∷ [] } ∷ hand-apart n (held_of with_new) (held_of v) held-old b.hand zero-hand j;
+        lists = lists-apart (λ m. times n (ids m)) (chain_of with_new) (chain_of v) chain-old b.lists zero-lists j;
+        hand = record { name = name j; chain = block j ∷ [] } ∷ hand-apart (λ m. times n (ids m)) (held_of with_new) (held_of v) held-old b.hand zero-hand j;
         mblks = length-set v.rows n r j;
         dblks = refers.len j;
       }

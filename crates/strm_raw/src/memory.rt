@@ -1,5 +1,5 @@
 //! All nodes of a store. What lies in memory is read and written here alone; a pointer is seen as the number of its node.
-ghost use Rattle.std.specs.Prelude.{◌≡◌, ◌<◌, ◌≤◌, ◌+◌, length, option_map, replicate, IfOk};
+ghost use Rattle.std.specs.Prelude.{◌≡◌, ◌<◌, ◌≤◌, ◌+◌, length, option_map, replicate, IfOk, take, drop, ◌++◌};
 ghost use Rattle.strm_raw.specs.Numbered.{IsMsg, IsData, IsDataOrNone, Fits, IsRow, row_of, data_of, row_at, data_at, msg_number, data_number, with_row, with_data, no_row, new_data};
 
 use crate::data_nodes::{DataLink, DataNode};
@@ -109,5 +109,16 @@ impl Memory {
         let node = reach_mut(&mut self.datas, at.at);
         node.references = references;
         node.next = next;
+    }
+
+    /// Writes bytes into a data block, from a place on.
+    pub(crate) fn write(&mut self, at: DataLink, from: usize, bytes: &[u8])
+        requires there { IsData self.old.dat (length self.old.datas) at }
+        requires room { from + length bytes.now ≤ 256 }
+        ensures { let i = data_number self.old.dat at in let old = (data_at i self.old.datas).bytes in
+            self.new ≡ with_data i (record (data_at i self.old.datas) { bytes = take from old ++ (bytes.now ++ drop (from + length bytes.now) old) }) self.old }
+    {
+        let node = reach_mut(&mut self.datas, at.at);
+        node.bytes[from..from + bytes.len()].copy_from_slice(bytes);
     }
 }

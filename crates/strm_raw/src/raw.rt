@@ -1,7 +1,7 @@
 //! The store whose blocks are nodes in raw memory.
 ghost use Rattle.std.specs.Prelude.{◌≡◌, ◌≢◌, ◌++◌, ◌<◌, ◌≤◌, ◌^◌, ◌⊎◌, length, IfOk, MatchResult, MatchOption};
-ghost use Rattle.strm_blocks.specs.Blocks.{IsInHand, token, in_hand, block_at, dropped, changed, empty_store, free_m, free_d};
-ghost use Rattle.strm_blocks.specs.Outcomes.{Allocated, Duplicated, Unlinked, UnlinkedLast, NoneFree, NoneShared};
+ghost use Rattle.strm_blocks.specs.Blocks.{IsInHand, token, in_hand, block_at, dropped, changed, empty_store, filled_block, free_m, free_d};
+ghost use Rattle.strm_blocks.specs.Outcomes.{Allocated, Copied, Duplicated, Unlinked, UnlinkedLast, NoneFree, NoneShared};
 ghost use Rattle.strm_raw.specs.Raw.{GivesLast, GivesOne};
 ghost use Rattle.strm_raw.specs.Numbered.{IsData, IsDataOrNone, data_at, data_number};
 
@@ -15,7 +15,7 @@ use std::alloc::{AllocError, Global};
 use std::marker::Model;
 use std::ptr::null_mut;
 use strm_blocks::{InHand, NoBlocks};
-use strm_types::MsgKind;
+use strm_types::{Band, MsgKind};
 
 /// A store of message blocks and data blocks (STREAMS Programming Guide, "Message Structure"). Each block is a node, in
 /// memory that is reserved when the store is made and given back when it is dropped: a message block leads to the next one
@@ -85,6 +85,22 @@ impl RawStore {
             (λ m. Allocated self.old self.new (token m) kind)
             (λ _. NoneFree self.old self.new) }
     {
+        self.alloc_with(kind, Band(0), &[])
+    }
+
+    /// Takes a message block and a data block with these bytes written, as a message of that kind and band: `allocb(9F)`
+    /// and a copy. `NoBlocks` where none of either kind is free. The cost is that of the bytes, whatever the store's size.
+    pub fn alloc_with(
+        &mut self,
+        kind: MsgKind,
+        band: Band,
+        bytes: &[u8],
+    ) -> Result<InHand, NoBlocks>
+        requires { length bytes.now ≤ 256 }
+        ensures { MatchResult result
+            (λ m. Copied self.old self.new (token m) (filled_block kind band.0 bytes.now))
+            (λ _. NoneFree self.old self.new) }
+    {
         let Some(at) = self.free_msg else {
             return Err(NoBlocks);
         };
@@ -93,16 +109,17 @@ impl RawStore {
         };
         let free = self.memory.message(at);
         let next = self.memory.datum(number).next;
+        self.memory.write(number, 0, bytes);
         self.memory.set_datum(number, 1, None);
         self.memory.set_message(
             at,
             MsgNode {
                 kind,
-                band: 0,
+                band: band.0,
                 name: free.name,
                 number,
                 start: 0,
-                end: 0,
+                end: bytes.len(),
                 next: None,
                 ahead: None,
                 behind: None,
@@ -173,6 +190,29 @@ impl RawStore {
         let node = self.memory.message(link);
         let datum = self.memory.datum(node.number);
         &datum.bytes[node.start..node.end]
+    }
+
+    /// The kind of block `at` of a message. The kind of the message is that of block 0. It takes a step for each block of
+    /// the message before that one.
+    pub fn kind(&self, message: &InHand, at: usize) -> MsgKind
+        requires in_hand { IsInHand self.now (token message.now) }
+        requires within { at < length (in_hand self.now (token message.now)) }
+        ensures { result ≡ (block_at at (in_hand self.now (token message.now))).kind }
+    {
+        let _ = &self.ledger;
+        let first = self.memory.message_link(message.name() as usize);
+        let link = block_link(&self.memory, first, at);
+        self.memory.message(link).kind
+    }
+
+    /// The band of a message, which is that of its first block. The cost is the same whatever the message's length.
+    pub fn band(&self, message: &InHand) -> Band
+        requires { IsInHand self.now (token message.now) }
+        ensures { result.0 ≡ (block_at 0 (in_hand self.now (token message.now))).band }
+    {
+        let _ = &self.ledger;
+        let first = self.memory.message_link(message.name() as usize);
+        Band(self.memory.message(first).band)
     }
 
     /// Parts a message into its first block and the rest, if there is any: `unlinkb(9F)`. The cost is the same whatever

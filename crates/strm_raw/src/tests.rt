@@ -5,7 +5,7 @@ ghost use Rattle.strm_blocks.specs.Blocks.{IsInHand, in_hand, token};
 use crate::raw::RawStore;
 use std::test::Fail;
 use strm_blocks::{InHand, NoBlocks};
-use strm_types::MsgKind;
+use strm_types::{Band, MsgKind};
 
 // Whether a block more of the message's data block is refused, after so many were taken, each of which is given back.
 fn is_refused_after(store: &mut RawStore, message: &InHand, count: usize) -> Result<bool, NoBlocks>
@@ -65,8 +65,11 @@ fn two_stores_give_out_equal_numbers(rt: HostRuntime) -> Result<(), Fail> {
         RawStore::new(rt.alloc(), 2, 2)?,
         RawStore::new(rt.alloc(), 3, 3)?,
     );
-    let (a, b) = (one.alloc(MsgKind::Data)?, other.alloc(MsgKind::Data)?);
+    let a = one.alloc(MsgKind::Data)?;
+    let b = other.alloc_with(MsgKind::Proto, Band(2), b"abc")?;
     assert_eq!(rt; a.name(), b.name());
+    assert!(rt; other.bytes_at(&b, 0) == b"abc".as_slice());
+    assert!(rt; other.kind(&b, 0) == MsgKind::Proto && other.band(&b) == Band(2));
     one.free(a);
     assert_eq!(rt; (one.free_blocks(), other.free_blocks()), ((2, 2), (2, 2)));
     other.free(b);
