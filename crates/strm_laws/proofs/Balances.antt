@@ -348,7 +348,7 @@ module _ {C : Type 0} (cells : Cells C) (p : Dir → C → Bool) (numbered : Num
   step-counts s (Called caller asked answer) = call-counts caller asked answer s
   step-counts s (Turned name turn) = omega (arith, books-count s (turned cells name turn s).state (turned cells name turn s).gone (turn-books cells name turn s))
 
-both-true : (a b : Bool) → (a && b) ≡ true → (a ≡ true) × (b ≡ true)
+pub both-true : (a b : Bool) → (a && b) ≡ true → (a ≡ true) × (b ≡ true)
 both-true true true is = (refl, refl)
 both-true true false is = absurd (cc)
 both-true false b is = absurd (cc)

@@ -58,6 +58,7 @@ module _ {C : Type 0} where
   pub record Met (s : State C) (side : Side) (n : Needs) : Type 0 where
     pub reached : is_reached side n.reach s ≡ true
     pub right : n.wrong ≡ None
+    pub numbered : (not n.numbered || is_numbered s) ≡ true
     pub booked : (not n.makes || in_range s) ≡ true
 
   pub met : (s : State C) (side : Side) (n : Needs) → unmet s side n ≡ None → Met s side n
@@ -66,7 +67,7 @@ module _ {C : Type 0} where
       let second = or_else-none (unless (not n.masters || is_master side) Einval) _ first.1 in
       let third = or_else-none n.wrong _ second.1 in
       let fourth = or_else-none (unless (not n.numbered || is_numbered s) Erange) _ third.1 in
-      record { reached = unless-none _ _ first.0; right = third.0; booked = unless-none _ _ fourth.1 }
+      record { reached = unless-none _ _ first.0; right = third.0; numbered = unless-none _ _ fourth.0; booked = unless-none _ _ fourth.1 }
 
   -- and so of a call that isn't refused
   pub allowed-met : (s : State C) (caller : Caller) (asked : Request) → or_else (refused_at_once s caller asked) (refused_by_state s caller asked) ≡ None → Met s caller.side (needs asked)

@@ -1,13 +1,14 @@
 -- A refusal is the first one whose condition holds.
-use Rattle.std.proofs.Common.{ℕ, ◌≡◌, ◌<◌, ◌+◌, Bool, true, false, cond, List, refl, sym, ap, ◌∙◌, arith}
+use Rattle.std.proofs.Common.{ℕ, ◌≡◌, ◌<◌, ◌≤◌, ◌+◌, Bool, true, false, cond, List, length, refl, sym, ap, ◌∙◌, arith}
 use Rattle.std.proofs.lemmas.Bool.Decides.{nat_tests}
-use Rattle.std.specs.Prelude.{nat_le, Option, None, Some, Result, Err, MatchOption}
+use Rattle.std.specs.Prelude.{nat_le, nat_lt, Option, None, Some, Result, Ok, Err, MatchOption}
 use Rattle.strm_types.specs.declared.events.Caller.{Caller}
-use Rattle.strm_types.specs.declared.events.Event.TheVariants.{Put}
+use Rattle.strm_types.specs.declared.events.Event.TheVariants.{Put, Ioctl}
 use Rattle.strm_types.specs.declared.refusals.Refusal.{Refusal}
 use Rattle.strm_types.specs.declared.modes.Prio.{Prio}
 use Rattle.strm_types.specs.declared.modes.Prio.TheVariants.{High, Band}
 use Rattle.strm_types.specs.declared.refusals.Refusal.TheVariants.{Einval, Enosr, Erange, JournalFull}
+use Rattle.strm_types.specs.declared.limits.TheConstants.{IOCTL_END, IOCTL_MAX}
 use Rattle.strm_types.specs.Events.{Request}
 use Rattle.strm_laws.specs.Pair.{PairState, call_refused}
 use Rattle.strm_types.specs.Needs.{needs}
@@ -15,8 +16,19 @@ use Rattle.strm_laws.specs.Refusals.{enough, has_room, in_range, refused_at_once
 use Rattle.strm_types.specs.Refused.{or_else, unless}
 use Rattle.strm_laws.specs.State.{State}
 use Rattle.strm_types.specs.PutMsg.{is_too_long, put_refusal}
-use Rattle.strm_laws.proofs.Replay.{met}
+use Rattle.strm_laws.proofs.Replay.{met, unless-none}
 use Rattle.strm_pair.specs.Parts.{IsLow}
+
+-- an ioctl that isn't refused at once sends few bytes, and a number is left for it
+pub few-asked : (s : State ℕ) (caller : Caller) (command : ℕ) (body : List ℕ) → refused_at_once s caller (Ioctl command body) ≡ None → length body ≤ IOCTL_MAX
+few-asked s caller command body at_once =
+    let few : nat_le (length body) IOCTL_MAX ≡ true = unless-none _ Erange (met s caller.side (needs (Ioctl command body)) at_once).right in
+    grind (arith, nat_tests, few)
+
+pub number-left : (s : State ℕ) (caller : Caller) (command : ℕ) (body : List ℕ) → refused_at_once s caller (Ioctl command body) ≡ None → s.next_ioctl < IOCTL_END
+number-left s caller command body at_once =
+    let left : nat_lt s.next_ioctl IOCTL_END ≡ true = (met s caller.side (needs (Ioctl command body)) at_once).numbered in
+    grind (arith, nat_tests, left)
 
 module _ (v : PairState) (caller : Caller) (asked : Request) (at_once : refused_at_once v.state caller asked ≡ None) where
   -- what is told by the answers of the three questions that come after
@@ -44,6 +56,11 @@ pub refused-over : (A B P Q : Type 0) (o : Option Refusal) (x : Refusal) → Mat
     → MatchOption o (false ≡ true) (λ r. ◌≡◌ {A = Result B Refusal} (Err x) (Err r) × P)
 refused-over A B P Q None x h = h
 refused-over A B P Q (Some r) x h = (ap (λ y. Err y) (refusal-is A x r h.0), h.1.0)
+
+pub allowed-over : (A B P Q : Type 0) (o : Option Refusal) (x : A) (y : B) → MatchOption o (true ≡ true) (λ r. ◌≡◌ {A = Result A Refusal} (Ok x) (Err r) × (P × Q))
+    → MatchOption o (true ≡ true) (λ r. ◌≡◌ {A = Result B Refusal} (Ok y) (Err r) × P)
+allowed-over A B P Q None x y h = h
+allowed-over A B P Q (Some r) x y h = let never = h.0 in absurd (cc)
 
 -- where nothing refuses a putmsg at once, more may be written
 pub put-in_range : (s : State ℕ) (caller : Caller) (prio : Prio) (control body : Option (List ℕ)) → refused_at_once s caller (Put prio control body) ≡ None → in_range s ≡ true

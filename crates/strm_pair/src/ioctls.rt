@@ -10,7 +10,7 @@ ghost use Rattle.strm_types.specs.Journal.{answer_len, reply_in};
 ghost use Rattle.strm_laws.specs.Kept.{AreIdle};
 ghost use Rattle.strm_types.specs.Message.{Message};
 ghost use Rattle.strm_laws.specs.Pushes.{ioctl_dropped};
-ghost use Rattle.strm_laws.specs.Refusals.{in_range, may_ask};
+ghost use Rattle.strm_laws.specs.Refusals.{in_range};
 ghost use Rattle.strm_laws.specs.Spares.{spare};
 ghost use Rattle.strm_laws.specs.State.{stream};
 ghost use Rattle.strm_blocks.specs.Blocks.{StoreValue};
@@ -62,7 +62,8 @@ impl Streams {
     )
         requires held { AreHeld (B.value store.old) self.old }
         requires idle { AreIdle (state_in (B.value store.old) self.old) }
-        requires may_ask { may_ask body.now (state_in (B.value store.old) self.old) ≡ true }
+        requires small { length body.now ≤ IOCTL_MAX }
+        requires numbered { self.old.next_ioctl < IOCTL_END }
         requires room { HasRoom (B.value store.old) IOCTL_BLOCKS }
         requires range { in_range (state_in (B.value store.old) self.old) ≡ true }
         ensures state { state_in (B.value store.new) self.new
@@ -113,7 +114,8 @@ impl Streams {
     ) -> Answer<usize>
         requires held { AreHeld (B.value store.old) self.old }
         requires idle { AreIdle (state_in (B.value store.old) self.old) }
-        requires may_ask { may_ask body.now (state_in (B.value store.old) self.old) ≡ true }
+        requires small { length body.now ≤ IOCTL_MAX }
+        requires numbered { self.old.next_ioctl < IOCTL_END }
         requires room { HasRoom (B.value store.old) IOCTL_BLOCKS }
         requires range { in_range (state_in (B.value store.old) self.old) ≡ true }
         requires fresh { out.old.items ≡ [] }

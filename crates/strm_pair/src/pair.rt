@@ -256,7 +256,7 @@ impl<B: Blocks + Drop> Pair<B> {
         or_else(
             unless(self.streams.enabled.contains(name), Refusal::Einval),
             or_else(
-                self.streams.beyond(),
+                unless(self.streams.in_range(), Refusal::Erange),
                 or_else(
                     unless(self.has_room(0), Refusal::JournalFull),
                     unless(self.has_blocks(turn_blocks(name.place)), Refusal::Enosr),

@@ -7,7 +7,7 @@ ghost use Rattle.strm_laws.specs.Refusals.{at_end, in_range, is_reached, refused
 ghost use Rattle.strm_types.specs.Refused.{unless, or_else};
 ghost use Rattle.strm_laws.specs.Writes.{is_full_below};
 ghost use Rattle.strm_pair.specs.Parts.{IsLow, is_held_back};
-ghost use Rattle.strm_types.specs.declared.refusals.Refusal.TheVariants.{Eagain, Einval, Erange};
+ghost use Rattle.strm_types.specs.declared.refusals.Refusal.TheVariants.{Eagain, Einval};
 ghost use Rattle.strm_types.specs.Names.{is_never, is_open};
 ghost use Rattle.strm_laws.specs.State.{stream};
 
@@ -68,19 +68,12 @@ impl Streams {
         }
     }
 
-    // Whether the books of both directions have room.
+    /// Whether the books of both directions have room.
     #[inline(always)]
-    fn in_range(&self) -> bool
+    pub(crate) fn in_range(&self) -> bool
         ensures { (s : StoreValue) → result ≡ in_range (state_in s self.now) }
     {
         self.from_master.has_room() && self.from_slave.has_room()
-    }
-
-    /// ERANGE where the books of a direction are full.
-    pub(crate) fn beyond(&self) -> Option<Refusal>
-        ensures { (s : StoreValue) → result ≡ unless (in_range (state_in s self.now)) Erange }
-    {
-        unless(self.in_range(), Refusal::Erange)
     }
 
     // EINVAL where the master was opened before.

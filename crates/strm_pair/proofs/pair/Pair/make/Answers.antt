@@ -15,7 +15,7 @@ use Rattle.strm_laws.specs.Step.{IsCall, after}
 use Rattle.strm_laws.specs.Refusals.{enough, blocks_asked, refused_at_once, refused_by_state}
 use Rattle.strm_laws.specs.Pair.{PairState, AddsEntry, call_refused}
 use Rattle.strm_laws.proofs.AnswersFit.{content-bounded}
-use Rattle.strm_laws.proofs.Balances.{call-few, written-by-blocks}
+use Rattle.strm_laws.proofs.Balances.{both-true, call-few, written-by-blocks}
 use Rattle.strm_laws.proofs.StackSpares.{call-low}
 use Rattle.strm_laws.proofs.Replay.{call-allowed, or_else-none}
 use Rattle.strm_blocks.specs.Blocks.{StoreValue, free_d, free_m}
@@ -27,12 +27,10 @@ use Rattle.strm_pair.proofs.FewBytes.{few-kept}
 use Rattle.strm_pair.proofs.Steps.{kept-step, led-idle, step-shown}
 use Rattle.strm_pair.proofs.pair.Pair.make.Goals as goal
 
-first-true : (a b : Bool) → (a && b) ≡ true → a ≡ true
-first-true true b is = refl
-first-true false b is = absurd (cc)
-
-asked-free : (need : ℕ) (s : StoreValue) → enough need (free_in s) ≡ true → need ≤ free_m s
-asked-free need s is = let t = first-true (nat_le need (free_m s)) (nat_le need (free_d s)) is in grind (arith, nat_tests)
+asked-free : (need : ℕ) (s : StoreValue) → enough need (free_in s) ≡ true → (need ≤ free_m s) × (need ≤ free_d s)
+asked-free need s is =
+    let both = both-true (nat_le need (free_m s)) (nat_le need (free_d s)) is in
+    (let first = both.0 in grind (arith, nat_tests), let second = both.1 in grind (arith, nat_tests))
 
 pub invariant_of-self : goal.invariant_of-self
 invariant_of-self g c =
@@ -46,7 +44,7 @@ invariant_of-self g c =
     let allowed : call_refused (pair_of s p.streams p.journal p.limits p.fates) c.args.caller asked ≡ None = ap (λ (v : PairState). call_refused v c.args.caller asked) c.self.view_is ∙ sym c.refusal.ensures ∙ c.in_default.is in
     let added : journal_of c.add_call.new.self ≡ journal_of p.journal ++ entry ∷ [] = c.add_call.ensures.added ∙ ap (λ b. journal_of p.journal ++ Called c.args.caller asked (reply_in c.carry_out-answer.result b) ∷ []) c.as_slice.ensures.value in
     let may = (call-allowed old (journal_of p.journal) p.limits (enough (blocks_asked asked) (free_in s)) c.args.caller asked allowed).0 in
-    let blocks : blocks_asked asked ≤ free_m s = asked-free (blocks_asked asked) s (call-allowed old (journal_of p.journal) p.limits (enough (blocks_asked asked) (free_in s)) c.args.caller asked allowed).2 in
+    let blocks : blocks_asked asked ≤ free_m s = (asked-free (blocks_asked asked) s (call-allowed old (journal_of p.journal) p.limits (enough (blocks_asked asked) (free_in s)) c.args.caller asked allowed).2).0 in
     let store = c.audit.ensures in
     let less : blocks_asked asked ≤ 65536 = omega (arith, blocks, store.few_mblks, free_m-is s) in
     let left = subst (λ v. OnTrue (delivers asked) (spare old ≤ spare v + 30)) c.carry_out-answer.ensures.state c.carry_out-answer.ensures.left in
@@ -98,6 +96,15 @@ returns-in-Some-clause-filled g c = search rules steps 30000
 pub carry_out-answer-requires-clause-held : goal.carry_out-answer-requires-clause-held
 carry_out-answer-requires-clause-held g c = search rules steps 100000
 
+pub carry_out-answer-requires-clause-allowed : goal.carry_out-answer-requires-clause-allowed
+carry_out-answer-requires-clause-allowed g c =
+    let p = c.self.inside in
+    let s = g.B.Blocks.value p.store in
+    let asked = request c.args.event.now in
+    let old = state_in s p.streams in
+    let allowed : call_refused (pair_of s p.streams p.journal p.limits p.fates) c.args.caller asked ≡ None = ap (λ (v : PairState). call_refused v c.args.caller asked) c.self.view_is ∙ sym c.refusal.ensures ∙ c.in_default.is in
+    (or_else-none (refused_at_once old c.args.caller asked) (refused_by_state old c.args.caller asked) (call-allowed old (journal_of p.journal) p.limits (enough (blocks_asked asked) (free_in s)) c.args.caller asked allowed).0).0
+
 pub carry_out-answer-requires-clause-allowed_by_state : goal.carry_out-answer-requires-clause-allowed_by_state
 carry_out-answer-requires-clause-allowed_by_state g c =
     let p = c.self.inside in
@@ -111,10 +118,22 @@ pub carry_out-answer-requires-clause-idle : goal.carry_out-answer-requires-claus
 carry_out-answer-requires-clause-idle g c = led-idle (g.B.Blocks.value c.self.inside.store) c.self.inside.streams c.self.inside.journal c.self.inside.limits c.self.inside.fates c.self.invariant
 
 pub carry_out-answer-requires-clause-room_m : goal.carry_out-answer-requires-clause-room_m
-carry_out-answer-requires-clause-room_m g c = search rules steps 1000000
+carry_out-answer-requires-clause-room_m g c =
+    let p = c.self.inside in
+    let s = g.B.Blocks.value p.store in
+    let asked = request c.args.event.now in
+    let old = state_in s p.streams in
+    let allowed : call_refused (pair_of s p.streams p.journal p.limits p.fates) c.args.caller asked ≡ None = ap (λ (v : PairState). call_refused v c.args.caller asked) c.self.view_is ∙ sym c.refusal.ensures ∙ c.in_default.is in
+    (asked-free (blocks_asked asked) s (call-allowed old (journal_of p.journal) p.limits (enough (blocks_asked asked) (free_in s)) c.args.caller asked allowed).2).0
 
 pub carry_out-answer-requires-clause-room_d : goal.carry_out-answer-requires-clause-room_d
-carry_out-answer-requires-clause-room_d g c = search rules steps 1000000
+carry_out-answer-requires-clause-room_d g c =
+    let p = c.self.inside in
+    let s = g.B.Blocks.value p.store in
+    let asked = request c.args.event.now in
+    let old = state_in s p.streams in
+    let allowed : call_refused (pair_of s p.streams p.journal p.limits p.fates) c.args.caller asked ≡ None = ap (λ (v : PairState). call_refused v c.args.caller asked) c.self.view_is ∙ sym c.refusal.ensures ∙ c.in_default.is in
+    (asked-free (blocks_asked asked) s (call-allowed old (journal_of p.journal) p.limits (enough (blocks_asked asked) (free_in s)) c.args.caller asked allowed).2).1
 
 pub as_slice-requires : goal.as_slice-requires
 as_slice-requires g c = search rules steps 30000
@@ -131,7 +150,7 @@ add_call-requires-clause-small g c =
     let allowed : call_refused (pair_of s p.streams p.journal p.limits p.fates) c.args.caller asked ≡ None = ap (λ (v : PairState). call_refused v c.args.caller asked) c.self.view_is ∙ sym c.refusal.ensures ∙ c.in_default.is in
     let parts = call-allowed old (journal_of p.journal) p.limits (enough (blocks_asked asked) (free_in s)) c.args.caller asked allowed in
     let at_once = (or_else-none (refused_at_once old c.args.caller asked) (refused_by_state old c.args.caller asked) parts.0).0 in
-    let blocks : blocks_asked asked ≤ free_m s = asked-free (blocks_asked asked) s parts.2 in
+    let blocks : blocks_asked asked ≤ free_m s = (asked-free (blocks_asked asked) s parts.2).0 in
     few-kept old c.args.caller asked at_once (omega (arith, blocks, c.audit.ensures.few_mblks, free_m-is s))
 
 pub add_call-requires-clause-few : goal.add_call-requires-clause-few

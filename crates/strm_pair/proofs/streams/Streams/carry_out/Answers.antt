@@ -12,7 +12,7 @@ use Rattle.strm_laws.specs.Refusals.{refused_at_once, refused_by_state}
 use Rattle.strm_laws.specs.State.{stream}
 use Rattle.strm_laws.proofs.Replay.{unless-none}
 use Rattle.strm_pair.specs.Pairs.{state_in}
-use Rattle.strm_pair.proofs.Refusing.{put-in_range}
+use Rattle.strm_pair.proofs.Refusing.{few-asked, number-left, put-in_range}
 use Rattle.strm_pair.proofs.streams.Streams.carry_out.Goals as goal
 
 pub returns-in-Write-clause-answer : goal.returns-in-Write-clause-answer
@@ -51,6 +51,18 @@ putmsg-requires-clause-in_range g c =
     let now : Bor (List ℕ) → List ℕ = λ bytes. bytes.now in
     put-in_range old c.args.caller c.in-Put.prio (option_map now c.in-Put.control) (option_map now c.in-Put.body)
     (ap (λ (e : Event (Bor (List ℕ))). refused_at_once old c.args.caller (request e)) (sym c.in-Put.is) ∙ c.requires.allowed)
+
+pub ioctl-requires-clause-small : goal.ioctl-requires-clause-small
+ioctl-requires-clause-small g c =
+    let old = state_in (g.B.Blocks.value c.args.store.now) c.args.self.now in
+    few-asked old c.args.caller c.in-Ioctl.command c.in-Ioctl.body.now
+    (ap (λ (e : Event (Bor (List ℕ))). refused_at_once old c.args.caller (request e)) (sym c.in-Ioctl.is) ∙ c.requires.allowed)
+
+pub ioctl-requires-clause-numbered : goal.ioctl-requires-clause-numbered
+ioctl-requires-clause-numbered g c =
+    let old = state_in (g.B.Blocks.value c.args.store.now) c.args.self.now in
+    number-left old c.args.caller c.in-Ioctl.command c.in-Ioctl.body.now
+    (ap (λ (e : Event (Bor (List ℕ))). refused_at_once old c.args.caller (request e)) (sym c.in-Ioctl.is) ∙ c.requires.allowed)
 
 pub push-requires-clause-may_stand : goal.push-requires-clause-may_stand
 push-requires-clause-may_stand g c =
