@@ -21,7 +21,7 @@ use strm_blocks::Blocks;
 use strm_frame::{Served, deliver_all};
 use strm_types::{Fates, HOPS, Side, Spot};
 
-// How many bytes were made so far in each direction, modulo 2^64.
+// How many bytes were made in each direction, modulo 2^64.
 #[derive(Clone, Copy)]
 pub(crate) struct Made {
     from_master: u64,

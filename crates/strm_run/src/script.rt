@@ -39,8 +39,8 @@ impl ScriptStatus {
 #[derive(Clone, Copy, Debug, PartialEq)]
 pub struct ScriptEnd {
     pub status: ScriptStatus,
-    /// The first line in which a call or a turn got ENOSR, or a turn of a module's queue moved something, which may have stopped within its
-    /// message for want of blocks.
+    /// The first line in which a call or a turn got ENOSR, or a turn of a module's queue moved fewer bytes than its first message had: it
+    /// stopped within it for want of blocks.
     pub short: Option<u64>,
 }
 
