@@ -12,7 +12,7 @@ use Rattle.strm_types.specs.Gets.{Got, head_get, prio_got}
 use Rattle.strm_types.specs.Journal.{answer_len, part_len, reply_in}
 use Rattle.strm_types.specs.Message.{part}
 use Rattle.strm_types.specs.Heads as plain_state
-use Rattle.strm_laws.specs.State.{State, stream}
+use Rattle.strm_laws.specs.State.{stream}
 use Rattle.strm_laws.proofs.GetKeeps.{get-control, get-data}
 use Rattle.strm_types.proofs.PlainCells.{bytes-plain}
 use Rattle.strm_laws.proofs.StoredCalls.{reply-back, reply-size}

@@ -8,12 +8,11 @@ use Rattle.strm_laws.specs.Stacked as plain
 use Rattle.strm_laws.specs.Stacked.{IsAtRest}
 use Rattle.strm_laws.specs.State.{Stream}
 use Rattle.strm_blocks.specs.Blocks.{StoreValue, list_at}
-use Rattle.strm_frame.specs.Hands.{SameOwn}
 use Rattle.strm_pair.specs.declared.ends.StreamEnd.{StreamEnd}
 use Rattle.strm_head.specs.Heads.{head_in}
 use Rattle.strm_queue.specs.Stored.{messages_on, queue_in, IsReady, IsHeadQueue}
 use Rattle.strm_pair.specs.Named.{messages_queued}
-use Rattle.strm_pair.specs.Stacks.{modules_in, IsStackHeld, stack_owns, Stack}
+use Rattle.strm_pair.specs.Stacks.{modules_in, IsStackHeld, stack_owns}
 
 -- Two lists of a store, from a number on, are for a stack: no other one is its own, and what isn't its own is empty.
 pub record AreFor (s : StoreValue) (first : ℕ) (owns : ℕ → ℕ) : Type 0 where

@@ -1,5 +1,5 @@
 -- No module stands there.
-use Rattle.std.proofs.Common.{[], ◌≡◌, map, ap, arith, rules, sym, subst}
+use Rattle.std.proofs.Common.{map, ap, arith, rules, sym, subst}
 use Rattle.strm_laws.proofs.StackOnce.{none-once}
 use Rattle.strm_frame.specs.Stacks.{all_of, AreHeld}
 use Rattle.strm_pair.specs.AnyModules.{IsHeld, module_in, owns}

@@ -1,7 +1,7 @@
 -- A call that isn't refused is a step, and the journal gains it with its answer.
-use Rattle.std.proofs.Common.{ℕ, Bool, true, false, ◌≡◌, ◌≤◌, ◌+◌, ◌∙◌, ◌++◌, ◌∷◌, [], length, ap, sym, refl, subst, rules, arith}
+use Rattle.std.proofs.Common.{ℕ, true, ◌≡◌, ◌≤◌, ◌+◌, ◌∙◌, ◌++◌, ◌∷◌, [], length, ap, sym, refl, subst, rules, arith}
 use Rattle.std.specs.Bool.{OnTrue}
-use Rattle.std.specs.Prelude.{◌&&◌, nat_le, None}
+use Rattle.std.specs.Prelude.{nat_le, None}
 use Rattle.std.proofs.lemmas.Bool.Decides.{nat_tests}
 use Rattle.strm_types.specs.declared.entries.Entry.TheVariants.{Called}
 use Rattle.strm_types.specs.Cells.{plain}
@@ -9,7 +9,6 @@ use Rattle.strm_laws.specs.Calls.{delivers}
 use Rattle.strm_types.specs.Events.{payload_of, request}
 use Rattle.strm_types.specs.Journal.{PlainEntry, content_max, reply_in}
 use Rattle.strm_laws.specs.Spares.{spare}
-use Rattle.strm_laws.specs.State.{opening}
 use Rattle.strm_laws.specs.Ledgers.{FewBooked}
 use Rattle.strm_laws.specs.Step.{IsCall, after}
 use Rattle.strm_laws.specs.Refusals.{enough, blocks_asked, refused_at_once, refused_by_state}

@@ -3,7 +3,6 @@ use Rattle.std.proofs.Common.{◌≡◌, ◌+◌, sym, ap, ◌∙◌}
 use Rattle.std.specs.Prelude.{None}
 use Rattle.strm_types.specs.declared.needs.Needs.{Needs}
 use Rattle.strm_types.specs.Events.{request}
-use Rattle.strm_types.specs.Needs.{needs}
 use Rattle.strm_laws.specs.Pair.{PairState}
 use Rattle.strm_laws.specs.Refusals.{enough, has_room, refused_at_once, refused_by_state, unmet}
 use Rattle.strm_pair.specs.Pairs.{state_in}

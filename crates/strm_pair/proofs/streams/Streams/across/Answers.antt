@@ -6,7 +6,6 @@ use Rattle.strm_laws.specs.State.{Stream, stream}
 use Rattle.strm_laws.specs.Puts.{across_of}
 use Rattle.strm_pair.specs.Pairs.{state_in}
 use Rattle.strm_pair.proofs.streams.Streams.across.Goals as goal
-use Rattle.strm_pair.specs.Stacks.{modules_in}
 
 pub returns : goal.returns
 returns c = λ s.

@@ -17,7 +17,6 @@ use Rattle.strm_pair.specs.Pairs.{end_at, state_in, with_end}
 use Rattle.strm_pair.proofs.ModuleSteps.{books-same, modules-are}
 use Rattle.strm_pair.proofs.ServeSteps.{acts-by, made-fits, master-between, slave-between, tells-by, within-any}
 use Rattle.strm_pair.proofs.streams.Streams.act.Goals as goal
-use Rattle.strm_blocks.specs.Blocks.{token}
 use Rattle.strm_pair.specs.Stacks.{modules_in}
 
 pub place_at-place-requires-clause-within : goal.place_at-place-requires-clause-within

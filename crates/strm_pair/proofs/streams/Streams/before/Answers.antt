@@ -1,6 +1,6 @@
 -- The place of a module is one of a module, and what stands there is told by the modules of the side's stack.
 use Rattle.std.proofs.Common.{ℕ, ◌≡◌, length, ap, arith, subst, sym, ◌∙◌}
-use Rattle.std.specs.Prelude.{min, Option}
+use Rattle.std.specs.Prelude.{min}
 use Rattle.std.proofs.lemmas.List.{length-map}
 use Rattle.strm_types.specs.declared.limits.TheConstants.{MODULES}
 use Rattle.strm_types.specs.Names.{place_of}

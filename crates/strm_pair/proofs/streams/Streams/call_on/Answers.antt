@@ -8,7 +8,6 @@ use Rattle.strm_pair.specs.Pairs.{state_in}
 use Rattle.strm_pair.proofs.CallsOn.{Along, GoOn, along, comes-closer, first-begins, first-books, first-cost, next-books, still_to_come}
 use Rattle.strm_pair.proofs.ServeSteps.{call-within}
 use Rattle.strm_pair.proofs.streams.Streams.call_on.Goals as goal
-use Rattle.strm_pair.specs.Stacks.{modules_in}
 
 pub loop-call-init : goal.loop-call-init
 loop-call-init g c =

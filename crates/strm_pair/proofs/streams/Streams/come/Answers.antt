@@ -12,7 +12,6 @@ use Rattle.strm_pair.proofs.PutSteps.{came-by}
 use Rattle.strm_pair.proofs.streams.Streams.come.Goals as goal
 use Rattle.strm_pair.proofs.streams.Streams.come.Goals.{in-Master, in-Slave}
 use Rattle.strm_blocks.specs.Blocks.{token}
-use Rattle.strm_pair.specs.Stacks.{modules_in}
 
 pub put-came-requires-clause-in_hand : goal.put-came-requires-clause-in_hand
 put-came-requires-clause-in_hand g c = can-in_hand (g.B.Blocks.value c.args.store.now) (token c.args.message) (kept_by c.args.self.now) c.audit.ensures c.requires.can_put

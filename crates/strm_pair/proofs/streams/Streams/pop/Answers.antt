@@ -11,7 +11,6 @@ use Rattle.strm_pair.proofs.Dropping.{same-sought, slot-stays}
 use Rattle.strm_pair.proofs.Idle.{top-idle}
 use Rattle.strm_pair.proofs.Takings.{tallied-both}
 use Rattle.strm_pair.proofs.streams.Streams.pop.Goals as goal
-use Rattle.strm_pair.specs.Stacks.{modules_in}
 
 pub put_mode-requires-clause-held : goal.put_mode-requires-clause-held
 put_mode-requires-clause-held g c = c.take_top-taken.ensures.taken.held

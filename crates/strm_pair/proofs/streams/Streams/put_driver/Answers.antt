@@ -11,7 +11,6 @@ use Rattle.strm_pair.proofs.PutSteps.{driver-by, driver-room}
 use Rattle.strm_pair.proofs.streams.Streams.put_driver.Goals as goal
 use Rattle.strm_pair.proofs.streams.Streams.put_driver.Goals.{in-Master, in-Slave}
 use Rattle.strm_blocks.specs.Blocks.{token}
-use Rattle.strm_pair.specs.Stacks.{modules_in}
 
 pub put-acts-requires-clause-in_hand : goal.put-acts-requires-clause-in_hand
 put-acts-requires-clause-in_hand g c = can-in_hand (g.B.Blocks.value c.args.store.now) (token c.args.message) (kept_by c.args.self.now) c.audit.ensures c.requires.can_put

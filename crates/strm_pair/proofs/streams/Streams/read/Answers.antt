@@ -16,7 +16,6 @@ use Rattle.strm_types.specs.Cells.{plain}
 use Rattle.strm_pair.proofs.ReadSteps.{read-answer, read-told, read-beside, read-state}
 use Rattle.strm_pair.proofs.streams.Streams.read.Goals as goal
 use Rattle.strm_pair.proofs.streams.Streams.read.Goals.{in-Master, in-Slave}
-use Rattle.strm_pair.specs.Stacks.{modules_in}
 
 pub returns-clause-answer : goal.returns-clause-answer
 returns-clause-answer g c =

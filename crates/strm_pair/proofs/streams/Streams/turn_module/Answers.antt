@@ -21,7 +21,6 @@ use Rattle.strm_pair.specs.Framing.{rests}
 use Rattle.strm_pair.specs.Pairs.{state_in}
 use Rattle.strm_pair.proofs.CallsOn.{some-taken, turned-by}
 use Rattle.strm_pair.proofs.streams.Streams.turn_module.Goals as goal
-use Rattle.strm_pair.specs.Stacks.{modules_in}
 
 pub end_module_turn-requires-clause-within : goal.end_module_turn-requires-clause-within
 end_module_turn-requires-clause-within g c = let stands = c.call_on-bytes.ensures.treats.stands in let inside = c.in-Serves.ensures.begins.inside in omega arith
