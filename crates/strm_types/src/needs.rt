@@ -41,9 +41,10 @@ pub struct Needs {
     pub numbered: bool,
     /// Whether it may write or make bytes, so that the books must have room, else ERANGE.
     pub makes: bool,
-    /// How many bytes it brings, for which the journal must have room, as for those that it gives.
+    /// How many bytes it brings. The journal must have room for one more entry with these and with those that it gives, else it
+    /// is full.
     pub brings: usize,
-    /// The most bytes that its answer can have.
+    /// The most bytes that its answer can have, up to 8192.
     pub gives: usize,
     /// How many blocks of each kind have to be free, else ENOSR.
     pub blocks: usize,
@@ -132,7 +133,7 @@ pub fn put_refusal(prio: Prio, control: Option<&[u8]>, body: Option<&[u8]>) -> O
 }
 
 impl Event<&[u8]> {
-    /// What the call asks for. A call that sends something down asks for a stream that isn't hung up.
+    /// What the call asks for. The cost is the same whatever its bytes are.
     #[inline(always)]
     pub fn needs(&self) -> Needs
         ensures value { result ≡ needs (request self.now) }

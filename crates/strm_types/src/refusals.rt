@@ -64,6 +64,7 @@ impl Refusal {
 }
 
 /// A refusal unless a condition holds.
+#[inline(always)]
 pub fn unless(condition: bool, refusal: Refusal) -> Option<Refusal>
     ensures { result ≡ unless condition refusal }
 {
