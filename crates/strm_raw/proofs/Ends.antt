@@ -37,14 +37,19 @@ module _ (v : Nodes) (first link : MsgLink) (most left : ℕ) (o : Option MsgLin
   at = most - left
 
   -- where no link leads on, the walk stands at the last block
-  pub pass-ends : o ≡ None → (is : List ℕ) → IsChain v.rows (msg_number v.mat first) is → length is ≤ most → msg_number v.mat link ≡ get_or is (length is - 1) 0
-  pass-ends none is c few =
+  pub pass-counts : o ≡ None → (is : List ℕ) → IsChain v.rows (msg_number v.mat first) is → length is ≤ most → at + 1 ≡ length is
+  pass-counts none is c few =
       let n = w.number is c few in
       let no : next_of v.rows (get_or is at 0) ≡ None = ap (λ k. next_of v.rows k) (sym n.1) ∙ sym row ∙ ap (λ (p : Option MsgLink). option_map (msg_number v.mat) p) none in
-      elim (ltb (at + 1) (length is)) as (λ b. (ltb (at + 1) (length is) ≡ b) → msg_number v.mat link ≡ get_or is (length is - 1) 0) [
+      elim (ltb (at + 1) (length is)) as (λ b. (ltb (at + 1) (length is) ≡ b) → at + 1 ≡ length is) [
         | true ↦ (λ t. let lt : at + 1 < length is = grind (arith, nat_tests) in absurd (some-none _ _ (next-in v.rows _ is at c lt) no))
-        | false ↦ (λ t. let here = n.0 in let e : at ≡ length is - 1 = grind (arith, nat_tests) in n.1 ∙ ap (λ k. get_or is k 0) e)
+        | false ↦ (λ t. let here = n.0 in grind (arith, nat_tests))
       ] refl
+
+  pub pass-ends : o ≡ None → (is : List ℕ) → IsChain v.rows (msg_number v.mat first) is → length is ≤ most → msg_number v.mat link ≡ get_or is (length is - 1) 0
+  pass-ends none is c few =
+      let n = w.number is c few in let k = pass-counts none is c few in let e : at ≡ length is - 1 = omega arith in
+      n.1 ∙ ap (λ k. get_or is k 0) e
 
   -- where one does, it goes on to the next block
   pub pass-steps : (next : MsgLink) → o ≡ Some next → IsMsg v.mat (length v.rows) next → Passing v first next most (left - 1)

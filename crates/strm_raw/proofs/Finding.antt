@@ -1,5 +1,5 @@
 -- The message in hand that a pointer names.
-use Rattle.std.proofs.Common.{ℕ, zero, suc, ◌≡◌, ◌<◌, ◌+◌, true, false, cond, eqb, List, [], ◌∷◌, length, get_or, map, refl, sym, ap, ◌∙◌, subst, arith}
+use Rattle.std.proofs.Common.{ℕ, zero, suc, ◌≡◌, ◌≤◌, ◌<◌, ◌+◌, true, false, cond, eqb, List, [], ◌∷◌, length, get_or, map, refl, sym, ap, ◌∙◌, subst, arith}
 use Rattle.std.specs.Prelude.{sum_by, Option, Some, None}
 use Rattle.std.proofs.lemmas.Bool.Decides.{nat_tests}
 use Rattle.std.proofs.lemmas.List.Sums.{sum_by-cons, get_or-le-sum_by}
@@ -105,6 +105,9 @@ module _ {v : Nodes} {b : Roster} {first_m : Option MsgLink} {first_d : Option D
 
   pub found-len : length (in_hand (value_of v b) (i)) ≡ length (ids found)
   found-len = ap length found-chain ∙ length-map (ids found) (block_no v)
+
+  pub found-few : length (ids found) ≤ length v.rows
+  found-few = let c = is.counted_m in let w = sum-without i (λ m. length (ids m)) b.hand found-some in omega arith
 
   pub found-block : (at : ℕ) → at < length (in_hand (value_of v b) (i)) → block_at at (in_hand (value_of v b) (i)) ≡ block_no v (get_or (ids found) at 0)
   found-block at within = ap (λ c. block_at at c) found-chain ∙ get_or-map (block_no v) (ids found) at 0 no_block (omega (arith, found-len))

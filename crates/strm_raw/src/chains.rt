@@ -43,3 +43,20 @@ pub(crate) fn last_link(memory: &Memory, first: MsgLink, most: usize) -> MsgLink
     }
     link
 }
+
+/// How many blocks a chain of at most so many has.
+pub(crate) fn chain_len(memory: &Memory, first: MsgLink, most: usize) -> usize
+    requires { IsMsg memory.now.mat (length memory.now.rows) first }
+    ensures { (is : List ℕ) → IsChain memory.now.rows (msg_number memory.now.mat first) is → length is ≤ most → result ≡ length is }
+{
+    let mut link = first;
+    let mut left = most;
+    while left > 0 {
+        let Some(next) = memory.message(link).next else {
+            return most - left + 1;
+        };
+        link = next;
+        left -= 1;
+    }
+    most
+}

@@ -4,6 +4,7 @@
 mod chains;
 mod data_nodes;
 mod ledger;
+mod looks;
 mod making;
 mod memory;
 mod msg_nodes;

@@ -23,12 +23,12 @@ use strm_types::{Band, MsgKind};
 /// blocks are linked too, the one freed last first. A message in hand is named by the number of its first block's node.
 #[derive(Drop)]
 pub struct RawStore {
-    memory: Memory,
+    pub(crate) memory: Memory,
     free_msg: Option<MsgLink>,
     free_data: Option<DataLink>,
     spare_m: usize,
     spare_d: usize,
-    ledger: Ledger,
+    pub(crate) ledger: Ledger,
 }
 
 impl Model for RawStore {

@@ -45,6 +45,7 @@ fn a_message_is_linked_parted_and_freed(rt: HostRuntime) -> Result<(), Fail> {
     let (head, tail) = (store.alloc(MsgKind::Proto)?, store.alloc(MsgKind::Data)?);
     let names = (head.name(), tail.name());
     let message = store.link(head, tail);
+    assert_eq!(rt; store.blocks(&message), 2);
     let (first, rest) = store.unlink(message);
     let Some(rest) = rest else {
         return Err(Fail::new("the second block is lost"));
@@ -69,6 +70,7 @@ fn two_stores_give_out_equal_numbers(rt: HostRuntime) -> Result<(), Fail> {
     let b = other.alloc_with(MsgKind::Proto, Band(2), b"abc")?;
     assert_eq!(rt; a.name(), b.name());
     assert!(rt; other.bytes_at(&b, 0) == b"abc".as_slice());
+    assert_eq!(rt; (other.blocks(&b), other.block_len(&b, 0)), (1, 3));
     assert!(rt; other.kind(&b, 0) == MsgKind::Proto && other.band(&b) == Band(2));
     one.free(a);
     assert_eq!(rt; (one.free_blocks(), other.free_blocks()), ((2, 2), (2, 2)));
