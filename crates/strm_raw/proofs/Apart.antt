@@ -1,8 +1,9 @@
 -- What is said of messages that a node doesn't belong to stays, whatever is written into that node.
-use Rattle.std.proofs.Common.{ℕ, ◌≡◌, ◌≢◌, ◌+◌, cond, eqb, List, [], ◌∷◌, map, refl, ap, ◌∙◌, arith}
+use Rattle.std.proofs.Common.{ℕ, zero, suc, ◌≡◌, ◌≢◌, ◌≤◌, ◌<◌, ◌+◌, cond, eqb, List, [], ◌∷◌, length, get_or, map, refl, ap, ◌∙◌, arith}
+use Rattle.std.proofs.Math.ListN.{set}
 use Rattle.std.specs.Prelude.{sum_by, Option, None, Some}
 use Rattle.std.proofs.lemmas.Bool.Decides.{nat_tests}
-use Rattle.std.proofs.lemmas.List.Sums.{sum_by-cons}
+use Rattle.std.proofs.lemmas.List.Sums.{sum_by-cons, get_or-le-sum_by}
 use Rattle.strm_raw.specs.Roster.{Msg}
 use Rattle.strm_raw.specs.Raw.{times, ids, weigh, gap, breaks}
 
@@ -63,6 +64,19 @@ module _ (i : ℕ) where
 
     pub weigh-apart : (lists : List (List Msg)) (hand : List Msg) → weigh (λ m. times i (ids m)) lists hand ≡ 0 → weigh f lists hand ≡ weigh g lists hand
     weigh-apart lists hand z = let a = sum-lists lists (omega arith) in let b = sum-hand hand (omega arith) in omega arith
+
+-- numbers over a list none of which counts, and where one counts alone
+module _ (hit : ℕ → ℕ) {B : Type 0} (f g : ℕ → B) (same : (j : ℕ) → hit j ≡ 0 → f j ≡ g j) where
+  pub map-none : (xs : List ℕ) → sum_by hit xs ≡ 0 → map f xs ≡ map g xs
+  map-none [] z = refl
+  map-none (j ∷ xs) z = let s = sum_by-cons hit j xs in λ k. same j (omega arith) k ∷ map-none xs (omega arith) k
+
+  pub map-one : (xs : List ℕ) (at : ℕ) → at < length xs → 0 < hit (get_or xs at 0) → sum_by hit xs ≤ 1 → map f xs ≡ set (map g xs) at (f (get_or xs at 0))
+  map-one [] at within hits few = absurd (omega arith)
+  map-one (j ∷ xs) zero within hits few = let s = sum_by-cons hit j xs in λ k. f j ∷ map-none xs (omega arith) k
+  map-one (j ∷ xs) (suc at) within hits few =
+      let s = sum_by-cons hit j xs in let le = get_or-le-sum_by hit xs at 0 (omega arith) in
+      λ k. same j (omega arith) k ∷ map-one xs at (omega arith) hits (omega arith) k
 
 -- lists over messages that have none of something
 module _ (h : Msg → ℕ) {B : Type 0} (f g : Msg → B) (same : (m : Msg) → h m ≡ 0 → f m ≡ g m) where

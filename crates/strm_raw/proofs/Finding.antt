@@ -131,6 +131,13 @@ token-below {v = v} {b = b} is s view i n same held = subst (λ k. k < length v.
 pub here-by : (v : Nodes) (b : Roster) (s : StoreValue) → value_of v b ≡ s → (l : MsgLink) (i n : ℕ) → IsMsg v.mat (length v.rows) l → msg_number v.mat l ≡ n → n ≡ i → IsInHand s i → IsHere v b l
 here-by v b s view l i n there number same held = (there, subst (λ (x : StoreValue × ℕ). IsInHand x.0 x.1) (λ j. (sym view j, sym (number ∙ same) j)) held)
 
+-- a message in hand has a block
+pub first-within : {v : Nodes} {b : Roster} {first_m : Option MsgLink} {first_d : Option DataLink} {spare_m spare_d : ℕ} (is : IsRaw v first_m first_d spare_m spare_d b)
+    {s : StoreValue} → value_of v b ≡ s → (n : ℕ) → IsInHand s n → 0 < length (in_hand s n)
+first-within {v = v} {b = b} is view n held =
+    let some : 0 < heads n b.hand = (let t = subst (λ (s : StoreValue). IsInHand s n) (sym view) held in let h = times-heads v n b.hand in omega arith) in
+    let e = ap (λ (s : StoreValue). length (in_hand s n)) (sym view) ∙ ap length (chain-value v n b.hand some) in omega arith
+
 -- the link from a block of a chain to the next one
 pub next-in : (rows : List Row) (i : ℕ) (is : List ℕ) (k : ℕ) → IsChain rows i is → k + 1 < length is → next_of rows (get_or is k 0) ≡ Some (get_or is (k + 1) 0)
 unfolding breaks

@@ -15,3 +15,4 @@ pub mod Freeing
 pub mod Ends
 pub mod Joining
 pub mod Writing
+pub mod Edited

@@ -1,19 +1,19 @@
 -- Bytes that are written into a data block that no message block names.
-use Rattle.std.proofs.Common.{ℕ, ◌≡◌, ◌≢◌, ◌<◌, ◌-◌, cond, eqb, List, [], ◌∷◌, ◌++◌, length, map, refl, sym, ap, ◌∙◌, arith, inl, inr}
+use Rattle.std.proofs.Common.{ℕ, ◌≡◌, ◌≢◌, ◌<◌, ◌-◌, cond, eqb, List, ◌++◌, length, refl, sym, ap, ◌∙◌, arith, inl, inr}
 use Rattle.std.proofs.Math.ListN.{set, length-set, take}
 use Rattle.std.proofs.Math.Seq.{take-append_seam}
-use Rattle.std.specs.Prelude.{count_by, Option, option_map, slice_range}
+use Rattle.std.specs.Prelude.{Option, option_map, slice_range}
 use Rattle.std.proofs.lemmas.Bool.Decides.{nat_tests}
 use Rattle.std.proofs.lemmas.Bool.{cases_eq}
 use Rattle.std.proofs.lemmas.List.{get_or-set_same, get_or-set_other}
-use Rattle.std.proofs.lemmas.List.Sums.{sum_by-cons, sum_by-set}
+use Rattle.std.proofs.lemmas.List.Sums.{sum_by-set}
 use Rattle.strm_blocks.specs.Blocks.{Block}
 use Rattle.strm_raw.specs.Numbered.{Nodes, DataRow, row_at, data_at, no_data, data_number, with_data}
 use Rattle.strm_raw.specs.Roster.{Msg, Roster}
 use Rattle.strm_raw.specs.Raw.{ids, chain_of, held_of, block_no, value_of, naming, breaks, IsRaw, is_there}
 use Rattle.strm_raw.specs.declared.msg_nodes.MsgLink.{MsgLink}
 use Rattle.strm_raw.specs.declared.data_nodes.DataLink.{DataLink}
-use Rattle.strm_raw.proofs.Apart.{hand-apart, lists-apart}
+use Rattle.strm_raw.proofs.Apart.{hand-apart, lists-apart, map-none}
 
 -- the bytes at the front
 pub front-bytes : (xs ys : List ℕ) → slice_range (xs ++ ys) 0 (length xs) ≡ xs
@@ -63,15 +63,11 @@ module _ {v : Nodes} {b : Roster} {first_m : Option MsgLink} {first_d : Option D
       ap (λ (r : DataRow). record { kind = (row_at j v.rows).kind; band = (row_at j v.rows).band; number = (row_at j v.rows).number; bytes = slice_range r.bytes (row_at j v.rows).start (row_at j v.rows).end; room = 256 - (row_at j v.rows).end })
       (get_or-set_other v.datas d (row_at j v.rows).number x no_data other)
 
-  blocks-kept : (js : List ℕ) → count_by (λ j. eqb (row_at j v.rows).number d) js ≡ 0 → map (block_no written) js ≡ map (block_no v) js
-  blocks-kept [] z = refl
-  blocks-kept (j ∷ js) z =
-      let s = sum_by-cons (λ j. cond (eqb (row_at j v.rows).number d) 1 0) j js in
-      let other : (row_at j v.rows).number ≢ d = (let no : cond {A = ℕ} (eqb (row_at j v.rows).number d) 1 0 ≡ 0 = omega arith in grind (arith, nat_tests)) in
-      λ k. block-kept j other k ∷ blocks-kept js (omega arith) k
+  unnamed : (j : ℕ) → cond {A = ℕ} (eqb (row_at j v.rows).number d) 1 0 ≡ 0 → (row_at j v.rows).number ≢ d
+  unnamed j z = grind (arith, nat_tests)
 
   chain-kept : (m : Msg) → naming v.rows d m ≡ 0 → chain_of written m ≡ chain_of v m
-  chain-kept m z = blocks-kept (ids m) z
+  chain-kept m z = map-none (λ j. cond (eqb (row_at j v.rows).number d) 1 0) (block_no written) (block_no v) (λ j z. block-kept j (unnamed j z)) (ids m) z
 
   held-kept : (m : Msg) → naming v.rows d m ≡ 0 → held_of written m ≡ held_of v m
   held-kept m z = ap (λ (c : List Block). record { name = m.head; chain = c }) (chain-kept m z)

@@ -2,6 +2,7 @@
 #![tactic(auto)]
 
 mod chains;
+mod changing;
 mod data_nodes;
 mod ledger;
 mod looks;

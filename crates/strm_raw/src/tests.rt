@@ -61,6 +61,27 @@ fn a_message_is_linked_parted_and_freed(rt: HostRuntime) -> Result<(), Fail> {
 }
 
 #[test]
+fn a_trim_takes_no_more_than_is_shown(rt: HostRuntime) -> Result<(), Fail> {
+    let mut store = RawStore::new(rt.alloc(), 2, 2)?;
+    let whole = store.alloc_with(MsgKind::Data, Band(1), b"abcdef")?;
+    let shared = store.dup(&whole, 0)?;
+    store.trim_head(&whole, 0, 2);
+    store.trim_tail(&whole, 0, 1);
+    assert!(rt; store.bytes_at(&whole, 0) == b"cde".as_slice());
+    assert!(rt; store.bytes_at(&shared, 0) == b"abcdef".as_slice());
+    store.trim_head(&whole, 0, 4);
+    assert_eq!(rt; store.block_len(&whole, 0), 0);
+    store.set_kind(&whole, 0, MsgKind::Proto);
+    store.set_band(&whole, Band(7));
+    assert!(rt; store.kind(&whole, 0) == MsgKind::Proto && store.band(&whole) == Band(7));
+    assert!(rt; store.kind(&shared, 0) == MsgKind::Data && store.band(&shared) == Band(1));
+    store.free(whole);
+    store.free(shared);
+    assert_eq!(rt; store.free_blocks(), (2, 2));
+    Ok(())
+}
+
+#[test]
 fn two_stores_give_out_equal_numbers(rt: HostRuntime) -> Result<(), Fail> {
     let (mut one, mut other) = (
         RawStore::new(rt.alloc(), 2, 2)?,
