@@ -95,6 +95,7 @@ impl Memory {
         requires { IsData self.now.dat (length self.now.datas) at }
         ensures row { data_of self.now.dat result.now ≡ data_at (data_number self.now.dat at) self.now.datas }
         ensures link { IsDataOrNone self.now.dat (length self.now.datas) result.now.next }
+        ensures sized { length result.now.bytes ≡ 256 }
     {
         reach(&self.datas, at.at)
     }

@@ -176,6 +176,25 @@ impl RawStore {
         Ok(InHand::of(taken.name))
     }
 
+    /// Takes a message block and a data block, and copies into it the bytes that block `at` of the message shows:
+    /// `copyb(9F)`. `NoBlocks` where none of either kind is free. It takes a step for each block of the message before that
+    /// one, and the cost of the bytes.
+    pub fn copy(&mut self, message: &InHand, at: usize) -> Result<InHand, NoBlocks>
+        requires in_hand { IsInHand self.old (token message.now) }
+        requires within { at < length (in_hand self.old (token message.now)) }
+        ensures { let b = block_at at (in_hand self.old (token message.now)) in
+            MatchResult result
+            (λ m. Copied self.old self.new (token m) b)
+            (λ _. NoneFree self.old self.new) }
+    {
+        let first = self.memory.message_link(message.name() as usize);
+        let link = block_link(&self.memory, first, at);
+        let block = self.memory.message(link);
+        let DataNode { bytes, .. } = *self.memory.datum(block.number);
+        let shown = &bytes[block.start..block.end];
+        self.alloc_with(block.kind, Band(block.band), shown)
+    }
+
     /// The bytes from the read place to the write place of block `at` of a message, at most 256. It takes a step for each
     /// block of the message before that one.
     pub fn bytes_at(&self, message: &InHand, at: usize) -> &[u8]

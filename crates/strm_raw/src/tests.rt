@@ -82,6 +82,20 @@ fn a_trim_takes_no_more_than_is_shown(rt: HostRuntime) -> Result<(), Fail> {
 }
 
 #[test]
+fn a_copy_shows_what_is_left_of_a_block(rt: HostRuntime) -> Result<(), Fail> {
+    let mut store = RawStore::new(rt.alloc(), 2, 2)?;
+    let whole = store.alloc_with(MsgKind::Proto, Band(3), b"abcd")?;
+    store.trim_head(&whole, 0, 2);
+    let copied = store.copy(&whole, 0)?;
+    assert_eq!(rt; store.free_blocks(), (0, 0));
+    assert!(rt; store.bytes_at(&copied, 0) == b"cd".as_slice());
+    assert!(rt; store.kind(&copied, 0) == MsgKind::Proto && store.band(&copied) == Band(3));
+    store.free(whole);
+    assert_eq!(rt; store.free_blocks(), (1, 1));
+    Ok(())
+}
+
+#[test]
 fn two_stores_give_out_equal_numbers(rt: HostRuntime) -> Result<(), Fail> {
     let (mut one, mut other) = (
         RawStore::new(rt.alloc(), 2, 2)?,

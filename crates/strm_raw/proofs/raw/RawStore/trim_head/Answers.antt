@@ -25,8 +25,7 @@ returns c =
     let name = c.message_link-first.ensures.number ∙ c.name.ensures in
     let row = c.message-node.ensures.row in
     let old : askew (row_of v.mat v.dat c.message-node.result) ≡ 0 = ap (λ (r : Row). askew r) row ∙ is.straight (msg_number v.mat k) in
-    let sized : length c.datum.result.now.bytes ≡ 256 = omega arith in
     let m = c.min.ensures in
     let block = edited.block-is is c.self.view_is l here name c.args.at c.requires.within k c.block_link-link.ensures.number ∙ ap (λ (r : Row). shown v.datas r) (sym row) in
-    let trimmed = edited.head-is v.datas (row_of v.mat v.dat c.message-node.result) old (ap (λ (d : DataRow). length d.bytes) (sym c.datum.ensures.row) ∙ sized) c.args.n c.min.result (omega arith) in
+    let trimmed = edited.head-is v.datas (row_of v.mat v.dat c.message-node.result) old (ap (λ (d : DataRow). length d.bytes) (sym c.datum.ensures.row) ∙ c.datum.ensures.sized) c.args.n c.min.result (omega arith) in
     edited.edited-value is c.self.view_is l here name c.args.at c.requires.within k c.block_link-link.ensures.number _ _ c.set_message.ensures _ (trimmed ∙ sym (ap (λ b. trimmed_head c.args.n b) block))
