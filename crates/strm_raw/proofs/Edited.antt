@@ -10,11 +10,11 @@ use Rattle.strm_blocks.specs.Blocks.{Block, StoreValue, in_hand, block_at, chang
 use Rattle.strm_blocks.proofs.Shown.{length-range, shown-head, shown-tail}
 use Rattle.strm_raw.specs.Numbered.{Nodes, Row, DataRow, row_at, data_at, no_row, msg_number, with_row}
 use Rattle.strm_raw.specs.Roster.{Msg, Roster}
-use Rattle.strm_raw.specs.Raw.{weigh, ids, times, chain_of, held_of, block_no, shown, value_of, breaks, IsRaw, IsHere, IsChain, next_of, is_there, askew, msg_in, without_in, heads}
+use Rattle.strm_raw.specs.Raw.{weigh, ids, times, chain_of, held_of, block_no, shown, value_of, breaks, IsRaw, IsHere, next_of, is_there, askew, msg_in, without_in, heads}
 use Rattle.strm_raw.specs.declared.msg_nodes.MsgLink.{MsgLink}
 use Rattle.strm_raw.specs.declared.data_nodes.DataLink.{DataLink}
 use Rattle.strm_raw.proofs.Apart.{hand-apart, lists-apart, map-none, map-one}
-use Rattle.strm_raw.proofs.Finding.{sum-without, found, found-some, found-chain, found-len, found-linked, found-block}
+use Rattle.strm_raw.proofs.Finding.{sum-without, found, found-some, found-chain, found-len, found-block}
 use Rattle.strm_raw.proofs.Parting.{row-keeps}
 
 -- the read place moved on, and the write place moved back
@@ -138,12 +138,12 @@ module _ {v : Nodes} {b : Roster} {first_m : Option MsgLink} {first_d : Option D
 -- a message in hand of a store, and a link to one of its blocks
 module _ {v : Nodes} {b : Roster} {first_m : Option MsgLink} {first_d : Option DataLink} {spare_m spare_d : ℕ} (is : IsRaw v first_m first_d spare_m spare_d b)
     {s : StoreValue} (view : value_of v b ≡ s) (l : MsgLink) (here : IsHere v b l) {n : ℕ} (name : msg_number v.mat l ≡ n) (at : ℕ) (within : at < length (in_hand s n))
-    (link : MsgLink) (number : (is : List ℕ) → IsChain v.rows (msg_number v.mat l) is → at < length is → msg_number v.mat link ≡ get_or is at 0) where
+    (link : MsgLink) (number : at < length (ids (found is l here)) → msg_number v.mat link ≡ get_or (ids (found is l here)) at 0) where
   pub inside : at < length (ids (found is l here))
   inside = let w = subst (λ (x : StoreValue × ℕ). at < length (in_hand x.0 x.1)) (λ j. (sym view j, sym name j)) within in let len = found-len is l here in omega arith
 
   pub link-is : msg_number v.mat link ≡ block is l here at inside
-  link-is = number (ids (found is l here)) (found-linked is l here) inside
+  link-is = number inside
 
   pub block-is : block_at at (in_hand s n) ≡ block_no v (msg_number v.mat link)
   block-is =

@@ -1,5 +1,5 @@
 -- The message in hand that a pointer names.
-use Rattle.std.proofs.Common.{ℕ, zero, suc, ◌≡◌, ◌≤◌, ◌<◌, ◌+◌, true, false, cond, eqb, List, [], ◌∷◌, length, get_or, map, refl, sym, ap, ◌∙◌, subst, arith}
+use Rattle.std.proofs.Common.{ℕ, zero, suc, ◌≡◌, ◌≤◌, ◌<◌, ◌+◌, ◌-◌, true, false, cond, eqb, List, [], ◌∷◌, length, get_or, map, refl, sym, ap, ◌∙◌, subst, arith}
 use Rattle.std.specs.Prelude.{sum_by, Option, Some, None}
 use Rattle.std.proofs.lemmas.Bool.Decides.{nat_tests}
 use Rattle.std.proofs.lemmas.List.Sums.{sum_by-cons, get_or-le-sum_by}
@@ -137,6 +137,15 @@ pub first-within : {v : Nodes} {b : Roster} {first_m : Option MsgLink} {first_d 
 first-within {v = v} {b = b} is view n held =
     let some : 0 < heads n b.hand = (let t = subst (λ (s : StoreValue). IsInHand s n) (sym view) held in let h = times-heads v n b.hand in omega arith) in
     let e = ap (λ (s : StoreValue). length (in_hand s n)) (sym view) ∙ ap length (chain-value v n b.hand some) in omega arith
+
+-- the last block of a message in hand
+pub last-number : {v : Nodes} {b : Roster} {first_m : Option MsgLink} {first_d : Option DataLink} {spare_m spare_d : ℕ} (is : IsRaw v first_m first_d spare_m spare_d b)
+    {s : StoreValue} (view : value_of v b ≡ s) (l : MsgLink) (here : IsHere v b l) {n : ℕ} (name : msg_number v.mat l ≡ n) (most : ℕ) → most ≡ length v.rows
+    → (k : ℕ) → ((is : List ℕ) → IsChain v.rows (msg_number v.mat l) is → length is ≤ most → k ≡ get_or is (length is - 1) 0) → k ≡ get_or (ids (found is l here)) (length (in_hand s n) - 1) 0
+last-number {v = v} is {s = s} view l here {n = n} name most same k last =
+    let few = found-few is l here in
+    let len : length (ids (found is l here)) ≡ length (in_hand s n) = sym (found-len is l here) ∙ (λ j. length (in_hand (view j) (name j))) in
+    last (ids (found is l here)) (found-linked is l here) (omega arith) ∙ ap (λ i. get_or (ids (found is l here)) (i - 1) 0) len
 
 -- the link from a block of a chain to the next one
 pub next-in : (rows : List Row) (i : ℕ) (is : List ℕ) (k : ℕ) → IsChain rows i is → k + 1 < length is → next_of rows (get_or is k 0) ≡ Some (get_or is (k + 1) 0)

@@ -16,3 +16,4 @@ pub mod Ends
 pub mod Joining
 pub mod Writing
 pub mod Edited
+pub mod Appended

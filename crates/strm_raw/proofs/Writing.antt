@@ -1,4 +1,4 @@
--- Bytes that are written into a data block that no message block names.
+-- Bytes that are written into a data block.
 use Rattle.std.proofs.Common.{ℕ, ◌≡◌, ◌≢◌, ◌<◌, ◌-◌, cond, eqb, List, ◌++◌, length, refl, sym, ap, ◌∙◌, arith, inl, inr}
 use Rattle.std.proofs.Math.ListN.{set, length-set, take}
 use Rattle.std.proofs.Math.Seq.{take-append_seam}
@@ -20,7 +20,7 @@ pub front-bytes : (xs ys : List ℕ) → slice_range (xs ++ ys) 0 (length xs) �
 front-bytes xs ys = (let e : length xs - 0 ≡ length xs = omega arith in ap (λ n. take n (xs ++ ys)) e ∙ take-append_seam xs ys)
 
 module _ {v : Nodes} {b : Roster} {first_m : Option MsgLink} {first_d : Option DataLink} {spare_m spare_d : ℕ} (is : IsRaw v first_m first_d spare_m spare_d b)
-    (d : ℕ) (within : d < length v.datas) (none : (data_at d v.datas).references ≡ 0) (bytes : List ℕ) where
+    (d : ℕ) (within : d < length v.datas) (bytes : List ℕ) where
   abbrev x : DataRow
   x = record (data_at d v.datas) { bytes = bytes }
 
@@ -58,7 +58,7 @@ module _ {v : Nodes} {b : Roster} {first_m : Option MsgLink} {first_d : Option D
         there_d = rw len is.there_d;
       }
 
-  block-kept : (j : ℕ) → (row_at j v.rows).number ≢ d → block_no written j ≡ block_no v j
+  pub block-kept : (j : ℕ) → (row_at j v.rows).number ≢ d → block_no written j ≡ block_no v j
   block-kept j other =
       ap (λ (r : DataRow). record { kind = (row_at j v.rows).kind; band = (row_at j v.rows).band; number = (row_at j v.rows).number; bytes = slice_range r.bytes (row_at j v.rows).start (row_at j v.rows).end; room = 256 - (row_at j v.rows).end })
       (get_or-set_other v.datas d (row_at j v.rows).number x no_data other)
@@ -66,18 +66,20 @@ module _ {v : Nodes} {b : Roster} {first_m : Option MsgLink} {first_d : Option D
   unnamed : (j : ℕ) → cond {A = ℕ} (eqb (row_at j v.rows).number d) 1 0 ≡ 0 → (row_at j v.rows).number ≢ d
   unnamed j z = grind (arith, nat_tests)
 
-  chain-kept : (m : Msg) → naming v.rows d m ≡ 0 → chain_of written m ≡ chain_of v m
-  chain-kept m z = map-none (λ j. cond (eqb (row_at j v.rows).number d) 1 0) (block_no written) (block_no v) (λ j z. block-kept j (unnamed j z)) (ids m) z
+  -- where no message block names it
+  module _ (none : (data_at d v.datas).references ≡ 0) where
+    chain-kept : (m : Msg) → naming v.rows d m ≡ 0 → chain_of written m ≡ chain_of v m
+    chain-kept m z = map-none (λ j. cond (eqb (row_at j v.rows).number d) 1 0) (block_no written) (block_no v) (λ j z. block-kept j (unnamed j z)) (ids m) z
 
-  held-kept : (m : Msg) → naming v.rows d m ≡ 0 → held_of written m ≡ held_of v m
-  held-kept m z = ap (λ (c : List Block). record { name = m.head; chain = c }) (chain-kept m z)
+    held-kept : (m : Msg) → naming v.rows d m ≡ 0 → held_of written m ≡ held_of v m
+    held-kept m z = ap (λ (c : List Block). record { name = m.head; chain = c }) (chain-kept m z)
 
-  pub written-value : value_of written b ≡ value_of v b
-  written-value =
-      let z = sym (is.referenced d) ∙ none in
-      λ k. record {
-        lists = lists-apart (naming v.rows d) (chain_of written) (chain_of v) chain-kept b.lists (omega arith) k;
-        hand = hand-apart (naming v.rows d) (held_of written) (held_of v) held-kept b.hand (omega arith) k;
-        mblks = length v.rows;
-        dblks = length-set v.datas d x k;
-      }
+    pub written-value : value_of written b ≡ value_of v b
+    written-value =
+        let z = sym (is.referenced d) ∙ none in
+        λ k. record {
+          lists = lists-apart (naming v.rows d) (chain_of written) (chain_of v) chain-kept b.lists (omega arith) k;
+          hand = hand-apart (naming v.rows d) (held_of written) (held_of v) held-kept b.hand (omega arith) k;
+          mblks = length v.rows;
+          dblks = length-set v.datas d x k;
+        }

@@ -1,8 +1,8 @@
 //! What is written into one block of a message.
-ghost use Rattle.std.specs.Prelude.{◌≡◌, ◌<◌, length};
-ghost use Rattle.strm_blocks.specs.Blocks.{IsInHand, token, in_hand, block_at, changed, with_block, of_kind, banded, trimmed_head, trimmed_tail};
+ghost use Rattle.std.specs.Prelude.{◌≡◌, ◌<◌, length, take};
+ghost use Rattle.strm_blocks.specs.Blocks.{IsInHand, token, in_hand, block_at, changed, with_block, of_kind, banded, trimmed_head, trimmed_tail, taken_by, extended};
 
-use crate::chains::block_link;
+use crate::chains::{block_link, last_link};
 use crate::msg_nodes::MsgNode;
 use crate::raw::RawStore;
 use strm_blocks::InHand;
@@ -73,5 +73,29 @@ impl RawStore {
         let shown = self.memory.datum(node.number).bytes[node.start..node.end].len();
         let end = node.end - n.min(shown);
         self.memory.set_message(link, MsgNode { end, ..node });
+    }
+
+    /// Writes bytes behind the write place of the message's last block, as many as its data block has room for, and none
+    /// where that data block is shared. Returns how many. It takes a step for each block of the message, and the cost of
+    /// the bytes.
+    pub fn append(&mut self, message: &InHand, bytes: &[u8]) -> usize
+        requires { IsInHand self.old (token message.now) }
+        ensures count { let s = self.old in
+            result ≡ taken_by s (in_hand s (token message.now)) (length bytes.now) }
+        ensures written { let s = self.old in
+            self.new ≡ changed s (token message.now)
+            (extended (take result bytes.now) (in_hand s (token message.now))) }
+    {
+        let first = self.memory.message_link(message.name() as usize);
+        let last = last_link(&self.memory, first, self.memory.messages());
+        let node = self.memory.message(last);
+        if self.memory.datum(node.number).references > 1 {
+            return 0;
+        }
+        let count = bytes.len().min(256 - node.end);
+        self.memory.write(node.number, node.end, &bytes[..count]);
+        let end = node.end + count;
+        self.memory.set_message(last, MsgNode { end, ..node });
+        count
     }
 }

@@ -96,6 +96,24 @@ fn a_copy_shows_what_is_left_of_a_block(rt: HostRuntime) -> Result<(), Fail> {
 }
 
 #[test]
+fn an_append_fills_the_last_block_and_no_shared_one(rt: HostRuntime) -> Result<(), Fail> {
+    let mut store = RawStore::new(rt.alloc(), 3, 2)?;
+    let (head, tail) = (store.alloc(MsgKind::Proto)?, store.alloc(MsgKind::Data)?);
+    let message = store.link(head, tail);
+    assert_eq!(rt; store.append(&message, b"abcd"), 4);
+    assert!(rt; store.bytes_at(&message, 1) == b"abcd".as_slice());
+    assert_eq!(rt; store.append(&message, &[7; 300]), 252);
+    assert_eq!(rt;
+        (store.block_len(&message, 0), store.block_len(&message, 1)),
+        (0, 256)
+    );
+    store.trim_tail(&message, 1, 200);
+    let _shared = store.dup(&message, 1)?;
+    assert_eq!(rt; store.append(&message, b"e"), 0);
+    Ok(())
+}
+
+#[test]
 fn two_stores_give_out_equal_numbers(rt: HostRuntime) -> Result<(), Fail> {
     let (mut one, mut other) = (
         RawStore::new(rt.alloc(), 2, 2)?,

@@ -35,13 +35,13 @@ invariant_of-self c =
     let at = c.in-Some.at in let k = c.in-Some-free_data.number in let d = data_number v.dat k in
     let within = taking.place-d is0 k c.in-Some-free_data.is in let none = (taking.alone-d is0 k c.in-Some-free_data.is).1 in
     let old = (data_at d v.datas).bytes in let filled = c.args.bytes.now ++ drop (0 + length c.args.bytes.now) old in
-    let is = writing.written-raw is0 d within none filled in let V = writing.written is0 d within none filled in
+    let is = writing.written-raw is0 d within filled in let V = writing.written is0 d within filled in
     let node : MsgNode = record { kind = c.args.kind; band = c.args.band.0; name = c.message-free.result.name; number = k; start = 0; end = length c.args.bytes.now; next = None; ahead = None; behind = None } in
     let then : Nodes → Nodes = λ w. with_data (data_number w.dat k) (record { next = None; references = 1; bytes = (data_at (data_number w.dat k) w.datas).bytes }) w in
     let memory = c.set_message.ensures ∙ ap (λ (w : Nodes). with_row (msg_number w.mat at) (row_of w.mat w.dat node) w) c.set_datum.ensures
     ∙ ap (λ (w : Nodes). with_row (msg_number (then w).mat at) (row_of (then w).mat (then w).dat node) (then w)) c.write.ensures in
     let x : DataRow = record { next = None; references = 1; bytes = (data_at d V.datas).bytes } in
-    let next_is = ap (λ (r : DataRow). r.next) c.datum.ensures.row ∙ sym (writing.data-kept is0 d within none filled (λ (r : DataRow). r.next) refl d) in
+    let next_is = ap (λ (r : DataRow). r.next) c.datum.ensures.row ∙ sym (writing.data-kept is0 d within filled (λ (r : DataRow). r.next) refl d) in
     let len : length V.datas ≡ length v.datas = length-set v.datas d _ in
     let link = subst (λ n. IsDataOrNone v.dat n c.datum.result.now.next) (sym len) c.datum.ensures.link in
     let refers = taking.refers-first is k c.in-Some-free_data.is x refl refl c.datum.result.now.next next_is link in
@@ -55,19 +55,19 @@ returns c =
     let at = c.in-Some.at in let k = c.in-Some-free_data.number in let d = data_number v.dat k in
     let within = taking.place-d is0 k c.in-Some-free_data.is in let none = (taking.alone-d is0 k c.in-Some-free_data.is).1 in
     let old = (data_at d v.datas).bytes in let filled = c.args.bytes.now ++ drop (0 + length c.args.bytes.now) old in
-    let is = writing.written-raw is0 d within none filled in let V = writing.written is0 d within none filled in
+    let is = writing.written-raw is0 d within filled in let V = writing.written is0 d within filled in
     let node : MsgNode = record { kind = c.args.kind; band = c.args.band.0; name = c.message-free.result.name; number = k; start = 0; end = length c.args.bytes.now; next = None; ahead = None; behind = None } in
     let then : Nodes → Nodes = λ w. with_data (data_number w.dat k) (record { next = None; references = 1; bytes = (data_at (data_number w.dat k) w.datas).bytes }) w in
     let memory = c.set_message.ensures ∙ ap (λ (w : Nodes). with_row (msg_number w.mat at) (row_of w.mat w.dat node) w) c.set_datum.ensures
     ∙ ap (λ (w : Nodes). with_row (msg_number (then w).mat at) (row_of (then w).mat (then w).dat node) (then w)) c.write.ensures in
     let x : DataRow = record { next = None; references = 1; bytes = (data_at d V.datas).bytes } in
-    let next_is = ap (λ (r : DataRow). r.next) c.datum.ensures.row ∙ sym (writing.data-kept is0 d within none filled (λ (r : DataRow). r.next) refl d) in
+    let next_is = ap (λ (r : DataRow). r.next) c.datum.ensures.row ∙ sym (writing.data-kept is0 d within filled (λ (r : DataRow). r.next) refl d) in
     let len : length V.datas ≡ length v.datas = length-set v.datas d _ in
     let link = subst (λ n. IsDataOrNone v.dat n c.datum.result.now.next) (sym len) c.datum.ensures.link in
     let refers = taking.refers-first is k c.in-Some-free_data.is x refl refl c.datum.result.now.next next_is link in
     let straight : askew (row_of v.mat v.dat node) ≡ 0 = omega (arith, c.requires) in
     let named : msg_number v.mat at ≡ c.of.result.name = sym (c.of.ensures ∙ c.message-free.ensures.name) in
-    let same = writing.written-value is0 d within none filled in
+    let same = writing.written-value is0 d within filled none in
     let row_next = ap (λ (r : Row). r.next) c.message-free.ensures.row in
     let value = (λ j. value_of (memory j) (c.note.ensures j)) ∙ taking.added-value is at c.in-Some.is (row_of v.mat v.dat node) refl straight c.message-free.result.next row_next c.message-free.ensures.links.next _ _ _ _ refers in
     let kept = taking.shown-kept V.datas _ refers.bytes (row_of v.mat v.dat node) in

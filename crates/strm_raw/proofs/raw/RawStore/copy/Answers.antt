@@ -31,7 +31,7 @@ returns c =
     let here = finding.here-by v c.self.inside.ledger.roster _ c.self.view_is l (token c.args.message.now) _ c.message_link-first.ensures.there c.message_link-first.ensures.number c.name.ensures c.requires.in_hand in
     let node = c.message-block.result in
     let number = data_number v.dat node.number in
-    let block = edited.block-is is c.self.view_is l here (c.message_link-first.ensures.number ∙ c.name.ensures) c.args.at c.requires.within k c.block_link-link.ensures.number ∙ ap (λ (r : Row). shown v.datas r) (sym c.message-block.ensures.row)
+    let block = edited.block-is is c.self.view_is l here (c.message_link-first.ensures.number ∙ c.name.ensures) c.args.at c.requires.within k (c.block_link-link.ensures.number _ (finding.found-linked is l here)) ∙ ap (λ (r : Row). shown v.datas r) (sym c.message-block.ensures.row)
     ∙ ap (λ (d : DataRow). record { kind = node.kind; band = node.band; number = number; bytes = slice_range d.bytes node.start node.end; room = 256 - node.end }) (sym c.datum.ensures.row) in
     subst (λ (b : Block). MatchResult c.alloc_with.result (λ m. Copied c.args.self.now c.alloc_with.new.self (token m) b) (λ _. NoneFree c.args.self.now c.alloc_with.new.self)) (sym block)
     (recopied c.args.self.now c.alloc_with.new.self _ number (256 - node.end) c.alloc_with.result c.alloc_with.ensures)

@@ -13,7 +13,7 @@ invariant_of-self c =
     let v = c.self.inside.memory in let is = c.self.invariant in let l = c.message_link-first.result in let k = c.block_link-link.result in
     let here = finding.here-by v c.self.inside.ledger.roster _ c.self.view_is l (token c.args.message.now) _ c.message_link-first.ensures.there c.message_link-first.ensures.number c.name.ensures c.requires.in_hand in
     let written = c.set_message.ensures ∙ ap (λ (r : Row). with_row (msg_number v.mat k) (record r { kind = c.args.kind }) v) c.message-node.ensures.row in
-    edited.edited-raw is c.self.view_is l here (c.message_link-first.ensures.number ∙ c.name.ensures) c.args.at c.requires.within k c.block_link-link.ensures.number _ _ written refl refl (is.straight (msg_number v.mat k))
+    edited.edited-raw is c.self.view_is l here (c.message_link-first.ensures.number ∙ c.name.ensures) c.args.at c.requires.within k (c.block_link-link.ensures.number _ (finding.found-linked is l here)) _ _ written refl refl (is.straight (msg_number v.mat k))
 
 pub returns : goal.returns
 returns c =
@@ -21,5 +21,5 @@ returns c =
     let here = finding.here-by v c.self.inside.ledger.roster _ c.self.view_is l (token c.args.message.now) _ c.message_link-first.ensures.there c.message_link-first.ensures.number c.name.ensures c.requires.in_hand in
     let written = c.set_message.ensures ∙ ap (λ (r : Row). with_row (msg_number v.mat k) (record r { kind = c.args.kind }) v) c.message-node.ensures.row in
     let name = c.message_link-first.ensures.number ∙ c.name.ensures in
-    let block = edited.block-is is c.self.view_is l here name c.args.at c.requires.within k c.block_link-link.ensures.number in
-    edited.edited-value is c.self.view_is l here name c.args.at c.requires.within k c.block_link-link.ensures.number _ _ written _ (sym (ap (of_kind c.args.kind) block))
+    let block = edited.block-is is c.self.view_is l here name c.args.at c.requires.within k (c.block_link-link.ensures.number _ (finding.found-linked is l here)) in
+    edited.edited-value is c.self.view_is l here name c.args.at c.requires.within k (c.block_link-link.ensures.number _ (finding.found-linked is l here)) _ _ written _ (sym (ap (of_kind c.args.kind) block))

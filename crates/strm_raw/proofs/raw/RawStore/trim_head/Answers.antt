@@ -16,7 +16,7 @@ invariant_of-self c =
     let row = c.message-node.ensures.row in
     let old : askew (row_of v.mat v.dat c.message-node.result) ≡ 0 = ap (λ (r : Row). askew r) row ∙ is.straight (msg_number v.mat k) in
     let m = c.min.ensures in
-    edited.edited-raw is c.self.view_is l here (c.message_link-first.ensures.number ∙ c.name.ensures) c.args.at c.requires.within k c.block_link-link.ensures.number _ _ c.set_message.ensures (ap (λ (r : Row). r.next) row) (ap (λ (r : Row). r.number) row) (omega arith)
+    edited.edited-raw is c.self.view_is l here (c.message_link-first.ensures.number ∙ c.name.ensures) c.args.at c.requires.within k (c.block_link-link.ensures.number _ (finding.found-linked is l here)) _ _ c.set_message.ensures (ap (λ (r : Row). r.next) row) (ap (λ (r : Row). r.number) row) (omega arith)
 
 pub returns : goal.returns
 returns c =
@@ -26,6 +26,6 @@ returns c =
     let row = c.message-node.ensures.row in
     let old : askew (row_of v.mat v.dat c.message-node.result) ≡ 0 = ap (λ (r : Row). askew r) row ∙ is.straight (msg_number v.mat k) in
     let m = c.min.ensures in
-    let block = edited.block-is is c.self.view_is l here name c.args.at c.requires.within k c.block_link-link.ensures.number ∙ ap (λ (r : Row). shown v.datas r) (sym row) in
+    let block = edited.block-is is c.self.view_is l here name c.args.at c.requires.within k (c.block_link-link.ensures.number _ (finding.found-linked is l here)) ∙ ap (λ (r : Row). shown v.datas r) (sym row) in
     let trimmed = edited.head-is v.datas (row_of v.mat v.dat c.message-node.result) old (ap (λ (d : DataRow). length d.bytes) (sym c.datum.ensures.row) ∙ c.datum.ensures.sized) c.args.n c.min.result (omega arith) in
-    edited.edited-value is c.self.view_is l here name c.args.at c.requires.within k c.block_link-link.ensures.number _ _ c.set_message.ensures _ (trimmed ∙ sym (ap (λ b. trimmed_head c.args.n b) block))
+    edited.edited-value is c.self.view_is l here name c.args.at c.requires.within k (c.block_link-link.ensures.number _ (finding.found-linked is l here)) _ _ c.set_message.ensures _ (trimmed ∙ sym (ap (λ b. trimmed_head c.args.n b) block))
