@@ -17,13 +17,17 @@ use Rattle.strm_raw.proofs.Apart.{hand-apart, lists-apart, map-none, map-one}
 use Rattle.strm_raw.proofs.Finding.{sum-without, found, found-some, found-chain, found-len, found-block}
 use Rattle.strm_raw.proofs.Parting.{row-keeps}
 
+-- how many bytes a block shows
+pub shown-len : (datas : List DataRow) (r : Row) → askew r ≡ 0 → length (data_at r.number datas).bytes ≡ 256 → length (shown datas r).bytes ≡ r.end - r.start
+shown-len datas r straight sized = length-range (data_at r.number datas).bytes r.start r.end (omega arith) (omega arith)
+
 -- the read place moved on, and the write place moved back
 module _ (datas : List DataRow) (r : Row) (straight : askew r ≡ 0) (sized : length (data_at r.number datas).bytes ≡ 256) (n m : ℕ) (few : m ≡ min n (r.end - r.start)) where
   abbrev xs : List ℕ
   xs = (shown datas r).bytes
 
   long : length xs ≡ r.end - r.start
-  long = length-range (data_at r.number datas).bytes r.start r.end (omega arith) (omega arith)
+  long = shown-len datas r straight sized
 
   pub head-is : shown datas (record r { start = r.start + m }) ≡ trimmed_head n (shown datas r)
   head-is =

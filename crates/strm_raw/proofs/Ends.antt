@@ -1,9 +1,11 @@
 -- A walk to the last block of a chain.
-use Rattle.std.proofs.Common.{ℕ, ◌≡◌, ◌≤◌, ◌<◌, ◌+◌, ◌-◌, List, ◌∷◌, length, get_or, true, false, ltb, refl, sym, ap, ◌∙◌, arith}
-use Rattle.std.specs.Prelude.{Option, Some, None, option_map}
+use Rattle.std.proofs.Common.{ℕ, ◌≡◌, ◌≤◌, ◌<◌, ◌+◌, ◌-◌, ◌*◌, List, ◌∷◌, length, get_or, take, true, false, ltb, refl, sym, ap, ◌∙◌, arith}
+use Rattle.std.specs.Prelude.{Option, Some, None, option_map, sum_by}
 use Rattle.std.proofs.lemmas.Bool.Decides.{nat_tests}
+use Rattle.std.proofs.lemmas.List.{take_all}
+use Rattle.std.proofs.lemmas.List.Sums.{sum_by_more}
 use Rattle.strm_raw.specs.Numbered.{Nodes, IsMsg, msg_number}
-use Rattle.strm_raw.specs.Raw.{IsChain, next_of}
+use Rattle.strm_raw.specs.Raw.{IsChain, next_of, block_no}
 use Rattle.strm_raw.specs.declared.msg_nodes.MsgLink.{MsgLink}
 use Rattle.strm_raw.proofs.Finding.{next-in, ends-in}
 use Rattle.strm_raw.proofs.Standing.{begun}
@@ -65,3 +67,43 @@ module _ (v : Nodes) (first link : MsgLink) (most left : ℕ) (o : Option MsgLin
           | false ↦ (λ t. let here = n.0 in let e : at + 1 ≡ length is = grind (arith, nat_tests) in absurd (some-none _ _ yes (ends-in v.rows _ is at c e)))
         ] refl);
   }
+
+-- the bytes of the blocks so far
+abbrev pub bytes_no : Nodes → ℕ → ℕ
+bytes_no v i = length (block_no v i).bytes
+
+pub record Summing (v : Nodes) (first link : MsgLink) (most left bytes : ℕ) : Type 0 where
+  pub walk : Passing v first link most left
+  pub few : bytes ≤ 256 * (most - left)
+  pub sum : (is : List ℕ) → IsChain v.rows (msg_number v.mat first) is → length is ≤ most → bytes ≡ sum_by (bytes_no v) (take (most - left) is)
+
+pub sum-begins : (v : Nodes) (first : MsgLink) (most : ℕ) → IsMsg v.mat (length v.rows) first → Summing v first first most most 0
+sum-begins v first most there = record {
+  walk = pass-begins v first most there;
+  few = omega arith;
+  sum = λ is c few. (let e : most - most ≡ 0 = omega arith in sym (ap (λ k. sum_by (bytes_no v) (take k is)) e));
+}
+
+module _ (v : Nodes) (first link : MsgLink) (most left bytes more : ℕ) (s : Summing v first link most left bytes) (goes : 0 < left) (here : more ≡ bytes_no v (msg_number v.mat link))
+    (o : Option MsgLink) (row : option_map (msg_number v.mat) o ≡ next_of v.rows (msg_number v.mat link)) where
+  -- those of one more block
+  sum-more : (is : List ℕ) → IsChain v.rows (msg_number v.mat first) is → length is ≤ most → bytes + more ≡ sum_by (bytes_no v) (take (most - left + 1) is)
+  sum-more is c few =
+      let n = s.walk.number is c few in let t = s.sum is c few in
+      let e = here ∙ ap (λ i. bytes_no v i) n.1 in
+      omega (arith, sum_by_more (bytes_no v) is (most - left) 0 n.0)
+
+  -- where no link leads on, those are all
+  pub sum-ends : o ≡ None → (is : List ℕ) → IsChain v.rows (msg_number v.mat first) is → length is ≤ most → bytes + more ≡ sum_by (bytes_no v) is
+  sum-ends none is c few =
+      let k = pass-counts v first link most left o s.walk goes row none is c few in
+      sum-more is c few ∙ ap (λ xs. sum_by (bytes_no v) xs) (take_all (most - left + 1) is (omega arith))
+
+  pub sum-steps : more ≤ 256 → (next : MsgLink) → o ≡ Some next → IsMsg v.mat (length v.rows) next → Summing v first next most (left - 1) (bytes + more)
+  sum-steps few next some there =
+      let le = s.walk.within in let b = s.few in let e : most - left + 1 ≡ most - (left - 1) = omega arith in
+      record {
+        walk = pass-steps v first link most left o s.walk goes row next some there;
+        few = omega arith;
+        sum = λ is c few. sum-more is c few ∙ ap (λ k. sum_by (bytes_no v) (take k is)) e;
+      }

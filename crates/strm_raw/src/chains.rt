@@ -1,7 +1,7 @@
 //! Walks along the links of a chain.
-ghost use Rattle.std.specs.Prelude.{ℕ, ◌≡◌, ◌<◌, ◌≤◌, ◌-◌, List, length, slice_index_or};
-ghost use Rattle.strm_raw.specs.Numbered.{IsMsg, msg_number};
-ghost use Rattle.strm_raw.specs.Raw.{IsChain};
+ghost use Rattle.std.specs.Prelude.{ℕ, ◌≡◌, ◌<◌, ◌≤◌, ◌-◌, List, length, slice_index_or, sum_by};
+ghost use Rattle.strm_raw.specs.Numbered.{IsMsg, msg_number, row_at};
+ghost use Rattle.strm_raw.specs.Raw.{IsChain, askew, block_no};
 
 use crate::memory::Memory;
 use crate::msg_nodes::MsgLink;
@@ -59,4 +59,27 @@ pub(crate) fn chain_len(memory: &Memory, first: MsgLink, most: usize) -> usize
         left -= 1;
     }
     most
+}
+
+/// How many bytes the blocks of a chain of at most so many blocks show.
+pub(crate) fn chain_bytes(memory: &Memory, first: MsgLink, most: usize) -> usize
+    requires there { IsMsg memory.now.mat (length memory.now.rows) first }
+    requires straight { (i : ℕ) → askew (row_at i memory.now.rows) ≡ 0 }
+    requires few { most ≤ 65536 }
+    ensures { (is : List ℕ) → IsChain memory.now.rows (msg_number memory.now.mat first) is → length is ≤ most
+        → result ≡ sum_by (λ i. length (block_no memory.now i).bytes) is }
+{
+    let mut link = first;
+    let mut left = most;
+    let mut bytes = 0;
+    while left > 0 {
+        let node = memory.message(link);
+        bytes += memory.datum(node.number).bytes[node.start..node.end].len();
+        let Some(next) = node.next else {
+            return bytes;
+        };
+        link = next;
+        left -= 1;
+    }
+    bytes
 }

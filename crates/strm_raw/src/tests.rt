@@ -4,7 +4,7 @@ ghost use Rattle.strm_blocks.specs.Blocks.{IsInHand, in_hand, token};
 
 use crate::raw::RawStore;
 use std::test::Fail;
-use strm_blocks::{InHand, NoBlocks};
+use strm_blocks::{InHand, NoBlocks, Summary};
 use strm_types::{Band, MsgKind};
 
 // Whether a block more of the message's data block is refused, after so many were taken, each of which is given back.
@@ -89,7 +89,8 @@ fn a_copy_shows_what_is_left_of_a_block(rt: HostRuntime) -> Result<(), Fail> {
     let copied = store.copy(&whole, 0)?;
     assert_eq!(rt; store.free_blocks(), (0, 0));
     assert!(rt; store.bytes_at(&copied, 0) == b"cd".as_slice());
-    assert!(rt; store.kind(&copied, 0) == MsgKind::Proto && store.band(&copied) == Band(3));
+    let Summary { kind, band, bytes } = store.summary(&copied);
+    assert!(rt; kind == MsgKind::Proto && band == Band(3) && bytes == 2);
     store.free(whole);
     assert_eq!(rt; store.free_blocks(), (1, 1));
     Ok(())
