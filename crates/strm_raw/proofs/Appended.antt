@@ -72,13 +72,10 @@ module _ {v : Nodes} {b : Roster} {first_m : Option MsgLink} {first_d : Option D
     pub appended-raw : IsRaw v' first_m first_d spare_m spare_d b
     appended-raw = rw v2-is (row-raw (writing.written-raw is d there bytes) t t-there x (ap (λ (y : Row). y.next) row-is) (ap (λ (y : Row). y.number) row-is) (let o = straight in omega arith))
 
-    other : (j : ℕ) → cond {A = ℕ} (eqb (row_at j v.rows).number d) 1 0 ≡ 0 → (row_at j v.rows).number ≢ d
-    other j z = grind (arith, nat_tests)
-
     block-other : (j : ℕ) → cond {A = ℕ} (eqb (row_at j v.rows).number d) 1 0 ≡ 0 → block_no v2 j ≡ block_no v j
     block-other j z =
-        let apart : j ≢ t = λ e. other j z (ap (λ i. (row_at i v.rows).number) e ∙ ap (λ (y : Row). y.number) (sym row-is)) in
-        ap (λ (y : Row). shown v1.datas y) (get_or-set_other v.rows t j x no_row apart) ∙ writing.block-kept is d there bytes j (other j z)
+        let apart : j ≢ t = λ e. writing.unnamed is d there bytes j z (ap (λ i. (row_at i v.rows).number) e ∙ ap (λ (y : Row). y.number) (sym row-is)) in
+        ap (λ (y : Row). shown v1.datas y) (get_or-set_other v.rows t j x no_row apart) ∙ writing.block-kept is d there bytes j (writing.unnamed is d there bytes j z)
 
     block-new : block_no v2 t ≡ written new (shown v.datas r)
     block-new =

@@ -63,7 +63,7 @@ module _ {v : Nodes} {b : Roster} {first_m : Option MsgLink} {first_d : Option D
       ap (λ (r : DataRow). record { kind = (row_at j v.rows).kind; band = (row_at j v.rows).band; number = (row_at j v.rows).number; bytes = slice_range r.bytes (row_at j v.rows).start (row_at j v.rows).end; room = 256 - (row_at j v.rows).end })
       (get_or-set_other v.datas d (row_at j v.rows).number x no_data other)
 
-  unnamed : (j : ℕ) → cond {A = ℕ} (eqb (row_at j v.rows).number d) 1 0 ≡ 0 → (row_at j v.rows).number ≢ d
+  pub unnamed : (j : ℕ) → cond {A = ℕ} (eqb (row_at j v.rows).number d) 1 0 ≡ 0 → (row_at j v.rows).number ≢ d
   unnamed j z = grind (arith, nat_tests)
 
   -- where no message block names it

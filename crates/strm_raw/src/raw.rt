@@ -178,7 +178,7 @@ impl RawStore {
 
     /// Takes a message block and a data block, and copies into it the bytes that block `at` of the message shows:
     /// `copyb(9F)`. `NoBlocks` where none of either kind is free. It takes a step for each block of the message before that
-    /// one, and the cost of the bytes.
+    /// one, and copies 512 bytes at most.
     pub fn copy(&mut self, message: &InHand, at: usize) -> Result<InHand, NoBlocks>
         requires in_hand { IsInHand self.old (token message.now) }
         requires within { at < length (in_hand self.old (token message.now)) }
