@@ -54,7 +54,7 @@ class Process:
     """What one run of the checker is for, and what it has used."""
 
     def __init__(self, number, words):
-        self.number, self.seconds = number, 0.0
+        self.number, self.start, self.seconds = number, start_of(number), 0.0
         named = words.index("--crate-name") if "--crate-name" in words else None
         self.crate = words[named + 1] if named else ""
         folder = ""
@@ -76,6 +76,12 @@ def parent_of(number):
     return words[1] if len(words) > 1 else ""
 
 
+def start_of(number):
+    """When a process began: numbers are given anew."""
+    words = text_of(f"/proc/{number}/stat").rpartition(")")[2].split()
+    return words[19] if len(words) > 19 else ""
+
+
 def is_below(number, above):
     """Whether a process was started by another one, or by one that this started."""
     while number not in ("", "0", above):
@@ -90,7 +96,7 @@ def is_checker(words):
 def look_around(gate, known, seen):
     """Adds the gate's new processes of the checker, in order of their start, and takes what each has used."""
     for number in sorted((name for name in os.listdir("/proc") if name.isdigit()), key=int):
-        if number in known:
+        if number in known and known[number].start == start_of(number):
             known[number].look()
             continue
         words = text_of(f"/proc/{number}/cmdline").split("\0")
