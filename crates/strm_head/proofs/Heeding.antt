@@ -1,5 +1,5 @@
 -- What is read of the first bytes of a message that says something to a head.
-use Rattle.std.proofs.Common.{ℕ, ◌≡◌, ◌≤◌, ◌+◌, ◌-◌, min, Bool, true, false, cond, List, [], ◌∷◌, length, take, drop, refl, sym, ap, ◌∙◌, arith}
+use Rattle.std.proofs.Common.{ℕ, ◌≡◌, ◌≤◌, ◌+◌, ◌-◌, min, Bool, cond, List, [], ◌∷◌, length, take, drop, refl, sym, ap, ◌∙◌, arith}
 use Rattle.std.specs.Int.{w32, from_be_bytes}
 use Rattle.std.specs.Prelude.{nat_le, ◌==◌, Option, None, Some}
 use Rattle.std.proofs.lemmas.Bool.Decides.{nat_tests}
@@ -11,7 +11,7 @@ use Rattle.strm_types.specs.declared.options.Marks.{Marks}
 use Rattle.strm_types.specs.declared.options.Options.{Options}
 use Rattle.strm_types.specs.declared.slots.Slot.TheVariants as slots
 use Rattle.strm_types.specs.Options.{are_marks, marks_in, mode_numbered, nothing_set, options_in}
-use Rattle.strm_types.specs.Slots.{PlainSlot, ack_body, slot_answered, slot_told, with_answer}
+use Rattle.strm_types.specs.Slots.{PlainSlot, answer_body, slot_answered, slot_told, with_answer}
 use Rattle.strm_msg.specs.Taken.{filled}
 use Rattle.strm_msg.proofs.Gathering.{filled-first}
 
@@ -37,27 +37,25 @@ ioc-first n bytes few =
     (word-first n 0 n bytes (omega arith) (omega arith)) (word-first n 4 (n - 4) bytes (omega arith) (omega arith)) (word-first n 8 (n - 8) bytes (omega arith) (omega arith)) (word-first n 12 (n - 12) bytes (omega arith) (omega arith))
 
 -- as many bytes behind the header as there is room for
-pub body-first : (bytes : List ℕ) (n : ℕ) → n ≡ min (length (take (length bytes - 16) (drop 16 bytes))) 256 → take n (take (length bytes - 16) (drop 16 bytes)) ≡ ack_body bytes
+pub body-first : (bytes : List ℕ) (n : ℕ) → n ≡ min (length (take (length bytes - 16) (drop 16 bytes))) 256 → take n (take (length bytes - 16) (drop 16 bytes)) ≡ answer_body bytes
 body-first bytes n is =
     let whole : take (length bytes - 16) (drop 16 bytes) ≡ drop 16 bytes = take_all (length bytes - 16) (drop 16 bytes) (omega (arith, length-drop 16 bytes)) in
     let few : n ≡ min 256 (length (drop 16 bytes)) = omega (arith, is, ap length whole) in
     ap (λ xs. take n xs) whole ∙ ap (λ k. take k (drop 16 bytes)) few ∙ take_min 256 (drop 16 bytes)
 
 -- the answer of an ioctl, by its first 272 bytes
-ack-first : (bytes : List ℕ) → ack_body (take 272 bytes) ≡ ack_body bytes
-ack-first bytes = ap (λ xs. take 256 xs) (drop-take 16 256 bytes) ∙ take-take 256 256 (drop 16 bytes) (omega arith)
+behind-first : (bytes : List ℕ) → answer_body (take 272 bytes) ≡ answer_body bytes
+behind-first bytes = ap (λ xs. take 256 xs) (drop-take 16 256 bytes) ∙ take-take 256 256 (drop 16 bytes) (omega arith)
 
 answer-same : (is_ack : Bool) (number command : ℕ) (ioc : Ioc) (bytes : List ℕ) → with_answer is_ack number command ioc (take 272 bytes) ≡ with_answer is_ack number command ioc bytes
-answer-same true number command ioc bytes = ap (λ xs. slots.Acked number command xs) (ack-first bytes)
-answer-same false number command ioc bytes = refl
+answer-same is_ack number command ioc bytes = ap (λ xs. slots.Answered number command is_ack ioc.error xs) (behind-first bytes)
 
 told-same : (is_ack : Bool) (known : Option Ioc) (bytes : List ℕ) (slot : PlainSlot) → slot_told is_ack known (take 272 bytes) slot ≡ slot_told is_ack known bytes slot
 told-same is_ack None bytes slot = refl
 told-same is_ack (Some ioc) bytes slots.Free = refl
 told-same is_ack (Some ioc) bytes (slots.Waiting number command) =
     ap (λ (after : PlainSlot). cond (ioc.number == number) after (slots.Waiting number command)) (answer-same is_ack number command ioc bytes)
-told-same is_ack (Some ioc) bytes (slots.Acked number command body) = refl
-told-same is_ack (Some ioc) bytes (slots.Nacked number command refusal) = refl
+told-same is_ack (Some ioc) bytes (slots.Answered number command acked error body) = refl
 
 pub answered-first : (is_ack : Bool) (bytes : List ℕ) (slot : PlainSlot) → slot_answered is_ack (take 272 bytes) slot ≡ slot_answered is_ack bytes slot
 answered-first is_ack bytes slot =

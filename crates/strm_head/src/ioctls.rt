@@ -7,7 +7,7 @@ ghost use Rattle.strm_types.specs.Ioctls.{ioctl_message};
 ghost use Rattle.strm_types.specs.Journal.{answer_len, reply_in};
 ghost use Rattle.strm_types.specs.Message.{Message};
 ghost use Rattle.strm_types.specs.Slots as slots;
-ghost use Rattle.strm_types.specs.Slots.{ack_body, is_free, slot_answered, slot_behind, told_of, with_answer};
+ghost use Rattle.strm_types.specs.Slots.{answer_body, is_free, slot_answered, slot_behind, told_of, with_answer};
 ghost use Rattle.strm_blocks.specs.Blocks.{StoreValue, free_m, free_d, token};
 ghost use Rattle.strm_head.specs.Heads.{head_in, plain_slot};
 ghost use Rattle.strm_head.specs.Sending.{ioctl_blocks, Sends};
@@ -27,10 +27,10 @@ pub type IoctlBytes = ArrayVec<u8, IOCTL_MAX>;
 /// How many bytes the header of an ioctl message has.
 pub(crate) const HEADER: usize = 16;
 
-// What stands behind the header of an M_IOCACK, 256 bytes at most.
-fn ack_body(bytes: &[u8]) -> IoctlBytes
+// What stands behind the header of an answer, 256 bytes at most.
+fn answer_body(bytes: &[u8]) -> IoctlBytes
     requires { HEADER ≤ length bytes.now }
-    ensures { result.items ≡ ack_body bytes.now }
+    ensures { result.items ≡ answer_body bytes.now }
 {
     let rest = &bytes[HEADER..];
     let count = rest.len().min(IOCTL_MAX);
@@ -44,18 +44,12 @@ fn with_answer(is_ack: bool, number: u32, command: u32, ioc: Ioc, bytes: &[u8]) 
     requires { HEADER ≤ length bytes.now }
     ensures { plain_slot result ≡ with_answer is_ack number command ioc bytes.now }
 {
-    if is_ack {
-        Slot::Acked {
-            number,
-            command,
-            body: ack_body(bytes),
-        }
-    } else {
-        Slot::Nacked {
-            number,
-            command,
-            refusal: Refusal::numbered(ioc.error),
-        }
+    Slot::Answered {
+        number,
+        command,
+        acked: is_ack,
+        error: ioc.error,
+        body: answer_body(bytes),
     }
 }
 
@@ -114,8 +108,13 @@ fn tell(slot: &Slot<IoctlBytes>, out: &mut Content) -> Answer<usize>
     match slot {
         Slot::Free => Answer::Done,
         Slot::Waiting { number, .. } => Answer::Pending(*number),
-        Slot::Acked { command, body, .. } => give(*command, body.as_slice(), out),
-        Slot::Nacked { refusal, .. } => Answer::Nak(*refusal),
+        Slot::Answered {
+            acked: true,
+            command,
+            body,
+            ..
+        } => give(*command, body.as_slice(), out),
+        Slot::Answered { error, .. } => Answer::Nak(Refusal::numbered(*error)),
     }
 }
 
@@ -168,7 +167,7 @@ impl Head {
     {
         match self.ioctl {
             Slot::Waiting { number, .. } => Some(number),
-            Slot::Free | Slot::Acked { .. } | Slot::Nacked { .. } => None,
+            Slot::Free | Slot::Answered { .. } => None,
         }
     }
 
@@ -183,10 +182,12 @@ impl Head {
             return;
         };
         if met {
-            self.ioctl = Slot::Nacked {
+            self.ioctl = Slot::Answered {
                 number,
                 command,
-                refusal: Refusal::Einval,
+                acked: false,
+                error: Refusal::Einval.number().into(),
+                body: ArrayVec::new(),
             };
         }
     }
@@ -198,7 +199,7 @@ impl Head {
         let (own, refusal) = match &self.ioctl {
             Slot::Free => return Some(Refusal::Einval),
             Slot::Waiting { number, .. } => (*number, Some(Refusal::Eagain)),
-            Slot::Acked { number, .. } | Slot::Nacked { number, .. } => (*number, None),
+            Slot::Answered { number, .. } => (*number, None),
         };
         if own == number {
             refusal

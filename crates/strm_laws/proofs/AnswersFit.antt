@@ -10,7 +10,7 @@ use Rattle.strm_types.specs.declared.modes.Wanted.{Wanted}
 use Rattle.strm_types.specs.declared.names.ModuleName.{ModuleName}
 use Rattle.strm_types.specs.declared.names.Side.{Side}
 use Rattle.strm_types.specs.declared.names.Way.TheVariants.{Down}
-use Rattle.strm_types.specs.declared.slots.Slot.TheVariants.{Free, Waiting, Acked, Nacked}
+use Rattle.strm_types.specs.declared.slots.Slot.TheVariants.{Free, Waiting, Answered}
 use Rattle.strm_types.specs.Events.{Request, content_of}
 use Rattle.strm_laws.specs.Calls.{called, get_at, ioctl_begun, ioctl_sent, name_told, read_at}
 use Rattle.strm_types.specs.Cells.{Cells, bytes_of}
@@ -58,8 +58,8 @@ module _ {C : Type 0} (cells : Cells C) where
   answer-fits : (slot : PlainSlot) → length (answer_bytes slot) ≤ IOCTL_MAX → length (content_of (told_of slot)) ≤ IOCTL_MAX
   answer-fits Free fits = omega arith
   answer-fits (Waiting number command) fits = omega arith
-  answer-fits (Nacked number command refusal) fits = omega arith
-  answer-fits (Acked number command body) fits = at (gives_nothing command)
+  answer-fits (Answered number command false error body) fits = omega arith
+  answer-fits (Answered number command true error body) fits = at (gives_nothing command)
     where
       at : (none : Bool) → length (content_of (cond none Done (Bytes body))) ≤ IOCTL_MAX
       at true = omega arith

@@ -9,7 +9,7 @@ use Rattle.strm_types.specs.declared.names.Side.{Side}
 use Rattle.strm_types.specs.declared.names.Side.TheVariants.{Master, Slave}
 use Rattle.strm_types.specs.declared.refusals.Refusal.{Refusal}
 use Rattle.strm_types.specs.declared.refusals.Refusal.TheVariants.{Einval, Eagain}
-use Rattle.strm_types.specs.declared.slots.Slot.TheVariants.{Free, Waiting, Acked, Nacked}
+use Rattle.strm_types.specs.declared.slots.Slot.TheVariants.{Free, Waiting, Answered}
 use Rattle.strm_types.specs.Events.{Reply}
 use Rattle.strm_laws.specs.Calls.{called, ioctl_sent, ioctl_told}
 use Rattle.strm_types.specs.Cells.{Cells}
@@ -26,8 +26,7 @@ answered-free number (Waiting n command) none = at (n == number) none
     at : (same : Bool) → cond same (Some Eagain) (Some Einval) ≡ None → ◌≡◌ {A = PlainSlot} (Waiting n command) Free
     at true is = absurd (cc)
     at false is = absurd (cc)
-answered-free number (Acked n command body) none = refl
-answered-free number (Nacked n command refusal) none = refl
+answered-free number (Answered n command acked error body) none = refl
 
 -- the number of a slot that waits
 same-number : (n : ℕ) (same : Option Refusal) → unless_same n n same ≡ same
@@ -40,18 +39,17 @@ same-number n same = at (n == n) refl
 waits-told : (number : ℕ) (slot : PlainSlot) → told_of slot ≡ Pending number → result_refusal number (slot_behind slot) ≡ Some Eagain
 waits-told number Free is = absurd (cc)
 waits-told number (Waiting n command) is = let same : number ≡ n = cc in ap (λ k. unless_same n k (Some Eagain)) same ∙ same-number n (Some Eagain)
-waits-told number (Acked n command body) is = at (gives_nothing command) is
+waits-told number (Answered n command true error body) is = at (gives_nothing command) is
   where
     at : (none : Bool) → ◌≡◌ {A = Reply} (cond none Done (Bytes body)) (Pending number) → Some Einval ≡ Some Eagain
     at true is = absurd (cc)
     at false is = absurd (cc)
-waits-told number (Nacked n command refusal) is = absurd (cc)
+waits-told number (Answered n command false error body) is = absurd (cc)
 
 free-or-waits : (asked : ℕ) (slot : PlainSlot) → (result_refusal asked (slot_behind slot) ≡ Some Einval) ⊎ ((number : ℕ) × (told_of slot ≡ Pending number))
 free-or-waits asked Free = inl refl
 free-or-waits asked (Waiting n command) = inr (n, refl)
-free-or-waits asked (Acked n command body) = inl refl
-free-or-waits asked (Nacked n command refusal) = inl refl
+free-or-waits asked (Answered n command acked error body) = inl refl
 
 module _ {C : Type 0} where
   slot-there : (side : Side) (slot : PlainSlot) (s : State C) → (stream side (with_ioctl side slot s)).head.ioctl ≡ slot

@@ -17,7 +17,7 @@ use Rattle.strm_types.specs.declared.names.Side.{Side}
 use Rattle.strm_types.specs.declared.names.Side.TheVariants.{Master, Slave}
 use Rattle.strm_types.specs.declared.refusals.Refusal.{Refusal}
 use Rattle.strm_types.specs.declared.refusals.Refusal.TheVariants.{Einval, Eagain, Enxio, Enosr, Erange, JournalFull}
-use Rattle.strm_types.specs.declared.slots.Slot.TheVariants.{Free, Waiting, Acked, Nacked}
+use Rattle.strm_types.specs.declared.slots.Slot.TheVariants.{Free, Waiting, Answered}
 use Rattle.strm_types.specs.Books.{new_book}
 use Rattle.strm_types.specs.Events.{Request, content_of, map_answer, map_event, payload_of}
 use Rattle.strm_laws.specs.Calls.{called}
@@ -56,7 +56,7 @@ none = end Open Free []
 
 -- free, waiting, and answered in both ways
 abbrev slots : List PlainSlot
-slots = Free ∷ Waiting 7 5 ∷ Acked 7 5 (200 ∷ []) ∷ Nacked 7 5 Enxio ∷ []
+slots = Free ∷ Waiting 7 5 ∷ Answered 7 5 true 0 (200 ∷ []) ∷ Answered 7 5 false 3 [] ∷ []
 
 abbrev caller : Side → Caller
 caller side = record { side = side }
@@ -94,7 +94,7 @@ unfolding carried crosses is_held rank_of band_of size_of cells_of is_high_prior
 ioctl-goes-across = refl
 
 -- and that one's
-pub answer-goes-back : turned plain (driver_of Slave) (Moved 16) (answered []) ≡ record { turn = Moved 16; state = pair (end Open (Nacked 1 5 Einval) []) none [] 2; gone = [] }
+pub answer-goes-back : turned plain (driver_of Slave) (Moved 16) (answered []) ≡ record { turn = Moved 16; state = pair (end Open (Answered 1 5 false 1 []) []) none [] 2; gone = [] }
 unfolding carried crosses is_held rank_of band_of size_of cells_of is_high_priority
 answer-goes-back = refl
 
@@ -104,9 +104,9 @@ whole-turns-of-ioctls = refl
 
 -- the answer is given, and the other side's ioctl stays
 abbrev both : PlainSlot → State ℕ
-both slot = pair (end Open slot []) (end Open (Acked 2 1 (9 ∷ [])) []) [] 3
+both slot = pair (end Open slot []) (end Open (Answered 2 1 true 0 (9 ∷ [])) []) [] 3
 
-pub answer-is-told : map (λ slot. called plain (caller Master) (IoctlResult 1) (both slot)) (Acked 1 5 (200 ∷ []) ∷ Acked 1 6 (200 ∷ []) ∷ Nacked 1 5 Enxio ∷ [])
+pub answer-is-told : map (λ slot. called plain (caller Master) (IoctlResult 1) (both slot)) (Answered 1 5 true 0 (200 ∷ []) ∷ Answered 1 6 true 0 (200 ∷ []) ∷ Answered 1 5 false 3 [] ∷ [])
     ≡ record { answer = Bytes (200 ∷ []); state = both Free } ∷ record { answer = Done; state = both Free } ∷ record { answer = Nak Enxio; state = both Free } ∷ []
 answer-is-told = refl
 
@@ -213,7 +213,7 @@ refusals-of-ioctls-in-order = refl
 pub room-for-an-ioctl : map (λ bytes. refused (pair none none [] 1) [] (sizes 1 bytes) true (caller Master) (sized 3)) (259 ∷ 258 ∷ []) ≡ None ∷ Some JournalFull ∷ []
 room-for-an-ioctl = refl
 
-pub room-for-an-answer : map (λ bytes. refused (pair (end Open (Acked 7 5 []) []) none [] 9) [] (sizes 1 bytes) true (caller Master) (IoctlResult 7)) (256 ∷ 255 ∷ []) ≡ None ∷ Some JournalFull ∷ []
+pub room-for-an-answer : map (λ bytes. refused (pair (end Open (Answered 7 5 true 0 []) []) none [] 9) [] (sizes 1 bytes) true (caller Master) (IoctlResult 7)) (256 ∷ 255 ∷ []) ≡ None ∷ Some JournalFull ∷ []
 room-for-an-answer = refl
 
 -- blocks: the header and the body take one of each kind, and 32 have to be free beside

@@ -12,7 +12,7 @@ use Rattle.strm_types.specs.declared.names.Way.{Way}
 use Rattle.strm_types.specs.declared.names.Way.TheVariants.{Up, Down}
 use Rattle.strm_types.specs.declared.refusals.Refusal.{Refusal}
 use Rattle.strm_types.specs.declared.refusals.Refusal.TheVariants.{Einval, Eagain, Enxio, Ebadmsg, Enosr, Erange, JournalFull, NoMinor, NoMemory, StillShared}
-use Rattle.strm_types.specs.declared.slots.Slot.TheVariants.{Free, Waiting, Acked, Nacked}
+use Rattle.strm_types.specs.declared.slots.Slot.TheVariants.{Free, Waiting, Answered}
 use Rattle.strm_types.specs.declared.spots.Spot.{Spot}
 use Rattle.strm_types.specs.Deliver.{Acted}
 use Rattle.strm_types.specs.Heads.{head_put, Head}
@@ -57,33 +57,43 @@ refusals-read-back StillShared = refl
 abbrev waiting : PlainSlot
 waiting = Waiting 7 5
 
+abbrev acked : List ℕ → PlainSlot
+acked bytes = Answered 7 5 true 0 bytes
+
+abbrev nacked : ℕ → List ℕ → PlainSlot
+nacked error bytes = Answered 7 5 false error bytes
+
 -- free, waiting, and answered in both ways
 abbrev slots : List PlainSlot
-slots = Free ∷ waiting ∷ Acked 7 5 (200 ∷ []) ∷ Nacked 7 5 Enxio ∷ []
+slots = Free ∷ waiting ∷ acked (200 ∷ []) ∷ nacked 3 (201 ∷ []) ∷ []
 
--- Its own number alone answers it, whatever command the answer names. Without a refusal that is numbered it is EINVAL.
+-- Its own number alone answers it, whatever command the answer names. The error is kept as it comes, and the bytes behind the header.
 pub acks-answer : map (λ bytes. slot_answered true bytes waiting) ((header 5 7 0 ++ 200 ∷ 201 ∷ []) ∷ header 1 7 9 ∷ header 5 8 0 ∷ header 7 5 0 ∷ header 5 0 0 ∷ take 15 (header 5 7 0) ∷ [] ∷ [])
-    ≡ Acked 7 5 (200 ∷ 201 ∷ []) ∷ Acked 7 5 [] ∷ waiting ∷ waiting ∷ waiting ∷ waiting ∷ waiting ∷ []
+    ≡ acked (200 ∷ 201 ∷ []) ∷ Answered 7 5 true 9 [] ∷ waiting ∷ waiting ∷ waiting ∷ waiting ∷ waiting ∷ []
 acks-answer = refl
 
-pub naks-answer : map (λ bytes. slot_answered false bytes waiting) ((header 5 7 1 ++ 200 ∷ []) ∷ header 1 7 3 ∷ header 5 7 0 ∷ header 5 7 11 ∷ header 5 8 3 ∷ take 15 (header 5 7 3) ∷ [])
-    ≡ Nacked 7 5 Einval ∷ Nacked 7 5 Enxio ∷ Nacked 7 5 Einval ∷ Nacked 7 5 Einval ∷ waiting ∷ waiting ∷ []
+pub naks-answer : map (λ bytes. slot_answered false bytes waiting) ((header 5 7 1 ++ 200 ∷ []) ∷ header 1 7 3 ∷ header 5 7 0 ∷ header 5 7 4294967295 ∷ header 5 8 3 ∷ take 15 (header 5 7 3) ∷ [])
+    ≡ nacked 1 (200 ∷ []) ∷ nacked 3 [] ∷ nacked 0 [] ∷ nacked 4294967295 [] ∷ waiting ∷ waiting ∷ []
 naks-answer = refl
 
 -- where none waits an answer is nobody's
-pub answers-of-nobody : map (λ slot. slot_answered true (header 5 7 0) slot ∷ slot_answered false (header 5 7 1) slot ∷ []) (Free ∷ Acked 7 5 (200 ∷ []) ∷ Nacked 7 5 Enxio ∷ [])
-    ≡ (Free ∷ Free ∷ []) ∷ (Acked 7 5 (200 ∷ []) ∷ Acked 7 5 (200 ∷ []) ∷ []) ∷ (Nacked 7 5 Enxio ∷ Nacked 7 5 Enxio ∷ []) ∷ []
+pub answers-of-nobody : map (λ slot. slot_answered true (header 5 7 0) slot ∷ slot_answered false (header 5 7 1) slot ∷ []) (Free ∷ acked (200 ∷ []) ∷ nacked 3 [] ∷ [])
+    ≡ (Free ∷ Free ∷ []) ∷ (acked (200 ∷ []) ∷ acked (200 ∷ []) ∷ []) ∷ (nacked 3 [] ∷ nacked 3 [] ∷ []) ∷ []
 answers-of-nobody = refl
 
 -- 256 bytes of an answer at most
-pub answers-are-cut : map (λ n. length (answer_bytes (slot_answered true (header 5 7 0 ++ replicate n 97) waiting))) (255 ∷ 256 ∷ 257 ∷ []) ≡ 255 ∷ 256 ∷ 256 ∷ []
+pub answers-are-cut : map (λ is_ack. map (λ n. length (answer_bytes (slot_answered is_ack (header 5 7 0 ++ replicate n 97) waiting))) (255 ∷ 256 ∷ 257 ∷ [])) (true ∷ false ∷ []) ≡ replicate 2 (255 ∷ 256 ∷ 256 ∷ [])
 answers-are-cut = refl
 
 -- what the caller is told: the number, the answer, or, where a command only sets something, that it is done
 pub callers-are-told : map told_of slots ≡ Done ∷ Pending 7 ∷ Bytes (200 ∷ []) ∷ Nak Enxio ∷ []
 callers-are-told = refl
 
-pub commands-that-give-something : map (λ command. told_of (Acked 7 command (200 ∷ []))) (TCGETS ∷ TCSETS ∷ TCSETSW ∷ TCSETSF ∷ TIOCGWINSZ ∷ TIOCSWINSZ ∷ TIOCSIGNAL ∷ 99 ∷ [])
+-- of an M_IOCNAK its refusal alone: the error's, and EINVAL where no refusal has that number
+pub refusals-are-told : map told_of (nacked 2 (200 ∷ []) ∷ nacked 3 [] ∷ nacked 10 [] ∷ nacked 0 [] ∷ nacked 11 [] ∷ nacked 4294967295 [] ∷ []) ≡ Nak Eagain ∷ Nak Enxio ∷ Nak StillShared ∷ replicate 3 (Nak Einval)
+refusals-are-told = refl
+
+pub commands-that-give-something : map (λ command. told_of (Answered 7 command true 0 (200 ∷ []))) (TCGETS ∷ TCSETS ∷ TCSETSW ∷ TCSETSF ∷ TIOCGWINSZ ∷ TIOCSWINSZ ∷ TIOCSIGNAL ∷ 99 ∷ [])
     ≡ Bytes (200 ∷ []) ∷ Done ∷ Done ∷ Done ∷ Bytes (200 ∷ []) ∷ Done ∷ Done ∷ Bytes (200 ∷ []) ∷ []
 commands-that-give-something = refl
 
@@ -94,10 +104,10 @@ answers-are-given-once = refl
 pub free-slots : map (λ (slot : PlainSlot). is_free slot) slots ≡ true ∷ false ∷ false ∷ false ∷ []
 free-slots = refl
 
-pub bytes-of-slots : map answer_bytes slots ≡ [] ∷ [] ∷ (200 ∷ []) ∷ [] ∷ []
+pub bytes-of-slots : map answer_bytes slots ≡ [] ∷ [] ∷ (200 ∷ []) ∷ (201 ∷ []) ∷ []
 bytes-of-slots = refl
 
-pub slots-over-other-bytes : map (λ (slot : PlainSlot). map_slot (λ bytes. length bytes) slot) slots ≡ Free ∷ Waiting 7 5 ∷ Acked 7 5 1 ∷ Nacked 7 5 Enxio ∷ []
+pub slots-over-other-bytes : map (λ (slot : PlainSlot). map_slot (λ bytes. length bytes) slot) slots ≡ Free ∷ Waiting 7 5 ∷ Answered 7 5 true 0 1 ∷ Answered 7 5 false 3 1 ∷ []
 slots-over-other-bytes = refl
 
 -- the answer of a number: EINVAL where that isn't under way, EAGAIN while it waits
@@ -118,7 +128,7 @@ put kind bytes = head_put (spot Slave 0 Up) (without_parts kind bytes) (head wai
 abbrev leaves : PlainSlot → Acted ℕ (Head ℕ)
 leaves slot = record { state = head slot; notes = []; sent = []; gone = [] }
 
-pub answers-come-up : put kinds.Iocack (header 5 7 0 ++ 200 ∷ []) ∷ put kinds.Iocnak (header 5 7 3 ++ 200 ∷ []) ∷ [] ≡ leaves (Acked 7 5 (200 ∷ [])) ∷ leaves (Nacked 7 5 Enxio) ∷ []
+pub answers-come-up : put kinds.Iocack (header 5 7 0 ++ 200 ∷ []) ∷ put kinds.Iocnak (header 5 7 3 ++ 200 ∷ []) ∷ [] ≡ leaves (acked (200 ∷ [])) ∷ leaves (nacked 3 (200 ∷ [])) ∷ []
 answers-come-up = refl
 
 pub answers-of-others-come-up : map (λ bytes. put kinds.Iocack bytes ∷ put kinds.Iocnak bytes ∷ []) (header 5 8 1 ∷ take 15 (header 5 7 1) ∷ []) ≡ replicate 2 (leaves waiting ∷ leaves waiting ∷ [])

@@ -1,12 +1,11 @@
 -- What deliveries over the modules of a pair's streams compute, as worked out by hand.
-use Rattle.std.proofs.Common.{ℕ, ◌≡◌, ◌∷◌, [], refl}
+use Rattle.std.proofs.Common.{ℕ, ◌≡◌, false, ◌∷◌, [], refl}
 use Rattle.strm_types.specs.declared.kinds.MsgKind.TheVariants as kinds
 use Rattle.strm_types.specs.declared.names.Dir.TheVariants.{MasterToSlave, SlaveToMaster}
 use Rattle.strm_types.specs.declared.names.Side.TheVariants.{Master, Slave}
 use Rattle.strm_types.specs.declared.names.Way.TheVariants.{Up, Down}
-use Rattle.strm_types.specs.declared.refusals.Refusal.TheVariants.{Einval}
 use Rattle.strm_types.specs.declared.rules.Rule.TheVariants.{Flushed}
-use Rattle.strm_types.specs.declared.slots.Slot.TheVariants.{Waiting, Nacked}
+use Rattle.strm_types.specs.declared.slots.Slot.TheVariants.{Waiting, Answered}
 use Rattle.strm_types.specs.Cells.{plain}
 use Rattle.strm_types.specs.Deliver.{Goes, carried}
 use Rattle.strm_types.specs.Drivers.{crosses}
@@ -70,7 +69,7 @@ asks = without_parts kinds.Ioctl (header 5 7 0)
 abbrev waits : PlainSlot → State ℕ
 waits slot = let slave : Stream ℕ = end [] (bare ∷ bare ∷ []) [] in pair (end [] [] []) (record slave { head = record slave.head { ioctl = slot } }) []
 
-pub ioctl-goes-round : delivered plain (spot Slave 1 Down) asks (waits (Waiting 7 5)) ≡ record { state = waits (Nacked 7 5 Einval); gone = [] }
+pub ioctl-goes-round : delivered plain (spot Slave 1 Down) asks (waits (Waiting 7 5)) ≡ record { state = waits (Answered 7 5 false 1 []); gone = [] }
 unfolding carried
 ioctl-goes-round = refl
 

@@ -15,7 +15,7 @@ use Rattle.strm_types.specs.declared.names.Way.TheVariants.{Up, Down}
 use Rattle.strm_types.specs.declared.refusals.Refusal.TheVariants.{Einval}
 use Rattle.strm_types.specs.declared.rules.Rule.{Rule}
 use Rattle.strm_types.specs.declared.rules.Rule.TheVariants.{ModulePopped}
-use Rattle.strm_types.specs.declared.slots.Slot.TheVariants.{Free, Waiting, Acked, Nacked}
+use Rattle.strm_types.specs.declared.slots.Slot.TheVariants.{Free, Waiting, Answered}
 use Rattle.strm_types.specs.declared.spots.Note.TheVariants.{Room}
 use Rattle.strm_types.specs.Deliver.{Acted, Carried, Fate, Goes, Took}
 use Rattle.strm_types.specs.Commands.{is_asked, is_ioctl}
@@ -29,6 +29,7 @@ use Rattle.strm_types.specs.Message.{Message, has_parts, map_message}
 use Rattle.strm_types.specs.ModuleQueues.{has_queue, messages_at}
 use Rattle.strm_types.specs.Modules.{top_name, without_module}
 use Rattle.strm_types.specs.Names.{direction_at, enable_if, place_of}
+use Rattle.strm_types.specs.Numbers.{number_of}
 use Rattle.strm_types.specs.Options.{mode_message}
 use Rattle.strm_types.specs.Origins.{map_acted, map_carried, map_fate}
 use Rattle.strm_laws.specs.Pushes.{all_taken, below_top, enable_waiting, head_above, ioctl_dropped, is_there, let_come, messages_on, messages_there, mode_behind, mode_on_push, mode_put, modules_emptied, named_by, popped, pushed, pushed_named, taken_off, top_on, top_taken, with_modules, without_top}
@@ -250,9 +251,8 @@ module _ {C D : Type 0} (f : C → D) where
 
   slot-forgets : (ms : List (Message C)) (slot : PlainSlot) → slot_dropped (map_messages f ms) slot ≡ slot_dropped ms slot
   slot-forgets ms Free = refl
-  slot-forgets ms (Waiting number command) = ap (λ b. cond b (Nacked number command Einval) (Waiting number command)) (ioctls-forget number ms)
-  slot-forgets ms (Acked number command body) = refl
-  slot-forgets ms (Nacked number command refusal) = refl
+  slot-forgets ms (Waiting number command) = ap (λ b. cond b (Answered number command false (number_of Einval) []) (Waiting number command)) (ioctls-forget number ms)
+  slot-forgets ms (Answered number command acked error body) = refl
 
   dropped-forgets : (side : Side) (ms : List (Message C)) (s : State C) → ioctl_dropped side (map_messages f ms) (map_state f s) ≡ map_state f (ioctl_dropped side ms s)
   dropped-forgets Master ms s = ap (λ (slot : PlainSlot). with_ioctl Master slot (map_state f s)) (slot-forgets ms s.master.head.ioctl)

@@ -1,5 +1,5 @@
 -- Pushes, pops and closes of streams with modules, worked out by hand (streamio(7I): I_PUSH, I_POP, I_LOOK; ldterm(7M); close(2)).
-use Rattle.std.proofs.Common.{ℕ, ◌≡◌, true, false, List, [], ◌∷◌, map, refl}
+use Rattle.std.proofs.Common.{ℕ, ◌≡◌, true, false, List, [], ◌∷◌, map, refl, replicate}
 use Rattle.std.specs.Prelude.{None, Some}
 use Rattle.strm_types.specs.declared.answers.Answer.TheVariants.{Done, Name}
 use Rattle.strm_types.specs.declared.modes.ReadMode.TheVariants.{ByteStream, MessageDiscard, MessageKeep}
@@ -31,8 +31,7 @@ use Rattle.strm_laws.proofs.Samples.{flow, head_with, ordinary, proto, queue, he
 use Rattle.strm_types.specs.Slots.{PlainSlot}
 use Rattle.strm_types.specs.declared.ioctls.TheConstants.{TCSETSW}
 use Rattle.strm_types.specs.declared.kinds.MsgKind.TheVariants.{Ioctl, Iocack}
-use Rattle.strm_types.specs.declared.refusals.Refusal.TheVariants.{Einval, Eagain}
-use Rattle.strm_types.specs.declared.slots.Slot.TheVariants.{Free, Waiting, Acked, Nacked}
+use Rattle.strm_types.specs.declared.slots.Slot.TheVariants.{Free, Waiting, Answered}
 
 -- a module with these messages on its read queue, whose bands are so, and on its write queue, and this unfinished line
 abbrev holding : List (Message ℕ) → List Flow → List (Message ℕ) → List ℕ → Module ℕ
@@ -170,7 +169,7 @@ abbrev slot_of : Carried ℕ (State ℕ) → PlainSlot
 slot_of t = t.state.slave.head.ioctl
 
 pub ioctl-goes-with-its-message : map (λ ms. slot_of (popped Slave (waiting (Waiting 7 TCSETSW) ms))) ((asked 7 ∷ []) ∷ (ordinary (1 ∷ []) ∷ asked 7 ∷ []) ∷ (asked 0 ∷ asked 7 ∷ asked 8 ∷ []) ∷ [])
-    ≡ Nacked 7 TCSETSW Einval ∷ Nacked 7 TCSETSW Einval ∷ Nacked 7 TCSETSW Einval ∷ []
+    ≡ replicate 3 (Answered 7 TCSETSW false 1 [])
 unfolding carried cells_of size_of
 ioctl-goes-with-its-message = refl
 
@@ -179,7 +178,7 @@ pub ioctl-stays-without-it : map (λ ms. slot_of (popped Slave (waiting (Waiting
 unfolding carried cells_of size_of
 ioctl-stays-without-it = refl
 
-pub other-slots-stay : map (λ slot. slot_of (popped Slave (waiting slot (asked 7 ∷ [])))) (Free ∷ Acked 7 TCSETSW (1 ∷ []) ∷ Nacked 7 TCSETSW Eagain ∷ []) ≡ Free ∷ Acked 7 TCSETSW (1 ∷ []) ∷ Nacked 7 TCSETSW Eagain ∷ []
+pub other-slots-stay : map (λ slot. slot_of (popped Slave (waiting slot (asked 7 ∷ [])))) (Free ∷ Answered 7 TCSETSW true 0 (1 ∷ []) ∷ Answered 7 TCSETSW false 2 [] ∷ []) ≡ Free ∷ Answered 7 TCSETSW true 0 (1 ∷ []) ∷ Answered 7 TCSETSW false 2 [] ∷ []
 unfolding carried cells_of size_of
 other-slots-stay = refl
 

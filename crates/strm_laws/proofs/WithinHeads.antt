@@ -12,7 +12,7 @@ use Rattle.strm_types.specs.declared.names.Side.{Side}
 use Rattle.strm_types.specs.declared.names.Side.TheVariants.{Master, Slave}
 use Rattle.strm_types.specs.declared.names.Way.{Way}
 use Rattle.strm_types.specs.declared.names.Way.TheVariants.{Up, Down}
-use Rattle.strm_types.specs.declared.slots.Slot.TheVariants.{Free, Waiting, Acked, Nacked}
+use Rattle.strm_types.specs.declared.slots.Slot.TheVariants.{Free, Waiting, Answered}
 use Rattle.strm_types.specs.declared.spots.Spot.{Spot}
 use Rattle.strm_laws.specs.Calls.{ioctl_begun}
 use Rattle.strm_types.specs.Deliver.{Acted}
@@ -22,7 +22,7 @@ use Rattle.strm_types.specs.Ioctls.{read_ioc}
 use Rattle.strm_types.specs.Message.{Message, has_parts}
 use Rattle.strm_types.specs.Names.{is_open}
 use Rattle.strm_laws.specs.Puts.{put_at_driver, put_at_head}
-use Rattle.strm_types.specs.Slots.{PlainSlot, ack_body, answer_bytes, slot_behind, slot_told, with_answer}
+use Rattle.strm_types.specs.Slots.{PlainSlot, answer_body, answer_bytes, slot_behind, slot_told, with_answer}
 use Rattle.strm_laws.specs.Stacked.{Module}
 use Rattle.strm_laws.specs.State.{State, stream, with_stream}
 use Rattle.strm_laws.specs.Within.{AreWithin, IsWithin}
@@ -33,29 +33,23 @@ use Rattle.strm_types.proofs.SignalRoom.{named-within}
 abbrev Fits : PlainSlot → Type 0
 Fits slot = length (answer_bytes slot) ≤ IOCTL_MAX
 
-body-fits : (bytes : List ℕ) → length (ack_body bytes) ≤ IOCTL_MAX
+body-fits : (bytes : List ℕ) → length (answer_body bytes) ≤ IOCTL_MAX
 body-fits bytes = omega (arith, length-take IOCTL_MAX (drop 16 bytes))
-
-answer-fits : (is_ack : Bool) (number command : ℕ) (ioc : Ioc) (bytes : List ℕ) → Fits (with_answer is_ack number command ioc bytes)
-answer-fits true number command ioc bytes = body-fits bytes
-answer-fits false number command ioc bytes = omega arith
 
 told-fits : (is_ack : Bool) (known : Option Ioc) (bytes : List ℕ) (slot : PlainSlot) → Fits slot → Fits (slot_told is_ack known bytes slot)
 told-fits is_ack None bytes slot fits = fits
 told-fits is_ack (Some ioc) bytes (Waiting number command) fits = at (ioc.number == number)
   where
     at : (b : Bool) → Fits (cond b (with_answer is_ack number command ioc bytes) (Waiting number command))
-    at true = answer-fits is_ack number command ioc bytes
+    at true = body-fits bytes
     at false = omega arith
 told-fits is_ack (Some ioc) bytes Free fits = fits
-told-fits is_ack (Some ioc) bytes (Acked number command body) fits = fits
-told-fits is_ack (Some ioc) bytes (Nacked number command refusal) fits = fits
+told-fits is_ack (Some ioc) bytes (Answered number command acked error body) fits = fits
 
 pub behind-fits : (slot : PlainSlot) → Fits (slot_behind slot)
 behind-fits Free = omega arith
 behind-fits (Waiting number command) = omega arith
-behind-fits (Acked number command body) = omega arith
-behind-fits (Nacked number command refusal) = omega arith
+behind-fits (Answered number command acked error body) = omega arith
 
 module _ {C : Type 0} where
   -- at a head

@@ -29,6 +29,7 @@ use Rattle.strm_types.specs.Message.{Message}
 use Rattle.strm_types.specs.Names.{is_open, direction_from}
 use Rattle.strm_laws.specs.Pushes.{head_above, ioctl_dropped, named_by, popped, pushed_named, with_modules}
 use Rattle.strm_laws.specs.Puts.{delivered}
+use Rattle.strm_types.specs.Numbers.{number_of}
 use Rattle.strm_types.specs.Queue.{Queue}
 use Rattle.strm_types.specs.Slots.{PlainSlot, answer_bytes, slot_behind}
 use Rattle.strm_laws.specs.Stacked.{Module}
@@ -39,7 +40,7 @@ use Rattle.strm_laws.specs.Turns.{turned, with_driver}
 use Rattle.strm_types.specs.declared.modes.Wanted.{Wanted}
 use Rattle.strm_laws.specs.Within.{AreWithin, IsWithin}
 use Rattle.strm_types.specs.Dropped.{has_ioctl, slot_dropped}
-use Rattle.strm_types.specs.declared.slots.Slot.TheVariants.{Free, Waiting, Acked, Nacked}
+use Rattle.strm_types.specs.declared.slots.Slot.TheVariants.{Free, Waiting, Answered}
 use Rattle.strm_types.specs.declared.refusals.Refusal.TheVariants.{Einval}
 use Rattle.strm_laws.proofs.TurnHolds.{turn-holds, turns-stay}
 use Rattle.strm_laws.proofs.PushHolds.{Survives, modules_emptied-holds, pop-holds, push-holds}
@@ -96,11 +97,10 @@ module _ {C : Type 0} where
       slot-short ms Free short = short
       slot-short ms (Waiting number command) short = at (has_ioctl number ms)
         where
-          at : (goes : Bool) → length (answer_bytes (cond goes (Nacked number command Einval) (Waiting number command))) ≤ IOCTL_MAX
+          at : (goes : Bool) → length (answer_bytes (cond goes (Answered number command false (number_of Einval) []) (Waiting number command))) ≤ IOCTL_MAX
           at true = omega arith
           at false = omega arith
-      slot-short ms (Acked number command body) short = short
-      slot-short ms (Nacked number command refusal) short = short
+      slot-short ms (Answered number command acked error body) short = short
 
       dropped : (side : Side) (ms : List (Message C)) (s : State C) → AreWithin s → AreWithin (ioctl_dropped side ms s)
       dropped Master ms s within = record { master = record { signals = within.master.signals; answer = slot-short ms s.master.head.ioctl within.master.answer }; slave = within.slave }

@@ -6,7 +6,7 @@ use Rattle.strm_types.specs.declared.names.Side.TheVariants.{Master, Slave}
 use Rattle.strm_types.specs.declared.rules.Rule.{Rule}
 use Rattle.strm_types.specs.declared.rules.Rule.TheVariants.{ModulePopped}
 use Rattle.strm_types.specs.declared.slots.Slot.{Slot}
-use Rattle.strm_types.specs.declared.slots.Slot.TheVariants.{Free, Waiting, Acked, Nacked}
+use Rattle.strm_types.specs.declared.slots.Slot.TheVariants.{Free, Waiting, Answered}
 use Rattle.strm_types.specs.Dropped.{number_sought}
 use Rattle.strm_laws.specs.Pushes.{mode_behind, taken_off, top_on, top_taken}
 use Rattle.strm_laws.specs.Stacked.{Module}
@@ -29,5 +29,4 @@ slot-stays side s =
 pub same-sought : (slot : Slot (ArrayVec ℕ)) → number_sought (plain_slot slot) ≡ number_sought slot
 same-sought Free = refl
 same-sought (Waiting number command) = refl
-same-sought (Acked number command body) = refl
-same-sought (Nacked number command refusal) = refl
+same-sought (Answered number command acked error body) = refl

@@ -16,7 +16,7 @@ use Rattle.strm_types.specs.declared.modes.Prio.{Prio}
 use Rattle.strm_types.specs.declared.modes.Wanted.{Wanted}
 use Rattle.strm_types.specs.Gets.{is_wanted, get_refusal}
 use Rattle.strm_types.specs.PutMsg.{is_no_prio, is_too_long, put_refusal}
-use Rattle.strm_types.specs.declared.slots.Slot.TheVariants.{Free, Waiting, Acked, Nacked}
+use Rattle.strm_types.specs.declared.slots.Slot.TheVariants.{Free, Waiting, Answered}
 use Rattle.strm_types.specs.Slots.{PlainSlot, unless_same, result_refusal}
 use Rattle.strm_laws.specs.State.{State, stream}
 use Rattle.strm_types.specs.declared.events.Event.TheVariants as calls
@@ -112,8 +112,7 @@ none_asked-want = refl
 answer-want : (asked : ℕ) (slot : PlainSlot) → is_want (result_refusal asked slot) ≡ false
 answer-want asked Free = none_asked-want
 answer-want asked (Waiting number command) = same-want number asked (Some Eagain) wait-want
-answer-want asked (Acked number command body) = same-want number asked None none-want
-answer-want asked (Nacked number command refusal) = same-want number asked None none-want
+answer-want asked (Answered number command acked error body) = same-want number asked None none-want
 
 by_state-want : (s : State ℕ) (caller : Caller) (asked : Request) → is_want (refused_by_state s caller asked) ≡ false
 by_state-want s caller calls.OpenMaster = unless-want _ Einval refl

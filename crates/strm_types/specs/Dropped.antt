@@ -1,13 +1,14 @@
 -- The ioctl under way whose M_IOCTL goes with a module that is popped: nobody will answer it any more (streamio(7I): I_POP, I_STR).
-use Rattle.std.specs.Prelude.{ℕ, Bool, false, ◌&&◌, ◌==◌, if◌then◌else◌, List, Option, None, Some}
+use Rattle.std.specs.Prelude.{ℕ, Bool, false, ◌&&◌, ◌==◌, if◌then◌else◌, List, [], Option, None, Some}
 use Rattle.std.specs.List.{list_any}
 use Rattle.strm_types.specs.declared.ioctls.Ioc.{Ioc}
 use Rattle.strm_types.specs.declared.refusals.Refusal.TheVariants.{Einval}
 use Rattle.strm_types.specs.declared.slots.Slot.{Slot}
-use Rattle.strm_types.specs.declared.slots.Slot.TheVariants.{Waiting, Nacked}
+use Rattle.strm_types.specs.declared.slots.Slot.TheVariants.{Waiting, Answered}
 use Rattle.strm_types.specs.Commands.{is_asked}
 use Rattle.strm_types.specs.Ioctls.{read_ioc}
 use Rattle.strm_types.specs.Message.{Message}
+use Rattle.strm_types.specs.Numbers.{number_of}
 use Rattle.strm_types.specs.Slots.{PlainSlot}
 
 -- whether a header is of an ioctl of this number
@@ -35,5 +36,5 @@ module _ {C : Type 0} where
 
   -- An ioctl that waits for its answer ends as one that was refused with EINVAL, where its M_IOCTL is among the messages that go.
   abbrev pub slot_dropped : List (Message C) → PlainSlot → PlainSlot
-  slot_dropped ms (Waiting number command) = if has_ioctl number ms then Nacked number command Einval else Waiting number command
+  slot_dropped ms (Waiting number command) = if has_ioctl number ms then Answered number command false (number_of Einval) [] else Waiting number command
   slot_dropped ms slot = slot

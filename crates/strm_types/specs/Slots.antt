@@ -8,7 +8,7 @@ use Rattle.strm_types.specs.declared.limits.TheConstants.{IOCTL_MAX}
 use Rattle.strm_types.specs.declared.refusals.Refusal.{Refusal}
 use Rattle.strm_types.specs.declared.refusals.Refusal.TheVariants.{Einval, Eagain}
 use Rattle.strm_types.specs.declared.slots.Slot.{Slot}
-use Rattle.strm_types.specs.declared.slots.Slot.TheVariants.{Free, Waiting, Acked, Nacked}
+use Rattle.strm_types.specs.declared.slots.Slot.TheVariants.{Free, Waiting, Answered}
 use Rattle.strm_types.specs.Ioctls.{read_ioc}
 use Rattle.strm_types.specs.Numbers.{refusal_numbered}
 
@@ -16,8 +16,7 @@ use Rattle.strm_types.specs.Numbers.{refusal_numbered}
 abbrev pub map_slot : {A B : Type 0} → (A → B) → Slot A → Slot B
 map_slot f Free = Free
 map_slot f (Waiting number command) = Waiting number command
-map_slot f (Acked number command body) = Acked number command (f body)
-map_slot f (Nacked number command refusal) = Nacked number command refusal
+map_slot f (Answered number command acked error body) = Answered number command acked error (f body)
 
 -- a slot with its bytes
 abbrev pub PlainSlot : Type 0
@@ -29,17 +28,16 @@ is_free _ = false
 
 -- the bytes of an answer that wasn't given yet
 abbrev pub answer_bytes : PlainSlot → List ℕ
-answer_bytes (Acked number command body) = body
+answer_bytes (Answered number command acked error body) = body
 answer_bytes _ = []
 
--- what stands behind the header of an M_IOCACK, 256 bytes at most
-abbrev pub ack_body : List ℕ → List ℕ
-ack_body bytes = take IOCTL_MAX (drop 16 bytes)
+-- what stands behind the header of an answer, 256 bytes at most
+abbrev pub answer_body : List ℕ → List ℕ
+answer_body bytes = take IOCTL_MAX (drop 16 bytes)
 
--- the answer of an ioctl: M_IOCACK or M_IOCNAK
+-- the answer of an ioctl, M_IOCACK or M_IOCNAK, with the error that its header has
 abbrev pub with_answer : Bool → ℕ → ℕ → Ioc → List ℕ → PlainSlot
-with_answer true number command ioc bytes = Acked number command (ack_body bytes)
-with_answer false number command ioc bytes = Nacked number command (refusal_numbered ioc.error)
+with_answer is_ack number command ioc bytes = Answered number command is_ack ioc.error (answer_body bytes)
 
 -- It is that of the ioctl which waits, where it has its number. Any other one is nobody's.
 abbrev pub slot_told : Bool → Option Ioc → List ℕ → PlainSlot → PlainSlot
@@ -56,12 +54,12 @@ abbrev pub gives_nothing : ℕ → Bool
 gives_nothing command =
     command == TCSETS || command == TCSETSW || command == TCSETSF || command == TIOCSWINSZ || command == TIOCSIGNAL
 
--- What the caller is told: the answer, or the number while it waits.
+-- What the caller is told: the answer, or the number while it waits. The error of an M_IOCNAK is that of a refusal, or else EINVAL.
 abbrev pub told_of : PlainSlot → Answer (List ℕ)
 told_of Free = Done
 told_of (Waiting number command) = Pending number
-told_of (Acked number command body) = if gives_nothing command then Done else Bytes body
-told_of (Nacked number command refusal) = Nak refusal
+told_of (Answered number command true error body) = if gives_nothing command then Done else Bytes body
+told_of (Answered number command false error body) = Nak (refusal_numbered error)
 
 -- the slot behind that: an answer is given once
 abbrev pub slot_behind : PlainSlot → PlainSlot
@@ -76,5 +74,4 @@ unless_same number asked same = if number == asked then same else Some Einval
 abbrev pub result_refusal : {A : Type 0} → ℕ → Slot A → Option Refusal
 result_refusal asked Free = Some Einval
 result_refusal asked (Waiting number command) = unless_same number asked (Some Eagain)
-result_refusal asked (Acked number command body) = unless_same number asked None
-result_refusal asked (Nacked number command refusal) = unless_same number asked None
+result_refusal asked (Answered number command acked error body) = unless_same number asked None

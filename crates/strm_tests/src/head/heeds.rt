@@ -191,7 +191,7 @@ fn answers_are_given_once(rt: HostRuntime) -> Result<(), Fail> {
     plays(&rt, rt.alloc(), &ACKS)
 }
 
-const REFUSED: &[u8] = b"\0\0\0\x01\0\0\0\x01\0\0\0\x06\0\0\0\0";
+const REFUSED: &[u8] = b"\0\0\0\x01\0\0\0\x01\0\0\0\x06\0\0\0\0no";
 
 const REFUSED_FOR_NOTHING: &[u8] = b"\0\0\0\x01\0\0\0\x02\0\0\0\x63\0\0\0\0";
 
