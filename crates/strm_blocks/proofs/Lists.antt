@@ -1,13 +1,13 @@
 -- The lists of a store, with messages that are put on them or taken off.
-use Rattle.std.proofs.Common.{ℕ, ◌≡◌, ◌≤◌, ◌<◌, ◌+◌, ◌^◌, Bool, true, false, not, cond, filter, List, [], ◌∷◌, ◌++◌, length, take, drop, get_or, map, refl, sym, ap, ◌∙◌, arith}
+use Rattle.std.proofs.Common.{ℕ, suc, ◌≡◌, ◌≤◌, ◌<◌, ◌+◌, ◌-◌, ◌^◌, Bool, true, false, not, cond, filter, List, [], ◌∷◌, ◌++◌, length, take, drop, get_or, map, refl, sym, ap, ◌∙◌, arith}
 use Rattle.std.proofs.Math.ListN.{set, length-set}
 use Rattle.std.specs.Prelude.{sum_by, nat_le, nat_lt}
 use Rattle.std.specs.List.{prefix_len}
-use Rattle.std.proofs.lemmas.List.{map-set, get_or-map, get_or_default}
+use Rattle.std.proofs.lemmas.List.{map-append, map-set, get_or-map, get_or_default}
 use Rattle.std.proofs.lemmas.List.Sums.{sum_by-cons, get_or-le-sum_by, prefix_len-le-length}
 use Rattle.strm_types.specs.Ranked as ranked
 use Rattle.strm_blocks.specs.Blocks.{Block, Held, StoreValue, IsInHand, in_hand, list_at, held, dropped, placed, put, put_back, times_in}
-use Rattle.strm_blocks.specs.Outcomes.{Popped, flushes, flushed}
+use Rattle.strm_blocks.specs.Outcomes.{Popped, PoppedLast, flushes, flushed}
 use Rattle.strm_blocks.specs.Message.{message_at, without_at, place_in, rank_in, weigh, named, listed_rank, AreOrdered, flushes_message}
 use Rattle.strm_blocks.specs.Table.{shown, chain_of, lists_of, value_of, IsTable, IsTableStore}
 use Rattle.strm_blocks.specs.declared.table.TableStore.TheInside.{Inside}
@@ -15,7 +15,7 @@ use Rattle.strm_blocks.specs.declared.message.Message.{Message}
 use Rattle.strm_blocks.specs.declared.message.MessageBlock.{MessageBlock}
 use Rattle.strm_blocks.proofs.Nodes.{ones, sum-without, sum-put, weigh-list}
 use Rattle.strm_blocks.proofs.Values.{without-value, times-value}
-use Rattle.strm_blocks.proofs.Orders.{put-value, put_back-value, Ordered-rest, Ordered-behind, Ordered-before, Ordered-filter, AreOrdered-set}
+use Rattle.strm_blocks.proofs.Orders.{put-value, put_back-value, Ordered-without, Ordered-behind, Ordered-before, Ordered-filter, AreOrdered-set}
 use Rattle.strm_blocks.proofs.Stores.{value, value-same}
 use Rattle.strm_blocks.proofs.ListParts.{sum-filter}
 use Rattle.std.proofs.lemmas.Bool.Decides.{nat_tests}
@@ -33,19 +33,26 @@ inserted-weigh g lists hand k r p q' within there is =
     let w = sum-without g hand r there in
     omega arith
 
--- the first message of a list goes to the front of the hand, and weighs the same there
-pub popped-weigh : (g : Message → ℕ) (lists : List (List Message)) (hand : List Message) (k : ℕ) (q' : List Message) → k < length lists → 0 < length (get_or lists k []) → q' ≡ without_at 0 (get_or lists k []) → weigh g (set lists k q') (message_at 0 (get_or lists k []) ∷ hand) ≡ weigh g lists hand
-popped-weigh g lists hand k q' within some is =
-    let m = message_at 0 (get_or lists k []) in
+-- a message of a list goes to the front of the hand, and weighs the same there
+pub popped-weigh : (g : Message → ℕ) (lists : List (List Message)) (hand : List Message) (k p : ℕ) (q' : List Message) → k < length lists → p < length (get_or lists k []) → q' ≡ without_at p (get_or lists k []) → weigh g (set lists k q') (message_at p (get_or lists k []) ∷ hand) ≡ weigh g lists hand
+popped-weigh g lists hand k p q' within there is =
+    let m = message_at p (get_or lists k []) in
     let l = weigh-list g lists (m ∷ hand) k q' within in
     let e = ap (λ (q : List Message). sum_by g q) is in
-    let f = sum-without g (get_or lists k []) 0 some in
+    let f = sum-without g (get_or lists k []) p there in
     let h = sum_by-cons g m hand in
     omega arith
 
 first-rest : (q : List Message) → 0 < length q → q ≡ message_at 0 q ∷ without_at 0 q
 first-rest [] some = absurd (omega arith)
 first-rest (m ∷ q) some = refl
+
+rest-last : (q : List Message) → 0 < length q → q ≡ without_at (length q - 1) q ++ message_at (length q - 1) q ∷ []
+rest-last [] some = absurd (omega arith)
+rest-last (m ∷ []) some = refl
+rest-last (m ∷ n ∷ q) some =
+    let e : suc (length (n ∷ q) - 1) ≡ length (m ∷ n ∷ q) - 1 = omega arith in
+    ap (λ l. m ∷ l) (rest-last (n ∷ q) (omega arith)) ∙ ap (λ p. without_at p (m ∷ n ∷ q) ++ message_at p (m ∷ n ∷ q) ∷ []) e
 
 -- what a flush takes is seen in the first block
 flushes-value : (bytes : List (List ℕ)) (what : FlushWhat) (m : Message) → flushes what (chain_of bytes m) ≡ flushes_message what m
@@ -88,38 +95,62 @@ module _ (t : Inside) {s : StoreValue} (is : value_of t ≡ s) (holds : IsTableS
   pub joined-value : 0 < length list → list_at s k ≡ chain_of t.data.bytes (message_at 0 list) ∷ map (chain_of t.data.bytes) (without_at 0 list)
   joined-value some = list-is ∙ ap (λ (q : List Message). map (chain_of t.data.bytes) q) (first-rest list some)
 
-  -- the name of a message on a list is that of none in hand
-  pub listed-fresh : 0 < length list → times_in (message_at 0 list).name s.hand ≡ 0
-  listed-fresh some =
-      let i = (message_at 0 list).name in
-      let a = holds.apart i in
-      let f = sum-without (named i) list 0 some in
-      let n : named i (message_at 0 list) ≡ 1 = grind (arith, nat_tests) in
-      let le = get_or-le-sum_by (λ (q : List Message). sum_by (named i) q) t.lists k [] list-within in
-      let v = times-value t.data.bytes i t.hand in
-      let e = ap (λ (s : StoreValue). times_in i s.hand) is in
-      omega arith
+  -- the last message of a list, and those before it
+  last-value : 0 < length list → list_at s k ≡ map (chain_of t.data.bytes) (without_at (length list - 1) list) ++ chain_of t.data.bytes (message_at (length list - 1) list) ∷ []
+  last-value some =
+      let n = length list - 1 in
+      list-is ∙ ap (λ (q : List Message). map (chain_of t.data.bytes) q) (rest-last list some)
+      ∙ map-append (chain_of t.data.bytes) (without_at n list) (message_at n list ∷ [])
 
-  -- getq of a list that has a message
+  -- getq of a list: a message of it goes into the hand
+  module _ (p : ℕ) (there : p < length list) (q' hand' : List Message) (rest : q' ≡ without_at p list) (taken : hand' ≡ message_at p list ∷ t.hand) where
+    -- its name is that of none in hand
+    listed-fresh : times_in (message_at p list).name s.hand ≡ 0
+    listed-fresh =
+        let i = (message_at p list).name in
+        let a = holds.apart i in
+        let f = sum-without (named i) list p there in
+        let n : named i (message_at p list) ≡ 1 = grind (arith, nat_tests) in
+        let le = get_or-le-sum_by (λ (q : List Message). sum_by (named i) q) t.lists k [] list-within in
+        let v = times-value t.data.bytes i t.hand in
+        let e = ap (λ (s : StoreValue). times_in i s.hand) is in
+        omega arith
+
+    taken-value : (name : ℕ) → name ≡ (message_at p list).name → value t.data.bytes (set t.lists k q') hand' t.mblks (length t.data.references) ≡ held (placed s k (map (chain_of t.data.bytes) (without_at p list))) name (chain_of t.data.bytes (message_at p list))
+    taken-value name en =
+        let bytes = t.data.bytes in
+        let m = message_at p list in
+        let e1 = ap (λ (hand : List Message). value bytes (set t.lists k q') hand t.mblks (length t.data.references)) taken in
+        let e2 = ap (λ (lists : List (List (List Block))). record (held (value_of t) m.name (chain_of bytes m)) { lists = lists }) (map-set (λ (q : List Message). map (chain_of bytes) q) t.lists k q') in
+        let e3 = ap (λ (q : List Message). held (placed (value_of t) k (map (chain_of bytes) q)) m.name (chain_of bytes m)) rest in
+        let e4 = ap (λ (s : StoreValue). held (placed s k (map (chain_of bytes) (without_at p list))) m.name (chain_of bytes m)) is in
+        e1 ∙ e2 ∙ e3 ∙ e4 ∙ ap (λ (n : ℕ). held (placed s k (map (chain_of bytes) (without_at p list))) n (chain_of bytes m)) (sym en)
+
+    pub IsTable-popped : IsTable t.mblks (set t.lists k q') hand' t.idle t.spare t.data.references
+    IsTable-popped =
+        let o = AreOrdered-set t.lists k q' list-within holds.ordered (rw rest (Ordered-without p list (holds.ordered k))) in
+        IsTable-moved holds (set t.lists k q') hand' (length-set t.lists k q' ∙ holds.eight) o (λ g. ap (λ (hand : List Message). weigh g (set t.lists k q') hand) taken ∙ popped-weigh g t.lists t.hand k p q' list-within there rest)
+
+  -- the first message, and the last one
   pub popped-value : (q' hand' : List Message) (name : ℕ) → 0 < length list → q' ≡ without_at 0 list → hand' ≡ message_at 0 list ∷ t.hand → name ≡ (message_at 0 list).name → Popped s (value t.data.bytes (set t.lists k q') hand' t.mblks (length t.data.references)) k name
-  popped-value q' hand' name some eq eh en =
-      let bytes = t.data.bytes in
-      let e1 = ap (λ (hand : List Message). value bytes (set t.lists k q') hand t.mblks (length t.data.references)) eh in
-      let e2 = ap (λ (lists : List (List (List Block))). record (held (value_of t) (message_at 0 list).name (chain_of bytes (message_at 0 list))) { lists = lists }) (map-set (λ (q : List Message). map (chain_of bytes) q) t.lists k q') in
-      let e3 = ap (λ (q : List Message). held (placed (value_of t) k (map (chain_of bytes) q)) (message_at 0 list).name (chain_of bytes (message_at 0 list))) eq in
-      let e4 = ap (λ (s : StoreValue). held (placed s k (map (chain_of bytes) (without_at 0 list))) (message_at 0 list).name (chain_of bytes (message_at 0 list))) is in
-      record {
-        fresh_name = ap (λ (n : ℕ). times_in n s.hand) en ∙ listed-fresh some;
-        message = chain_of bytes (message_at 0 list);
-        rest = map (chain_of bytes) (without_at 0 list);
-        joined = joined-value some;
-        after = e1 ∙ e2 ∙ e3 ∙ e4 ∙ ap (λ (n : ℕ). held (placed s k (map (chain_of bytes) (without_at 0 list))) n (chain_of bytes (message_at 0 list))) (sym en);
-      }
+  popped-value q' hand' name some eq eh en = record {
+    fresh_name = ap (λ (n : ℕ). times_in n s.hand) en ∙ listed-fresh 0 some q' hand' eq eh;
+    message = chain_of t.data.bytes (message_at 0 list);
+    rest = map (chain_of t.data.bytes) (without_at 0 list);
+    joined = joined-value some;
+    after = taken-value 0 some q' hand' eq eh name en;
+  }
 
-  pub IsTable-popped : (q' hand' : List Message) → 0 < length list → q' ≡ without_at 0 list → hand' ≡ message_at 0 list ∷ t.hand → IsTable t.mblks (set t.lists k q') hand' t.idle t.spare t.data.references
-  IsTable-popped q' hand' some eq eh =
-      let o = AreOrdered-set t.lists k q' list-within holds.ordered (rw eq (Ordered-rest list (holds.ordered k))) in
-      IsTable-moved holds (set t.lists k q') hand' (length-set t.lists k q' ∙ holds.eight) o (λ g. ap (λ (hand : List Message). weigh g (set t.lists k q') hand) eh ∙ popped-weigh g t.lists t.hand k q' list-within some eq)
+  pub popped-last : (q' hand' : List Message) (name : ℕ) → 0 < length list → q' ≡ without_at (length list - 1) list → hand' ≡ message_at (length list - 1) list ∷ t.hand → name ≡ (message_at (length list - 1) list).name → PoppedLast s (value t.data.bytes (set t.lists k q') hand' t.mblks (length t.data.references)) k name
+  popped-last q' hand' name some eq eh en =
+      let there : length list - 1 < length list = omega arith in
+      record {
+        fresh_name = ap (λ (n : ℕ). times_in n s.hand) en ∙ listed-fresh (length list - 1) there q' hand' eq eh;
+        message = chain_of t.data.bytes (message_at (length list - 1) list);
+        rest = map (chain_of t.data.bytes) (without_at (length list - 1) list);
+        joined = last-value some;
+        after = taken-value (length list - 1) there q' hand' eq eh name en;
+      }
 
   -- what a flush leaves of a list
   pub flushed-value : (what : FlushWhat) (bytes' : List (List ℕ)) (q' : List Message) (n : ℕ) → bytes' ≡ t.data.bytes → n ≡ length t.data.references → q' ≡ filter (λ m. not (flushes_message what m)) list → value bytes' (set t.lists k q') t.hand t.mblks n ≡ placed s k (flushed what (list_at s k))

@@ -63,10 +63,18 @@ module _ {A : Type 0} (rank : A → ℕ) where
   Ordered-filter p [] o = tt
   Ordered-filter p (x ∷ q) o = elim (p x) as (λ b. ranked.IsOrdered rank (cond b (x ∷ filter p q) (filter p q))) [ true ↦ (AllRanks-filter (rank x) p q o.0, Ordered-filter p q o.1) | false ↦ Ordered-filter p q o.1 ]
 
--- the first message taken off
-pub Ordered-rest : (q : List Message) → ranked.IsOrdered listed_rank q → ranked.IsOrdered listed_rank (without_at 0 q)
-Ordered-rest [] o = tt
-Ordered-rest (m ∷ q) o = o.1
+-- a message taken off
+AllRanks-without : (bound n : ℕ) (q : List Message) → AllByRecursion (λ m. listed_rank m ≤ bound) q → AllByRecursion (λ m. listed_rank m ≤ bound) (without_at n q)
+AllRanks-without bound zero [] all = tt
+AllRanks-without bound (suc n) [] all = tt
+AllRanks-without bound zero (m ∷ q) all = all.1
+AllRanks-without bound (suc n) (m ∷ q) all = (all.0, AllRanks-without bound n q all.1)
+
+pub Ordered-without : (n : ℕ) (q : List Message) → ranked.IsOrdered listed_rank q → ranked.IsOrdered listed_rank (without_at n q)
+Ordered-without zero [] o = tt
+Ordered-without (suc n) [] o = tt
+Ordered-without zero (m ∷ q) o = o.1
+Ordered-without (suc n) (m ∷ q) o = (AllRanks-without (listed_rank m) n q o.0, Ordered-without n q o.1)
 
 -- a message put in its place
 pub Ordered-behind : (m : Message) (q q' : List Message) (p : ℕ) → ranked.IsOrdered listed_rank q → p ≡ prefix_len (λ x. nat_le (rank_in m.blocks) (rank_in x.blocks)) q → q' ≡ take p q ++ ((m ∷ []) ++ drop p q) → ranked.IsOrdered listed_rank q'

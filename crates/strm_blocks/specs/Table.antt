@@ -1,9 +1,10 @@
 -- What the fields of a table store stand for, and what holds of them.
-use Rattle.std.specs.Prelude.{ℕ, ◌≡◌, ◌≤◌, ◌+◌, ◌-◌, List, [], length, map, sum_by, slice_index_or, slice_range}
+use Rattle.std.specs.Prelude.{ℕ, ◌≡◌, ◌≤◌, ◌<◌, ◌+◌, ◌-◌, List, [], length, map, sum_by, slice_index_or, slice_range}
 use Rattle.strm_blocks.specs.Blocks.{Block, Held, StoreValue}
 use Rattle.strm_blocks.specs.Message.{weigh, block_count, lacking, named, naming, askew, AreOrdered}
 use Rattle.strm_blocks.specs.declared.message.Message.{Message}
 use Rattle.strm_blocks.specs.declared.message.MessageBlock.{MessageBlock}
+use Rattle.strm_blocks.specs.Pool.{Pool}
 use Rattle.strm_blocks.specs.declared.table.TableStore.TheInside.{Inside}
 
 -- what a block shows, of these data blocks
@@ -35,6 +36,12 @@ value_of t = record {
   mblks = t.mblks;
   dblks = length t.data.references;
 }
+
+-- the places of a block are in order, within a data block that there is
+pub record IsShown (pool : Pool) (b : MessageBlock) : Type 0 where
+  pub there : b.number < length pool.references
+  pub ordered : b.start ≤ b.end
+  pub within : b.end ≤ 256
 
 -- There are eight lists. Each message block is spare or a message's, and each message is idle, on a list or in hand.
 -- Those that aren't idle have a block. No name is that of two messages. The references of a data block are the blocks

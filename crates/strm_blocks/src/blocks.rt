@@ -1,7 +1,7 @@
 //! The calls of a store of message blocks and data blocks.
-ghost use Rattle.std.specs.Prelude.{◌≡◌, ◌≢◌, ◌==◌, ℕ, ◌<◌, ◌≤◌, [], ◌++◌, length, take, map, MatchResult, MatchOption};
+ghost use Rattle.std.specs.Prelude.{true, ◌≡◌, ◌≢◌, ◌==◌, ℕ, ◌<◌, ◌≤◌, [], ◌++◌, length, take, MatchResult, MatchOption};
 ghost use Rattle.strm_blocks.specs.Blocks.{StoreValue, IsStore, IsInHand, in_hand, list_at, held, dropped, changed, placed, empty_store, block_at, filled_block, with_block, put, put_back, trimmed_head, trimmed_tail, taken_by, extended, of_kind, banded, free_m, free_d, token};
-ghost use Rattle.strm_blocks.specs.Outcomes.{Allocated, Duplicated, Copied, NoneFree, NoneShared, Unlinked, UnlinkedLast, Popped, Unpopped, PeekedFirst, peek_of, summary_of, first_bytes, told, flushed};
+ghost use Rattle.strm_blocks.specs.Outcomes.{Allocated, Duplicated, Copied, NoneFree, NoneShared, Unlinked, UnlinkedLast, Popped, PoppedLast, Unpopped, PeekedFirst, summary_of, seen_in, seen_on, told, flushed};
 
 use crate::asked::{FlushWhat, NoBlocks, Peek, Summary};
 use crate::in_hand::InHand;
@@ -187,6 +187,13 @@ pub trait Blocks {
             (Unpopped (value self.old) (value self.new) list)
             (λ m. Popped (value self.old) (value self.new) list (token m)) };
 
+    /// Takes the last message of a list, if there is one.
+    fn pop_last(&mut self, list: usize) -> Option<InHand>
+        requires { list < 8 }
+        ensures { MatchOption result
+            (Unpopped (value self.old) (value self.new) list)
+            (λ m. PoppedLast (value self.old) (value self.new) list (token m)) };
+
     /// What can be seen of the first message of a list, if there is one.
     fn peek(&self, list: usize) -> Option<Peek>
         requires { list < 8 }
@@ -194,17 +201,18 @@ pub trait Blocks {
             (list_at (value self.now) list ≡ [])
             (λ peek. PeekedFirst (value self.now) list peek) };
 
-    /// How many bytes all blocks of the first message of a list show; none where none stands there. It takes a step for each of
-    /// these blocks.
-    fn first_len(&self, list: usize) -> usize
-        requires { list < 8 }
-        ensures { result ≡ first_bytes (list_at (value self.now) list) };
-
-    /// Tells a visitor of the messages of a list in their order, until it wants no more. It takes a step for each block of
-    /// the messages of which the visitor is told.
+    /// Tells a visitor of the blocks of the messages of a list in their order, until it wants no more. It takes a step for
+    /// each block of which the visitor is told.
     fn visit<V: Visitor>(&self, list: usize, visitor: &mut V)
         requires { list < 8 }
-        ensures { visitor.new ≡ told V.after V.goes_on visitor.old (map peek_of (list_at (value self.now) list)) };
+        ensures { visitor.new ≡ told V.after V.goes_on visitor.old (seen_on (list_at (value self.now) list)) };
+
+    /// Tells a visitor of the blocks of a message in hand in their order, until it wants no more. It takes a step for each
+    /// block of which the visitor is told.
+    fn visit_message<V: Visitor>(&self, message: &InHand, visitor: &mut V)
+        requires { IsInHand (value self.now) (token message.now) }
+        ensures { visitor.new ≡ told V.after V.goes_on visitor.old
+            (seen_in true (in_hand (value self.now) (token message.now))) };
 
     /// Frees the messages of a list that a flush takes: `flushq(9F)`, `flushband(9F)`.
     fn drop_where(&mut self, list: usize, what: FlushWhat)

@@ -10,6 +10,7 @@ mod message;
 mod parts;
 mod release;
 mod table;
+mod visiting;
 mod visitor;
 
 pub use asked::{FlushWhat, NoBlocks, Peek, Summary};

@@ -1,14 +1,12 @@
-//! How long the parts of a message are, and where a message belongs on a list.
-ghost use Rattle.std.specs.Prelude.{◌≡◌, ◌<◌, ◌≤◌, ◌^◌, ◌-◌, nat_le, nat_lt, length, map, sum_by, IsTrue, None};
+//! How long a message is, and where it belongs on a list.
+ghost use Rattle.std.specs.Prelude.{◌≡◌, ◌<◌, ◌≤◌, ◌^◌, nat_le, nat_lt, length, IsTrue};
 ghost use Rattle.std.specs.List.{prefix_len};
 ghost use Rattle.strm_types.specs.Ranked.{IsOrdered};
 ghost use Rattle.strm_blocks.specs.Message.{message_at, rank_in, listed_rank};
-ghost use Rattle.strm_blocks.specs.Outcomes.{told};
-ghost use Rattle.strm_blocks.specs.Parts.{control_run, body_run, lens, lens_in, peek_in, summary_in};
+ghost use Rattle.strm_blocks.specs.Parts.{lens, summary_in};
 
-use crate::asked::{Peek, Summary};
+use crate::asked::Summary;
 use crate::message::{Message, MessageBlock, first_block};
-use crate::visitor::Visitor;
 use std::collections::LinkedList;
 use strm_types::{Band, HIGH_PRIORITY_RANK};
 
@@ -77,39 +75,6 @@ pub(crate) fn place_before(list: &LinkedList<Message>, rank: usize) -> usize
     place
 }
 
-/// How many bytes the M_PROTO and M_PCPROTO blocks at the front of a message have, if there are any.
-pub(crate) fn control_len(blocks: &LinkedList<MessageBlock>) -> Option<usize>
-    requires { sum_by (λ b. b.end - b.start) blocks.now < 2 ^ 63 }
-    ensures { result ≡ control_run None blocks.now }
-{
-    let mut rest = blocks.iter();
-    let mut found = None;
-    while let Some(block) = rest.next() {
-        if !block.kind.is_control_kind() {
-            return found;
-        }
-        let before = found.unwrap_or(0);
-        found = Some(before + block.end.saturating_sub(block.start));
-    }
-    found
-}
-
-/// How many bytes the M_DATA blocks of a message have, if there are any.
-pub(crate) fn body_len(blocks: &LinkedList<MessageBlock>) -> Option<usize>
-    requires { sum_by (λ b. b.end - b.start) blocks.now < 2 ^ 63 }
-    ensures { result ≡ body_run None blocks.now }
-{
-    let mut rest = blocks.iter();
-    let mut found = None;
-    while let Some(block) = rest.next() {
-        if block.kind.is_body_kind() {
-            let before = found.unwrap_or(0);
-            found = Some(before + block.end.saturating_sub(block.start));
-        }
-    }
-    found
-}
-
 /// How many bytes lie between the places of blocks.
 pub(crate) fn total_len(blocks: &LinkedList<MessageBlock>) -> usize
     requires { lens blocks.now < 2 ^ 63 }
@@ -133,32 +98,5 @@ pub(crate) fn summary_at(blocks: &LinkedList<MessageBlock>) -> Summary
         kind: block.kind,
         band: Band(block.band),
         bytes: total_len(blocks),
-    }
-}
-
-/// What can be seen of a message.
-pub(crate) fn peek_at(message: &Message) -> Peek
-    requires { lens_in message.now < 2 ^ 63 }
-    ensures { result ≡ peek_in message.now }
-{
-    let block = first_block(&message.blocks);
-    Peek {
-        kind: block.kind,
-        band: Band(block.band),
-        control: control_len(&message.blocks),
-        body: body_len(&message.blocks),
-    }
-}
-
-/// Tells a visitor of the messages of a list in their order, until it wants no more.
-pub(crate) fn tell<V: Visitor>(list: &LinkedList<Message>, visitor: &mut V)
-    requires { sum_by lens_in list.now < 2 ^ 63 }
-    ensures { visitor.new ≡ told V.after V.goes_on visitor.old (map peek_in list.now) }
-{
-    let mut rest = list.iter();
-    while let Some(message) = rest.next() {
-        if !visitor.see(peek_at(message)) {
-            return;
-        }
     }
 }

@@ -11,10 +11,9 @@ use crate::message::{
     Message, MessageBlock, block_at, block_in, blocks_of, first_block, gather, hold, hold_block,
     join_blocks, name_of, part_blocks, place_of, put_node, replace_block, take_named, take_node,
 };
-use crate::parts::{
-    peek_at, place_before, place_behind, rank_of_first, summary_at, tell, total_len,
-};
+use crate::parts::{place_before, place_behind, rank_of_first, summary_at};
 use crate::release::{give_back, sift};
+use crate::visiting::{tell_list, tell_message};
 use crate::visitor::Visitor;
 use std::alloc::{AllocError, Global};
 use std::collections::LinkedList;
@@ -294,23 +293,32 @@ impl Blocks for TableStore {
         Some(InHand { name })
     }
 
-    fn peek(&self, list: usize) -> Option<Peek> {
-        let message = self.lists[list].front()?;
-        self.data.audit();
-        Some(peek_at(message))
+    fn pop_last(&mut self, list: usize) -> Option<InHand> {
+        let count = self.lists[list].len();
+        if count == 0 {
+            return None;
+        }
+        let node = take_node(&mut self.lists[list], count - 1);
+        let name = name_of(&node);
+        put_node(&mut self.hand, 0, node);
+        Some(InHand { name })
     }
 
-    fn first_len(&self, list: usize) -> usize {
-        let Some(message) = self.lists[list].front() else {
-            return 0;
-        };
-        self.data.audit();
-        total_len(&message.blocks)
+    fn peek(&self, list: usize) -> Option<Peek> {
+        let message = self.lists[list].front()?;
+        let block = first_block(&message.blocks);
+        Some(Peek {
+            kind: block.kind,
+            band: Band(block.band),
+        })
     }
 
     fn visit<V: Visitor>(&self, list: usize, visitor: &mut V) {
-        self.data.audit();
-        tell(&self.lists[list], visitor);
+        tell_list(&self.data, &self.lists[list], visitor);
+    }
+
+    fn visit_message<V: Visitor>(&self, message: &InHand, visitor: &mut V) {
+        let _ = tell_message(&self.data, blocks_of(&self.hand, message.name), visitor);
     }
 
     fn drop_where(&mut self, list: usize, what: FlushWhat) {

@@ -15,26 +15,26 @@ use Rattle.strm_types.specs.Heads.{is_pcproto, passed_by, is_doubled, waits_for_
 use Rattle.strm_types.specs.Message.{Message, cells_of}
 use Rattle.strm_types.specs.Names.{direction_at}
 use Rattle.strm_types.specs.Queue.{put_on}
-use Rattle.strm_blocks.specs.Blocks.{Block, StoreValue, IsInHand, block_at, dropped, list_at, names_of}
-use Rattle.strm_blocks.specs.Outcomes.{peek_of, told}
+use Rattle.strm_blocks.specs.Blocks.{Block, StoreValue, IsInHand, IsStore, block_at, dropped, list_at, names_of}
+use Rattle.strm_blocks.specs.Outcomes.{seen_on, told}
 use Rattle.strm_blocks.proofs.Laws.{total-dropped, used-is, references-is, free_m-is, free_d-more}
 use Rattle.strm_msg.specs.Bytes.{bytes_of}
 use Rattle.strm_msg.specs.Messages.{message_of, AreMessages, IsChain}
 use Rattle.strm_msg.proofs.Chains.{kind-is}
 use Rattle.strm_msg.proofs.MadePlain.{parts-same, plain-is}
-use Rattle.strm_queue.proofs.Finding.{finds-kind}
+use Rattle.strm_queue.proofs.Finding.{finds-on}
 use Rattle.strm_queue.specs.declared.queue.Queue.{Queue}
 use Rattle.strm_queue.specs.Kept.{AreCounted}
 use Rattle.strm_queue.specs.Queues.{OnlyCounts}
-use Rattle.strm_queue.specs.Stored.{Changes, FreesBlocks, HoldsReadable, IsReady}
+use Rattle.strm_queue.specs.Stored.{Changes, FreesBlocks, HoldsReadable, IsReady, messages_on}
 use Rattle.strm_head.specs.declared.putting.Urgent.{Urgent}
 
 -- whether an M_PCPROTO stands among some messages
 abbrev any_urgent : List (Message ℕ) → Bool
 any_urgent ms = list_any (λ (m : Message ℕ). is_pcproto m.kind) ms
 
-pub finds-urgent : (q : List (List Block)) → (told (λ (v : Urgent) p. record { found = is_pcproto p.kind }) (λ v. not v.found) (record { found = false }) (map peek_of q)).found ≡ any_urgent (map message_of q)
-finds-urgent = finds-kind (λ (v : Urgent). v.found) (λ b. record { found = b }) (λ b. refl) is_pcproto
+pub finds-urgent : (s : StoreValue) (k : ℕ) → IsStore s → (told (λ (v : Urgent) b. cond b.first (record { found = is_pcproto b.kind }) v) (λ v. not v.found) (record { found = false }) (seen_on (list_at s k))).found ≡ any_urgent (messages_on s k)
+finds-urgent = finds-on (λ (v : Urgent). v.found) (λ b. record { found = b }) (λ b. refl) is_pcproto
 
 -- no fewer blocks are free where a message in hand is freed
 dropped-frees : (s : StoreValue) (i : ℕ) → IsInHand s i → FreesBlocks s (dropped s i)

@@ -1,67 +1,160 @@
--- What is seen of a message without taking it is what the message has.
+-- What is seen of the messages of a head without taking them is what they have.
 use Rattle.std.proofs.Common.{ℕ, ◌≡◌, Bool, true, false, cond, List, [], ◌∷◌, ◌++◌, length, map, refl, sym, ap, ◌∙◌, arith}
-use Rattle.std.specs.Prelude.{None, Some, unwrap_or, not, ◌==◌, ◌&&◌, ◌||◌, nat_le}
+use Rattle.std.specs.Prelude.{Option, None, Some, is_none, is_some, unwrap_or, not, ◌==◌, ◌&&◌, ◌||◌, nat_le, nat_lt}
 use Rattle.std.specs.List.{AllByRecursion}
 use Rattle.std.proofs.lemmas.Bool.Decides.{nat_tests}
+use Rattle.std.proofs.lemmas.List.{length-append}
 use Rattle.strm_types.specs.declared.modes.ControlMode.{ControlMode}
 use Rattle.strm_types.specs.declared.modes.ControlMode.TheVariants.{Refuse, Data, Discard}
 use Rattle.strm_types.specs.declared.modes.Wanted.{Wanted}
 use Rattle.strm_types.specs.declared.modes.Wanted.TheVariants.{Any, High, Band}
-use Rattle.strm_types.specs.Gets.{is_wanted, get_refusal}
+use Rattle.strm_types.specs.Gets.{is_wanted, get_refusal, first_data}
 use Rattle.strm_types.specs.declared.refusals.Refusal.TheVariants.{Eagain}
 use Rattle.strm_types.specs.Flush.{is_data_kind}
-use Rattle.strm_types.specs.Message.{Message, part, cells_of, is_high_priority}
+use Rattle.strm_types.specs.Kinds.{is_control_kind}
+use Rattle.strm_types.specs.Message.{Message, part, cells_of, size_of, is_high_priority}
+use Rattle.strm_types.specs.Queue.{first_size, is_none_left}
 use Rattle.strm_types.specs.Reads.{is_there, is_passed, is_refused, no_cells, offered, finds_none, starts_refused, takes_none}
 use Rattle.strm_blocks.specs.Blocks.{Block, block_at}
-use Rattle.strm_blocks.specs.Outcomes.{Peeked, peek_of, part_len, control_len, body_len, told}
+use Rattle.strm_blocks.specs.Outcomes.{Peeked}
 use Rattle.strm_blocks.specs.declared.asked.Peek.{Peek}
-use Rattle.strm_msg.specs.Bytes.{control_blocks, data_blocks}
+use Rattle.strm_msg.specs.Bytes.{control_blocks, data_blocks, length_of_part}
 use Rattle.strm_msg.specs.Messages.{message_of, part_of}
-use Rattle.strm_msg.proofs.Chains.{bytes-sum, kind-is, band-is}
-use Rattle.strm_head.specs.declared.standing.Passing.{Passing}
-use Rattle.strm_head.specs.declared.standing.Reaching.{Reaching}
-use Rattle.strm_head.specs.Drawing.{behind_passed, drops_control, first_goes, goes}
-use Rattle.strm_types.specs.Queue.{is_none_left}
-use Rattle.strm_head.specs.Seen.{peek_passed, peek_refused, peek_empty, peek_goes, peek_wanted, gets_on}
+use Rattle.strm_msg.proofs.Chains.{kind-is, band-is}
+use Rattle.strm_msg.proofs.Parts.{control-blocks-cons}
+use Rattle.strm_queue.specs.Lengths.{length_on, or_next}
+use Rattle.strm_head.specs.Drawing.{behind_passed, drops_control, first_passed, first_goes, goes}
+use Rattle.strm_head.specs.Seen.{peek_wanted, gets_on}
 
 pub parts-shown : (chain : List Block) → is_data_kind (block_at 0 chain).kind ≡ true
     → message_of chain ≡ record { kind = (block_at 0 chain).kind; band = (block_at 0 chain).band; control = part_of (control_blocks chain); body = part_of (data_blocks chain); plain = [] }
 unfolding message_of
 parts-shown chain is = rw is refl
 
-there-same : (blocks : List Block) → is_there (part_len blocks) ≡ is_there (part_of blocks)
-there-same [] = refl
-there-same (b ∷ blocks) = refl
-
-part-size : (blocks : List Block) → unwrap_or (part_len blocks) 0 ≡ length (part (part_of blocks))
+-- a part that is measured is as long
+part-size : (blocks : List Block) → unwrap_or (length_of_part blocks) 0 ≡ length (part (part_of blocks))
 part-size [] = refl
-part-size (b ∷ blocks) = sym (bytes-sum (b ∷ blocks))
+part-size (b ∷ blocks) = refl
+
+-- bytes that can be given
+gives : (xs : List ℕ) → nat_lt 0 (length xs) ≡ not (no_cells xs)
+gives [] = refl
+gives (x ∷ xs) = grind (arith, nat_tests)
+
+-- what std says of an option that isn't there
+pub absent : (o : Option ℕ) (r : Bool) → is_some o ≡ not r → r ≡ is_none o
+absent None true is = refl
+absent None false is = absurd (cc)
+absent (Some n) true is = absurd (cc)
+absent (Some n) false is = refl
+
+starts-control : (chain : List Block) → is_control_kind (block_at 0 chain).kind ≡ is_there (part_of (control_blocks chain))
+unfolding is_control_kind
+starts-control [] = refl
+starts-control (b ∷ chain) = at (is_control_kind b.kind) ∙ ap (λ blocks. is_there (part_of blocks)) (sym (control-blocks-cons b chain))
+  where
+    at : (t : Bool) → t ≡ is_there (part_of (cond t (b ∷ control_blocks chain) []))
+    at true = refl
+    at false = refl
 
 module _ (chain : List Block) (readable : is_data_kind (block_at 0 chain).kind ≡ true) where
-  pub control-there : is_there (control_len chain) ≡ is_there (message_of chain).control
-  control-there = there-same (control_blocks chain) ∙ ap (λ (m : Message ℕ). is_there m.control) (sym (parts-shown chain readable))
+  body-passed : is_none (length_of_part (data_blocks chain)) ≡ is_passed Discard (message_of chain)
+  body-passed = at (data_blocks chain) ∙ ap (λ (m : Message ℕ). is_passed Discard m) (sym (parts-shown chain readable))
+    where
+      at : (blocks : List Block) → is_none (length_of_part blocks) ≡ cond (is_there (part_of blocks)) false true
+      at [] = refl
+      at (b ∷ blocks) = refl
 
-  pub body-there : is_there (body_len chain) ≡ is_there (message_of chain).body
-  body-there = there-same (data_blocks chain) ∙ ap (λ (m : Message ℕ). is_there m.body) (sym (parts-shown chain readable))
-
-  pub body-size : unwrap_or (body_len chain) 0 ≡ length (part (message_of chain).body)
+  body-size : unwrap_or (length_of_part (data_blocks chain)) 0 ≡ length (part (message_of chain).body)
   body-size = part-size (data_blocks chain) ∙ ap (λ (m : Message ℕ). length (part m.body)) (sym (parts-shown chain readable))
 
-  pub passed-seen : (control : ControlMode) → peek_passed control (peek_of chain) ≡ is_passed control (message_of chain)
-  passed-seen Refuse = refl
-  passed-seen Data = refl
-  passed-seen Discard = ap (λ b. cond b false true) body-there
+  -- the first block is of the control part, if there is one
+  pub control-there : is_control_kind (block_at 0 chain).kind ≡ is_there (message_of chain).control
+  control-there = starts-control chain ∙ ap (λ (m : Message ℕ). is_there m.control) (sym (parts-shown chain readable))
 
-  pub refused-seen : (control : ControlMode) (p : Peek) → p.control ≡ control_len chain → peek_refused control p ≡ is_refused control (message_of chain)
-  refused-seen Refuse p is = ap is_there is ∙ control-there
-  refused-seen Data p is = refl
-  refused-seen Discard p is = refl
+  -- a message of data has no other bytes
+  size-seen : size_of (message_of chain) ≡ length (cells_of (message_of chain))
+  unfolding size_of
+  size-seen =
+      let none : length (message_of chain).plain ≡ 0 = ap (λ (m : Message ℕ). length m.plain) (parts-shown chain readable) in
+      omega (arith, none)
 
--- a read passes over by the data part alone
-pub passed-by : (control : ControlMode) (p p' : Peek) → p.body ≡ p'.body → peek_passed control p ≡ peek_passed control p'
-passed-by Refuse p p' is = refl
-passed-by Data p p' is = refl
-passed-by Discard p p' is = ap (λ o. cond (is_there o) false true) is
+  -- what a read that has begun to give takes of it
+  data-goes : nat_lt 0 (length (part (message_of chain).body)) ≡ goes Discard true (message_of chain)
+  unfolding cells_of
+  data-goes = gives (part (message_of chain).body)
+
+  all-goes : (control : ControlMode) → drops_control control ≡ false → (not (is_refused control (message_of chain)) && nat_lt 0 (size_of (message_of chain))) ≡ goes control true (message_of chain)
+  all-goes Refuse keeps = ap (λ n. not (is_refused Refuse (message_of chain)) && nat_lt 0 n) size-seen ∙ ap (λ b. not (is_refused Refuse (message_of chain)) && b) (gives (cells_of (message_of chain)))
+  all-goes Data keeps = ap (λ n. nat_lt 0 n) size-seen ∙ gives (cells_of (message_of chain))
+  all-goes Discard keeps = absurd (cc)
+
+abbrev AreReadable : List (List Block) → Type 0
+AreReadable q = AllByRecursion (λ chain. is_data_kind (block_at 0 chain).kind ≡ true) q
+
+-- a read under RPROTDIS finds nothing where no message has a data part
+pub none-found : (control : ControlMode) (q : List (List Block)) → AreReadable q → drops_control control ≡ true → is_none (length_on true true q) ≡ finds_none control (map message_of q)
+none-found Refuse q all drops = absurd (cc)
+none-found Data q all drops = absurd (cc)
+none-found Discard [] all drops = refl
+none-found Discard (chain ∷ q) all drops =
+    at (length_of_part (data_blocks chain)) (none-found Discard q all.1 refl) ∙ ap (λ b. b && finds_none Discard (map message_of q)) (body-passed chain all.0)
+  where
+    at : (o : Option ℕ) → is_none (length_on true true q) ≡ finds_none Discard (map message_of q) → is_none (or_next true o (length_on true true q)) ≡ (is_none o && finds_none Discard (map message_of q))
+    at None ih = ih
+    at (Some n) ih = refl
+
+-- it passes the first one over where that has none, and in the other modes none
+pub first-left : (control : ControlMode) (q : List (List Block)) → AreReadable q → drops_control control ≡ true → is_none_left q ≡ false → is_none (length_on true false q) ≡ first_passed control (map message_of q)
+first-left Refuse q all drops some = absurd (cc)
+first-left Data q all drops some = absurd (cc)
+first-left Discard [] all drops some = absurd (cc)
+first-left Discard (chain ∷ q) all drops some = at (length_of_part (data_blocks chain)) ∙ body-passed chain all.0
+  where
+    at : (o : Option ℕ) → is_none (or_next false o (length_on true false q)) ≡ is_none o
+    at None = refl
+    at (Some n) = refl
+
+pub first-kept : (control : ControlMode) (q : List (Message ℕ)) → drops_control control ≡ false → false ≡ first_passed control q
+first-kept control [] keeps = refl
+first-kept Refuse (m ∷ q) keeps = refl
+first-kept Data (m ∷ q) keeps = refl
+first-kept Discard (m ∷ q) keeps = absurd (cc)
+
+-- where it has begun to give it takes the next one that has bytes of data
+pub next-goes : (control : ControlMode) (q : List (List Block)) → AreReadable q → drops_control control ≡ true → nat_lt 0 (unwrap_or (length_on true true q) 0) ≡ first_goes control true (behind_passed control (map message_of q))
+next-goes Refuse q all drops = absurd (cc)
+next-goes Data q all drops = absurd (cc)
+next-goes Discard [] all drops = refl
+next-goes Discard (chain ∷ q) all drops =
+    at (length_of_part (data_blocks chain)) (body-passed chain all.0) (ap (λ n. nat_lt 0 n) (body-size chain all.0) ∙ data-goes chain all.0) (next-goes Discard q all.1 refl)
+  where
+    behind : Bool → Bool
+    behind b = first_goes Discard true (cond b (behind_passed Discard (map message_of q)) (message_of chain ∷ map message_of q))
+
+    at : (o : Option ℕ) → is_none o ≡ is_passed Discard (message_of chain) → nat_lt 0 (unwrap_or o 0) ≡ goes Discard true (message_of chain)
+        → nat_lt 0 (unwrap_or (length_on true true q) 0) ≡ first_goes Discard true (behind_passed Discard (map message_of q))
+        → nat_lt 0 (unwrap_or (or_next true o (length_on true true q)) 0) ≡ first_goes Discard true (behind_passed Discard (map message_of (chain ∷ q)))
+    at None passed size ih = ih ∙ ap (λ b. behind b) passed
+    at (Some n) passed size ih = size ∙ ap (λ b. not b && goes Discard true (message_of chain)) passed ∙ ap (λ b. behind b) passed
+
+-- in the other modes it takes the first one, where it doesn't fail at that and that has bytes
+pub first-goes : (control : ControlMode) (q : List (List Block)) → AreReadable q → drops_control control ≡ false
+    → (not (starts_refused control (map message_of q)) && nat_lt 0 (first_size (map message_of q))) ≡ first_goes control true (behind_passed control (map message_of q))
+first-goes Refuse [] all keeps = refl
+first-goes Data [] all keeps = refl
+first-goes Refuse (chain ∷ q) all keeps = all-goes chain all.0 Refuse refl
+first-goes Data (chain ∷ q) all keeps = all-goes chain all.0 Data refl
+first-goes Discard q all keeps = absurd (cc)
+
+-- how long the data part of the first one is
+pub first-part : (q : List (List Block)) → AreReadable q → unwrap_or (length_on true false q) 0 ≡ first_data (map message_of q)
+first-part [] all = refl
+first-part (chain ∷ q) all = at (length_of_part (data_blocks chain)) ∙ body-size chain all.0
+  where
+    at : (o : Option ℕ) → unwrap_or (or_next false o (length_on true false q)) 0 ≡ unwrap_or o 0
+    at None = refl
+    at (Some n) = refl
 
 -- whether a message is the one that a get asks for
 pub wanted-seen : (chain : List Block) (wanted : Wanted) (p : Peek) → Peeked p chain → peek_wanted wanted p ≡ is_wanted wanted (message_of chain)
@@ -75,73 +168,6 @@ wanted-seen chain (Band band) p seen =
 pub get-refused : (wanted : Wanted) (at_end : Bool) (q : List (Message ℕ)) → cond (gets_on wanted at_end q) None (Some Eagain) ≡ get_refusal wanted at_end q
 get-refused wanted at_end [] = refl
 get-refused wanted at_end (m ∷ q) = refl
-
--- a visitor that sees whether all are passed over
-abbrev one_more : Passing → Peek → Passing
-one_more v p = record { control = v.control; all = v.all && peek_passed v.control p }
-
-pub passing-all : (control : ControlMode) (q : List (List Block)) → AllByRecursion (λ chain. is_data_kind (block_at 0 chain).kind ≡ true) q
-    → (told one_more (λ v. v.all) (record { control = control; all = true }) (map peek_of q)).all ≡ finds_none control (map message_of q)
-passing-all control [] all = refl
-passing-all control (chain ∷ q) all =
-    at (peek_passed control (peek_of chain)) (passing-all control q all.1) ∙ ap (λ b. b && finds_none control (map message_of q)) (passed-seen chain all.0 control)
-  where
-    at : (b : Bool) → (told one_more (λ v. v.all) (record { control = control; all = true }) (map peek_of q)).all ≡ finds_none control (map message_of q)
-        → (cond b (told one_more (λ v. v.all) (record { control = control; all = b }) (map peek_of q)) (record { control = control; all = b })).all ≡ (b && finds_none control (map message_of q))
-    at true ih = ih
-    at false ih = refl
-
--- whether a read could give no bytes of a message that is seen
-some-length : (x : ℕ) (xs : List ℕ) → (length (x ∷ xs) == 0) ≡ false
-some-length x xs = grind (arith, nat_tests)
-
-none-both : (xs ys : List ℕ) → (length xs == 0 && length ys == 0) ≡ no_cells (xs ++ ys)
-none-both [] [] = refl
-none-both [] (y ∷ ys) = some-length y ys
-none-both (x ∷ xs) ys = ap (λ b. b && length ys == 0) (some-length x xs)
-
-module _ (chain : List Block) (readable : is_data_kind (block_at 0 chain).kind ≡ true) where
-  control-size : unwrap_or (control_len chain) 0 ≡ length (part (message_of chain).control)
-  control-size = part-size (control_blocks chain) ∙ ap (λ (m : Message ℕ). length (part m.control)) (sym (parts-shown chain readable))
-
-  both-empty : (unwrap_or (control_len chain) 0 == 0 && unwrap_or (body_len chain) 0 == 0) ≡ no_cells (cells_of (message_of chain))
-  unfolding cells_of
-  both-empty =
-      ap (λ n. n == 0 && unwrap_or (body_len chain) 0 == 0) control-size ∙ ap (λ n. length (part (message_of chain).control) == 0 && n == 0) (body-size chain readable)
-      ∙ none-both (part (message_of chain).control) (part (message_of chain).body)
-
-  body-empty : (unwrap_or (body_len chain) 0 == 0) ≡ no_cells (offered Discard (message_of chain))
-  unfolding cells_of
-  body-empty = ap (λ n. n == 0) (body-size chain readable) ∙ none-both [] (part (message_of chain).body)
-
-  empty-seen : (control : ControlMode) → peek_empty control (peek_of chain) ≡ no_cells (offered control (message_of chain))
-  empty-seen Refuse = both-empty
-  empty-seen Data = both-empty
-  empty-seen Discard = body-empty
-
-  goes-seen : (control : ControlMode) → peek_goes control (peek_of chain) ≡ goes control true (message_of chain)
-  goes-seen control =
-      ap (λ b. not b && not (peek_empty control (peek_of chain))) (refused-seen chain readable control (peek_of chain) refl)
-      ∙ ap (λ b. not (is_refused control (message_of chain)) && not b) (empty-seen control)
-
--- a visitor that sees whether a read that has begun to give takes the first message that it doesn't pass over
-abbrev reach : Reaching → Peek → Reaching
-reach v p = record { control = v.control; passing = peek_passed v.control p; goes = not (peek_passed v.control p) && peek_goes v.control p }
-
-pub reaching-one : (control : ControlMode) (q : List (List Block)) → AllByRecursion (λ chain. is_data_kind (block_at 0 chain).kind ≡ true) q
-    → (told reach (λ v. v.passing) (record { control = control; passing = true; goes = false }) (map peek_of q)).goes ≡ first_goes control true (behind_passed control (map message_of q))
-reaching-one control [] all = refl
-reaching-one control (chain ∷ q) all =
-    at (peek_passed control (peek_of chain)) (is_passed control (message_of chain)) (passed-seen chain all.0 control) refl (reaching-one control q all.1)
-  where
-    at : (b c : Bool) → b ≡ c → is_passed control (message_of chain) ≡ c
-        → (told reach (λ v. v.passing) (record { control = control; passing = true; goes = false }) (map peek_of q)).goes ≡ first_goes control true (behind_passed control (map message_of q))
-        → (cond b (told reach (λ v. v.passing) (record { control = control; passing = b; goes = not b && peek_goes control (peek_of chain) }) (map peek_of q)) (record { control = control; passing = b; goes = not b && peek_goes control (peek_of chain) })).goes
-        ≡ first_goes control true (cond c (behind_passed control (map message_of q)) (message_of chain ∷ map message_of q))
-    at true true same is ih = ih
-    at false false same is ih = goes-seen chain all.0 control ∙ ap (λ b. not b && goes control true (message_of chain)) (sym is)
-    at true false same is ih = absurd (cc)
-    at false true same is ih = absurd (cc)
 
 -- where none is passed over a read finds none only where none is left
 pub quick-none : (control : ControlMode) (q : List (List Block)) → drops_control control ≡ false → is_none_left q ≡ finds_none control (map message_of q)

@@ -7,10 +7,11 @@ ghost use Rattle.strm_queue.specs.Stored.{messages_on, queue_in, IsHeadQueue, Ke
 
 use crate::ioctls::IoctlBytes;
 use crate::signals::Signals;
-use crate::standing::{finds_none, first_len, starts_refused};
+use crate::standing::{finds_none, starts_refused};
 use crate::{reading, standing};
 use strm_blocks::Blocks;
 use strm_queue::Queue;
+use strm_queue::lengths::first_data;
 use strm_queue::standing::sizes;
 use strm_types::{
     Content, ControlMode, Dir, Fates, Mode, READ_MAX, ReadMode, Refusal, SIGNALS_MAX, Slot, Wanted,
@@ -137,7 +138,7 @@ impl Head {
         ensures messages { result.messages ≡ length (messages_on (B.value store.now) self.now.queue.list) }
     {
         Waiting {
-            first: first_len(store, &self.queue),
+            first: first_data(store, &self.queue).unwrap_or(0),
             messages: sizes(store, &self.queue).0,
         }
     }

@@ -22,12 +22,12 @@ ghost use Rattle.strm_head.specs.Heads.{head_in, notes_of, plain_slot, sent_down
 
 use crate::head::Head;
 use crate::ioctls::HEADER;
-use strm_blocks::{Blocks, InHand, Peek, Visitor};
+use strm_blocks::{Blocks, InHand, Visitor};
 use strm_msg::{booked_size, first_bytes};
 use strm_queue::Queue;
 use strm_queue::emptying::{Chosen, empty, going};
 use strm_queue::standing::{enqueue, mark_all};
-use strm_types::{Fates, FlushAsked, IOCTL_MAX, Ioc, Marks, MsgKind, Options, Rule, Spot};
+use strm_types::{Band, Fates, FlushAsked, IOCTL_MAX, Ioc, Marks, MsgKind, Options, Rule, Spot};
 
 /// A message that goes down from a head for one that came up.
 #[derive(Clone, Copy, Debug, PartialEq)]
@@ -64,14 +64,16 @@ fn is_pcproto(kind: MsgKind) -> bool
 }
 
 impl Visitor for Urgent {
-    ghost after = { λ v p. record { found = is_pcproto p.kind } };
+    ghost use Rattle.std.specs.Prelude.{not, if◌then◌else◌};
+
+    ghost after = { λ v b. if b.first then record { found = is_pcproto b.kind } else v };
 
     ghost goes_on = { λ v. not v.found };
 
-    ghost use Rattle.std.specs.Prelude.{not};
-
-    fn see(&mut self, message: Peek) -> bool {
-        self.found = is_pcproto(message.kind);
+    fn see(&mut self, first: bool, kind: MsgKind, _band: Band, _bytes: &[u8]) -> bool {
+        if first {
+            self.found = is_pcproto(kind);
+        }
         !self.found
     }
 }
@@ -80,6 +82,7 @@ impl Visitor for Urgent {
 fn has_pcproto<B: Blocks>(store: &B, queue: &Queue) -> bool
     ensures { result ≡ list_any (λ m. is_pcproto m.kind) (messages_on (B.value store.now) queue.now.list) }
 {
+    store.audit();
     let mut urgent = Urgent { found: false };
     store.visit(queue.list, &mut urgent);
     urgent.found

@@ -18,7 +18,7 @@ ghost use Rattle.strm_blocks.specs.Blocks.{token};
 use crate::ldterm::Ldterm;
 use strm_blocks::{Blocks, InHand};
 use strm_msg::message_size;
-use strm_queue::{Queue, standing};
+use strm_queue::{Queue, lengths, standing};
 use strm_types::{Asks, Band, MsgKind, Way};
 
 /// How many bytes the turn's echo has, where there is one.
@@ -116,13 +116,13 @@ pub fn first_size<B: Blocks>(ldterm: &Ldterm, store: &B, way: Way) -> usize
     ensures { result ≡ first_size (messages_at queue_of way (ldterm_in (B.value store.now) ldterm.now)) }
 {
     match way {
-        Way::Up => standing::first_size(store, &ldterm.read_queue),
+        Way::Up => lengths::first_size(store, &ldterm.read_queue),
         Way::Down => {
             let none_listed = store.is_empty(ldterm.write_queue.list);
             if none_listed {
                 return echo_size(store, &ldterm.echo);
             }
-            standing::first_size(store, &ldterm.write_queue)
+            lengths::first_size(store, &ldterm.write_queue)
         }
     }
 }

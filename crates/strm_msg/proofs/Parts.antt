@@ -1,22 +1,18 @@
 -- The lengths of a message's parts, as sums that run along its blocks.
-use Rattle.std.proofs.Common.{ℕ, ◌≡◌, ◌<◌, ◌+◌, Bool, true, false, cond, List, [], ◌∷◌, ◌++◌, length, drop, Option, None, Some, refl, sym, ap, ◌∙◌, arith, add-one, drop-cons, unwrap_or}
+use Rattle.std.proofs.Common.{ℕ, ◌≡◌, ◌≤◌, ◌<◌, ◌+◌, ◌-◌, ◌^◌, Bool, true, false, cond, List, [], ◌∷◌, ◌++◌, length, drop, Option, None, Some, refl, sym, ap, ◌∙◌, arith, add-one, drop-cons, unwrap_or}
+use Rattle.std.specs.Prelude.{min, sum_by, ◌&&◌}
 use Rattle.std.proofs.lemmas.List.{length-append}
-use Rattle.std.proofs.lemmas.List.Sums.{take_while-cons}
+use Rattle.std.proofs.lemmas.List.Sums.{sum_by-cons, take_while-cons}
 use Rattle.strm_blocks.specs.Blocks.{Block, block_at, no_block}
 use Rattle.strm_types.specs.Kinds.{is_control_kind, is_body_kind}
+use Rattle.strm_blocks.specs.Outcomes.{SeenBlock, seen_in, told}
+use Rattle.strm_msg.specs.declared.sizes.PartSizes.{PartSizes}
+use Rattle.strm_msg.specs.Parted.{longer, parted}
 use Rattle.strm_msg.specs.Bytes.{bytes_of, control_blocks, control_bytes, data_blocks, data_bytes, length_of_part}
 
 -- the chain from a place on, by its first block
 pub chain-at : (chain : List Block) (at : ℕ) → at < length chain → drop at chain ≡ block_at at chain ∷ drop (at + 1) chain
 chain-at chain at within = drop-cons chain at no_block within ∙ ap (λ k. block_at at chain ∷ drop k chain) (sym (add-one at))
-
--- bytes of the data part, from the front
-pub data-size-more : (b : Block) (chain : List Block) → length (data_bytes (b ∷ chain)) ≡ cond (is_body_kind b.kind) (length b.bytes) 0 + length (data_bytes chain)
-data-size-more b chain =
-    elim (is_body_kind b.kind) as (λ v. length (bytes_of (cond v (b ∷ data_blocks chain) (data_blocks chain))) ≡ cond v (length b.bytes) 0 + length (data_bytes chain)) [
-      | true ↦ length-append b.bytes (bytes_of (data_blocks chain))
-      | false ↦ omega arith
-    ]
 
 -- a length with that of one more block
 abbrev pub with_block_len : Option ℕ → Block → Option ℕ
@@ -62,11 +58,6 @@ control-run-is (b ∷ chain) =
     ] in
     by_kind ∙ ap (λ (xs : List Block). length_of_part xs) (sym (control-blocks-cons b chain))
 
--- the run ends at a block of another kind
-pub control-run-stops : (found : Option ℕ) (chain : List Block) (at : ℕ) → at < length chain → is_control_kind (block_at at chain).kind ≡ false → control_run found (drop at chain) ≡ found
-control-run-stops found chain at within other =
-    ap (λ rest. control_run found rest) (chain-at chain at within) ∙ ap (λ v. cond v (control_run (with_block_len found (block_at at chain)) (drop (at + 1) chain)) found) other
-
 data-run-some : (n : ℕ) (chain : List Block) → data_run (Some n) chain ≡ Some (n + length (data_bytes chain))
 data-run-some n [] = ap Some (omega arith)
 data-run-some n (b ∷ chain) =
@@ -90,17 +81,53 @@ data-run-is (b ∷ chain) =
       | false ↦ data-run-is chain
     ]
 
--- one block more of the control part
-pub control-run-at : (found : Option ℕ) (chain : List Block) (at : ℕ) → at < length chain → is_control_kind (block_at at chain).kind ≡ true → control_run found (drop at chain) ≡ control_run (with_block_len found (block_at at chain)) (drop (at + 1) chain)
-control-run-at found chain at within kind =
-    ap (λ rest. control_run found rest) (chain-at chain at within) ∙ ap (λ v. cond v (control_run (with_block_len found (block_at at chain)) (drop (at + 1) chain)) found) kind
+-- a visitor that adds the parts up
+abbrev parts_from : PartSizes → List SeenBlock → PartSizes
+parts_from v bs = told parted (λ v. true) v bs
 
--- one block more, of the data part or not
-pub data-run-at : (found : Option ℕ) (chain : List Block) (at : ℕ) (v : Bool) → at < length chain → is_body_kind (block_at at chain).kind ≡ v → data_run found (drop at chain) ≡ data_run (cond v (with_block_len found (block_at at chain)) found) (drop (at + 1) chain)
-data-run-at found chain at v within kind =
-    ap (λ rest. data_run found rest) (chain-at chain at within) ∙ ap (λ v. data_run (cond v (with_block_len found (block_at at chain)) found) (drop (at + 1) chain)) kind
+abbrev with_parts : Bool → Option ℕ → Option ℕ → PartSizes
+with_parts in_front control body = record { in_front = in_front; control = control; body = body }
 
-pub data-size-at : (chain : List Block) (at : ℕ) (v : Bool) → at < length chain → is_body_kind (block_at at chain).kind ≡ v → length (data_bytes (drop at chain)) ≡ cond v (length (block_at at chain).bytes) 0 + length (data_bytes (drop (at + 1) chain))
-data-size-at chain at v within kind =
-    ap (λ rest. length (data_bytes rest)) (chain-at chain at within) ∙ data-size-more (block_at at chain) (drop (at + 1) chain)
-    ∙ ap (λ v. cond v (length (block_at at chain).bytes) 0 + length (data_bytes (drop (at + 1) chain))) kind
+pub record PartsAre (v : PartSizes) (c o : Option ℕ) : Type 0 where
+  pub control : v.control ≡ c
+  pub body : v.body ≡ o
+
+longer-fits : (counts : Bool) (found : Option ℕ) (b : Block) → unwrap_or found 0 + length b.bytes ≤ 2 ^ 64 - 1 → cond counts (longer found b.bytes) found ≡ cond counts (with_block_len found b) found
+longer-fits true found b fits = let one : min (unwrap_or found 0 + length b.bytes) (2 ^ 64 - 1) ≡ unwrap_or found 0 + length b.bytes = omega (arith, fits) in ap (λ (n : ℕ). Some n) one
+longer-fits false found b fits = refl
+
+grows : (counts : Bool) (found : Option ℕ) (b : Block) → unwrap_or (cond counts (with_block_len found b) found) 0 ≤ unwrap_or found 0 + length b.bytes
+grows true found b = omega arith
+grows false found b = omega arith
+
+control-goes : (in_front is : Bool) (control : Option ℕ) (b : Block) (chain : List Block)
+    → cond (in_front && is) (control_run (cond (in_front && is) (with_block_len control b) control) chain) (cond (in_front && is) (with_block_len control b) control) ≡ cond in_front (cond is (control_run (with_block_len control b) chain) control) control
+control-goes true true control b chain = refl
+control-goes true false control b chain = refl
+control-goes false is control b chain = refl
+
+parts-run : (in_front first : Bool) (control body : Option ℕ) (chain : List Block)
+    → unwrap_or control 0 + sum_by (λ b. length b.bytes) chain ≤ 2 ^ 64 - 1 → unwrap_or body 0 + sum_by (λ b. length b.bytes) chain ≤ 2 ^ 64 - 1
+    → PartsAre (parts_from (with_parts in_front control body) (seen_in first chain)) (cond in_front (control_run control chain) control) (data_run body chain)
+parts-run true first control body [] few_c few_b = record { control = refl; body = refl }
+parts-run false first control body [] few_c few_b = record { control = refl; body = refl }
+parts-run in_front first control body (b ∷ chain) few_c few_b =
+    let sum = sum_by-cons (λ (x : Block). length x.bytes) b chain in
+    let k = in_front && is_control_kind b.kind in
+    let d = is_body_kind b.kind in
+    let c' = cond k (with_block_len control b) control in
+    let b' = cond d (with_block_len body b) body in
+    let run = parts-run k false c' b' chain (omega (arith, sum, few_c, grows k control b)) (omega (arith, sum, few_b, grows d body b)) in
+    let fits_c = longer-fits k control b (omega (arith, sum, few_c)) in
+    let fits_b = longer-fits d body b (omega (arith, sum, few_b)) in
+    let start = ap (λ c. parts_from (with_parts k c (cond d (longer body b.bytes) body)) (seen_in false chain)) fits_c
+        ∙ ap (λ o. parts_from (with_parts k c' o) (seen_in false chain)) fits_b in
+    record {
+      control = ap (λ (v : PartSizes). v.control) start ∙ run.control ∙ control-goes in_front (is_control_kind b.kind) control b chain;
+      body = ap (λ (v : PartSizes). v.body) start ∙ run.body;
+    }
+
+pub parts-are : (chain : List Block) → sum_by (λ b. length b.bytes) chain ≤ 2 ^ 64 - 1 → PartsAre (parts_from (with_parts true None None) (seen_in true chain)) (length_of_part (control_blocks chain)) (length_of_part (data_blocks chain))
+parts-are chain few =
+    let run = parts-run true true None None chain (omega (arith, few)) (omega (arith, few)) in
+    record { control = run.control ∙ control-run-is chain; body = run.body ∙ data-run-is chain }

@@ -3,6 +3,7 @@ pub mod Made
 pub mod Pulled
 pub mod Taken
 pub mod Emptied
+pub mod Parted
 pub mod Messages
 pub mod Runs
 pub mod Adjusted

@@ -7,7 +7,8 @@ ghost use Rattle.strm_pair.specs.Shows.{count_at, first_at, full_at, messages_at
 use crate::naming::{count_named, first_size_named, is_full_named, sizes_named};
 use crate::streams::Streams;
 use strm_blocks::Blocks;
-use strm_queue::standing::{count, first_size, is_full, sizes};
+use strm_queue::lengths::first_size;
+use strm_queue::standing::{count, is_full, sizes};
 use strm_types::{BANDS, Band, Place, QueueName, Way};
 
 impl Streams {

@@ -10,10 +10,10 @@ use crate::Pair;
 use std::alloc::{AllocError, Global};
 use std::process::Abort;
 use std::test::Fail;
-use strm_blocks::{Blocks, TableStore};
+use strm_blocks::{Blocks, TableStore, Visitor};
 use strm_types::{
-    Answer, Band, Caller, Config, Content, Event, FlushQueues, ModuleName, Place, QueueName,
-    Refusal, Rule, Side, Turn, Way,
+    Answer, Band, Caller, Config, Content, Event, FlushQueues, ModuleName, MsgKind, Place,
+    QueueName, Refusal, Rule, Side, Turn, Way,
 };
 
 const MASTER: Caller = Caller { side: Side::Master };
@@ -106,8 +106,29 @@ fn counts<B: Blocks + Drop>(pair: &Pair<B>, queue: QueueName, bytes: usize, full
     pair.count(queue, Band(0)) == bytes && pair.is_full(queue, Band(0)) == full
 }
 
+// Sees how many bytes the first block of a list shows.
+#[derive(Drop)]
+struct FirstBlock {
+    bytes: Option<usize>,
+}
+
+impl Visitor for FirstBlock {
+    ghost use Rattle.std.specs.Prelude.{false, length, Some};
+
+    ghost after = { λ v b. record { bytes = Some (length b.bytes) } };
+
+    ghost goes_on = { λ v. false };
+
+    fn see(&mut self, _first: bool, _kind: MsgKind, _band: Band, bytes: &[u8]) -> bool {
+        self.bytes = Some(bytes.len());
+        false
+    }
+}
+
 fn stored<B: Blocks + Drop>(pair: &Pair<B>) -> Option<usize> {
-    pair.store().peek(1)?.body
+    let mut first = FirstBlock { bytes: None };
+    pair.store().visit(1, &mut first);
+    first.bytes
 }
 
 // How many bytes have gone by a rule, from the master and from the slave.

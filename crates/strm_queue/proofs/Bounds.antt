@@ -1,8 +1,9 @@
 -- The bytes of a store's messages are few enough to add.
-use Rattle.std.proofs.Common.{ℕ, zero, suc, ◌≡◌, ◌≤◌, ◌+◌, Bool, true, false, List, [], ◌∷◌, length, refl, arith}
+use Rattle.std.proofs.Common.{ℕ, zero, suc, ◌≡◌, ◌≤◌, ◌<◌, ◌+◌, Bool, true, false, List, [], ◌∷◌, length, refl, arith}
 use Rattle.std.specs.Prelude.{sum_by, slice_index_or, if◌then◌else◌, ◌==◌}
+use Rattle.std.specs.List.{AllByRecursion}
 use Rattle.std.proofs.lemmas.List.Sums.{sum_by-cons}
-use Rattle.strm_blocks.specs.Blocks.{Block, Held, StoreValue, IsStore, extent, chain_in, in_hand, list_at}
+use Rattle.strm_blocks.specs.Blocks.{Block, Held, StoreValue, IsStore, extent, missing, chain_in, in_hand, list_at}
 use Rattle.strm_queue.specs.Kept.{bytes_of}
 
 -- a sum of smaller numbers is smaller
@@ -35,3 +36,13 @@ few-bytes s is k i =
     let a : sum_by bytes_of (list_at s k) ≤ sum_by extent (list_at s k) = sum-le bytes_of extent bytes-extent (list_at s k) in
     let b : bytes_of (in_hand s i) ≤ extent (in_hand s i) = bytes-extent (in_hand s i) in
     omega (arith, a, b, list-le extent s.lists k, hand-le extent refl i s.hand, is.small, is.enough, is.few_mblks)
+
+-- each message of a store has a block
+each-some : (q : List (List Block)) → sum_by missing q ≡ 0 → AllByRecursion (λ chain. 0 < length chain) q
+each-some [] none = tt
+each-some (chain ∷ q) none =
+    let sum = sum_by-cons missing chain q in
+    (omega (arith, sum, none), each-some q (omega (arith, sum, none)))
+
+pub list-filled : (s : StoreValue) (k : ℕ) → IsStore s → AllByRecursion (λ chain. 0 < length chain) (list_at s k)
+list-filled s k is = each-some (list_at s k) (omega (arith, list-le missing s.lists k, is.filled))

@@ -12,6 +12,7 @@ pub mod Holding
 pub mod Gotten
 pub mod Leaving
 pub mod Sizes
+pub mod Measures
 pub mod Kept
 pub mod Queued
 pub mod OneMade

@@ -5,6 +5,7 @@
 pub mod emptying;
 mod flow;
 mod flush;
+pub mod lengths;
 mod limits;
 mod order;
 mod queue;

@@ -215,7 +215,7 @@ impl Queue {
         ensures list { self.new.list ≡ self.old.list }
         ensures no_enable { self.new.no_enable ≡ self.old.no_enable }
     {
-        if store.peek(self.list).is_none() {
+        if store.is_empty(self.list) {
             self.want_read = true;
         }
     }
@@ -316,11 +316,11 @@ impl Queue {
         }
     }
 
-    /// Whether no message stands on the queue's list. The cost is a step for each block of the first message.
+    /// Whether no message stands on the queue's list.
     pub fn is_empty<B: Blocks>(&self, store: &B) -> bool
         ensures { result ≡ is_none_left (list_at (B.value store.now) self.now.list) }
     {
-        store.peek(self.list).is_none()
+        store.is_empty(self.list)
     }
 
     /// Sets want-write of a band, for a writer that waits until `back_enable` lets it go.

@@ -6,7 +6,7 @@ ghost use Rattle.strm_types.specs.declared.kinds.MsgKind.{MsgKind};
 ghost use Rattle.strm_types.specs.Message.{is_held};
 ghost use Rattle.strm_types.specs.Emptied.{cells_gone, of_data};
 ghost use Rattle.strm_types.specs.Refused.{has_no_data, is_a_band};
-ghost use Rattle.strm_types.specs.Queue.{put_on, put_enables, bytes_of, count_of, is_full, marked, relieved, relieves, first_size};
+ghost use Rattle.strm_types.specs.Queue.{put_on, put_enables, bytes_of, count_of, is_full, marked, relieved, relieves};
 ghost use Rattle.strm_blocks.specs.Blocks.{Block, StoreValue, IsInHand, block_at, in_hand, list_at, dropped, token};
 ghost use Rattle.strm_msg.specs.Messages.{message_of, IsChain};
 ghost use Rattle.strm_queue.specs.Kept.{AreCounted};
@@ -14,7 +14,7 @@ ghost use Rattle.strm_queue.specs.Queues.{OnlyCounts};
 ghost use Rattle.strm_queue.specs.Stored.{queue_in, messages_on, Holds, IsReady, Changes, FreesBlocks, Dequeued};
 
 use crate::queue::Queue;
-use strm_blocks::{Blocks, InHand, Peek, Visitor};
+use strm_blocks::{Blocks, InHand, Visitor};
 use strm_types::{BANDS, Band, Marks, MsgKind};
 
 /// How many bytes count in a band of a queue.
@@ -34,12 +34,16 @@ struct MessageCount {
 }
 
 impl Visitor for MessageCount {
-    ghost after = { λ v p. record { messages = min (v.messages + 1) (2 ^ 64 - 1) } };
+    ghost use Rattle.std.specs.Prelude.{if◌then◌else◌};
+
+    ghost after = { λ v b. if b.first then record { messages = min (v.messages + 1) (2 ^ 64 - 1) } else v };
 
     ghost goes_on = { λ v. true };
 
-    fn see(&mut self, _message: Peek) -> bool {
-        self.messages = self.messages.saturating_add(1);
+    fn see(&mut self, first: bool, _kind: MsgKind, _band: Band, _bytes: &[u8]) -> bool {
+        if first {
+            self.messages = self.messages.saturating_add(1);
+        }
         true
     }
 }
@@ -75,14 +79,6 @@ pub fn sizes<B: Blocks>(store: &B, queue: &Queue) -> (usize, usize)
     (counted.messages, total(store, queue))
 }
 
-/// How many bytes the first message on a queue has; none where none stands there. The cost is a step for each block of it.
-pub fn first_size<B: Blocks>(store: &B, queue: &Queue) -> usize
-    requires { IsReady (B.value store.now) queue.now }
-    ensures { result ≡ first_size (messages_on (B.value store.now) queue.now.list) }
-{
-    store.first_len(queue.list)
-}
-
 // Sees whether a message that flow control would hold back stands on a list.
 #[derive(Drop)]
 struct Ordinary {
@@ -90,14 +86,16 @@ struct Ordinary {
 }
 
 impl Visitor for Ordinary {
-    ghost use Rattle.std.specs.Prelude.{not};
+    ghost use Rattle.std.specs.Prelude.{not, if◌then◌else◌};
 
-    ghost after = { λ v p. record { found = is_held p.kind } };
+    ghost after = { λ v b. if b.first then record { found = is_held b.kind } else v };
 
     ghost goes_on = { λ v. not v.found };
 
-    fn see(&mut self, message: Peek) -> bool {
-        self.found = message.kind.is_held();
+    fn see(&mut self, first: bool, kind: MsgKind, _band: Band, _bytes: &[u8]) -> bool {
+        if first {
+            self.found = kind.is_held();
+        }
         !self.found
     }
 }
@@ -106,6 +104,7 @@ impl Visitor for Ordinary {
 pub fn has_no_data<B: Blocks>(store: &B, queue: &Queue) -> bool
     ensures { result ≡ has_no_data (messages_on (B.value store.now) queue.now.list) }
 {
+    store.audit();
     let mut ordinary = Ordinary { found: false };
     store.visit(queue.list, &mut ordinary);
     !ordinary.found

@@ -1,5 +1,6 @@
 //! Each call of a store once, through the bound, and how many references a data block can have.
-ghost use Rattle.std.specs.Prelude.{ℕ, ◌≡◌, ◌≢◌, ◌<◌, ◌≤◌, ◌+◌, ◌-◌, ◌^◌, min, not, is_some, length, IfOk, IfSome};
+ghost use Rattle.std.specs.Prelude.{ℕ, Some, if◌then◌else◌, ◌≡◌, ◌≢◌, ◌<◌, ◌≤◌, ◌+◌, ◌-◌, ◌^◌, min, not, is_some, length, IfOk, IfSome};
+ghost use Rattle.strm_types.specs.Kinds.{is_body_kind};
 ghost use Rattle.strm_blocks.specs.Blocks.{IsInHand, in_hand, token};
 
 use std::test::Fail;
@@ -142,6 +143,32 @@ fn part<B: Blocks>(store: &mut B, message: InHand)
     store.insert_front(7, first);
 }
 
+// Looks for the first M_DATA block: of how many messages it was told, and how many bytes that block shows.
+#[derive(Drop)]
+struct FirstData {
+    told: usize,
+    body: Option<usize>,
+}
+
+impl Visitor for FirstData {
+    ghost after = { λ v b. record {
+      told = if b.first then min (v.told + 1) (2 ^ 64 - 1) else v.told;
+      body = if is_body_kind b.kind then Some (length b.bytes) else v.body;
+    } };
+
+    ghost goes_on = { λ v. not (is_some v.body) };
+
+    fn see(&mut self, first: bool, kind: MsgKind, _band: Band, bytes: &[u8]) -> bool {
+        if first {
+            self.told = self.told.saturating_add(1);
+        }
+        if kind.is_body_kind() {
+            self.body = Some(bytes.len());
+        }
+        self.body.is_none()
+    }
+}
+
 // Whether a message of two parts is seen as it is made, after each call on it. Its parts are then on list 7 and in hand.
 fn is_seen<B: Blocks>(store: &mut B) -> Result<bool, NoBlocks> {
     let message = of_two_parts(store, b"ab", b"cdef")?;
@@ -154,12 +181,15 @@ fn is_seen<B: Blocks>(store: &mut B) -> Result<bool, NoBlocks> {
     let wanted = Peek {
         kind: MsgKind::Proto,
         band: Band(3),
-        control: Some(2),
-        body: Some(2),
     };
+    let mut data = FirstData {
+        told: 0,
+        body: None,
+    };
+    store.visit_message(&message, &mut data);
     let shown = ends_in(store, &message, b"de");
     part(store, message);
-    Ok(lens == (2, 2) && peek == wanted && shown)
+    Ok(lens == (2, 2) && peek == wanted && shown && (data.told, data.body) == (1, Some(2)))
 }
 
 // A message of one block with these bytes, made at once.
@@ -188,25 +218,6 @@ fn summed<B: Blocks>(store: &mut B) -> Result<[Summary; 2], NoBlocks> {
     let trimmed = store.summary(&message);
     store.free(message);
     Ok([turned, trimmed])
-}
-
-// Looks for the first message that has a data part: of how many messages it was told, and how long that part is.
-#[derive(Drop)]
-struct FirstData {
-    told: usize,
-    body: Option<usize>,
-}
-
-impl Visitor for FirstData {
-    ghost after = { λ v p. record { told = min (v.told + 1) (2 ^ 64 - 1); body = p.body } };
-
-    ghost goes_on = { λ v. not (is_some v.body) };
-
-    fn see(&mut self, message: Peek) -> bool {
-        self.told = self.told.saturating_add(1);
-        self.body = message.body;
-        self.body.is_none()
-    }
 }
 
 // Puts a message with these bytes on list 5.
@@ -263,6 +274,31 @@ fn a_visitor_is_told_until_it_wants_no_more(rt: HostRuntime) -> Result<(), Fail>
     let mut store = TableStore::new(rt.alloc(), 8, 8)?;
     assert!(rt; finds_data(&mut store)?);
     assert_eq!(rt; store.free_blocks(), (5, 5));
+    Ok(())
+}
+
+// Takes the last message of list 5, and says whether it shows these bytes.
+fn ends_list<B: Blocks>(store: &mut B, bytes: &[u8]) -> bool {
+    let Some(last) = store.pop_last(5) else {
+        return false;
+    };
+    store.audit();
+    let same = store.bytes_at(&last, 0) == bytes;
+    store.free(last);
+    same
+}
+
+#[test]
+fn the_last_message_is_taken_first_by_pop_last(rt: HostRuntime) -> Result<(), Fail> {
+    let mut store = TableStore::new(rt.alloc(), 8, 8)?;
+    put_filled(&mut store, MsgKind::Data, b"ab")?;
+    put_filled(&mut store, MsgKind::Data, b"cd")?;
+    put_filled(&mut store, MsgKind::Pcproto, b"ef")?;
+    assert!(rt; ends_list(&mut store, b"cd"));
+    assert!(rt; ends_list(&mut store, b"ab"));
+    assert!(rt; ends_list(&mut store, b"ef"));
+    assert!(rt; !ends_list(&mut store, b""));
+    assert_eq!(rt; store.free_blocks(), (8, 8));
     Ok(())
 }
 

@@ -11,7 +11,8 @@ use strm_blocks::{Blocks, InHand};
 use strm_frame::{Acts, LetGo, Module, Outbox, Sent, Served, TurnEnd, clear_queue, end_queue_turn};
 use strm_msg::message_size;
 use strm_queue::Queue;
-use strm_queue::standing::{count, dequeue, enqueue, first_size, is_full, sizes};
+use strm_queue::lengths::first_size;
+use strm_queue::standing::{count, dequeue, enqueue, is_full, sizes};
 use strm_types::{Asks, Band, Fates, ModuleName, MsgKind, Note, Rule, Side, Spot, Way};
 
 #[derive(Drop)]

@@ -1,8 +1,8 @@
--- A visitor sees whether all messages are passed over, where any may be.
+-- Under RPROTDIS nothing is found where no message has a data part, and else where none stands.
 use Rattle.std.proofs.Common.{◌∙◌, sym, ap}
+use Rattle.std.specs.Prelude.{is_none}
 use Rattle.strm_blocks.specs.Blocks.{list_at}
-use Rattle.strm_head.specs.declared.standing.Passing.{Passing}
-use Rattle.strm_head.proofs.Seen.{passing-all, quick-none}
+use Rattle.strm_head.proofs.Seen.{absent, none-found, quick-none}
 use Rattle.strm_head.proofs.standing.finds_none.Goals as goal
 
 pub returns-then-not-drops_control : goal.returns-then-not-drops_control
@@ -11,5 +11,5 @@ returns-then-not-drops_control g c =
 
 pub returns : goal.returns
 returns g c =
-    ap (λ (v : Passing). v.all) c.visit.ensures
-    ∙ passing-all c.args.control (list_at (g.B.Blocks.value c.args.store.now) c.args.queue.now.list) c.requires.readable.each
+    absent c.next_data.result c.is_none.result c.is_none.ensures ∙ ap is_none c.next_data.ensures
+    ∙ none-found c.args.control (list_at (g.B.Blocks.value c.args.store.now) c.args.queue.now.list) c.requires.readable.each (sym c.drops_control.ensures ∙ c.if-not-drops_control.false)

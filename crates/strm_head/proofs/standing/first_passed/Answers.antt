@@ -1,17 +1,16 @@
--- What is seen of the first message tells whether a read passes it over.
-use Rattle.std.proofs.Common.{◌∙◌, sym, ap, subst, map}
-use Rattle.strm_types.specs.Flush.{is_data_kind}
-use Rattle.strm_blocks.specs.Outcomes.{peek_of}
-use Rattle.strm_msg.specs.Messages.{message_of}
-use Rattle.strm_queue.specs.Stored.{HoldsReadable}
-use Rattle.strm_queue.proofs.Holding.{first-holds}
-use Rattle.strm_head.specs.Drawing.{first_passed}
-use Rattle.strm_head.proofs.Seen.{passed-by, passed-seen}
+-- What is measured of the first message tells whether a read passes it over.
+use Rattle.std.proofs.Common.{◌∙◌, sym, ap}
+use Rattle.std.specs.Prelude.{is_none}
+use Rattle.strm_blocks.specs.Blocks.{list_at}
+use Rattle.strm_queue.specs.Stored.{messages_on}
+use Rattle.strm_head.proofs.Seen.{absent, first-kept, first-left}
 use Rattle.strm_head.proofs.standing.first_passed.Goals as goal
 
-pub returns-in-Some : goal.returns-in-Some
-returns-in-Some g c =
-    let p = c.in-Some.ensures in
-    let readable = first-holds is_data_kind p.message p.rest (subst HoldsReadable p.joined c.requires.readable) in
-    c.passes.ensures ∙ passed-by c.args.control c.in-Some.peek (peek_of p.message) p.seen.body ∙ passed-seen p.message readable c.args.control
-    ∙ sym (ap (λ q. first_passed c.args.control (map message_of q)) p.joined)
+pub returns-then-not-drops_control : goal.returns-then-not-drops_control
+returns-then-not-drops_control g c =
+    first-kept c.args.control (messages_on (g.B.Blocks.value c.args.store.now) c.args.queue.now.list) (sym c.drops_control.ensures ∙ c.if-not-drops_control.true)
+
+pub returns-then-not-is_empty : goal.returns-then-not-is_empty
+returns-then-not-is_empty g c =
+    absent c.first_data.result c.is_none.result c.is_none.ensures ∙ ap is_none c.first_data.ensures
+    ∙ first-left c.args.control (list_at (g.B.Blocks.value c.args.store.now) c.args.queue.now.list) c.requires.readable.each (sym c.drops_control.ensures ∙ c.if-not-drops_control.false) (sym c.is_empty.ensures ∙ c.if-not-is_empty.true)

@@ -1,10 +1,20 @@
--- A visitor that is told of all messages sees whether a read takes one.
-use Rattle.std.proofs.Common.{◌∙◌, ap}
+-- What is measured of the next message tells whether a read takes it.
+use Rattle.std.proofs.Common.{◌∙◌, sym, ap}
+use Rattle.std.specs.Prelude.{not, ◌&&◌, nat_lt, unwrap_or}
+use Rattle.strm_types.specs.Queue.{first_size}
 use Rattle.strm_blocks.specs.Blocks.{list_at}
-use Rattle.strm_head.proofs.Seen.{reaching-one}
+use Rattle.strm_queue.specs.Stored.{messages_on}
+use Rattle.strm_head.proofs.Seen.{first-goes, next-goes}
 use Rattle.strm_head.proofs.standing.reaches_one.Goals as goal
 
-pub returns : goal.returns
-returns g c =
-    ap (λ v. v.goes) c.visit.ensures
-    ∙ reaching-one c.args.control (list_at (g.B.Blocks.value c.args.store.now) c.args.queue.now.list) c.requires.readable.each
+pub returns-then-drops_control : goal.returns-then-drops_control
+returns-then-drops_control g c =
+    ap (λ n. nat_lt 0 n) (c.unwrap_or.ensures ∙ ap (λ o. unwrap_or o 0) c.next_data.ensures)
+    ∙ next-goes c.args.control (list_at (g.B.Blocks.value c.args.store.now) c.args.queue.now.list) c.requires.readable.each (sym c.drops_control.ensures ∙ c.if-drops_control.true)
+
+pub returns-then-not-starts_refused : goal.returns-then-not-starts_refused
+returns-then-not-starts_refused g c =
+    let q = messages_on (g.B.Blocks.value c.args.store.now) c.args.queue.now.list in
+    ap (λ n. nat_lt 0 n) c.first_size.ensures
+    ∙ sym (ap (λ b. not b && nat_lt 0 (first_size q)) (sym c.starts_refused.ensures ∙ c.if-not-starts_refused.true))
+    ∙ first-goes c.args.control (list_at (g.B.Blocks.value c.args.store.now) c.args.queue.now.list) c.requires.readable.each (sym c.drops_control.ensures ∙ c.if-drops_control.false)

@@ -1,24 +1,11 @@
 use Rattle.std.proofs.Common.{arith, ◌<◌, ◌∙◌, List, ap, length, get_or, refl}
 use Rattle.std.proofs.lemmas.List.{get_or_default}
-use Rattle.strm_blocks.specs.Message.{message_at, no_message}
-use Rattle.strm_blocks.specs.Parts.{lens_in, peek_in}
+use Rattle.strm_blocks.specs.Message.{message_at, row_at, no_message}
 use Rattle.strm_blocks.specs.declared.message.Message.{Message}
+use Rattle.strm_blocks.specs.declared.message.MessageBlock.{MessageBlock}
 use Rattle.strm_blocks.proofs.Lists.{list, list-read}
-use Rattle.strm_blocks.proofs.Peeks.{first-few, peeked-value}
+use Rattle.strm_blocks.proofs.Peeks.{peeked-value}
 use Rattle.strm_blocks.proofs.table.TableStoreBlocks.peek.Goals as goal
-
-pub peek_at-requires : goal.peek_at-requires
-peek_at-requires c =
-    let t = c.self.inside in
-    let k = c.args.list in
-    let read = list-read t c.self.view_is c.self.invariant k c.requires c.index-self-list.result in
-    let len = ap (λ (q : List Message). length q) read in
-    let has = c.in_ok-message.ensures.variant.0 refl in
-    let some : 0 < length (list t c.self.view_is c.self.invariant k c.requires) = omega arith in
-    let first = c.in_ok-message.ensures.lookup ∙ get_or_default (get_or t.lists k c.index-self-list.result) 0 c.in_ok-message.message.now no_message has ∙ ap (λ (q : List Message). message_at 0 q) read in
-    let few = first-few t c.self.view_is c.self.invariant k c.requires some in
-    let same = ap lens_in first in
-    omega arith
 
 pub returns : goal.returns
 returns c =
@@ -29,4 +16,5 @@ returns c =
     let has = c.in_ok-message.ensures.variant.0 refl in
     let some : 0 < length (list t c.self.view_is c.self.invariant k c.requires) = omega arith in
     let first = c.in_ok-message.ensures.lookup ∙ get_or_default (get_or t.lists k c.index-self-list.result) 0 c.in_ok-message.message.now no_message has ∙ ap (λ (q : List Message). message_at 0 q) read in
-    peeked-value t c.self.view_is c.self.invariant k c.requires some _ (c.peek_at.ensures ∙ ap peek_in first) c.audit.ensures.sized
+    let row = c.first_block-block.ensures ∙ ap (λ (m : Message). row_at 0 m.blocks) first in
+    peeked-value t c.self.view_is c.self.invariant k c.requires _ some (ap (λ (b : MessageBlock). b.kind) row) (ap (λ (b : MessageBlock). b.band) row)

@@ -1,25 +1,24 @@
-use Rattle.std.proofs.Common.{arith, ◌∙◌, List, ap, map}
-use Rattle.std.specs.Prelude.{sum_by}
-use Rattle.strm_blocks.specs.Outcomes.{told}
-use Rattle.strm_blocks.specs.Parts.{lens_in, peek_in}
-use Rattle.strm_blocks.specs.declared.asked.Peek.{Peek}
+use Rattle.std.proofs.Common.{◌∙◌, List, ap, map, sym, subst}
+use Rattle.std.specs.List.{AllByRecursion}
+use Rattle.strm_blocks.specs.Blocks.{Block}
+use Rattle.strm_blocks.specs.Outcomes.{seen_on, told}
+use Rattle.strm_blocks.specs.Table.{IsShown, chain_of}
 use Rattle.strm_blocks.specs.declared.message.Message.{Message}
-use Rattle.strm_blocks.proofs.Lists.{list-read}
-use Rattle.strm_blocks.proofs.Peeks.{list-lens, told-peeks}
+use Rattle.strm_blocks.proofs.Lists.{list-read, list-is}
+use Rattle.strm_blocks.proofs.Peeks.{list-shown}
 use Rattle.strm_blocks.proofs.table.TableStoreBlocks.visit.Goals as goal
 
-pub tell-requires : goal.tell-requires
-tell-requires g c =
+pub tell_list-requires : goal.tell_list-requires
+tell_list-requires g c =
     let t = c.self.inside in
     let k = c.args.list in
-    let same = ap (λ (q : List Message). sum_by lens_in q) (list-read t c.self.view_is c.self.invariant k c.requires c.index-self-list.result) in
-    let few = list-lens t c.self.view_is c.self.invariant k c.requires in
-    omega arith
+    let read = list-read t c.self.view_is c.self.invariant k c.requires c.index-self-list.result in
+    subst (λ (q : List Message). AllByRecursion (λ m. AllByRecursion (IsShown t.data) m.blocks) q) (sym read) (list-shown t c.self.view_is c.self.invariant k c.requires)
 
 pub returns : goal.returns
 returns g c =
     let t = c.self.inside in
     let k = c.args.list in
     let read = list-read t c.self.view_is c.self.invariant k c.requires c.index-self-list.result in
-    let peeks = ap (λ (q : List Message). map peek_in q) read ∙ told-peeks t c.self.view_is c.self.invariant k c.requires c.audit.ensures.sized in
-    c.tell.ensures ∙ ap (λ (ps : List Peek). told g.V.Visitor.after g.V.Visitor.goes_on c.args.visitor.now ps) peeks
+    let chains = ap (λ (q : List Message). map (chain_of t.data.bytes) q) read ∙ sym (list-is t c.self.view_is c.self.invariant k c.requires) in
+    c.tell_list.ensures ∙ ap (λ (q : List (List Block)). told g.V.Visitor.after g.V.Visitor.goes_on c.args.visitor.now (seen_on q)) chains

@@ -1,5 +1,5 @@
 use Rattle.std.proofs.Common.{refl}
 use Rattle.strm_queue.proofs.queue.Queue.see_empty.Goals as goal
 
-pub returns-then-is_none-clause-empty : goal.returns-then-is_none-clause-empty
-returns-then-is_none-clause-empty g c = λ none. refl
+pub returns-then-is_empty-clause-empty : goal.returns-then-is_empty-clause-empty
+returns-then-is_empty-clause-empty g c = λ none. refl
