@@ -21,7 +21,8 @@ fn stays(queue: &Queue, more: usize) -> bool
 {
     let count = queue.count(Band(0));
     let flow = queue.flows[0];
-    flow.want_write && (flow.low < count || flow.low - count < more)
+    let low = flow.low as usize;
+    flow.want_write && (low < count || low - count < more)
 }
 
 // Puts the want-write of band 0 aside.

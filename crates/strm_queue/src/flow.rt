@@ -9,20 +9,20 @@ use crate::share::Share;
 
 /// The flow control of one band: how many bytes stand there, in messages of data (M_DATA, M_PROTO, M_PCPROTO) and in
 /// others; the high-water and the low-water mark; whether the band is full, which it is from its high-water mark on;
-/// and whether a writer waits for it.
+/// and whether a writer waits for it. A store has 16 MiB at most, so numbers of 32 bits hold each count.
 #[derive(Clone, Copy)]
 pub struct Flow {
-    pub data_bytes: usize,
-    pub other_bytes: usize,
-    pub high: usize,
-    pub low: usize,
+    pub data_bytes: u32,
+    pub other_bytes: u32,
+    pub high: u32,
+    pub low: u32,
     pub full: bool,
     pub want_write: bool,
 }
 
 impl Flow {
     /// The flow control of a band where nothing stands, with these marks.
-    pub fn new(high: usize, low: usize) -> Flow
+    pub fn new(high: u32, low: u32) -> Flow
         ensures { result ≡ record {
           data_bytes = 0;
           other_bytes = 0;
@@ -43,8 +43,8 @@ impl Flow {
     }
 
     /// How many bytes stand in the band.
-    pub fn count(&self) -> usize
-        requires { count_in self.now < 2 ^ 64 }
+    pub fn count(&self) -> u32
+        requires { count_in self.now < 2 ^ 32 }
         ensures { result ≡ count_in self.now }
     {
         self.data_bytes + self.other_bytes
@@ -52,7 +52,7 @@ impl Flow {
 
     /// With a message's bytes added.
     pub(crate) fn with(self, share: Share) -> Flow
-        requires { count_in self + share.bytes < 2 ^ 64 }
+        requires { count_in self + share.bytes < 2 ^ 32 }
         ensures { result ≡ added_to share.is_data share.bytes self }
     {
         let mut flow = self;
@@ -67,7 +67,7 @@ impl Flow {
 
     /// With a message's bytes taken away.
     pub(crate) fn without(self, share: Share) -> Flow
-        requires small { count_in self < 2 ^ 64 }
+        requires small { count_in self < 2 ^ 32 }
         requires has { share.bytes ≤ (if share.is_data then self.data_bytes else self.other_bytes) }
         ensures { result ≡ removed_from share.is_data share.bytes self }
     {
@@ -83,7 +83,7 @@ impl Flow {
 
     /// After a flush of all messages, or of those of data.
     pub(crate) fn flushed(self, what: Flush) -> Flow
-        requires { count_in self < 2 ^ 64 }
+        requires { count_in self < 2 ^ 32 }
         ensures { result ≡ flushed_of (takes_all what) self }
     {
         let mut flow = self;
@@ -96,8 +96,8 @@ impl Flow {
     }
 
     /// With other marks.
-    pub(crate) fn marked(self, high: usize, low: usize) -> Flow
-        requires { count_in self < 2 ^ 64 }
+    pub(crate) fn marked(self, high: u32, low: u32) -> Flow
+        requires { count_in self < 2 ^ 32 }
         ensures { result ≡ marked_with high low self }
     {
         let mut flow = self;
@@ -109,7 +109,7 @@ impl Flow {
 
     /// Whether a waiting writer is let go: the count is at or below the low-water mark.
     pub(crate) fn lets_go(&self) -> bool
-        requires { count_in self.now < 2 ^ 64 }
+        requires { count_in self.now < 2 ^ 32 }
         ensures { result ≡ relieves self.now }
     {
         self.want_write && self.count() <= self.low
@@ -117,7 +117,7 @@ impl Flow {
 
     /// Without its waiting writer, where that is let go.
     pub(crate) fn relieved(self) -> Flow
-        requires { count_in self < 2 ^ 64 }
+        requires { count_in self < 2 ^ 32 }
         ensures { result ≡ relieved self }
     {
         let mut flow = self;

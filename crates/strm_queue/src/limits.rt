@@ -5,16 +5,16 @@ ghost use Rattle.std.specs.Prelude.{◌≡◌, ◌&&◌, nat_le, nat_lt};
 use strm_types::{BANDS, Band, LISTS};
 
 /// The high-water mark of a stream head's read queue as it is made, in bytes: `STRHIGH` of System V.
-pub const HEAD_HIGH: usize = 5120;
+pub const HEAD_HIGH: u32 = 5120;
 
 /// The low-water mark of a stream head's read queue as it is made, in bytes: `STRLOW` of System V.
-pub const HEAD_LOW: usize = 1024;
+pub const HEAD_LOW: u32 = 1024;
 
 /// The high-water mark of any other queue as it is made, in bytes.
-pub const OTHER_HIGH: usize = 512;
+pub const OTHER_HIGH: u32 = 512;
 
 /// The low-water mark of any other queue as it is made, in bytes.
-pub const OTHER_LOW: usize = 128;
+pub const OTHER_LOW: u32 = 128;
 
 /// Whether a store has a list of this number, from 0 to 7.
 pub fn is_list(list: usize) -> bool
@@ -31,7 +31,7 @@ pub fn is_band(band: Band) -> bool
 }
 
 /// Whether a band can have these marks: a high-water mark of at least 1, and a low-water mark of at most that.
-pub fn are_marks(high: usize, low: usize) -> bool
+pub fn are_marks(high: u32, low: u32) -> bool
     ensures { result ≡ nat_le 1 high && nat_le low high }
 {
     high >= 1 && low <= high

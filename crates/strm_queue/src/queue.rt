@@ -38,7 +38,7 @@ impl Queue {
 
     /// A queue for a list with nothing on it, with the same marks in each band: `HEAD_HIGH` and `HEAD_LOW` for a head's,
     /// `OTHER_HIGH` and `OTHER_LOW` for any other. `is_list` and `are_marks` test what is asked here.
-    pub fn new(list: usize, high: usize, low: usize) -> Queue
+    pub fn new(list: usize, high: u32, low: u32) -> Queue
         requires list { list < 8 }
         requires some { 1 ≤ high }
         requires order { low ≤ high }
@@ -153,7 +153,7 @@ impl Queue {
         ensures count { (q : List (List Block)) → AreCounted self.now.flows q → result ≡ count_of band.0 q }
     {
         let flow = self.flows[usize::from(band.0)];
-        flow.count()
+        flow.count() as usize
     }
 
     /// How many bytes stand on the queue, in all bands.
@@ -162,7 +162,7 @@ impl Queue {
     {
         let mut total = 0;
         for band in 0..BANDS {
-            total += self.flows[band].count();
+            total += self.flows[band].count() as usize;
         }
         total
     }
@@ -174,11 +174,11 @@ impl Queue {
         ensures one { (q : List (List Block)) (b : Band) → AreCounted self.now.flows q → band ≡ Some b → result ≡ sum_by (data_share b.0) q }
     {
         if let Some(band) = band {
-            return self.flows[usize::from(band.0)].data_bytes;
+            return self.flows[usize::from(band.0)].data_bytes as usize;
         }
         let mut total = 0;
         for band in 0..BANDS {
-            total += self.flows[band].data_bytes;
+            total += self.flows[band].data_bytes as usize;
         }
         total
     }
@@ -287,7 +287,7 @@ impl Queue {
     }
 
     /// Sets the marks of a band. It is full from then on exactly where its count is at or above the new high-water mark.
-    pub fn set_marks(&mut self, band: Band, high: usize, low: usize)
+    pub fn set_marks(&mut self, band: Band, high: u32, low: u32)
         requires band { band.0 < BANDS }
         requires some { 1 ≤ high }
         requires order { low ≤ high }

@@ -13,7 +13,7 @@ use strm_blocks::{Blocks, InHand};
 #[derive(Clone, Copy)]
 pub(crate) struct Share {
     pub band: usize,
-    pub bytes: usize,
+    pub bytes: u32,
     pub is_data: bool,
     pub is_high: bool,
 }
@@ -36,6 +36,7 @@ pub(crate) fn share_of<B: Blocks>(store: &B, message: &InHand) -> Share
     ensures high { result.is_high
         ≡ is_high_priority (block_at 0 (in_hand (B.value store.now) (token message.now))).kind }
 {
+    store.audit();
     let summary = store.summary(message);
     let is_high = summary.kind.is_high_priority();
     Share {
@@ -44,7 +45,7 @@ pub(crate) fn share_of<B: Blocks>(store: &B, message: &InHand) -> Share
         } else {
             usize::from(summary.band.0)
         },
-        bytes: summary.bytes,
+        bytes: summary.bytes as u32,
         is_data: summary.kind.is_data_kind(),
         is_high,
     }

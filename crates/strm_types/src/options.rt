@@ -10,8 +10,8 @@ use crate::modes::ReadMode;
 /// to come until writers go on.
 #[derive(Clone, Copy)]
 pub struct Marks {
-    pub high: usize,
-    pub low: usize,
+    pub high: u32,
+    pub low: u32,
 }
 
 /// What an M_SETOPTS sets at a stream head (STREAMS Programming Guide: `struct stroptions`): the read mode and the marks of all
@@ -44,8 +44,8 @@ fn marks_in(bytes: &[u8]) -> Option<Marks>
     requires { 8 ≤ length bytes.now }
     ensures { result ≡ marks_in bytes.now }
 {
-    let high = word_at(bytes, 0) as usize;
-    let low = word_at(bytes, 4) as usize;
+    let high = word_at(bytes, 0);
+    let low = word_at(bytes, 4);
     if high == 0 || low > high {
         return None;
     }

@@ -26,7 +26,7 @@ enum Step<'a> {
     // The read mode is this.
     ReadsIn(ReadMode),
     // The last band has this high-water and this low-water mark.
-    Marked(usize, usize),
+    Marked(u32, u32),
     // An ioctl of this number and command begins.
     Begins(u32, u32),
     // The caller is told this of the ioctl under way, with these bytes.

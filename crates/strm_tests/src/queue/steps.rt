@@ -26,9 +26,9 @@ pub(crate) enum Step<'a> {
     // So many bytes count in a band.
     Counts(u8, usize),
     // A band gets a high-water and a low-water mark, and is full then or not.
-    Marks(u8, usize, usize, bool),
+    Marks(u8, u32, u32, bool),
     // All bands get a high-water and a low-water mark.
-    MarkAll(usize, usize),
+    MarkAll(u32, u32),
     // A band is full or not.
     Full(u8, bool),
     // The messages of data are freed.
@@ -110,7 +110,7 @@ fn has_none<B: Blocks>(queue: &mut Queue, store: &mut B) -> bool
 }
 
 // Sets the marks of a band, and says whether it is full then.
-fn is_full_at(queue: &mut Queue, band: u8, high: usize, low: usize) -> bool
+fn is_full_at(queue: &mut Queue, band: u8, high: u32, low: u32) -> bool
     ensures counted { (q : List (List Block)) → AreCounted queue.old.flows q → AreCounted queue.new.flows q }
     ensures list { queue.new.list ≡ queue.old.list }
 {
@@ -122,7 +122,7 @@ fn is_full_at(queue: &mut Queue, band: u8, high: usize, low: usize) -> bool
 }
 
 // Sets the marks of all bands, and says whether they may be that.
-fn marks_all(queue: &mut Queue, high: usize, low: usize) -> bool
+fn marks_all(queue: &mut Queue, high: u32, low: u32) -> bool
     ensures counted { (q : List (List Block)) → AreCounted queue.old.flows q → AreCounted queue.new.flows q }
     ensures list { queue.new.list ≡ queue.old.list }
 {

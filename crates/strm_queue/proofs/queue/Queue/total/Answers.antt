@@ -10,7 +10,7 @@ overflow_add-total c =
     let flows = c.args.self.now.flows in
     let band = c.loop-band.band in
     let small : counts_below count_in bytes_of band flows + count_in (flow_at band flows) ≤ suc band * 16777216 = below-small count_in bytes_of (suc band) flows (λ f. omega arith) c.args.self.now.few in
-    omega (arith, small, c.count-total.ensures, c.loop-band.invariant)
+    omega (arith, small, c.count.ensures, c.loop-band.invariant)
 
 pub returns : goal.returns
 returns c = record {
