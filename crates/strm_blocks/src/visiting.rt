@@ -35,11 +35,7 @@ pub(crate) fn tell_message<V: Visitor>(
 }
 
 /// Tells a visitor of the blocks of messages in their order, until it wants no more.
-pub(crate) fn tell_list<V: Visitor>(
-    pool: &DataBlocks,
-    list: &LinkedList<Message>,
-    visitor: &mut V,
-)
+pub(crate) fn tell_list<V: Visitor>(pool: &DataBlocks, list: &LinkedList<Message>, visitor: &mut V)
     requires { AllByRecursion (λ m. AllByRecursion (IsShown pool.now) m.blocks) list.now }
     ensures { visitor.new
         ≡ told V.after V.goes_on visitor.old (seen_on (map (chain_of pool.now.bytes) list.now)) }

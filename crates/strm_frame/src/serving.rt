@@ -191,7 +191,7 @@ impl<M: Module + Default> Stream<M> {
         serve_among(
             store,
             self.modules.as_mut_slice(),
-            here.at - 1,
+            here.at as usize - 1,
             here,
             again,
             told,

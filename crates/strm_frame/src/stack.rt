@@ -195,7 +195,7 @@ impl<M: Module + Default> Stream<M> {
         put_among(
             store,
             self.modules.as_mut_slice(),
-            to.at - 1,
+            to.at as usize - 1,
             to,
             message,
             told,

@@ -23,7 +23,7 @@ const HERE: Spot = Spot {
 fn goes<B: Blocks>(
     store: &B,
     mut outbox: Outbox,
-    to: (Way, usize),
+    to: (Way, u8),
     kind: MsgKind,
     bytes: &[u8],
 ) -> bool

@@ -121,7 +121,7 @@ parts-run in_front first control body (b ∷ chain) few_c few_b =
     let fits_c = longer-fits k control b (omega (arith, sum, few_c)) in
     let fits_b = longer-fits d body b (omega (arith, sum, few_b)) in
     let start = ap (λ c. parts_from (with_parts k c (cond d (longer body b.bytes) body)) (seen_in false chain)) fits_c
-        ∙ ap (λ o. parts_from (with_parts k c' o) (seen_in false chain)) fits_b in
+    ∙ ap (λ o. parts_from (with_parts k c' o) (seen_in false chain)) fits_b in
     record {
       control = ap (λ (v : PartSizes). v.control) start ∙ run.control ∙ control-goes in_front (is_control_kind b.kind) control b chain;
       body = ap (λ (v : PartSizes). v.body) start ∙ run.body;

@@ -130,8 +130,8 @@ impl Streams {
             (call_of result) (sent_of result.acts.sent) told.old told.new }
     {
         store.audit();
-        let place = place_at(&self.end(here.side).stack, here.at);
-        let earlier = self.earlier(here.side, here.at);
+        let place = place_at(&self.end(here.side).stack, here.at as usize);
+        let earlier = self.earlier(here.side, here.at as usize);
         let before = Made::of(told);
         let served = self.serve_at(store, here, again, told);
         note(

@@ -85,7 +85,7 @@ impl Streams {
         let other = side.other();
         Across {
             is_open: self.end(other).opened.is_open(),
-            bottom: self.modules_on(other),
+            bottom: self.modules_on(other) as u8,
             ended: self.master.opened.is_closed(),
         }
     }
@@ -205,8 +205,8 @@ impl Streams {
             (at_place (module_leaves to m) 0 to.at ms) (sent_of result) told.old told.new (put_at_module plain to m st) }
     {
         store.audit();
-        let place = place_at(&self.end(to.side).stack, to.at);
-        let earlier = self.earlier(to.side, to.at);
+        let place = place_at(&self.end(to.side).stack, to.at as usize);
+        let earlier = self.earlier(to.side, to.at as usize);
         let before = Made::of(told);
         let acts = self.put_on_stack(store, to, message, told);
         note(
@@ -239,7 +239,7 @@ impl Streams {
         store.audit();
         let across = self.across(to.side);
         let at = self.driver_place(to.side);
-        let here = Spot { at, ..to };
+        let here = Spot { at: at as u8, ..to };
         let acts = match to.side {
             Side::Master => put(store, &mut self.master.driver, across, here, message, told),
             Side::Slave => put(store, &mut self.slave.driver, across, here, message, told),
@@ -259,7 +259,7 @@ impl Streams {
         let _ = store;
         let at = self.modules_on(to.side);
         Outbox::one(Sent {
-            to: Spot { at, ..to },
+            to: Spot { at: at as u8, ..to },
             message,
         })
     }
@@ -283,7 +283,7 @@ impl Streams {
             (sent_of result) told.old told.new (put_behind Up to m (state_in s self.old)) }
     {
         store.audit();
-        if to.at == MODULES + 1 && is_flush(store.kind(&message, 0)) {
+        if to.at as usize == MODULES + 1 && is_flush(store.kind(&message, 0)) {
             return self.put_driver(store, to, message, told);
         }
         self.pass_up(store, to, message)
@@ -310,7 +310,7 @@ impl Streams {
         if to.at == 0 {
             return self.put_head(store, to, message, told);
         }
-        if to.at <= self.modules_on(to.side) {
+        if to.at as usize <= self.modules_on(to.side) {
             return self.put_module(store, to, message, told);
         }
         match to.way {

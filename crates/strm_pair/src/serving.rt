@@ -55,8 +55,14 @@ impl Streams {
         ensures keeps { (i : ℕ) → kept_by self.new i ≡ kept_by self.old i }
     {
         match here.side {
-            Side::Master => self.master.stack.end_turn(store, here.at, here.way, took),
-            Side::Slave => self.slave.stack.end_turn(store, here.at, here.way, took),
+            Side::Master => self
+                .master
+                .stack
+                .end_turn(store, here.at as usize, here.way, took),
+            Side::Slave => self
+                .slave
+                .stack
+                .end_turn(store, here.at as usize, here.way, took),
         }
     }
 
@@ -89,7 +95,7 @@ impl Streams {
         };
         let here = Spot {
             side: name.side,
-            at,
+            at: at as u8,
             way: name.way,
         };
         match self.end(name.side).stack.asks(store, at, name.way) {
@@ -116,7 +122,7 @@ impl Streams {
         ensures beside { AreBeside (B.value store.now) self.new }
         ensures keeps { (i : ℕ) → kept_by self.new i ≡ kept_by self.old i }
     {
-        let earlier = self.before(here.side, here.way, here.at);
+        let earlier = self.before(here.side, here.way, here.at as usize);
         let end = self.end_queue(store, here, took);
         if end.room {
             self.enabled.enable_found(earlier);

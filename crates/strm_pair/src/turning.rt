@@ -103,7 +103,7 @@ impl Streams {
         let at = self.modules_on(above);
         let up = Spot {
             side: above,
-            at,
+            at: at as u8,
             way: Way::Up,
         };
         self.deliver_alone(store, up, message, told);

@@ -28,7 +28,7 @@ fn answer<B: Blocks>(store: &mut B, here: Spot, ioc: Ioc, message: InHand) -> Ac
     requires in_hand { IsInHand (B.value store.old) (token message) }
     requires room { HasRoom (B.value store.old) 1 }
     requires inside { 0 < here.at }
-    requires small { here.at < 2 ^ 63 }
+    requires small { here.at < 255 }
     ensures notes { result.notes.items ≡ [] }
     ensures swaps { Swaps (B.value store.old) (B.value store.new) (token message) 1 (sent_of result.sent)
         (record { to = toward Up here; message = nak_message ioc } ∷ []) }
@@ -72,7 +72,7 @@ pub(crate) fn put_ioctl<B: Blocks>(
     requires kind { is_data_kind (block_at 0 (in_hand (B.value store.old) (token message))).kind ≡ false }
     requires room { HasRoom (B.value store.old) 1 }
     requires inside { 0 < here.at }
-    requires small { here.at < 2 ^ 63 }
+    requires small { here.at < 255 }
     ensures { let s = B.value store.old in let m = message_in s (token message) in
         Does s (B.value store.new) queue.old queue.new (token message) 1 result told.old told.new
         (ioctl_put here.side across here (read_ioc m.plain) m (queue_in s queue.old)) }

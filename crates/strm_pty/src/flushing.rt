@@ -40,7 +40,7 @@ fn driver_across(side: Side, across: Across) -> Spot
     let _ = across;
     Spot {
         side: side.other(),
-        at: MODULES + 1,
+        at: MODULES as u8 + 1,
         way: Way::Up,
     }
 }

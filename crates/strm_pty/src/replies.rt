@@ -50,7 +50,7 @@ fn send<B: Blocks>(store: &mut B, here: Spot, way: Way, kind: MsgKind, bytes: &[
     requires few { length bytes.now ≤ 256 }
     requires room { HasRoom (B.value store.old) 1 }
     requires inside { 0 < here.at }
-    requires small { here.at < 2 ^ 63 }
+    requires small { here.at < 255 }
     ensures { Makes (B.value store.old) (B.value store.new) 1 (result ∷ [])
         (onward way here (bare kind bytes.now) ∷ []) }
 {
@@ -65,7 +65,7 @@ fn send<B: Blocks>(store: &mut B, here: Spot, way: Way, kind: MsgKind, bytes: &[
 fn signal_up<B: Blocks>(store: &mut B, here: Spot, signal: u8) -> Sent
     requires room { HasRoom (B.value store.old) 1 }
     requires inside { 0 < here.at }
-    requires small { here.at < 2 ^ 63 }
+    requires small { here.at < 255 }
     ensures { Makes (B.value store.old) (B.value store.new) 1 (result ∷ []) (signals_up here signal ∷ []) }
 {
     send(store, here, Way::Up, MsgKind::Pcsig, &[signal])
@@ -75,7 +75,7 @@ fn signal_up<B: Blocks>(store: &mut B, here: Spot, signal: u8) -> Sent
 fn signal_change<B: Blocks>(store: &mut B, here: Spot, old: Winsize, new: Winsize) -> Option<Sent>
     requires room { HasRoom (B.value store.old) 1 }
     requires inside { 0 < here.at }
-    requires small { here.at < 2 ^ 63 }
+    requires small { here.at < 255 }
     ensures { Makes (B.value store.old) (B.value store.new) 1 (option_to_list result) (window_signal here old new) }
 {
     if old.is_same(&new) {
@@ -89,7 +89,7 @@ fn signal_change<B: Blocks>(store: &mut B, here: Spot, old: Winsize, new: Winsiz
 fn ack_below<B: Blocks>(store: &mut B, here: Spot, ioc: Ioc) -> Sent
     requires room { HasRoom (B.value store.old) 1 }
     requires inside { 0 < here.at }
-    requires small { here.at < 2 ^ 63 }
+    requires small { here.at < 255 }
     ensures { Makes (B.value store.old) (B.value store.new) 1 (result ∷ [])
         (onward Down here (ack_message ioc []) ∷ []) }
 {
@@ -109,7 +109,7 @@ pub(crate) fn ack<B: Blocks>(
     requires few { length given.now ≤ 35 }
     requires room { HasRoom (B.value store.old) 1 }
     requires inside { 0 < here.at }
-    requires small { here.at < 2 ^ 63 }
+    requires small { here.at < 255 }
     ensures notes { result.notes.items ≡ [] }
     ensures swaps { Swaps (B.value store.old) (B.value store.new) (token message) 1 (sent_of result.sent)
         (onward Up here (ack_message ioc given.now) ∷ []) }
@@ -135,7 +135,7 @@ pub(crate) fn nak<B: Blocks>(
     requires in_hand { IsInHand (B.value store.old) (token message) }
     requires room { HasRoom (B.value store.old) 1 }
     requires inside { 0 < here.at }
-    requires small { here.at < 2 ^ 63 }
+    requires small { here.at < 255 }
     ensures notes { result.notes.items ≡ [] }
     ensures swaps { Swaps (B.value store.old) (B.value store.new) (token message) 1 (sent_of result.sent)
         (onward back here (nak_message ioc) ∷ []) }
@@ -162,7 +162,7 @@ fn copy_both<B: Blocks>(
     requires few { length given.now ≤ 35 }
     requires room { HasRoom (B.value store.old) 2 }
     requires inside { 0 < here.at }
-    requires small { here.at < 2 ^ 63 }
+    requires small { here.at < 255 }
     ensures { Swaps (B.value store.old) (B.value store.new) (token message) 2 (result.0 ∷ result.1 ∷ [])
         (onward Up here (ack_message ioc given.now) ∷ onward Down here (telling_message ioc given.now) ∷ []) }
 {
@@ -190,7 +190,7 @@ fn tell_both<B: Blocks>(
     requires few { length given.now ≤ 35 }
     requires room { HasRoom (B.value store.old) 2 }
     requires inside { 0 < here.at }
-    requires small { here.at < 2 ^ 63 }
+    requires small { here.at < 255 }
     ensures swaps { Swaps (B.value store.old) (B.value store.new) (token message) 2 (result.0 ∷ result.1 ∷ [])
         (onward Up here (ack_message ioc given.now) ∷ onward Down here (telling_message ioc given.now) ∷ []) }
     ensures shared { let s = B.value store.old in CanPart s (token message) →
@@ -221,7 +221,7 @@ pub(crate) fn confirm<B: Blocks>(
     requires few { length given.now ≤ 35 }
     requires room { HasRoom (B.value store.old) 3 }
     requires inside { 0 < here.at }
-    requires small { here.at < 2 ^ 63 }
+    requires small { here.at < 255 }
     ensures notes { result.notes.items ≡ [] }
     ensures swaps { Swaps (B.value store.old) (B.value store.new) (token message) 3 (sent_of result.sent)
         (onward Up here (ack_message ioc given.now) ∷ onward Down here (telling_message ioc given.now)
@@ -254,7 +254,7 @@ pub(crate) fn hear<B: Blocks>(
     requires in_hand { IsInHand (B.value store.old) (token message) }
     requires room { HasRoom (B.value store.old) 2 }
     requires inside { 0 < here.at }
-    requires small { here.at < 2 ^ 63 }
+    requires small { here.at < 255 }
     ensures notes { result.notes.items ≡ [] }
     ensures swaps { Swaps (B.value store.old) (B.value store.new) (token message) 2 (sent_of result.sent)
         (window_signal here windows.0 windows.1 ++ onward Down here (ack_message ioc []) ∷ []) }
@@ -286,7 +286,7 @@ pub(crate) fn raise<B: Blocks>(
     requires in_hand { IsInHand (B.value store.old) (token message) }
     requires room { HasRoom (B.value store.old) 2 }
     requires inside { 0 < here.at }
-    requires small { here.at < 2 ^ 63 }
+    requires small { here.at < 255 }
     ensures notes { result.notes.items ≡ [] }
     ensures swaps { Swaps (B.value store.old) (B.value store.new) (token message) 2 (sent_of result.sent)
         (signals_up here signal ∷ onward Down here (ack_message ioc []) ∷ []) }

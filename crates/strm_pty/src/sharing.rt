@@ -56,7 +56,7 @@ pub(crate) fn send_behind<B: Blocks>(
     requires few { length header.now ≤ 256 }
     requires room { HasRoom (B.value store.old) 1 }
     requires inside { 0 < here.at }
-    requires small { here.at < 2 ^ 63 }
+    requires small { here.at < 255 }
     ensures swaps { let s = B.value store.old in Swaps s (B.value store.new) (token message) 1 (result ∷ [])
         (onward way here (bare kind (header.now ++ bytes_of (in_hand s (token message)))) ∷ []) }
     ensures carries { drop 1 (in_hand (B.value store.new) (token result.message)) ≡ in_hand (B.value store.old) (token message) }
@@ -82,7 +82,7 @@ pub(crate) fn share<B: Blocks>(
     requires shared { AreShared (B.value store.old) (token both.0) (token both.1) }
     requires room { HasRoom (B.value store.old) 2 }
     requires inside { 0 < here.at }
-    requires small { here.at < 2 ^ 63 }
+    requires small { here.at < 255 }
     ensures sends { SendsBoth (B.value store.old) (B.value store.new) (token both.0) (token both.1) (result.0 ∷ result.1 ∷ []) (let given = bytes_of (in_hand (B.value store.old) (token both.0)) in
         onward Up here (ack_message ioc given) ∷ onward Down here (telling_message ioc given) ∷ []) }
     ensures carries { BothCarry (B.value store.new) (in_hand (B.value store.old) (token both.0)) (result.0 ∷ result.1 ∷ []) }

@@ -61,7 +61,7 @@ fn puts<B: Blocks>(rt: &impl Abort, store: &mut B, row: &Row<'_>) -> Result<(), 
     assert!(rt; mblks >= 2);
     assert!(rt; dblks >= 2);
     assert!(rt; row.here.at > 0);
-    assert!(rt; row.here.at <= MODULES + 1);
+    assert!(rt; row.here.at as usize <= MODULES + 1);
     let acts = put(store, &mut queue, row.across, row.here, message, &mut told);
     assert_eq!(rt; acts.notes.as_slice(), row.notes);
     assert!(rt; goes_to(acts, row.sent));

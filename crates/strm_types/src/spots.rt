@@ -8,11 +8,11 @@ use crate::kinds::Band;
 use crate::names::{Dir, Side, Way};
 
 /// Where a message is put: on which side's stream, at which place of it, and which way it goes there. Places count from
-/// the head, which is 0, over the modules from the top, to the driver.
+/// the head, which is 0, over the modules from the top, to the driver, 4 at most.
 #[derive(Clone, Copy, PartialEq)]
 pub struct Spot {
     pub side: Side,
-    pub at: usize,
+    pub at: u8,
     pub way: Way,
 }
 
@@ -20,7 +20,7 @@ impl Spot {
     /// The next spot that way, on the same stream. No way leads up from the head.
     pub fn toward(self, way: Way) -> Spot
         requires inside { 0 < self.at }
-        requires small { self.at < 2 ^ 63 }
+        requires small { self.at < 255 }
         ensures { result ≡ toward way self }
     {
         match way {
@@ -53,7 +53,7 @@ impl Spot {
 #[derive(Clone, Copy)]
 pub struct Across {
     pub is_open: bool,
-    pub bottom: usize,
+    pub bottom: u8,
     pub ended: bool,
 }
 

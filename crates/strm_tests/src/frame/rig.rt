@@ -149,7 +149,7 @@ impl Rig {
     {
         let here = Spot {
             side: Side::Slave,
-            at,
+            at: at as u8,
             way: Way::Down,
         };
         let mut told = Fates::none();
@@ -225,13 +225,13 @@ impl<B: Blocks> Stations<B> for Rig {
 
     fn put_at(&mut self, store: &mut B, to: Spot, message: InHand, told: &mut Fates) -> Outbox {
         store.audit();
-        if is_end(to.at) {
+        if is_end(to.at as usize) {
             self.leave(to.way);
             store.free(message);
             return Outbox::none();
         }
         let acts = self.modules.put(store, to, message, told);
-        self.note_all(to.at, acts.notes.as_slice());
+        self.note_all(to.at as usize, acts.notes.as_slice());
         acts.sent
     }
 

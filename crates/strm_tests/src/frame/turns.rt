@@ -16,9 +16,9 @@ use strm_types::{Band, MsgKind, Place, QueueName, Side, Spot, Turn, Way};
 #[derive(Clone, Copy)]
 enum Step {
     // An M_DATA message with the row's bytes is put at a place.
-    Data(usize, Way),
+    Data(u8, Way),
     // An M_FLUSH comes up to a place.
-    Flush(usize),
+    Flush(u8),
     // The queue at a place has a turn, and this is what it answers.
     Turn(usize, Turn),
 }
@@ -35,7 +35,7 @@ struct Row<'a> {
     left: (usize, usize),
 }
 
-fn spot(at: usize, way: Way) -> Spot
+fn spot(at: u8, way: Way) -> Spot
     ensures { result.at ≡ at }
 {
     Spot {

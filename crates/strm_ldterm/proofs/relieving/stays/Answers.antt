@@ -19,14 +19,14 @@ above w n m l more is waits low =
     let both : nat_lt (l - n) more ≡ nat_lt l (m + more) = grind (arith, nat_tests) in
     both ∙ sym (ap (λ v. v && nat_lt l (m + more)) waits)
 
-pub returns-then-flow-count : goal.returns-then-flow-count
-returns-then-flow-count c = λ s ready.
+pub returns-then-low-count : goal.returns-then-low-count
+returns-then-low-count c = λ s ready.
     let q = c.args.queue.now in
     below (flow_at 0 q.flows).want_write c.count-count.result (count_of 0 (messages_on s q.list)) (flow_at 0 q.flows).low c.args.more
-    (c.count-count.ensures.kept ∙ counts s q ready 0 (omega arith)) c.if-flow.true c.if-flow-count.true
+    (c.count-count.ensures.kept ∙ counts s q ready 0 (omega arith)) c.if-flow.true c.if-low-count.true
 
-pub returns-else-flow-count : goal.returns-else-flow-count
-returns-else-flow-count c = λ s ready.
+pub returns-else-low-count : goal.returns-else-low-count
+returns-else-low-count c = λ s ready.
     let q = c.args.queue.now in
     above (flow_at 0 q.flows).want_write c.count-count.result (count_of 0 (messages_on s q.list)) (flow_at 0 q.flows).low c.args.more
-    (c.count-count.ensures.kept ∙ counts s q ready 0 (omega arith)) c.if-flow.true c.if-flow-count.false
+    (c.count-count.ensures.kept ∙ counts s q ready 0 (omega arith)) c.if-flow.true c.if-low-count.false
