@@ -1,5 +1,4 @@
-//! Scripts run from memory to memory: the titled scenes of `sessions`, `scripts`, `messages`, `ioctls`, `keys`, `echo`, `outputs`, `ptem`, `pckt`, `turns` and `ledgers`, and
-//! readers, writers and lines that no scene can show.
+//! Scripts run from memory to memory: tables of titled scenes, and readers, writers and lines that no scene can show.
 
 mod echo;
 mod ioctls;
@@ -10,12 +9,15 @@ mod no_memory;
 mod outputs;
 mod pckt;
 mod ptem;
+mod scenes;
 mod scripts;
 mod sessions;
+mod streams;
+mod terms;
 mod turns;
 
 use crate::script::{ScriptEnd, ScriptStatus, run_script};
-use crate::tests::scripts::Scene;
+use crate::tests::scenes::plays_scenes;
 use std::alloc::{AllocError, Global};
 use std::io::{self, Error, ErrorKind, Read, Write};
 use std::process::Abort;
@@ -45,9 +47,24 @@ fn ends_as(rt: &impl Abort, title: &str, number: usize, ended: ScriptEnd, wanted
     assert_eq!(rt; ended, wanted, "{title}, {number}");
 }
 
+// The number of the first line, from 1, in which two texts differ or one of them ends.
+fn first_other(one: &[u8], other: &[u8]) -> usize {
+    let mut line = 1usize;
+    for (here, there) in one.iter().zip(other) {
+        if *here != *there {
+            break;
+        }
+        if *here == b'\n' {
+            line = line.saturating_add(1);
+        }
+    }
+    line
+}
+
 // Compares what the run of this title and number wrote with what is wanted of it.
 fn wrote(rt: &impl Abort, title: &str, number: usize, written: &[u8], wanted: &[u8]) {
-    assert!(rt; written == wanted, "{title}, {number}");
+    let answer = first_other(written, wanted);
+    assert!(rt; written == wanted, "{title}, {number}, answer {answer}");
 }
 
 // Runs a script and compares what it writes, its status and its first short line.
@@ -66,74 +83,41 @@ fn plays(
     ends_as(rt, title, script.len(), ended, end);
 }
 
-// Takes the text of a scene apart, into its commands and their answers.
-fn take_apart(text: &str, commands: &mut Vec<u8>, answers: &mut Vec<u8>) -> Result<(), AllocError> {
-    for line in text.lines() {
-        match line.strip_prefix("  ") {
-            Some(answer) => add_line(answers, answer)?,
-            None => add_line(commands, line)?,
-        }
-    }
-    Ok(())
-}
-
-// Plays a scene: its commands, against its answers.
-fn plays_scene(rt: &impl Abort, alloc: Global, scene: &Scene) -> Result<(), Fail> {
-    let mut commands = Vec::new(alloc);
-    let mut answers = Vec::new(alloc);
-    take_apart(scene.2, &mut commands, &mut answers)?;
-    plays(
-        rt,
-        alloc,
-        scene.0,
-        commands.as_slice(),
-        answers.as_slice(),
-        scene.1,
-    );
-    Ok(())
-}
-
-// Puts a line and its LF behind a text.
-fn add_line(text: &mut Vec<u8>, line: &str) -> Result<(), AllocError> {
-    text.extend_from_slice(line.as_bytes())?;
-    text.push(b'\n')?;
-    Ok(())
-}
-
-// Plays scenes in turn.
-fn plays_scenes(rt: &impl Abort, alloc: Global, scenes: &[Scene]) -> Result<(), Fail> {
-    for scene in scenes {
-        plays_scene(rt, alloc, scene)?;
-    }
-    Ok(())
-}
+// All tables of scenes, in the order in which docs/SCENES.md has their manual pages.
+const TABLES: [&str; 25] = [
+    terms::TERMS,
+    scripts::OPENING,
+    scripts::WRITING_AND_READING,
+    messages::MESSAGES,
+    streams::STREAMS,
+    ioctls::IOCTLS,
+    ioctls::POPPED,
+    scripts::TURNS,
+    turns::TAKEN_OFF,
+    turns::FEW_BLOCKS,
+    keys::LINES,
+    keys::EDITING,
+    keys::SIGNALS,
+    keys::FLOW,
+    echo::BYTES,
+    echo::RUBBING_OUT,
+    echo::FULL,
+    echo::NEWLINES,
+    outputs::OUTPUT,
+    outputs::STOPPED,
+    ptem::PTEM,
+    pckt::PCKT,
+    sessions::SESSIONS,
+    scripts::LINES_AND_TEXTS,
+    ledgers::LEDGERS,
+];
 
 #[test]
 fn each_scene_answers_as_it_says(rt: HostRuntime) -> Result<(), Fail> {
-    plays_scenes(&rt, rt.alloc(), &scripts::OPENING)?;
-    plays_scenes(&rt, rt.alloc(), &scripts::WRITING_AND_READING)?;
-    plays_scenes(&rt, rt.alloc(), &scripts::TURNS)?;
-    plays_scenes(&rt, rt.alloc(), &scripts::STREAMS)?;
-    plays_scenes(&rt, rt.alloc(), &messages::MESSAGES)?;
-    plays_scenes(&rt, rt.alloc(), &ioctls::IOCTLS)?;
-    plays_scenes(&rt, rt.alloc(), &ioctls::POPPED)?;
-    plays_scenes(&rt, rt.alloc(), &keys::LINES)?;
-    plays_scenes(&rt, rt.alloc(), &keys::EDITING)?;
-    plays_scenes(&rt, rt.alloc(), &keys::SIGNALS)?;
-    plays_scenes(&rt, rt.alloc(), &keys::FLOW)?;
-    plays_scenes(&rt, rt.alloc(), &turns::TAKEN_OFF)?;
-    plays_scenes(&rt, rt.alloc(), &turns::FEW_BLOCKS)?;
-    plays_scenes(&rt, rt.alloc(), &outputs::OUTPUT)?;
-    plays_scenes(&rt, rt.alloc(), &outputs::STOPPED)?;
-    plays_scenes(&rt, rt.alloc(), &sessions::SESSIONS)?;
-    plays_scenes(&rt, rt.alloc(), &ptem::PTEM)?;
-    plays_scenes(&rt, rt.alloc(), &pckt::PCKT)?;
-    plays_scenes(&rt, rt.alloc(), &ledgers::LEDGERS)?;
-    plays_scenes(&rt, rt.alloc(), &echo::BYTES)?;
-    plays_scenes(&rt, rt.alloc(), &echo::RUBBING_OUT)?;
-    plays_scenes(&rt, rt.alloc(), &echo::FULL)?;
-    plays_scenes(&rt, rt.alloc(), &echo::NEWLINES)?;
-    plays_scenes(&rt, rt.alloc(), &scripts::LINES_AND_TEXTS)
+    for table in &TABLES {
+        plays_scenes(&rt, rt.alloc(), *table)?;
+    }
+    Ok(())
 }
 
 #[test]

@@ -1,19 +1,10 @@
 //! Scenes of ioctls and signals: ioctl(2) with its answer, now or later, and what waits of signals.
 
-use super::WELL;
-use super::scripts::Scene;
-
 /// What is asked of the drivers, and what they answer.
-pub const IOCTLS: [Scene; 8] = [
-    (
-        "A master's ioctl waits for its answer, which is given once, and a slave's is answered at once",
-        WELL,
-        r#"open
-  ok
-unlock
-  ok
-slave
-  ok
+pub const IOCTLS: &str = r#"page: ioctl(2); streamio(7I): I_STR
+
+title: A master's ioctl waits for its answer, which is given once, and a slave's is answered at once
+setup: pair
 ioctl m TIOCGWINSZ
   pending 1
 ioctl m TIOCGWINSZ
@@ -26,17 +17,9 @@ ioctl s TIOCGWINSZ
   nak EINVAL
 poll s 1
   err EINVAL
-"#,
-    ),
-    (
-        "The ioctls of a pair are numbered in turn, and a poll wants the one under way",
-        WELL,
-        r#"open
-  ok
-unlock
-  ok
-slave
-  ok
+
+title: The ioctls of a pair are numbered in turn, and a poll wants the one under way
+setup: pair
 poll m 0
   err EINVAL
 ioctl s TCGETS
@@ -63,12 +46,10 @@ poll m 2
   err EINVAL
 ioctl m TCGETS
   pending 3
-"#,
-    ),
-    (
-        "An ioctl under way waits for a slave that was closed",
-        WELL,
-        r#"open
+
+title: An ioctl under way waits for a slave that was closed
+setup: nothing
+open
   ok
 ioctl m TCGETS
   nak EINVAL
@@ -90,17 +71,9 @@ run 10
   ran 2
 poll m 2
   nak EINVAL
-"#,
-    ),
-    (
-        "No module knows an ioctl yet, by its name or by its number",
-        WELL,
-        r#"open
-  ok
-unlock
-  ok
-slave
-  ok
+
+title: The drivers know no ioctl, by its name or by its number
+setup: pair
 ioctl s TCGETS
   nak EINVAL
 ioctl s TCSETS "ab"
@@ -121,27 +94,17 @@ ioctl s raw 0 ""
   nak EINVAL
 ioctl s raw 4294967295 "x"
   nak EINVAL
-"#,
-    ),
-    (
-        "An ioctl sends 256 bytes at most",
-        WELL,
-        r#"open
-  ok
-unlock
-  ok
-slave
-  ok
+
+title: An ioctl sends 256 bytes at most
+setup: pair
 ioctl s raw 99 "xxxxxxxxxxxxxxxxxxxxxxxxxxxxxxxxxxxxxxxxxxxxxxxxxxxxxxxxxxxxxxxxxxxxxxxxxxxxxxxxxxxxxxxxxxxxxxxxxxxxxxxxxxxxxxxxxxxxxxxxxxxxxxxxxxxxxxxxxxxxxxxxxxxxxxxxxxxxxxxxxxxxxxxxxxxxxxxxxxxxxxxxxxxxxxxxxxxxxxxxxxxxxxxxxxxxxxxxxxxxxxxxxxxxxxxxxxxxxxxxxxxxxxxxxxxxxxxxx"
   err ERANGE
 ioctl s raw 99 "xxxxxxxxxxxxxxxxxxxxxxxxxxxxxxxxxxxxxxxxxxxxxxxxxxxxxxxxxxxxxxxxxxxxxxxxxxxxxxxxxxxxxxxxxxxxxxxxxxxxxxxxxxxxxxxxxxxxxxxxxxxxxxxxxxxxxxxxxxxxxxxxxxxxxxxxxxxxxxxxxxxxxxxxxxxxxxxxxxxxxxxxxxxxxxxxxxxxxxxxxxxxxxxxxxxxxxxxxxxxxxxxxxxxxxxxxxxxxxxxxxxxxxxxxxxxxxxx"
   nak EINVAL
-"#,
-    ),
-    (
-        "No signal waits where none came",
-        WELL,
-        r#"open
+
+title: No signal waits where none came
+setup: nothing
+open
   ok
 signals m
   signals -
@@ -157,17 +120,9 @@ signals s
   signals -
 signals m
   signals -
-"#,
-    ),
-    (
-        "An ioctl goes down no stream that was hung up, and what is asked of its head goes on",
-        WELL,
-        r#"open
-  ok
-unlock
-  ok
-slave
-  ok
+
+title: An ioctl goes down no stream that was hung up, and what is asked of its head goes on
+setup: pair
 close m
   ok
 ioctl s TCGETS
@@ -182,12 +137,10 @@ poll m 1
   err ENXIO
 signals m
   err ENXIO
-"#,
-    ),
-    (
-        "Nothing about ioctls is there before the opening",
-        WELL,
-        r#"ioctl m TCGETS
+
+title: Nothing about ioctls is there before the opening
+setup: nothing
+ioctl m TCGETS
   err ENXIO
 ioctl s raw 99 "x"
   err ENXIO
@@ -195,25 +148,13 @@ poll m 1
   err ENXIO
 signals s
   err ENXIO
-"#,
-    ),
-];
+"#;
 
 /// What becomes of an ioctl under way where a module is popped.
-pub const POPPED: [Scene; 4] = [
-    (
-        "An ioctl ends as refused with the module on which its M_IOCTL waits, and the next one is answered",
-        WELL,
-        r#"open
-  ok
-unlock
-  ok
-slave
-  ok
-push s ptem
-  ok
-push s ldterm
-  ok
+pub const POPPED: &str = r#"page: ioctl(2); streamio(7I): I_STR
+
+title: An ioctl ends as refused with the module on which its M_IOCTL waits, and the next one is answered
+setup: terminal
 write s "hi\n"
   ok 3
 ioctl s TCSETSW "\x00\x00%\x00\x00\x00\x00\x05\x00\x00\x00\x00\x00\x00\x8a;\x03\x1c\x7f\x15\x04\x00\x00\x00\x11\x13\x1a\x00\x12\x00\x17\x16\x00\x00\x00"
@@ -228,19 +169,9 @@ poll s 1
   err EINVAL
 ioctl s TIOCGWINSZ
   data 8 "\x00\x00\x00\x00\x00\x00\x00\x00"
-"#,
-    ),
-    (
-        "An ioctl waits on behind a pop of the module above",
-        WELL,
-        r#"open
-  ok
-unlock
-  ok
-slave
-  ok
-push s ldterm
-  ok
+
+title: An ioctl waits on behind a pop of the module above
+setup: ldterm
 write s "hi\n"
   ok 3
 ioctl s TCSETSW "\x00\x00%\x00\x00\x00\x00\x05\x00\x00\x00\x00\x00\x00\x8a;\x03\x1c\x7f\x15\x04\x00\x00\x00\x11\x13\x1a\x00\x12\x00\x17\x16\x00\x00\x00"
@@ -255,17 +186,9 @@ pop s
   ok
 poll s 1
   nak EINVAL
-"#,
-    ),
-    (
-        "An ioctl waits on where its M_IOCTL went down before its module was popped",
-        WELL,
-        r#"open
-  ok
-unlock
-  ok
-slave
-  ok
+
+title: An ioctl waits on where its M_IOCTL went down before its module was popped
+setup: pair
 push m ldterm
   ok
 write m "hi\n"
@@ -284,17 +207,9 @@ run 10
   ran 2
 poll m 1
   nak EINVAL
-"#,
-    ),
-    (
-        "An ioctl waits on where the M_IOCTL that goes with a module is that of number 0, with which ptem told of a change",
-        WELL,
-        r#"open
-  ok
-unlock
-  ok
-slave
-  ok
+
+title: An ioctl waits on where the M_IOCTL that goes with a module is that of number 0, with which ptem told of a change
+setup: pair
 push m ldterm
   ok
 push m ptem
@@ -317,6 +232,4 @@ run 10
   ran 2
 poll m 2
   nak EINVAL
-"#,
-    ),
-];
+"#;

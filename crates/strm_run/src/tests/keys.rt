@@ -1,22 +1,10 @@
-//! Lines and keys of a terminal, as ldterm makes them of what is typed (ldterm(7M), termio(7I)). A scene has a title, how its script
-//! ends, and its text: commands stand at the margin, and the answer to each stands under it, indented by two spaces.
-
-use super::WELL;
-use super::scripts::Scene;
+//! Lines and keys of a terminal, as ldterm makes them of what is typed (ldterm(7M), termio(7I)).
 
 /// How lines are made of what is typed, and read.
-pub const LINES: [Scene; 10] = [
-    (
-        "NL ends a line, and each line is read as one message",
-        WELL,
-        r#"open
-  ok
-unlock
-  ok
-slave
-  ok
-push s ldterm
-  ok
+pub const LINES: &str = r#"page: ldterm(7M), termio(7I): input
+
+title: NL ends a line, and each line is read as one message
+setup: ldterm
 write m "hello\nyo\n"
   ok 9
 run 50
@@ -29,57 +17,27 @@ read s 100
   data 3 "yo\n"
 read s 100
   err EAGAIN
-"#,
-    ),
-    (
-        "CR is taken as NL",
-        WELL,
-        r#"open
-  ok
-unlock
-  ok
-slave
-  ok
-push s ldterm
-  ok
+
+title: CR is taken as NL
+setup: ldterm
 write m "ls\r"
   ok 3
 run 50
   ran 4
 read s 100
   data 3 "ls\n"
-"#,
-    ),
-    (
-        "Letters and bytes above 0x7f come as they were typed",
-        WELL,
-        r#"open
-  ok
-unlock
-  ok
-slave
-  ok
-push s ldterm
-  ok
+
+title: Letters and bytes above 0x7f come as they were typed
+setup: ldterm
 write m "aA\xc1\xff\n"
   ok 5
 run 50
   ran 4
 read s 100
   data 5 "aA\xc1\xff\n"
-"#,
-    ),
-    (
-        "An unfinished line isn't read, and stands on no queue",
-        WELL,
-        r#"open
-  ok
-unlock
-  ok
-slave
-  ok
-push s ldterm
-  ok
+
+title: An unfinished line isn't read, and stands on no queue
+setup: ldterm
 write m "ab"
   ok 2
 run 50
@@ -94,19 +52,9 @@ run 50
   ran 4
 read s 9
   data 4 "abc\n"
-"#,
-    ),
-    (
-        "EOF sends the line up without itself",
-        WELL,
-        r#"open
-  ok
-unlock
-  ok
-slave
-  ok
-push s ldterm
-  ok
+
+title: EOF sends the line up without itself
+setup: ldterm
 write m "ab\x04"
   ok 3
 run 50
@@ -115,19 +63,9 @@ read s 9
   data 2 "ab"
 read s 9
   err EAGAIN
-"#,
-    ),
-    (
-        "EOF on an empty line is the end of input for one read",
-        WELL,
-        r#"open
-  ok
-unlock
-  ok
-slave
-  ok
-push s ldterm
-  ok
+
+title: EOF on an empty line is the end of input for one read
+setup: ldterm
 write m "\x04"
   ok 1
 run 50
@@ -136,57 +74,27 @@ read s 9
   data 0 ""
 read s 9
   err EAGAIN
-"#,
-    ),
-    (
-        "EOL and EOL2 are off at first: a byte of value 0 ends no line",
-        WELL,
-        r#"open
-  ok
-unlock
-  ok
-slave
-  ok
-push s ldterm
-  ok
+
+title: EOL and EOL2 are off at first: a byte of value 0 ends no line
+setup: ldterm
 write m "\x00a\n"
   ok 3
 run 50
   ran 4
 read s 9
   data 3 "\x00a\n"
-"#,
-    ),
-    (
-        "A message without bytes is let go",
-        WELL,
-        r#"open
-  ok
-unlock
-  ok
-slave
-  ok
-push s ldterm
-  ok
+
+title: A message without bytes is let go
+setup: ldterm
 write m ""
   ok 0
 run 50
   ran 2
 read s 9
   err EAGAIN
-"#,
-    ),
-    (
-        "A message with a control part goes up unchanged, behind its turn",
-        WELL,
-        r#"open
-  ok
-unlock
-  ok
-slave
-  ok
-push s ldterm
-  ok
+
+title: A message with a control part goes up unchanged, behind its turn
+setup: ldterm
 put m 0 "c" "d"
   ok
 turn m.drv.w
@@ -197,19 +105,9 @@ turn s.ldterm.r
   ok 2
 get s
   msg 0 "c" "d" -
-"#,
-    ),
-    (
-        "A message of high priority passes at once",
-        WELL,
-        r#"open
-  ok
-unlock
-  ok
-slave
-  ok
-push s ldterm
-  ok
+
+title: A message of high priority passes at once
+setup: ldterm
 put m hi "c" -
   ok
 turn m.drv.w
@@ -218,61 +116,31 @@ show s
   show s head.r 1 1 ldterm.r 0 0 ldterm.w 0 0 drv.w 0 0
 get s
   msg hi "c" - -
-"#,
-    ),
-];
+"#;
 
 /// Keys that edit the line.
-pub const EDITING: [Scene; 11] = [
-    (
-        "ERASE takes the last byte of the line",
-        WELL,
-        r#"open
-  ok
-unlock
-  ok
-slave
-  ok
-push s ldterm
-  ok
+pub const EDITING: &str = r#"page: ldterm(7M), termio(7I): input
+
+title: ERASE takes the last byte of the line
+setup: ldterm
 write m "lx\x7fs\n"
   ok 5
 run 50
   ran 4
 read s 100
   data 3 "ls\n"
-"#,
-    ),
-    (
-        "ERASE stops at the line's begin",
-        WELL,
-        r#"open
-  ok
-unlock
-  ok
-slave
-  ok
-push s ldterm
-  ok
+
+title: ERASE stops at the line's begin
+setup: ldterm
 write m "\x7fa\n"
   ok 3
 run 50
   ran 4
 read s 100
   data 2 "a\n"
-"#,
-    ),
-    (
-        "ERASE stops at a delimiter",
-        WELL,
-        r#"open
-  ok
-unlock
-  ok
-slave
-  ok
-push s ldterm
-  ok
+
+title: ERASE stops at a delimiter
+setup: ldterm
 write m "a\n\x7fb\n"
   ok 5
 run 50
@@ -281,95 +149,45 @@ read s 9
   data 2 "a\n"
 read s 9
   data 2 "b\n"
-"#,
-    ),
-    (
-        "WERASE takes the blanks at the end and the word before them",
-        WELL,
-        r#"open
-  ok
-unlock
-  ok
-slave
-  ok
-push s ldterm
-  ok
+
+title: WERASE takes the blanks at the end and the word before them
+setup: ldterm
 write m "ab cd \x17\n"
   ok 8
 run 50
   ran 4
 read s 100
   data 4 "ab \n"
-"#,
-    ),
-    (
-        "A TAB is a blank, and WERASE leaves the blanks before the word",
-        WELL,
-        r#"open
-  ok
-unlock
-  ok
-slave
-  ok
-push s ldterm
-  ok
+
+title: A TAB is a blank, and WERASE leaves the blanks before the word
+setup: ldterm
 write m "ab\tcd\t \x17e\n"
   ok 10
 run 50
   ran 4
 read s 100
   data 5 "ab\te\n"
-"#,
-    ),
-    (
-        "KILL takes the line",
-        WELL,
-        r#"open
-  ok
-unlock
-  ok
-slave
-  ok
-push s ldterm
-  ok
+
+title: KILL takes the line
+setup: ldterm
 write m "abc\x15d\n"
   ok 6
 run 50
   ran 4
 read s 100
   data 2 "d\n"
-"#,
-    ),
-    (
-        "REPRINT is no byte of the line",
-        WELL,
-        r#"open
-  ok
-unlock
-  ok
-slave
-  ok
-push s ldterm
-  ok
+
+title: REPRINT is no byte of the line
+setup: ldterm
 write m "ab\x12c\n"
   ok 5
 run 50
   ran 4
 read s 100
   data 4 "abc\n"
-"#,
-    ),
-    (
-        "LNEXT takes its meaning from the next byte",
-        WELL,
-        r#"open
-  ok
-unlock
-  ok
-slave
-  ok
-push s ldterm
-  ok
+
+title: LNEXT takes its meaning from the next byte
+setup: ldterm
 write m "\x16\x03a\x16\x16\x16\x7f\n"
   ok 8
 run 50
@@ -378,38 +196,18 @@ read s 100
   data 5 "\x03a\x16\x7f\n"
 signals s
   signals -
-"#,
-    ),
-    (
-        "NL and CR behind LNEXT are bytes of the line, and CR isn't mapped",
-        WELL,
-        r#"open
-  ok
-unlock
-  ok
-slave
-  ok
-push s ldterm
-  ok
+
+title: NL and CR behind LNEXT are bytes of the line, and CR isn't mapped
+setup: ldterm
 write m "a\x16\nb\x16\rc\n"
   ok 8
 run 50
   ran 4
 read s 100
   data 6 "a\nb\rc\n"
-"#,
-    ),
-    (
-        "LNEXT waits for its byte beyond the turn's end",
-        WELL,
-        r#"open
-  ok
-unlock
-  ok
-slave
-  ok
-push s ldterm
-  ok
+
+title: LNEXT waits for its byte beyond the turn's end
+setup: ldterm
 write m "\x16"
   ok 1
 run 50
@@ -422,19 +220,9 @@ read s 100
   data 2 "\x03\n"
 signals s
   signals -
-"#,
-    ),
-    (
-        "A full line takes no more bytes but a delimiter",
-        WELL,
-        r#"open
-  ok
-unlock
-  ok
-slave
-  ok
-push s ldterm
-  ok
+
+title: A full line takes no more bytes but a delimiter
+setup: ldterm
 write m "xxxxxxxxxxxxxxxxxxxxxxxxxxxxxxxxxxxxxxxxxxxxxxxxxxxxxxxxxxxxxxxxxxxxxxxxxxxxxxxxxxxxxxxxxxxxxxxxxxxxxxxxxxxxxxxxxxxxxxxxxxxxxxxxxxxxxxxxxxxxxxxxxxxxxxxxxxxxxxxxxxxxxxxxxxxxxxxxxxxxxxxxxxxxxxxxxxxxxxxxxxxxxxxxxxxxxxxxxxxxxxxxxxxxxxxxxxxxxxxxxxxxxxxxxxxxxxxy"
   ok 256
 run 50
@@ -445,23 +233,13 @@ run 50
   ran 4
 read s 300
   data 256 "xxxxxxxxxxxxxxxxxxxxxxxxxxxxxxxxxxxxxxxxxxxxxxxxxxxxxxxxxxxxxxxxxxxxxxxxxxxxxxxxxxxxxxxxxxxxxxxxxxxxxxxxxxxxxxxxxxxxxxxxxxxxxxxxxxxxxxxxxxxxxxxxxxxxxxxxxxxxxxxxxxxxxxxxxxxxxxxxxxxxxxxxxxxxxxxxxxxxxxxxxxxxxxxxxxxxxxxxxxxxxxxxxxxxxxxxxxxxxxxxxxxxxxxxxxxxxxx\n"
-"#,
-    ),
-];
+"#;
 
 /// Keys that send signals.
-pub const SIGNALS: [Scene; 8] = [
-    (
-        "INTR flushes the line and sends INT",
-        WELL,
-        r#"open
-  ok
-unlock
-  ok
-slave
-  ok
-push s ldterm
-  ok
+pub const SIGNALS: &str = r#"page: ldterm(7M), termio(7I): input
+
+title: INTR flushes the line and sends INT
+setup: ldterm
 write m "abc\x03"
   ok 4
 run 50
@@ -474,19 +252,9 @@ run 50
   ran 4
 read s 100
   data 2 "d\n"
-"#,
-    ),
-    (
-        "QUIT flushes the line and sends QUIT",
-        WELL,
-        r#"open
-  ok
-unlock
-  ok
-slave
-  ok
-push s ldterm
-  ok
+
+title: QUIT flushes the line and sends QUIT
+setup: ldterm
 write m "abc\x1c"
   ok 4
 run 50
@@ -499,19 +267,9 @@ run 50
   ran 4
 read s 100
   data 2 "d\n"
-"#,
-    ),
-    (
-        "SUSP flushes the line and sends TSTP",
-        WELL,
-        r#"open
-  ok
-unlock
-  ok
-slave
-  ok
-push s ldterm
-  ok
+
+title: SUSP flushes the line and sends TSTP
+setup: ldterm
 write m "abc\x1a"
   ok 4
 run 50
@@ -524,19 +282,9 @@ run 50
   ran 4
 read s 100
   data 2 "d\n"
-"#,
-    ),
-    (
-        "A signal key takes lines that wait to be read",
-        WELL,
-        r#"open
-  ok
-unlock
-  ok
-slave
-  ok
-push s ldterm
-  ok
+
+title: A signal key takes lines that wait to be read
+setup: ldterm
 write m "one\n"
   ok 4
 run 50
@@ -549,19 +297,9 @@ read s 100
   err EAGAIN
 signals s
   signals TSTP
-"#,
-    ),
-    (
-        "What is typed behind a signal key is kept, in the same write too",
-        WELL,
-        r#"open
-  ok
-unlock
-  ok
-slave
-  ok
-push s ldterm
-  ok
+
+title: What is typed behind a signal key is kept, in the same write too
+setup: ldterm
 write m "ab\x03cd\n"
   ok 6
 run 50
@@ -570,19 +308,9 @@ read s 100
   data 3 "cd\n"
 signals s
   signals INT
-"#,
-    ),
-    (
-        "Each signal waits once, in the order in which they came",
-        WELL,
-        r#"open
-  ok
-unlock
-  ok
-slave
-  ok
-push s ldterm
-  ok
+
+title: Each signal waits once, in the order in which they came
+setup: ldterm
 write m "\x03\x1c\x03\x1a"
   ok 4
 run 50
@@ -591,19 +319,9 @@ signals s
   signals INT QUIT TSTP
 signals s
   signals -
-"#,
-    ),
-    (
-        "INTR takes the echo that waits, and what waits at the master's head",
-        WELL,
-        r#"open
-  ok
-unlock
-  ok
-slave
-  ok
-push s ldterm
-  ok
+
+title: INTR takes the echo that waits, and what waits at the master's head
+setup: ldterm
 write m "ab"
   ok 2
 run 50
@@ -614,19 +332,9 @@ run 50
   ran 4
 read m 100
   data 2 "^C"
-"#,
-    ),
-    (
-        "SUSP leaves both",
-        WELL,
-        r#"open
-  ok
-unlock
-  ok
-slave
-  ok
-push s ldterm
-  ok
+
+title: SUSP leaves both
+setup: ldterm
 write m "ab"
   ok 2
 run 50
@@ -637,42 +345,22 @@ run 50
   ran 4
 read m 100
   data 5 "abc^Z"
-"#,
-    ),
-];
+"#;
 
 /// Keys of flow control.
-pub const FLOW: [Scene; 4] = [
-    (
-        "STOP and START are no bytes of the line",
-        WELL,
-        r#"open
-  ok
-unlock
-  ok
-slave
-  ok
-push s ldterm
-  ok
+pub const FLOW: &str = r#"page: ldterm(7M), termio(7I): input
+
+title: STOP and START are no bytes of the line
+setup: ldterm
 write m "a\x13b\x11c\n"
   ok 6
 run 50
   ran 6
 read s 100
   data 4 "abc\n"
-"#,
-    ),
-    (
-        "STOP sends a message down, and a second one sends none",
-        WELL,
-        r#"open
-  ok
-unlock
-  ok
-slave
-  ok
-push s ldterm
-  ok
+
+title: STOP sends a message down, and a second one sends none
+setup: ldterm
 write m "\x13"
   ok 1
 run 50
@@ -681,19 +369,9 @@ write m "\x13"
   ok 1
 run 50
   ran 2
-"#,
-    ),
-    (
-        "START sends one down where output was stopped",
-        WELL,
-        r#"open
-  ok
-unlock
-  ok
-slave
-  ok
-push s ldterm
-  ok
+
+title: START sends one down where output was stopped
+setup: ldterm
 write m "\x13"
   ok 1
 run 50
@@ -706,19 +384,9 @@ write m "\x11"
   ok 1
 run 50
   ran 2
-"#,
-    ),
-    (
-        "A byte that isn't START starts nothing",
-        WELL,
-        r#"open
-  ok
-unlock
-  ok
-slave
-  ok
-push s ldterm
-  ok
+
+title: A byte that isn't START starts nothing
+setup: ldterm
 write m "\x13"
   ok 1
 run 50
@@ -731,6 +399,4 @@ write m "\x11"
   ok 1
 run 50
   ran 3
-"#,
-    ),
-];
+"#;

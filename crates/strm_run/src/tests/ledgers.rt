@@ -1,40 +1,26 @@
-//! The ledger of a direction, as a script asks for it. A scene has a title, how its script ends, and its text: commands stand at the
-//! margin, and the answer to each stands under it, indented by two spaces.
-
-use super::WELL;
-use super::scripts::Scene;
+//! The ledger of a direction, as a script asks for it.
 
 /// How many bytes were written and made, and where they are.
-pub const LEDGERS: [Scene; 10] = [
-    (
-        "Before open there is no ledger",
-        WELL,
-        r#"ledger ms
+pub const LEDGERS: &str = r#"page: Scripts and ledgers
+
+title: Before open there is no ledger
+setup: nothing
+ledger ms
   err ENXIO
 ledger sm
   err ENXIO
-"#,
-    ),
-    (
-        "A pair as new has an empty ledger",
-        WELL,
-        r#"open
+
+title: A pair as new has an empty ledger
+setup: nothing
+open
   ok
 ledger ms
   ledger ms written 0 made 0 queued 0 inline 0
 ledger sm
   ledger sm written 0 made 0 queued 0 inline 0
-"#,
-    ),
-    (
-        "What was written stands on queues, and has gone when it was read",
-        WELL,
-        r#"open
-  ok
-unlock
-  ok
-slave
-  ok
+
+title: What was written stands on queues, and has gone when it was read
+setup: pair
 write m "abc"
   ok 3
 ledger ms
@@ -47,21 +33,9 @@ read s 2
   data 2 "ab"
 ledger ms
   ledger ms written 3 made 0 queued 1 inline 0 read 2
-"#,
-    ),
-    (
-        "What is typed stands on queues, then in the line, and then at the head",
-        WELL,
-        r#"open
-  ok
-unlock
-  ok
-slave
-  ok
-push s ptem
-  ok
-push s ldterm
-  ok
+
+title: What is typed stands on queues, then in the line, and then at the head
+setup: terminal
 write m "ab"
   ok 2
 ledger ms
@@ -80,21 +54,9 @@ ledger ms
   ledger ms written 3 made 0 queued 3 inline 0
 ledger sm
   ledger sm written 0 made 4 queued 4 inline 0
-"#,
-    ),
-    (
-        "An ERASE key and what it takes",
-        WELL,
-        r#"open
-  ok
-unlock
-  ok
-slave
-  ok
-push s ptem
-  ok
-push s ldterm
-  ok
+
+title: An ERASE key and what it takes
+setup: terminal
 write m "lx\x7fs\n"
   ok 5
 run 50
@@ -105,21 +67,9 @@ read m 100
   data 8 "lx\x08 \x08s\r\n"
 ledger ms
   ledger ms written 5 made 0 queued 0 inline 0 read 3 erase-key 1 erased 1
-"#,
-    ),
-    (
-        "What a message-discard read leaves",
-        WELL,
-        r#"open
-  ok
-unlock
-  ok
-slave
-  ok
-push s ptem
-  ok
-push s ldterm
-  ok
+
+title: What a message-discard read leaves
+setup: terminal
 mode s msgd
   ok
 write m "hello\n"
@@ -132,21 +82,9 @@ read s 100
   err EAGAIN
 ledger ms
   ledger ms written 6 made 0 queued 0 inline 0 read 2 rest-discarded 4
-"#,
-    ),
-    (
-        "A signal key, and what it flushes in both directions",
-        WELL,
-        r#"open
-  ok
-unlock
-  ok
-slave
-  ok
-push s ptem
-  ok
-push s ldterm
-  ok
+
+title: A signal key, and what it flushes in both directions
+setup: terminal
 write m "abc\x03"
   ok 4
 run 50
@@ -159,21 +97,9 @@ ledger ms
   ledger ms written 4 made 0 queued 0 inline 0 signal-key 1 flushed 3
 ledger sm
   ledger sm written 0 made 5 queued 0 inline 0 read 2 flushed 3
-"#,
-    ),
-    (
-        "A byte typed into a full line",
-        WELL,
-        r#"open
-  ok
-unlock
-  ok
-slave
-  ok
-push s ptem
-  ok
-push s ldterm
-  ok
+
+title: A byte typed into a full line
+setup: terminal
 write m "xxxxxxxxxxxxxxxxxxxxxxxxxxxxxxxxxxxxxxxxxxxxxxxxxxxxxxxxxxxxxxxxxxxxxxxxxxxxxxxxxxxxxxxxxxxxxxxxxxxxxxxxxxxxxxxxxxxxxxxxxxxxxxxxxxxxxxxxxxxxxxxxxxxxxxxxxxxxxxxxxxxxxxxxxxxxxxxxxxxxxxxxxxxxxxxxxxxxxxxxxxxxxxxxxxxxxxxxxxxxxxxxxxxxxxxxxxxxxxxxxxxxxxxxxxxxxxxy"
   ok 256
 run 50
@@ -188,21 +114,9 @@ read m 300
   data 258 "xxxxxxxxxxxxxxxxxxxxxxxxxxxxxxxxxxxxxxxxxxxxxxxxxxxxxxxxxxxxxxxxxxxxxxxxxxxxxxxxxxxxxxxxxxxxxxxxxxxxxxxxxxxxxxxxxxxxxxxxxxxxxxxxxxxxxxxxxxxxxxxxxxxxxxxxxxxxxxxxxxxxxxxxxxxxxxxxxxxxxxxxxxxxxxxxxxxxxxxxxxxxxxxxxxxxxxxxxxxxxxxxxxxxxxxxxxxxxxxxxxxxxxxxxxxxxxx\x07\r\n"
 ledger ms
   ledger ms written 257 made 0 queued 0 inline 0 read 256 line-full 1
-"#,
-    ),
-    (
-        "What goes with a module that is popped",
-        WELL,
-        r#"open
-  ok
-unlock
-  ok
-slave
-  ok
-push s ptem
-  ok
-push s ldterm
-  ok
+
+title: What goes with a module that is popped
+setup: terminal
 write m "ab"
   ok 2
 run 50
@@ -213,21 +127,9 @@ ledger ms
   ledger ms written 2 made 0 queued 0 inline 0 module-popped 2
 read s 10
   err EAGAIN
-"#,
-    ),
-    (
-        "A TAB for which spaces are made",
-        WELL,
-        r#"open
-  ok
-unlock
-  ok
-slave
-  ok
-push s ptem
-  ok
-push s ldterm
-  ok
+
+title: A TAB for which spaces are made
+setup: terminal
 ioctl s TCSETS "\x00\x00%\x00\x00\x00\x18\x01\x00\x00\x00\x00\x00\x00\x8a;\x03\x1c\x7f\x15\x04\x00\x00\x00\x11\x13\x1a\x00\x12\x00\x17\x16\x00\x00\x00"
   ok
 write s "a\tb"
@@ -238,6 +140,4 @@ read m 100
   data 9 "a       b"
 ledger sm
   ledger sm written 3 made 7 queued 0 inline 0 read 9 replaced 1
-"#,
-    ),
-];
+"#;

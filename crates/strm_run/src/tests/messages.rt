@@ -1,19 +1,10 @@
 //! Scenes of messages with parts: putmsg(2), getmsg(2), and the modes of a stream head that I_SRDOPT sets.
 
-use super::WELL;
-use super::scripts::Scene;
-
 /// What is put on one side and got on the other.
-pub const MESSAGES: [Scene; 12] = [
-    (
-        "High priority comes first, then the bands, and each in the order of its puts",
-        WELL,
-        r#"open
-  ok
-unlock
-  ok
-slave
-  ok
+pub const MESSAGES: &str = r#"page: getmsg(2), putmsg(2); streamio(7I): I_SRDOPT, I_GRDOPT
+
+title: High priority comes first, then the bands, and each in the order of its puts
+setup: pair
 put m 0 - "a"
   ok
 put m 1 - "b"
@@ -34,17 +25,9 @@ get s
   msg 0 - "a" -
 get s
   err EAGAIN
-"#,
-    ),
-    (
-        "A get of less than a message tells what there is more of, and leaves it",
-        WELL,
-        r#"open
-  ok
-unlock
-  ok
-slave
-  ok
+
+title: A get of less than a message tells what there is more of, and leaves it
+setup: pair
 put m 0 "abc" "wxyz"
   ok
 run 10
@@ -53,12 +36,10 @@ get s any 2 3
   msg 0 "ab" "wxy" cd
 get s
   msg 0 "c" "z" -
-"#,
-    ),
-    (
-        "What a get leaves of a message has no block that it emptied, of either part",
-        WELL,
-        r#"open 34
+
+title: What a get leaves of a message has no block that it emptied, of either part
+setup: nothing
+open 34
   ok
 unlock
   ok
@@ -92,17 +73,9 @@ get s
   msg 1 "b" - -
 read s 9
   data 1 "y"
-"#,
-    ),
-    (
-        "A size of 0 gives a part as empty, and one that is absent stays so",
-        WELL,
-        r#"open
-  ok
-unlock
-  ok
-slave
-  ok
+
+title: A size of 0 gives a part as empty, and one that is absent stays so
+setup: pair
 put m 3 "a" -
   ok
 put m 0 "" "b"
@@ -117,17 +90,9 @@ get s any 9 0
   msg 0 "" "" d
 get s
   msg 0 - "b" -
-"#,
-    ),
-    (
-        "The first message has to be the one that is wanted",
-        WELL,
-        r#"open
-  ok
-unlock
-  ok
-slave
-  ok
+
+title: The first message has to be the one that is wanted
+setup: pair
 put s 1 - "b"
   ok
 run 10
@@ -144,17 +109,9 @@ run 10
   ran 1
 get m 7 9 9
   msg hi "c" "d" -
-"#,
-    ),
-    (
-        "What is written is got, and the data part of what is put is read",
-        WELL,
-        r#"open
-  ok
-unlock
-  ok
-slave
-  ok
+
+title: What is written is got, and the data part of what is put is read
+setup: pair
 write m "\x00\"z"
   ok 3
 put m 0 - "ab"
@@ -165,17 +122,9 @@ get s
   msg 0 - "\x00\"z" -
 read s 9
   data 2 "ab"
-"#,
-    ),
-    (
-        "At the end of input a get gives neither part, and a put goes nowhere",
-        WELL,
-        r#"open
-  ok
-unlock
-  ok
-slave
-  ok
+
+title: At the end of input a get gives neither part, and a put goes nowhere
+setup: pair
 put m 0 - "a"
   ok
 run 10
@@ -190,12 +139,10 @@ get s hi 1 1
   msg 0 - - -
 put s 0 - "a"
   err ENXIO
-"#,
-    ),
-    (
-        "High priority wants a control part, bands are from 0 to 7, and parts have their limits",
-        WELL,
-        r#"open
+
+title: High priority wants a control part, bands are from 0 to 7, and parts have their limits
+setup: nothing
+open
   ok
 put s 256 - "a"
   err EINVAL
@@ -217,17 +164,9 @@ put m 0 "zzzzzzzzzzzzzzzzzzzzzzzzzzzzzzzzzzzzzzzzzzzzzzzzzzzzzzzzzzzzzzzzz" -
   err ERANGE
 put m 0 - -
   ok
-"#,
-    ),
-    (
-        "What is refused is sent nowhere, and neither is what has no part",
-        WELL,
-        r#"open
-  ok
-unlock
-  ok
-slave
-  ok
+
+title: What is refused is sent nowhere, and neither is what has no part
+setup: pair
 put m hi - "a"
   err EINVAL
 put m 8 - "a"
@@ -238,17 +177,9 @@ get s
   err EAGAIN
 read s 0
   data 0 ""
-"#,
-    ),
-    (
-        "A control part is no data, until a mode makes it such",
-        WELL,
-        r#"open
-  ok
-unlock
-  ok
-slave
-  ok
+
+title: A control part is no data, until a mode makes it such
+setup: pair
 put m 0 "c" "d"
   ok
 run 10
@@ -259,12 +190,10 @@ mode s protdat
   ok
 read s 5
   data 2 "cd"
-"#,
-    ),
-    (
-        "A mode of reads and one of control parts are set apart from each other",
-        WELL,
-        r#"open
+
+title: A mode of reads and one of control parts are set apart from each other
+setup: nothing
+open
   ok
 mode s norm
   err ENXIO
@@ -302,12 +231,10 @@ mode s protnorm
   ok
 read s 9
   data 2 "gh"
-"#,
-    ),
-    (
-        "Nothing about messages is there before the opening",
-        WELL,
-        r#"put m 0 - "a"
+
+title: Nothing about messages is there before the opening
+setup: nothing
+put m 0 - "a"
   err ENXIO
 put s 256 - -
   err ENXIO
@@ -317,6 +244,4 @@ get s 256 1 1
   err ENXIO
 mode m msgd
   err ENXIO
-"#,
-    ),
-];
+"#;

@@ -1,90 +1,41 @@
-//! What goes out to a terminal through ldterm (termio(7I): "Output Modes"; ldterm(7M)). A scene has a title, how its script ends, and its
-//! text: commands stand at the margin, and the answer to each stands under it, indented by two spaces.
-
-use super::WELL;
-use super::scripts::Scene;
-use crate::script::{ScriptEnd, ScriptStatus};
-
-// A script in whose line 6 a turn stopped within its message.
-const SHORT_AT_6: ScriptEnd = ScriptEnd {
-    status: ScriptStatus::Whole,
-    short: Some(6),
-};
+//! What goes out to a terminal through ldterm (termio(7I): "Output Modes"; ldterm(7M)).
 
 /// What is written goes out under the first modes, which have OPOST and ONLCR.
-pub const OUTPUT: [Scene; 3] = [
-    (
-        "NL goes out as CR and NL",
-        WELL,
-        r#"open
-  ok
-unlock
-  ok
-slave
-  ok
-push s ldterm
-  ok
+pub const OUTPUT: &str = r#"page: ldterm(7M), termio(7I): output
+
+title: NL goes out as CR and NL
+setup: ldterm
 write s "a\nb"
   ok 3
 run 50
   ran 2
 get m
   msg 0 - "a\r\nb" -
-"#,
-    ),
-    (
-        "Data of a band goes out in its band",
-        WELL,
-        r#"open
-  ok
-unlock
-  ok
-slave
-  ok
-push s ldterm
-  ok
+
+title: Data of a band goes out in its band
+setup: ldterm
 put s 2 - "a\n"
   ok
 run 50
   ran 2
 get m
   msg 2 - "a\r\n" -
-"#,
-    ),
-    (
-        "A message with a control part goes down as it is",
-        WELL,
-        r#"open
-  ok
-unlock
-  ok
-slave
-  ok
-push s ldterm
-  ok
+
+title: A message with a control part goes down as it is
+setup: ldterm
 put s 0 "\n" "\n"
   ok
 run 50
   ran 2
 get m
   msg 0 "\n" "\n" -
-"#,
-    ),
-];
+"#;
 
 /// Output that is stopped, and turns that stop.
-pub const STOPPED: [Scene; 3] = [
-    (
-        "Behind STOP what is written waits, and so does the echo, until START",
-        WELL,
-        r#"open
-  ok
-unlock
-  ok
-slave
-  ok
-push s ldterm
-  ok
+pub const STOPPED: &str = r#"page: ldterm(7M), termio(7I): output
+
+title: Behind STOP what is written waits, and so does the echo, until START
+setup: ldterm
 write m "\x13"
   ok 1
 run 50
@@ -109,19 +60,9 @@ get m
   msg 0 - "ab\r\n" -
 get m
   msg 0 - "x" -
-"#,
-    ),
-    (
-        "A message with a control part isn't held",
-        WELL,
-        r#"open
-  ok
-unlock
-  ok
-slave
-  ok
-push s ldterm
-  ok
+
+title: A message with a control part isn't held
+setup: ldterm
 write m "\x13"
   ok 1
 run 50
@@ -132,19 +73,10 @@ run 50
   ran 2
 get m
   msg 0 "c" "d" -
-"#,
-    ),
-    (
-        "A turn stops before a byte for which too few blocks are left, and the next one goes on",
-        SHORT_AT_6,
-        r#"open 33
-  ok
-unlock
-  ok
-slave
-  ok
-push s ldterm
-  ok
+
+title: A turn stops before a byte for which too few blocks are left, and the next one goes on
+setup: scarce
+ends: short in line 6
 write s "ab\n"
   ok 3
 turn s.ldterm.w
@@ -165,6 +97,4 @@ run 9
   ran 2
 read m 9
   data 2 "\r\n"
-"#,
-    ),
-];
+"#;

@@ -1,22 +1,11 @@
 //! Scenes of the module pckt (pckt(7M)): the packets that a reader above it gets. They tell what packet mode of other systems tells (TIOCPKT of
 //! tty_ioctl(4): data, flushes, stop, start), and what that loses: the order of what is told and of data, and the bytes of ioctls.
 
-use super::WELL;
-use super::scripts::Scene;
-
 /// What becomes packets, and what is told of each.
-pub const PCKT: [Scene; 7] = [
-    (
-        "A master's pckt makes packets of what its slave writes, which only a get reads",
-        WELL,
-        r#"open
-  ok
-unlock
-  ok
-slave
-  ok
-push m pckt
-  ok
+pub const PCKT: &str = r#"page: pckt(7M), tty_ioctl(4): TIOCPKT
+
+title: A master's pckt makes packets of what its slave writes, which only a get reads
+setup: packets
 push m pckt
   err EINVAL
 look m
@@ -31,19 +20,9 @@ get m
   msg 0 "\x00" "hi" -
 get m
   err EAGAIN
-"#,
-    ),
-    (
-        "A flush of the slave's output is told behind what went before it, and flushes nothing above pckt",
-        WELL,
-        r#"open
-  ok
-unlock
-  ok
-slave
-  ok
-push m pckt
-  ok
+
+title: A flush of the slave's output is told behind what went before it, and flushes nothing above pckt
+setup: packets
 write s "hi"
   ok 2
 run 10
@@ -56,19 +35,9 @@ get m
   msg 0 "\x86" "\x01" -
 get m
   err EAGAIN
-"#,
-    ),
-    (
-        "A flush of the master's own is told as well, once each",
-        WELL,
-        r#"open
-  ok
-unlock
-  ok
-slave
-  ok
-push m pckt
-  ok
+
+title: A flush of the master's own is told as well, once each
+setup: packets
 write s "old"
   ok 3
 run 10
@@ -87,21 +56,9 @@ get m
   err EAGAIN
 ledger sm
   ledger sm written 3 made 5 queued 0 inline 0 read 8
-"#,
-    ),
-    (
-        "A terminal that is stopped and started is told of by packets without data",
-        WELL,
-        r#"open
-  ok
-unlock
-  ok
-slave
-  ok
-push s ptem
-  ok
-push s ldterm
-  ok
+
+title: A terminal that is stopped and started is told of by packets without data
+setup: terminal
 push m pckt
   ok
 write m "\x13"
@@ -128,17 +85,9 @@ get m
   msg 0 "\x00" "hi" -
 ledger sm
   ledger sm written 2 made 3 queued 0 inline 0 read 5
-"#,
-    ),
-    (
-        "An ioctl of the slave is told with its bytes, between what was written before it and after it",
-        WELL,
-        r#"open
-  ok
-unlock
-  ok
-slave
-  ok
+
+title: An ioctl of the slave is told with its bytes, between what was written before it and after it
+setup: pair
 push s ptem
   ok
 push m pckt
@@ -161,17 +110,9 @@ get m
   err EAGAIN
 ledger sm
   ledger sm written 2 made 27 queued 0 inline 0 read 29
-"#,
-    ),
-    (
-        "On the slave's stream ioctls become packets too, and each message keeps its band",
-        WELL,
-        r#"open
-  ok
-unlock
-  ok
-slave
-  ok
+
+title: On the slave's stream ioctls become packets too, and each message keeps its band
+setup: pair
 push s pckt
   ok
 ioctl m TIOCGWINSZ
@@ -198,19 +139,9 @@ get s
   msg 0 "\x00" "" -
 ledger ms
   ledger ms written 3 made 20 queued 0 inline 0 read 23
-"#,
-    ),
-    (
-        "What comes up once pckt is popped is no packet any more",
-        WELL,
-        r#"open
-  ok
-unlock
-  ok
-slave
-  ok
-push m pckt
-  ok
+
+title: What comes up once pckt is popped is no packet any more
+setup: packets
 push m ptem
   ok
 look m
@@ -235,6 +166,4 @@ get m
   err EAGAIN
 read m 9
   err EAGAIN
-"#,
-    ),
-];
+"#;

@@ -1,19 +1,10 @@
 //! Scenes of the module ptem (ptem(7M)): what it answers and tells, alone and beside ldterm.
 
-use super::WELL;
-use super::scripts::Scene;
-
 /// A terminal's settings and the size of its window, and what changes them.
-pub const PTEM: [Scene; 6] = [
-    (
-        "ptem stands once, and answers what a slave asks of its terminal",
-        WELL,
-        r#"open
-  ok
-unlock
-  ok
-slave
-  ok
+pub const PTEM: &str = r#"page: ptem(7M), tty_ioctl(4)
+
+title: ptem stands once, and answers what a slave asks of its terminal
+setup: pair
 push s ptem
   ok
 push s ptem
@@ -42,17 +33,9 @@ show m
   show m head.r 0 0 drv.w 0 0
 show s
   show s head.r 0 0 drv.w 0 0
-"#,
-    ),
-    (
-        "A master sets the window of its slave, which hears of each change once",
-        WELL,
-        r#"open
-  ok
-unlock
-  ok
-slave
-  ok
+
+title: A master sets the window of its slave, which hears of each change once
+setup: pair
 push s ptem
   ok
 ioctl m TIOCSWINSZ 25 81 0 0
@@ -83,17 +66,9 @@ run 10
   ran 1
 signals m
   signals -
-"#,
-    ),
-    (
-        "What ptem can't read is refused, and so is what it isn't asked for",
-        WELL,
-        r#"open
-  ok
-unlock
-  ok
-slave
-  ok
+
+title: What ptem can't read is refused, and so is what it isn't asked for
+setup: pair
 push s ptem
   ok
 ioctl s raw 6 "1234567"
@@ -140,21 +115,9 @@ signals s
   signals INT
 ioctl s TIOCGWINSZ
   data 8 "\x00\x00\x00\x00\x00\x00\x00\x00"
-"#,
-    ),
-    (
-        "ptem below ldterm answers what ldterm passes on, and both are popped",
-        WELL,
-        r#"open
-  ok
-unlock
-  ok
-slave
-  ok
-push s ptem
-  ok
-push s ldterm
-  ok
+
+title: ptem below ldterm answers what ldterm passes on, and both are popped
+setup: terminal
 look s
   name ldterm
 write m "ab\n"
@@ -183,19 +146,9 @@ pop s
   err EINVAL
 ioctl s TCGETS
   nak EINVAL
-"#,
-    ),
-    (
-        "ldterm below ptem makes lines, and each stands once",
-        WELL,
-        r#"open
-  ok
-unlock
-  ok
-slave
-  ok
-push s ldterm
-  ok
+
+title: ldterm below ptem makes lines, and each stands once
+setup: ldterm
 push s ptem
   ok
 push s ldterm
@@ -222,19 +175,9 @@ pop s
   ok
 look s
   err EINVAL
-"#,
-    ),
-    (
-        "A window that changes is told before the keys behind it, and a close takes both modules",
-        WELL,
-        r#"open
-  ok
-unlock
-  ok
-slave
-  ok
-push s ldterm
-  ok
+
+title: A window that changes is told before the keys behind it, and a close takes both modules
+setup: ldterm
 push s ptem
   ok
 ioctl m TIOCSWINSZ 24 80 0 0
@@ -261,6 +204,4 @@ slave
   ok
 look s
   err EINVAL
-"#,
-    ),
-];
+"#;

@@ -1,25 +1,11 @@
 //! Sessions of a terminal: ptem and ldterm stand on the slave, the master types and reads what the screen shows, and the slave reads, writes
-//! and sets the terminal (termio(7I), ldterm(7M), ptem(7M)). A scene has a title, how its script ends, and its text: commands stand at the
-//! margin, and the answer to each stands under it, indented by two spaces.
-
-use super::WELL;
-use super::scripts::Scene;
+//! and sets the terminal (termio(7I), ldterm(7M), ptem(7M)).
 
 /// What is typed, echoed and read, what is written and shown, and what is set.
-pub const SESSIONS: [Scene; 10] = [
-    (
-        "A line that ends with CR is read with NL, and echoed as CR and NL",
-        WELL,
-        r#"open
-  ok
-unlock
-  ok
-slave
-  ok
-push s ptem
-  ok
-push s ldterm
-  ok
+pub const SESSIONS: &str = r#"page: termio(7I): a whole terminal
+
+title: A line that ends with CR is read with NL, and echoed as CR and NL
+setup: terminal
 write m "ls\r"
   ok 3
 run 50
@@ -28,21 +14,9 @@ read s 100
   data 3 "ls\n"
 read m 100
   data 4 "ls\r\n"
-"#,
-    ),
-    (
-        "EOF on an empty line is read as an end of input, once",
-        WELL,
-        r#"open
-  ok
-unlock
-  ok
-slave
-  ok
-push s ptem
-  ok
-push s ldterm
-  ok
+
+title: EOF on an empty line is read as an end of input, once
+setup: terminal
 write m "\x04"
   ok 1
 run 50
@@ -51,21 +25,9 @@ read s 100
   data 0 ""
 read s 100
   err EAGAIN
-"#,
-    ),
-    (
-        "A line is read in parts",
-        WELL,
-        r#"open
-  ok
-unlock
-  ok
-slave
-  ok
-push s ptem
-  ok
-push s ldterm
-  ok
+
+title: A line is read in parts
+setup: terminal
 write m "hello\n"
   ok 6
 run 50
@@ -74,17 +36,9 @@ read s 2
   data 2 "he"
 read s 100
   data 4 "llo\n"
-"#,
-    ),
-    (
-        "The master sets the size of the window, and the slave hears of a change alone",
-        WELL,
-        r#"open
-  ok
-unlock
-  ok
-slave
-  ok
+
+title: The master sets the size of the window, and the slave hears of a change alone
+setup: pair
 push s ptem
   ok
 ioctl m TIOCSWINSZ 24 80 0 0
@@ -105,21 +59,9 @@ signals s
   signals -
 ioctl s TIOCGWINSZ
   data 8 "\x00\x18\x00P\x00\x00\x00\x00"
-"#,
-    ),
-    (
-        "STOP holds what is written, and START lets it go",
-        WELL,
-        r#"open
-  ok
-unlock
-  ok
-slave
-  ok
-push s ptem
-  ok
-push s ldterm
-  ok
+
+title: STOP holds what is written, and START lets it go
+setup: terminal
 write m "\x13"
   ok 1
 run 50
@@ -136,21 +78,9 @@ run 50
   ran 5
 read m 10
   data 2 "hi"
-"#,
-    ),
-    (
-        "ERASE doesn't reach a line that has gone",
-        WELL,
-        r#"open
-  ok
-unlock
-  ok
-slave
-  ok
-push s ptem
-  ok
-push s ldterm
-  ok
+
+title: ERASE doesn't reach a line that has gone
+setup: terminal
 write m "a\n\x7fb\n"
   ok 5
 run 50
@@ -161,38 +91,14 @@ read s 9
   data 2 "b\n"
 read m 9
   data 6 "a\r\nb\r\n"
-"#,
-    ),
-    (
-        "The first termios",
-        WELL,
-        r#"open
-  ok
-unlock
-  ok
-slave
-  ok
-push s ptem
-  ok
-push s ldterm
-  ok
+
+title: The first termios
+setup: terminal
 ioctl s TCGETS
   data 35 "\x00\x00%\x00\x00\x00\x00\x05\x00\x00\x00\x00\x00\x00\x8a;\x03\x1c\x7f\x15\x04\x00\x00\x00\x11\x13\x1a\x00\x12\x00\x17\x16\x00\x00\x00"
-"#,
-    ),
-    (
-        "TCSETS sets XTABS, so that a TAB goes out as spaces",
-        WELL,
-        r#"open
-  ok
-unlock
-  ok
-slave
-  ok
-push s ptem
-  ok
-push s ldterm
-  ok
+
+title: TCSETS sets XTABS, so that a TAB goes out as spaces
+setup: terminal
 ioctl s TCSETS "\x00\x00%\x00\x00\x00\x18\x01\x00\x00\x00\x00\x00\x00\x8a;\x03\x1c\x7f\x15\x04\x00\x00\x00\x11\x13\x1a\x00\x12\x00\x17\x16\x00\x00\x00"
   ok
 write s "a\tb"
@@ -201,38 +107,14 @@ run 50
   ran 3
 read m 100
   data 9 "a       b"
-"#,
-    ),
-    (
-        "A termios of another length is refused",
-        WELL,
-        r#"open
-  ok
-unlock
-  ok
-slave
-  ok
-push s ptem
-  ok
-push s ldterm
-  ok
+
+title: A termios of another length is refused
+setup: terminal
 ioctl s TCSETS "abc"
   nak EINVAL
-"#,
-    ),
-    (
-        "TCSETSW waits behind what was written",
-        WELL,
-        r#"open
-  ok
-unlock
-  ok
-slave
-  ok
-push s ptem
-  ok
-push s ldterm
-  ok
+
+title: TCSETSW waits behind what was written
+setup: terminal
 write s "hi\n"
   ok 3
 ioctl s TCSETSW "\x00\x00%\x00\x00\x00\x00\x05\x00\x00\x00\x00\x00\x00\x8a;\x03\x1c\x7f\x15\x04\x00\x00\x00\x11\x13\x1a\x00\x12\x00\x17\x16\x00\x00\x00"
@@ -243,6 +125,4 @@ poll s 1
   ok
 read m 9
   data 4 "hi\r\n"
-"#,
-    ),
-];
+"#;

@@ -1,23 +1,10 @@
-//! Turns of ldterm's queues, what takes from them, and turns that stop within their message. A scene has a title, how its script ends, and its text: commands stand at the
-//! margin, and the answer to each stands under it, indented by two spaces.
-
-use super::WELL;
-use super::scripts::Scene;
-use crate::script::{ScriptEnd, ScriptStatus};
+//! Turns of ldterm's queues, what takes from them, and turns that stop within their message.
 
 /// The line, the queues and what takes from them.
-pub const TAKEN_OFF: [Scene; 6] = [
-    (
-        "Turns of ldterm's queues, one by one",
-        WELL,
-        r#"open
-  ok
-unlock
-  ok
-slave
-  ok
-push s ldterm
-  ok
+pub const TAKEN_OFF: &str = r#"page: srv(9E), canputnext(9F): turns and flow control
+
+title: Turns of ldterm's queues, one by one
+setup: ldterm
 write m "a"
   ok 1
 turn s.ldterm.r
@@ -40,19 +27,9 @@ turn s.ldterm.w
   err EINVAL
 read m 9
   data 1 "a"
-"#,
-    ),
-    (
-        "A flush of the read side takes the line",
-        WELL,
-        r#"open
-  ok
-unlock
-  ok
-slave
-  ok
-push s ldterm
-  ok
+
+title: A flush of the read side takes the line
+setup: ldterm
 write m "ab"
   ok 2
 run 50
@@ -65,19 +42,9 @@ run 50
   ran 4
 read s 100
   data 2 "c\n"
-"#,
-    ),
-    (
-        "So does one of band 0, and one of another band doesn't",
-        WELL,
-        r#"open
-  ok
-unlock
-  ok
-slave
-  ok
-push s ldterm
-  ok
+
+title: So does one of band 0, and one of another band doesn't
+setup: ldterm
 write m "ab"
   ok 2
 run 50
@@ -96,19 +63,9 @@ run 50
   ran 4
 read s 100
   data 4 "cde\n"
-"#,
-    ),
-    (
-        "A pop takes the line, and then bytes come as they are",
-        WELL,
-        r#"open
-  ok
-unlock
-  ok
-slave
-  ok
-push s ldterm
-  ok
+
+title: A pop takes the line, and then bytes come as they are
+setup: ldterm
 write m "ab"
   ok 2
 run 50
@@ -123,19 +80,9 @@ run 50
   ran 1
 read s 9
   data 2 "c\r"
-"#,
-    ),
-    (
-        "A stream has one ldterm",
-        WELL,
-        r#"open
-  ok
-unlock
-  ok
-slave
-  ok
-push s ldterm
-  ok
+
+title: A stream has one ldterm
+setup: ldterm
 look s
   name ldterm
 push s ldterm
@@ -152,12 +99,10 @@ pop s
   err EINVAL
 push s ldterm
   ok
-"#,
-    ),
-    (
-        "A module that isn't there, a second ldterm, and a pop of the other side",
-        WELL,
-        r#"open
+
+title: A module that isn't there, a second ldterm, and a pop of the other side
+setup: nothing
+open
   ok
 slave
   err EAGAIN
@@ -173,34 +118,14 @@ push s ldterm
   err EINVAL
 pop m
   err EINVAL
-"#,
-    ),
-];
-
-// A script in whose line 6 a turn stopped within its message, and one in whose line 7 it did.
-const SHORT_AT_6: ScriptEnd = ScriptEnd {
-    status: ScriptStatus::Whole,
-    short: Some(6),
-};
-
-const SHORT_AT_7: ScriptEnd = ScriptEnd {
-    status: ScriptStatus::Whole,
-    short: Some(7),
-};
+"#;
 
 /// Turns where few blocks are free.
-pub const FEW_BLOCKS: [Scene; 6] = [
-    (
-        "A turn stops within its message where too few blocks are left, and the next one goes on",
-        SHORT_AT_6,
-        r#"open 33
-  ok
-unlock
-  ok
-slave
-  ok
-push s ldterm
-  ok
+pub const FEW_BLOCKS: &str = r#"page: srv(9E), canputnext(9F): turns and flow control
+
+title: A turn stops within its message where too few blocks are left, and the next one goes on
+setup: scarce
+ends: short in line 6
 write m "a\x01"
   ok 2
 run 2
@@ -223,19 +148,10 @@ run 50
   ran 2
 read s 9
   data 3 "a\x01\n"
-"#,
-    ),
-    (
-        "A turn stops, and with what it left the next one is refused",
-        SHORT_AT_6,
-        r#"open 33
-  ok
-unlock
-  ok
-slave
-  ok
-push s ldterm
-  ok
+
+title: A turn stops, and with what it left the next one is refused
+setup: scarce
+ends: short in line 6
 write m "a\x01"
   ok 2
 run 50
@@ -244,19 +160,10 @@ run 50
   ran 0
 turn s.ldterm.r
   err ENOSR
-"#,
-    ),
-    (
-        "So does one by its name",
-        SHORT_AT_7,
-        r#"open 33
-  ok
-unlock
-  ok
-slave
-  ok
-push s ldterm
-  ok
+
+title: So does one by its name
+setup: scarce
+ends: short in line 7
 write m "a\x01"
   ok 2
 turn m.drv.w
@@ -265,12 +172,10 @@ turn s.ldterm.r
   ok 1
 show s
   show s head.r 0 0 ldterm.r 1 1 ldterm.w 1 1 drv.w 0 0
-"#,
-    ),
-    (
-        "With one block more the turn goes to the end of its message",
-        WELL,
-        r#"open 34
+
+title: With one block more the turn goes to the end of its message
+setup: nothing
+open 34
   ok
 unlock
   ok
@@ -284,12 +189,11 @@ run 50
   ran 4
 read m 9
   data 3 "a^A"
-"#,
-    ),
-    (
-        "A turn stops between two plain bytes too, and once the echo is flushed the next one goes on",
-        SHORT_AT_7,
-        r#"open 33
+
+title: A turn stops between two plain bytes too, and once the echo is flushed the next one goes on
+setup: nothing
+ends: short in line 7
+open 33
   ok
 unlock
   ok
@@ -311,12 +215,10 @@ run 50
   ran 4
 read m 10
   data 1 "b"
-"#,
-    ),
-    (
-        "Where each of them begins with blocks enough, plain bytes are treated in one turn",
-        WELL,
-        r#"open 35
+
+title: Where each of them begins with blocks enough, plain bytes are treated in one turn
+setup: nothing
+open 35
   ok
 unlock
   ok
@@ -332,6 +234,4 @@ turn s.ldterm.r
   ok 2
 show s
   show s head.r 0 0 ldterm.r 0 0 ldterm.w 1 2 drv.w 0 0
-"#,
-    ),
-];
+"#;
