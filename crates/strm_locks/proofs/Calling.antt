@@ -1,0 +1,213 @@
+-- What a call under the lock tells its caller, by what it did to the book.
+use Rattle.std.proofs.Common.{◌≡◌, ℕ, zero, suc, ◌+◌, ◌-◌, ◌<◌, ◌≤◌, List, [], ◌∷◌, ◌++◌, ◌⊎◌, inl, inr, ⊎_elim, sym, ap, ◌∙◌, arith, append-nil, drop, length}
+use Rattle.std.proofs.Math.Seq.{drop-append_seam, drop-length}
+use Rattle.std.specs.Prelude.{Ok, Err, MatchResult, Some}
+use mathlib.Core.Logic.{dite}
+use native.Mathlib.Decide.{ℕ_discrete}
+use Rattle.strm_types.specs.declared.answers.Answer.{Answer}
+use Rattle.strm_types.specs.declared.events.Caller.{Caller}
+use Rattle.strm_types.specs.declared.events.Event.TheVariants.{OpenMaster}
+use Rattle.strm_types.specs.Events.{Request}
+use Rattle.strm_types.specs.Journal.{PlainEntry}
+use Rattle.strm_laws.specs.Pair.{call_refused}
+use Rattle.strm_locks.specs.declared.end.TheConstants.{ALL_PARTS}
+use Rattle.strm_locks.specs.declared.told.Told.{Told}
+use Rattle.strm_locks.specs.declared.view.View.{View}
+use Rattle.strm_locks.specs.Ends.{Gains, IsRefused, OpenedAs, Share}
+use Rattle.strm_locks.specs.Books.{pick, nothing, plus, minus, IsBelow, Fits, Book, Kept, Adds, tally_of}
+use Rattle.strm_locks.specs.Rules.{share, fresh, holding, grown, Knows, Mine}
+use Rattle.strm_locks.specs.Shares.{MayGive, Tells, Applied, Did, Grew, IsSeated, Opens, Opened, Outcome, entry_of, opener}
+use Rattle.strm_locks.proofs.Sums.{same_told, pick-minus, pick-nothing, pick-plus}
+
+-- the view that is told what a call added to the book, and the one where nothing was added
+grown_once : (v : View) (b c : Book) (e : PlainEntry) → Adds b e c → IsBelow b.totals c.totals → grown v b c ≡ share (plus v.told (minus c.totals b.totals)) (v.made ++ e ∷ []) v.parts
+grown_once v b c e adds below =
+    let sums : minus (plus v.told c.totals) b.totals ≡ plus v.told (minus c.totals b.totals) = same_told (minus (plus v.told c.totals) b.totals) (plus v.told (minus c.totals b.totals))
+    (λ i. let a = pick-minus i (plus v.told c.totals) b.totals in let d = pick-plus i v.told c.totals in let x = pick-plus i v.told (minus c.totals b.totals) in let y = pick-minus i c.totals b.totals in let f = below i in omega arith) in
+    let more : drop (length b.history) c.history ≡ e ∷ [] = ap (drop (length b.history)) adds.history ∙ drop-append_seam b.history (e ∷ []) in
+    let parts : v.parts + b.left - c.left ≡ v.parts = (let p = adds.left in omega arith) in
+    λ k. share (sums k) (v.made ++ more k) (parts k)
+
+pub grown_none : (v : View) (b c : Book) → c ≡ b → grown v b c ≡ share v.told v.made v.parts
+grown_none v b c same =
+    let sums : minus (plus v.told b.totals) b.totals ≡ v.told = same_told (minus (plus v.told b.totals) b.totals) v.told
+    (λ i. let a = pick-minus i (plus v.told b.totals) b.totals in let d = pick-plus i v.told b.totals in omega arith) in
+    let more : v.made ++ drop (length b.history) b.history ≡ v.made = ap (λ l. v.made ++ l) (drop-length b.history) ∙ append-nil v.made in
+    let parts : v.parts + b.left - b.left ≡ v.parts = omega arith in
+    ap (grown v b) same ∙ (λ k. share (sums k) (more k) (parts k))
+
+-- an end's seat, by the view that it has
+pub seated : (m : Mine) (t : Told) (xs : List PlainEntry) (n : ℕ) → m ≡ (share t xs n, []) → 0 < n → IsSeated m t n
+seated m t xs n is some_part = record { shown = is ∙ ap (λ ys. (share t ys n, [])) (sym (ap (λ (x : Mine). x.0.made) is)); some_part = some_part }
+
+pub has_part : (m : Mine) (t : Told) (n : ℕ) → IsSeated m t n → 0 < m.0.parts
+has_part m t n s = let is : m.0.parts ≡ n = ap (λ (x : Mine). x.0.parts) s.shown in let p = s.some_part in omega arith
+
+-- the value of a seat that has taken one slot
+abbrev pub first_of : {A : Type 0} → A → List (ℕ × A) → A
+first_of d [] = d
+first_of d (x ∷ xs) = x.1
+
+-- a book that is as it was may be given back
+pub gives_same : (v : View) (b c : Book) → c ≡ b → Fits b.totals → MayGive (holding v b) c
+gives_same v b c same fits = record {
+  below = λ i. let t : pick i c.totals ≡ pick i b.totals = ap (λ (x : Book). pick i x.totals) same in omega arith;
+  fits = λ i. let t : pick i c.totals ≡ pick i b.totals = ap (λ (x : Book). pick i x.totals) same in let s = fits i in omega arith;
+  history = ([], ap (λ (x : Book). x.history) same ∙ sym (append-nil b.history));
+  left = let p : c.left ≡ b.left = ap (λ (x : Book). x.left) same in omega arith;
+  some_part = inr (ap (λ (x : Book). x.totals) same, ap (λ (x : Book). x.history) same);
+}
+
+module _ (a : Kept) (caller : Caller) (asked : Request) (before bytes : List ℕ) (b : Kept) where
+  abbrev WasDone : Outcome → Type 0
+  WasDone x = Did a caller asked before bytes x b
+
+  more_history : (x : Outcome) → WasDone x → (more : List PlainEntry) × (b.book.history ≡ a.book.history ++ more)
+  more_history (Ok y) d = (entry_of caller asked bytes y ∷ [], d.history)
+  more_history (Err z) d = ([], ap (λ (k : Kept). k.book.history) d.0 ∙ sym (append-nil a.book.history))
+
+  same_left : (x : Outcome) → WasDone x → b.book.left ≡ a.book.left
+  same_left (Ok y) d = d.left
+  same_left (Err z) d = ap (λ (k : Kept). k.book.left) d.0
+
+  pub gives_applied : (v : View) (r : Outcome × Told) → 0 < v.parts → Applied a caller asked before bytes r b → MayGive (holding v a.book) b.book
+  gives_applied v r some_part applied = let p = same_left r.0 applied.answer in record {
+    below = applied.grew.below;
+    fits = applied.grew.fits;
+    history = more_history r.0 applied.answer;
+    left = omega arith;
+    some_part = inl (omega arith);
+  }
+
+  -- what the end was told then fits, as the book's numbers do
+  pub fits_told : (v : View) (r : Outcome × Told) → Knows v a.book → Applied a caller asked before bytes r b → Fits (plus v.told r.1)
+  fits_told v r knows applied i =
+      let w : pick i r.1 ≡ pick i (minus b.book.totals a.book.totals) = ap (pick i) applied.grew.growth in
+      let x = pick-minus i b.book.totals a.book.totals in let y = pick-plus i v.told r.1 in let z = knows.below i in let f = applied.grew.fits i in let g = applied.grew.below i in omega arith
+
+  tells : (e : PlainEntry) (t : Told) → Adds a.book e b.book → Grew a.book t b.book → Tells e t
+  tells e t adds grew =
+      let n : t.calls ≡ b.book.totals.calls - a.book.totals.calls = ap (λ (x : Told). x.calls) grew.growth in
+      let c = adds.calls in let f = grew.below 0 in record {
+        calls = dite (ℕ_discrete t.calls 1) (λ z. inl z) (λ z. inr (omega arith));
+        bytes = λ i. let w : pick (suc i) t ≡ pick (suc i) (minus b.book.totals a.book.totals) = ap (pick (suc i)) grew.growth in
+            let x = pick-minus (suc i) b.book.totals a.book.totals in let y = adds.bytes i in omega arith;
+      }
+
+  none : (i : ℕ) → pick i (minus a.book.totals a.book.totals) ≡ pick i nothing
+  none i = let x = pick-minus i a.book.totals a.book.totals in let y = pick-nothing i in omega arith
+
+  -- what the end is told of an answer, and of a refusal
+  module _ (v : View) (t : Told) (m' : Mine) (grew : Grew a.book t b.book) (now : m' ≡ (grown v a.book b.book, [])) where
+    abbrev ToldOf : Outcome → Type 0
+    ToldOf x = MatchResult x
+        (λ y. let e : PlainEntry = entry_of caller asked bytes y in Tells e t × (m' ≡ (share (plus v.told t) (v.made ++ e ∷ []) v.parts, [])))
+        (λ z. (t ≡ nothing) × (m' ≡ (share v.told v.made v.parts, [])) × (bytes ≡ before) × (call_refused a.pair caller asked ≡ Some z))
+
+    told_by : (x : Outcome) → WasDone x → ToldOf x
+    told_by (Ok y) d = let e : PlainEntry = entry_of caller asked bytes y in (
+      tells e t d grew,
+      now ∙ (λ k. ((grown_once v a.book b.book e d grew.below ∙ ap (λ (x : Told). share (plus v.told x) (v.made ++ e ∷ []) v.parts) (sym grew.growth)) k, [])),
+    )
+    told_by (Err z) d = let same : b.book ≡ a.book = ap (λ (k : Kept). k.book) d.0 in (
+      same_told t nothing (λ i. ap (pick i) grew.growth ∙ (ap (λ (y : Book). pick i (minus y.totals a.book.totals)) same ∙ none i)),
+      now ∙ (λ k. (grown_none v a.book b.book same k, [])),
+      d.1,
+      d.2,
+    )
+
+module _ (a : Kept) (asked : Request) (before bytes : List ℕ) (b : Kept) (e : Share) (me m' : Mine) (r : Outcome × Told) (p : Told) where
+  -- the end that is told so: its seat, and what is told by its answer
+  module _ (seat : IsSeated me e.told e.parts) (applied : Applied a e.caller asked before bytes r b) (now : m' ≡ (grown me.0 a.book b.book, [])) (sum : p ≡ plus e.told r.1) where
+    abbrev Was : Outcome → Type 0
+    Was x = ToldOf a e.caller asked before bytes b me.0 r.1 m' applied.grew now x
+
+    was : (x : Outcome) → Was x → IsSeated m' p e.parts
+    was (Ok y) d = seated m' p (me.0.made ++ entry_of e.caller asked bytes y ∷ []) e.parts (d.1 ∙ (λ k. (share (told k) (me.0.made ++ entry_of e.caller asked bytes y ∷ []) (parts k), []))) seat.some_part
+      where
+        told : plus me.0.told r.1 ≡ p
+        told = ap (λ (m : Mine). plus m.0.told r.1) seat.shown ∙ sym sum
+
+        parts : me.0.parts ≡ e.parts
+        parts = ap (λ (m : Mine). m.0.parts) seat.shown
+    was (Err z) d = seated m' p me.0.made e.parts (d.1 ∙ (λ k. (share (told k) me.0.made (parts k), []))) seat.some_part
+      where
+        same : e.told ≡ plus e.told r.1
+        same = same_told e.told (plus e.told r.1) (λ i. let x = pick-plus i e.told r.1 in let y : pick i r.1 ≡ pick i nothing = ap (pick i) d.0 in let n = pick-nothing i in omega arith)
+
+        told : me.0.told ≡ p
+        told = ap (λ (m : Mine). m.0.told) seat.shown ∙ (same ∙ sym sum)
+
+        parts : me.0.parts ≡ e.parts
+        parts = ap (λ (m : Mine). m.0.parts) seat.shown
+
+    done : Was r.0
+    done = told_by a e.caller asked before bytes b me.0 r.1 m' applied.grew now r.0 applied.answer
+
+    pub call_seated : IsSeated m' p e.parts
+    call_seated = was r.0 done
+
+    module _ (e' : Share) (made : e.made ≡ me.0.made) (is : e' ≡ record e { told = p; made = m'.0.made }) where
+      abbrev Tells_end : Outcome → Type 0
+      Tells_end x = MatchResult x (λ y. Gains e (entry_of e.caller asked bytes y) e') (λ z. (e' ≡ e) × (bytes ≡ before) × IsRefused e.caller asked z)
+
+      tells_end : (x : Outcome) → Was x → Tells_end x
+      tells_end (Ok y) d = (r.1, d.0, is ∙ (λ k. record e { told = sum k; made = list k }))
+        where
+          list : m'.0.made ≡ e.made ++ entry_of e.caller asked bytes y ∷ []
+          list = ap (λ (m : Mine). m.0.made) d.1 ∙ ap (λ xs. xs ++ entry_of e.caller asked bytes y ∷ []) (sym made)
+      tells_end (Err z) d = (is ∙ (λ k. record e { told = told k; made = list k }), d.2, (a.pair, d.3))
+        where
+          told : p ≡ e.told
+          told = sum ∙ same_told (plus e.told r.1) e.told (λ i. let x = pick-plus i e.told r.1 in let y : pick i r.1 ≡ pick i nothing = ap (pick i) d.0 in let n = pick-nothing i in omega arith)
+
+          list : m'.0.made ≡ e.made
+          list = ap (λ (m : Mine). m.0.made) d.1 ∙ sym made
+
+      pub call_told : Tells_end r.0
+      call_told = tells_end r.0 done
+
+module _ (a : Kept) (bytes : List ℕ) (b : Kept) where
+  opens_by : (x : Outcome) → Opens a bytes x b → ((more : List PlainEntry) × (b.book.history ≡ a.book.history ++ more)) × (b.book.left ≤ a.book.left)
+      × ((0 < a.book.left - b.book.left) ⊎ ((b.book.totals ≡ a.book.totals) × (b.book.history ≡ a.book.history)))
+  opens_by (Ok y) d = let p = d.0 in let q = d.2 in ((entry_of opener OpenMaster bytes y ∷ [], d.1.history), omega arith, inl (omega arith))
+  opens_by (Err z) d = let same : b.book ≡ a.book = ap (λ (k : Kept). k.book) d.0 in let p : b.book.left ≡ a.book.left = ap (λ (y : Book). y.left) same in (
+    ([], ap (λ (y : Book). y.history) same ∙ sym (append-nil a.book.history)),
+    omega arith,
+    inr (ap (λ (y : Book). y.totals) same, ap (λ (y : Book). y.history) same),
+  )
+
+  pub opens_gives : (r : Outcome × Told) → Opened a bytes r b → MayGive (holding fresh a.book) b.book
+  opens_gives r opened = let t = opens_by r.0 opened.answer in record {
+    below = opened.grew.below;
+    fits = opened.grew.fits;
+    history = t.0;
+    left = t.1;
+    some_part = ⊎_elim (λ (x : 0 < a.book.left - b.book.left). inl (omega arith)) (λ x. inr x) t.2;
+  }
+
+  opens_told : (x : Answer ℕ) (t : Told) → Opens a bytes (Ok x) b → (a.book.left ≡ ALL_PARTS → a.book.totals ≡ nothing) → Grew a.book t b.book
+      → (t ≡ tally_of (entry_of opener OpenMaster bytes x)) × (grown fresh a.book b.book ≡ share t (entry_of opener OpenMaster bytes x ∷ []) ALL_PARTS)
+  opens_told x t d unopened grew = let e : PlainEntry = entry_of opener OpenMaster bytes x in let p = d.0 in let q = d.2 in
+      let none : a.book.totals ≡ nothing = unopened p in
+      let at : (i : ℕ) → pick i a.book.totals ≡ 0 = λ i. ap (pick i) none ∙ pick-nothing i in
+      let more : drop (length a.book.history) b.book.history ≡ e ∷ [] = ap (drop (length a.book.history)) d.1.history ∙ drop-append_seam a.book.history (e ∷ []) in
+      let parts : 0 + a.book.left - b.book.left ≡ ALL_PARTS = omega arith in
+      let sums : minus (plus nothing b.book.totals) a.book.totals ≡ t = same_told (minus (plus nothing b.book.totals) a.book.totals) (minus b.book.totals a.book.totals)
+      (λ i. let x = pick-minus i (plus nothing b.book.totals) a.book.totals in let y = pick-plus i nothing b.book.totals in let z = pick-minus i b.book.totals a.book.totals in let n = pick-nothing i in omega arith) ∙ sym grew.growth in
+      let calls : b.book.totals.calls ≡ 1 = (let n = d.1.calls in let z = at 0 in omega arith) in
+      let told : t ≡ tally_of e = grew.growth ∙ same_told (minus b.book.totals a.book.totals) (tally_of e) (first calls) in (
+        told,
+        (λ k. share (sums k) (more k) (parts k)),
+      )
+    where
+      first : b.book.totals.calls ≡ 1 → (i : ℕ) → pick i (minus b.book.totals a.book.totals) ≡ pick i (tally_of (entry_of opener OpenMaster bytes x))
+      first calls zero = let z = ap (pick 0) (unopened d.0) in omega arith
+      first calls (suc i) = let x = pick-minus (suc i) b.book.totals a.book.totals in let y = d.1.bytes i in omega arith
+
+  pub opened_as : (r : Outcome × Told) (m' : Mine) → Opened a bytes r b → (a.book.left ≡ ALL_PARTS → a.book.totals ≡ nothing) → m' ≡ (grown fresh a.book b.book, []) → OpenedAs bytes r.1 m' r.0
+  opened_as r m' opened unopened now = at r.0 opened.answer
+    where
+      at : (x : Outcome) → Opens a bytes x b → OpenedAs bytes r.1 m' x
+      at (Ok y) d = let t = opens_told y r.1 d unopened opened.grew in (t.0, now ∙ (λ k. (t.1 k, [])))
+      at (Err z) d = (now ∙ (λ k. (grown_none fresh a.book b.book (ap (λ (k : Kept). k.book) d.0) k, [])), ⊎_elim (λ e. inl e) (λ e. inr (a.pair, e)) d.1)

@@ -1,0 +1,5 @@
+pub mod Booking
+pub mod Calling
+pub mod Keeps
+pub mod Reports
+pub mod Sums

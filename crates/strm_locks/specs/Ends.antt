@@ -1,0 +1,69 @@
+-- An end, as contracts see it, and what calls do to it.
+use Rattle.std.specs.Prelude.{◌≡◌, ℕ, ◌+◌, ◌-◌, ◌/◌, ◌⊎◌, List, [], ◌∷◌, ◌++◌, Some, MatchResult}
+use Rattle.atomic_table.specs.Seated.{TableId}
+use Rattle.strm_types.specs.declared.answers.Answer.{Answer}
+use Rattle.strm_types.specs.declared.events.Caller.{Caller}
+use Rattle.strm_types.specs.declared.events.Event.TheVariants.{OpenMaster, OpenSlave}
+use Rattle.strm_types.specs.declared.names.Side.TheVariants.{Slave}
+use Rattle.strm_types.specs.declared.refusals.Refusal.{Refusal}
+use Rattle.strm_types.specs.declared.refusals.Refusal.TheVariants.{Einval}
+use Rattle.strm_types.specs.Events.{Request}
+use Rattle.strm_types.specs.Journal.{PlainEntry}
+use Rattle.strm_laws.specs.Pair.{PairState, call_refused}
+use Rattle.strm_locks.specs.declared.end.TheConstants.{ALL_PARTS}
+use Rattle.strm_locks.specs.declared.told.Told.{Told}
+use Rattle.strm_locks.specs.Books.{nothing, plus, tally_of}
+use Rattle.strm_locks.specs.Rules.{Mine, fresh, share}
+use Rattle.strm_locks.specs.Shares.{Outcome, Tells, entry_of, opener}
+
+-- an end: the table of its lock, whom it calls as, what it was told, the entries of its calls, and its parts
+pub record Share : Type 0 where
+  pub table : TableId
+  pub caller : Caller
+  pub told : Told
+  pub made : List PlainEntry
+  pub parts : ℕ
+
+-- the end is of this lock
+abbrev pub IsOf : TableId → Share → Type 0
+IsOf lock e = e.table ≡ lock
+
+-- the end was told of one call more; nothing else changes
+abbrev pub Gains : Share → PlainEntry → Share → Type 0
+Gains a e b = (more : Told) × Tells e more × (b ≡ record a { told = plus a.told more; made = a.made ++ e ∷ [] })
+
+-- the end that keeps what it was told where it is cut in two, and the other, with half of the parts, rounded down
+abbrev pub kept_end : Share → Share
+kept_end e = record e { parts = e.parts - e.parts / 2 }
+
+abbrev pub split_end : Share → Share
+split_end e = record e { told = nothing; made = []; parts = e.parts / 2 }
+
+-- the slave's end that is cut off one that opens the slave
+abbrev pub slave_end : Share → Share
+slave_end e = record { table = e.table; caller = record { side = Slave }; told = nothing; made = []; parts = e.parts / 2 }
+
+-- an end was told of its call that opened the slave, and is cut in two
+abbrev pub OpensSlave : Share → Share → Type 0
+OpensSlave a c = (x : Answer ℕ) × (bytes : List ℕ) × (b : Share) × Gains a (entry_of a.caller OpenSlave bytes x) b × (c ≡ kept_end b)
+
+-- one end of two, with what both were told and the parts of both
+abbrev pub joined_end : Share → Share → Share
+joined_end a b = record a { told = plus a.told b.told; made = a.made ++ b.made; parts = a.parts + b.parts }
+
+-- some pair refuses the call for this
+abbrev pub IsRefused : Caller → Request → Refusal → Type 0
+IsRefused caller asked z = (p : PairState) × (call_refused p caller asked ≡ Some z)
+
+-- the end that opened the pair: it has all parts, and was told of that call alone
+pub record IsOpened (lock : TableId) (e : Share) : Type 0 where
+  pub here : IsOf lock e
+  pub caller : e.caller ≡ opener
+  pub parts : e.parts ≡ ALL_PARTS
+  pub told : (a : Answer ℕ) × (bytes : List ℕ) × (e.told ≡ tally_of (entry_of opener OpenMaster bytes a)) × (e.made ≡ entry_of opener OpenMaster bytes a ∷ [])
+
+-- What a seat that opens the master knows then: it has all parts and was told of that call alone, or it has nothing still, for a reason that a pair has or as an end has the pair
+abbrev pub OpenedAs : List ℕ → Told → Mine → Outcome → Type 0
+OpenedAs bytes told m r = MatchResult r
+    (λ a. let e = entry_of opener OpenMaster bytes a in (told ≡ tally_of e) × (m ≡ (share told (e ∷ []) ALL_PARTS, [])))
+    (λ z. (m ≡ (fresh, [])) × ((z ≡ Einval) ⊎ IsRefused opener OpenMaster z))

@@ -1,0 +1,9 @@
+pub mod Books
+pub mod Ends
+pub mod Reports
+pub mod Rules
+pub mod Settles
+pub mod Shares
+pub mod Systems
+pub mod Tallies
+pub mod Unopened

@@ -1,0 +1,92 @@
+-- The rule of a lock's table, and what each kind of step tells the seat that takes it.
+use Rattle.std.specs.Prelude.{◌≡◌, ◌≢◌, ℕ, ◌+◌, ◌-◌, ◌/◌, ◌<◌, ◌≤◌, List, [], ◌∷◌, ◌++◌, length, drop, slice_index}
+use mathlib.Core.Option.{some}
+use lib.ListN.{get_elem?}
+use Rattle.atomic_table.specs.Table.{State, Me, Step}
+use Rattle.strm_types.specs.Journal.{PlainEntry}
+use Rattle.strm_locks.specs.declared.end.TheConstants.{ALL_PARTS}
+use Rattle.strm_locks.specs.declared.told.Told.{Told}
+use Rattle.strm_locks.specs.declared.view.View.{View}
+use Rattle.strm_locks.specs.Books.{pick, nothing, plus, minus, weigh, IsReordered, IsBelow, Fits, Book, Kept, closed_book}
+
+abbrev pub view : Told → List PlainEntry → ℕ → ℕ → Book → View
+view told made parts holds found = record { told = told; made = made; parts = parts; holds = holds; found = found }
+
+-- a view without the lock
+abbrev pub share : Told → List PlainEntry → ℕ → View
+share told made parts = view told made parts 0 closed_book
+
+-- a view that was told nothing
+abbrev pub fresh : View
+fresh = share nothing [] 0
+
+-- the view v with the lock, which found the book b
+abbrev pub holding : View → Book → View
+holding v b = view v.told v.made v.parts 1 b
+
+-- f of each view, added up
+abbrev pub total : (View → ℕ) → List View → ℕ
+total f [] = 0
+total f (v ∷ vs) = f v + total f vs
+
+-- The rule, between any two steps: what all views were told adds up to the book. The word is 1 while one view holds the lock; the book is then the one that it found, else that of the pair in
+-- the slot. The views' entries are those of the history, each as often; their parts with those left in the book are all; and a view without a part was told nothing.
+pub record AddsUp (s : State Kept View) : Type 0 where
+  pub book : Book
+  pub one_word : length s.words ≡ 1
+  pub bit : slice_index s.words 0 < 2
+  pub at_home : slice_index s.words 0 ≡ 0 → (k : Kept) × (get_elem? s.homes 0 ≡ some (some k)) × (k.book ≡ book)
+  pub holders : total (λ v. v.holds) s.views ≡ slice_index s.words 0
+  pub found : (id : ℕ) (v : View) → get_elem? s.views id ≡ some v → 0 < v.holds → v.found ≡ book
+  pub totals : (i : ℕ) → total (λ v. pick i v.told) s.views ≡ pick i book.totals
+  pub history : (h : PlainEntry → ℕ) → total (λ v. weigh h v.made) s.views ≡ weigh h book.history
+  pub parts : total (λ v. v.parts) s.views + book.left ≡ ALL_PARTS
+  pub fits : Fits book.totals
+  pub idle : (id : ℕ) (v : View) → get_elem? s.views id ≡ some v → v.parts ≡ 0 → (v.told ≡ nothing) × (v.made ≡ [])
+
+-- What a seat learns where it finds the book: it was told no more than the book has, and with all parts all that the book has; and nobody was told anything where no end has a part.
+pub record Knows (v : View) (b : Book) : Type 0 where
+  pub below : IsBelow v.told b.totals
+  pub fits : Fits b.totals
+  pub parts : v.parts + b.left ≤ ALL_PARTS
+  pub whole : v.parts ≡ ALL_PARTS → (v.told ≡ b.totals) × IsReordered v.made b.history
+  pub unopened : b.left ≡ ALL_PARTS → b.totals ≡ nothing
+
+-- what a seat knows, with the slots that it has taken
+abbrev pub Mine : Type 0
+Mine = Me Kept View
+
+-- the view v, told what the book c has beyond the book b
+abbrev pub grown : View → Book → Book → View
+grown v b c = share (minus (plus v.told c.totals) b.totals) (v.made ++ drop (length b.history) c.history) (v.parts + b.left - c.left)
+
+-- the lock is tried: where it was free the seat has it, with the pair and its book
+abbrev pub taken : Step Kept → Mine → ℕ → Mine → Type 0
+taken st m n m' = (n ≡ 0 → (k : Kept) × (m' ≡ (holding m.0 k.book, (0, k) ∷ m.1)) × Knows m.0 k.book) × (n ≢ 0 → m' ≡ m)
+
+-- the lock is given back with a pair whose book may have grown
+abbrev pub given : Step Kept → Mine → ℕ → Mine → Type 0
+given st m n m' = (k : Kept) → m.1 ≡ (0, k) ∷ [] → m' ≡ (grown m.0 m.0.found k.book, [])
+
+-- the lock is given back with a pair whose book was closed
+abbrev pub emptied : Step Kept → Mine → ℕ → Mine → Type 0
+emptied st m n m' = m' ≡ (fresh, [])
+
+-- a look: the numbers of a seat fit
+abbrev pub looked : Step Kept → Mine → ℕ → Mine → Type 0
+looked st m n m' = (m' ≡ m) × Fits m.0.told × (m.0.parts ≤ ALL_PARTS)
+
+-- a seat comes
+abbrev pub sat : Step Kept → Mine → ℕ → Mine → Type 0
+sat st m n m' = m' ≡ (fresh, [])
+
+-- a seat is cut in two: the first keeps what was told and the greater half of the parts
+abbrev pub kept_half : View → View
+kept_half v = view v.told v.made (v.parts - v.parts / 2) v.holds v.found
+
+abbrev pub split_half : View → View
+split_half v = share nothing [] (v.parts / 2)
+
+-- two seats are joined
+abbrev pub joined : View → View → View
+joined v w = view (plus v.told w.told) (v.made ++ w.made) (v.parts + w.parts) v.holds v.found

@@ -1,0 +1,88 @@
+-- What a seat at a lock has, and what a call under the lock does.
+use Rattle.std.specs.Prelude.{◌≡◌, ℕ, suc, ◌+◌, ◌-◌, ◌<◌, ◌≤◌, ◌⊎◌, List, [], ◌∷◌, ◌++◌, Some, Result, MatchResult}
+use Rattle.atomic_table.specs.declared.shared.Seat.{Seat}
+use Rattle.strm_types.specs.declared.answers.Answer.{Answer}
+use Rattle.strm_types.specs.declared.entries.Entry.TheVariants.{Called}
+use Rattle.strm_types.specs.declared.events.Caller.{Caller}
+use Rattle.strm_types.specs.declared.events.Event.TheVariants.{OpenMaster}
+use Rattle.strm_types.specs.declared.names.Side.TheVariants.{Master}
+use Rattle.strm_types.specs.declared.refusals.Refusal.{Refusal}
+use Rattle.strm_types.specs.declared.refusals.Refusal.TheVariants.{Einval}
+use Rattle.strm_types.specs.Events.{Request}
+use Rattle.strm_types.specs.Journal.{PlainEntry, reply_in}
+use Rattle.strm_laws.specs.Pair.{call_refused}
+use Rattle.strm_locks.specs.declared.end.TheConstants.{ALL_PARTS}
+use Rattle.strm_locks.specs.declared.told.Told.{Told}
+use Rattle.strm_locks.specs.declared.view.View.{View}
+use Rattle.strm_locks.specs.Books.{pick, minus, IsBelow, Fits, Book, Kept, Adds, book_with, tally_of}
+use Rattle.strm_locks.specs.Rules.{Mine, share, holding, Knows}
+
+-- an end's seat, where the end was told this and has so many parts: it holds no lock
+pub record IsSeated (seat : Mine) (told : Told) (parts : ℕ) : Type 0 where
+  pub shown : seat ≡ (share told seat.0.made parts, [])
+  pub some_part : 0 < parts
+
+-- a seat without the lock
+abbrev pub IsFree : Seat Kept View → Type 0
+IsFree s = (s.me.1 ≡ []) × (s.me.0.holds ≡ 0)
+
+-- one seat, of the same table
+abbrev pub IsSame : Seat Kept View → Seat Kept View → Type 0
+IsSame s t = (t.table_id ≡ s.table_id) × (t.id ≡ s.id)
+
+-- the seat whose view was v has the lock, and found this pair with its book
+pub record HasLock (v : View) (k : Kept) (s : Seat Kept View) : Type 0 where
+  pub seen : s.me ≡ (holding v k.book, (0, k) ∷ [])
+  pub knows : Knows v k.book
+
+-- what the lock's holder may give back: a book that has grown from the one that it found, and whose numbers fit
+pub record MayGive (v : View) (c : Book) : Type 0 where
+  pub below : IsBelow v.found.totals c.totals
+  pub fits : Fits c.totals
+  pub history : (more : List PlainEntry) × (c.history ≡ v.found.history ++ more)
+  pub left : c.left ≤ v.found.left
+  pub some_part : (0 < v.parts + v.found.left - c.left) ⊎ ((c.totals ≡ v.found.totals) × (c.history ≡ v.found.history))
+
+-- an answer, whose bytes lie in the caller's buffer, or why there is none
+abbrev pub Outcome : Type 0
+Outcome = Result (Answer ℕ) Refusal
+
+-- the entry of a call that gave these bytes and this answer
+abbrev pub entry_of : Caller → Request → List ℕ → Answer ℕ → PlainEntry
+entry_of caller asked bytes answer = Called caller asked (reply_in answer bytes)
+
+-- what a call tells: itself, unless the pair's number of calls stands still, and the bytes that it wrote and read
+pub record Tells (e : PlainEntry) (more : Told) : Type 0 where
+  pub calls : (more.calls ≡ 1) ⊎ (more.calls ≡ 0)
+  pub bytes : (i : ℕ) → pick (suc i) more ≡ pick (suc i) (tally_of e)
+
+-- A call by a pair's book: where it is answered the book gains its entry; else the pair has a reason, and the pair, the book and the bytes in the caller's buffer stay
+abbrev pub Did : Kept → Caller → Request → List ℕ → List ℕ → Outcome → Kept → Type 0
+Did a caller asked before bytes r b = MatchResult r
+    (λ x. Adds a.book (entry_of caller asked bytes x) b.book)
+    (λ z. (b ≡ a) × (bytes ≡ before) × (call_refused a.pair caller asked ≡ Some z))
+
+-- the book has grown by these numbers, which fit
+pub record Grew (b : Book) (more : Told) (c : Book) : Type 0 where
+  pub below : IsBelow b.totals c.totals
+  pub fits : Fits c.totals
+  pub growth : more ≡ minus c.totals b.totals
+
+-- a call, and what it told
+pub record Applied (a : Kept) (caller : Caller) (asked : Request) (before bytes : List ℕ) (r : Outcome × Told) (b : Kept) : Type 0 where
+  pub answer : Did a caller asked before bytes r.0 b
+  pub grew : Grew a.book r.1 b.book
+
+-- the master, as it is opened
+abbrev pub opener : Caller
+opener = record { side = Master }
+
+-- The call that opens the master takes all parts out of the book. It is refused as the pair refuses it, and by EINVAL where an end has a part
+abbrev pub Opens : Kept → List ℕ → Outcome → Kept → Type 0
+Opens a bytes r b = MatchResult r
+    (λ x. (a.book.left ≡ ALL_PARTS) × Adds a.book (entry_of opener OpenMaster bytes x) (book_with b.book.totals b.book.history a.book.left) × (b.book.left ≡ 0))
+    (λ z. (b ≡ a) × ((z ≡ Einval) ⊎ (call_refused a.pair opener OpenMaster ≡ Some z)))
+
+pub record Opened (a : Kept) (bytes : List ℕ) (r : Outcome × Told) (b : Kept) : Type 0 where
+  pub answer : Opens a bytes r.0 b
+  pub grew : Grew a.book r.1 b.book

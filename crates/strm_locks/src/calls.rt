@@ -1,0 +1,273 @@
+//! What ends do on a pair under its lock.
+
+ghost use Rattle.std.specs.Prelude.{◌≡◌, ◌≢◌, ◌⊎◌, [], ◌∷◌, Err, MatchResult};
+ghost use Rattle.strm_types.specs.declared.events.Event.TheVariants.{OpenMaster, OpenSlave};
+ghost use Rattle.strm_types.specs.declared.refusals.Refusal.TheVariants.{Einval, Erange};
+ghost use Rattle.strm_types.specs.Events.{request};
+ghost use Rattle.strm_locks.specs.Books.{closed_book, Kept};
+ghost use Rattle.strm_locks.specs.Ends.{IsOf, IsOpened, IsRefused, Gains, OpenedAs, OpensSlave, joined_end, kept_end, slave_end, split_end};
+ghost use Rattle.strm_locks.specs.Rules.{fresh};
+ghost use Rattle.strm_locks.specs.Settles.{IsClosed, IsSettled};
+ghost use Rattle.strm_locks.specs.Shares.{IsSame, IsSeated, Applied, Opened, entry_of, opener};
+
+use crate::end::{ALL_PARTS, End, StillShared};
+use crate::held::Settled;
+use crate::lock::Lock;
+use crate::object::Object;
+use crate::rule::Place;
+use crate::told::Told;
+use std::sync::Wait;
+use strm_types::{Answer, Caller, Content, Event, Refusal, Side, Turn};
+
+impl<P: Object> Lock<P> {
+    // What the holder of the lock does is done on the pair in its slot, which is lent in place.
+
+    fn call_held(
+        &self,
+        seat: &mut Place<P>,
+        caller: Caller,
+        event: &Event<&[u8]>,
+        out: &mut Content,
+    ) -> (Result<Answer<usize>, Refusal>, Told)
+        requires own { seat.old.table_id ≡ self.now }
+        requires lock { (k : Kept) × (seat.old.me.1 ≡ (0, k) ∷ []) }
+        ensures same { IsSame seat.old seat.new × (seat.new.me.0 ≡ seat.old.me.0) }
+        ensures did { (k : Kept) → seat.old.me.1 ≡ (0, k) ∷ []
+            → (k' : Kept) × (seat.new.me.1 ≡ (0, k') ∷ []) × Applied k caller (request event.now) out.old.items out.new.items result k' }
+    {
+        let held = seat.slot_mut(&self.table.shared, 0);
+        held.call_told(caller, event, out)
+    }
+
+    fn open_held(
+        &self,
+        seat: &mut Place<P>,
+        out: &mut Content,
+    ) -> (Result<Answer<usize>, Refusal>, Told)
+        requires own { seat.old.table_id ≡ self.now }
+        requires lock { (k : Kept) × (seat.old.me.1 ≡ (0, k) ∷ []) }
+        ensures same { IsSame seat.old seat.new × (seat.new.me.0 ≡ seat.old.me.0) }
+        ensures did { (k : Kept) → seat.old.me.1 ≡ (0, k) ∷ []
+            → (k' : Kept) × (seat.new.me.1 ≡ (0, k') ∷ []) × Opened k out.new.items result k' }
+    {
+        let held = seat.slot_mut(&self.table.shared, 0);
+        held.open(out)
+    }
+
+    fn turn_held(&self, seat: &mut Place<P>) -> Option<Result<Turn, Refusal>>
+        requires own { seat.old.table_id ≡ self.now }
+        requires lock { (k : Kept) × (seat.old.me.1 ≡ (0, k) ∷ []) }
+        ensures same { IsSame seat.old seat.new × (seat.new.me.0 ≡ seat.old.me.0) }
+        ensures did { (k : Kept) → seat.old.me.1 ≡ (0, k) ∷ []
+            → (k' : Kept) × (seat.new.me.1 ≡ (0, k') ∷ []) × (k'.book ≡ k.book) }
+    {
+        let held = seat.slot_mut(&self.table.shared, 0);
+        held.turn_first()
+    }
+
+    fn close_held(&self, seat: &mut Place<P>) -> Settled
+        requires own { seat.old.table_id ≡ self.now }
+        requires lock { (k : Kept) × (seat.old.me.1 ≡ (0, k) ∷ []) }
+        ensures same { IsSame seat.old seat.new × (seat.new.me.0 ≡ seat.old.me.0) }
+        ensures did { (k : Kept) → seat.old.me.1 ≡ (0, k) ∷ []
+            → (k' : Kept) × (seat.new.me.1 ≡ (0, k') ∷ []) × (k'.book ≡ closed_book) × IsClosed k result }
+    {
+        let held = seat.slot_mut(&self.table.shared, 0);
+        held.close()
+    }
+
+    /// Opens the master of a pair that no end has a part of: `open(2)` of the master device. The end has all parts, and was told of this call
+    /// alone. It is refused as the pair refuses the call, and by EINVAL where an end has the pair.
+    pub fn open<R: Wait>(&self, rt: &R) -> Result<End<P>, Refusal>
+        ensures { MatchResult result (λ e. IsOpened self.now e) (λ z. (z ≡ Einval) ⊎ IsRefused opener OpenMaster z) }
+    {
+        let mut seat = self.sit();
+        let mut out = Content::new();
+        let (answer, told) = self.open_by(rt, &mut seat, &mut out);
+        answer?;
+        Ok(End {
+            seat,
+            caller: Caller { side: Side::Master },
+            told,
+            parts: ALL_PARTS,
+        })
+    }
+
+    // The same by a seat that was told nothing. It has all parts then, or nothing still; and no lock.
+    fn open_by<R: Wait>(
+        &self,
+        rt: &R,
+        seat: &mut Place<P>,
+        out: &mut Content,
+    ) -> (Result<Answer<usize>, Refusal>, Told)
+        requires own { seat.old.table_id ≡ self.now }
+        requires fresh { seat.old.me ≡ (fresh, []) }
+        ensures same { IsSame seat.old seat.new }
+        ensures opened { OpenedAs out.new.items result.1 seat.new.me result.0 }
+    {
+        self.take(rt, seat);
+        let (answer, told) = self.open_held(seat, out);
+        self.give(seat);
+        (answer, told)
+    }
+
+    /// Makes one call as the end does, with the bytes that it gives in `out`. The end was told of it then: its entry, with this caller, event
+    /// and answer, and the bytes that it wrote and read. It is refused as the pair refuses it; the end and `out` stay then.
+    pub fn call<R: Wait>(
+        &self,
+        rt: &R,
+        end: &mut End<P>,
+        event: &Event<&[u8]>,
+        out: &mut Content,
+    ) -> Result<Answer<usize>, Refusal>
+        requires { IsOf self.now end.old }
+        ensures { MatchResult result
+            (λ a. Gains end.old (entry_of end.old.caller (request event.now) out.new.items a) end.new)
+            (λ z. (end.new ≡ end.old) × (out.new.items ≡ out.old.items) × IsRefused end.old.caller (request event.now) z) }
+    {
+        self.take(rt, &mut end.seat);
+        let (answer, more) = self.call_held(&mut end.seat, end.caller, event, out);
+        self.give(&mut end.seat);
+        end.told = end.told.plus(&more);
+        answer
+    }
+
+    /// Opens the slave by a call of an end: `open(2)` of the slave device. The end was told of that call; the new one calls as the slave, was
+    /// told nothing, and has half of the end's parts, rounded down. An end of one part is refused by ERANGE, without a call.
+    pub fn open_slave<R: Wait>(&self, rt: &R, end: &mut End<P>) -> Result<End<P>, Refusal>
+        requires { IsOf self.now end.old }
+        ensures one { end.old.parts ≡ 1 → result ≡ Err Erange }
+        ensures opened { MatchResult result
+            (λ e. OpensSlave end.old end.new × (e ≡ slave_end end.old))
+            (λ z. (end.new ≡ end.old) × ((end.old.parts ≡ 1) ⊎ IsRefused end.old.caller OpenSlave z)) }
+    {
+        if end.parts == 1 {
+            return Err(Refusal::Erange);
+        }
+        let mut out = Content::new();
+        self.call(rt, end, &Event::OpenSlave, &mut out)?;
+        let given = self.split_seat(&mut end.seat);
+        let half = end.parts / 2;
+        end.parts -= half;
+        Ok(End {
+            seat: given,
+            caller: Caller { side: Side::Slave },
+            told: Told::nothing(),
+            parts: half,
+        })
+    }
+
+    /// Cuts an end in two, both with its caller: the first was told all that it was, and the second nothing; it has half of the parts, rounded
+    /// down. An end of one part comes back.
+    pub fn split(&self, end: End<P>) -> Result<(End<P>, End<P>), End<P>>
+        requires { IsOf self.now end }
+        ensures { MatchResult result
+            (λ r. (end.parts ≢ 1) × (r.0 ≡ kept_end end) × (r.1 ≡ split_end end))
+            (λ e. (end.parts ≡ 1) × (e ≡ end)) }
+    {
+        if end.parts == 1 {
+            return Err(end);
+        }
+        let End {
+            mut seat,
+            caller,
+            told,
+            parts,
+        } = end;
+        let given = self.split_seat(&mut seat);
+        let half = parts / 2;
+        let first = End {
+            seat,
+            caller,
+            told,
+            parts: parts - half,
+        };
+        let second = End {
+            seat: given,
+            caller,
+            told: Told::nothing(),
+            parts: half,
+        };
+        Ok((first, second))
+    }
+
+    /// One end of two, with what both were told and the parts of both. It calls as the first does.
+    pub fn join(&self, first: End<P>, second: End<P>) -> End<P>
+        requires first { IsOf self.now first }
+        requires second { IsOf self.now second }
+        ensures { result ≡ joined_end first second }
+    {
+        let End {
+            mut seat,
+            caller,
+            told,
+            parts,
+        } = first;
+        let End {
+            seat: other,
+            caller: _,
+            told: more,
+            parts: rest,
+        } = second;
+        self.join_seat(&mut seat, other);
+        End {
+            seat,
+            caller,
+            told: told.plus(&more),
+            parts: parts + rest,
+        }
+    }
+
+    /// Settles with an end that has all parts: what it was told, with those that were joined to it, is what the pair's book has and what its
+    /// ledgers say, and its entries are the calls of the journal, in some order. The pair is as new since, and may be opened again.
+    ///
+    /// An end that lacks parts comes back: another end has them, or was dropped with them.
+    pub fn settle<R: Wait>(&self, rt: &R, end: End<P>) -> Result<Settled, (StillShared, End<P>)>
+        requires { IsOf self.now end }
+        ensures { MatchResult result
+            (λ s. (end.parts ≡ ALL_PARTS) × IsSettled end.told end.made s)
+            (λ r. (end.parts ≢ ALL_PARTS) × (r.1 ≡ end)) }
+    {
+        if end.parts != ALL_PARTS {
+            return Err((StillShared, end));
+        }
+        let End {
+            mut seat,
+            caller: _,
+            told: _,
+            parts: _,
+        } = end;
+        Ok(self.settle_by(rt, &mut seat))
+    }
+
+    // The same by the seat of such an end, which has nothing since, and no lock.
+    fn settle_by<R: Wait>(&self, rt: &R, seat: &mut Place<P>) -> Settled
+        requires own { seat.old.table_id ≡ self.now }
+        requires all { IsSeated seat.old.me seat.old.me.0.told ALL_PARTS }
+        ensures back { seat.new.me ≡ (fresh, []) }
+        ensures settled { IsSettled seat.old.me.0.told seat.old.me.0.made result }
+    {
+        self.take(rt, seat);
+        let settled = self.close_held(seat);
+        self.give_closed(seat);
+        settled
+    }
+
+    /// Makes one turn of the queue that was enabled first, if any, and tells what it did. No end is told of it: a turn writes and reads nothing.
+    pub fn turn<R: Wait>(&self, rt: &R) -> Option<Result<Turn, Refusal>> {
+        let mut seat = self.sit();
+        self.turn_by(rt, &mut seat)
+    }
+
+    // The same by a seat that was told nothing, and is told nothing.
+    fn turn_by<R: Wait>(&self, rt: &R, seat: &mut Place<P>) -> Option<Result<Turn, Refusal>>
+        requires own { seat.old.table_id ≡ self.now }
+        requires fresh { seat.old.me ≡ (fresh, []) }
+        ensures { seat.new.me ≡ (fresh, []) }
+    {
+        self.take(rt, seat);
+        let turn = self.turn_held(seat);
+        self.give(seat);
+        turn
+    }
+}

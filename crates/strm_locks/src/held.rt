@@ -1,0 +1,174 @@
+//! What a lock holds: a pair with its book.
+
+ghost use Rattle.std.specs.Prelude.{◌≡◌, MatchResult, MatchOption, IsOk, Err, IfOk, IfSome};
+ghost use Rattle.strm_types.specs.declared.entries.Entry.TheVariants.{Called, Turned};
+ghost use Rattle.strm_types.specs.Events.{request};
+ghost use Rattle.strm_types.specs.Journal.{reply_in};
+ghost use Rattle.strm_laws.specs.Pair.{AddsEntry, call_refused, queue_refused};
+
+use crate::end::ALL_PARTS;
+use crate::object::Object;
+use crate::told::{Each, Told};
+use std::marker::Model;
+use strm_types::{Answer, Caller, Content, Dir, Event, Ledger, QueueName, Refusal, Side, Turn};
+
+/// A pair with its book, which a thread has while it holds the lock. Contracts see the pair, and the book: what all ends were told since the
+/// pair was opened, the calls of its journal as the history, and the parts that no end has.
+///
+/// The book can't differ from what the pair did: its numbers of bytes and its history are the pair's own.
+#[derive(Drop)]
+pub struct Held<P: Object> {
+    pair: P,
+    calls: u64,
+    left: u64,
+}
+
+/// What the ends of a pair were told in all, and the pair's ledgers, when it was settled: that of what the master wrote (`ms`), and that of
+/// what the slave wrote (`sm`).
+#[derive(Clone, Copy)]
+pub struct Settled {
+    pub told: Told,
+    pub ms: Ledger,
+    pub sm: Ledger,
+}
+
+impl<P: Object> Model for Held<P> {
+    ghost use Rattle.strm_locks.specs.Books.{IsCounted, Kept, kept};
+    ghost use Rattle.strm_locks.specs.Tallies.{calls_in};
+
+    ghost Value = { Kept };
+
+    ghost view = { λ h. kept h.calls (P.pair_of h.pair) h.left };
+
+    ghost invariant = { λ h. IsCounted h.calls (calls_in (P.pair_of h.pair).journal) };
+}
+
+impl<P: Object> Held<P> {
+    ghost use Rattle.strm_locks.specs.Books.{closed_book, Adds, IsBelow, IsNew, Fits, minus};
+    ghost use Rattle.strm_locks.specs.Settles.{IsClosed};
+    ghost use Rattle.strm_locks.specs.Shares.{entry_of, Did, Opens};
+
+    /// A pair that nobody opened, with a closed book.
+    pub fn new(pair: P) -> Held<P>
+        requires { IsNew (P.pair_of pair) }
+        ensures pair { result.pair ≡ P.pair_of pair }
+        ensures book { result.book ≡ closed_book }
+    {
+        Held {
+            pair,
+            calls: 0,
+            left: ALL_PARTS,
+        }
+    }
+
+    /// Makes a call of the pair. The book gains its entry and its tally; a refused call leaves the pair, the book and `out`.
+    pub fn call(
+        &mut self,
+        caller: Caller,
+        event: &Event<&[u8]>,
+        out: &mut Content,
+    ) -> Result<Answer<usize>, Refusal>
+        ensures refused { MatchOption (call_refused self.old.pair caller (request event.now)) (IsOk result)
+            (λ r. (result ≡ Err r) × ((self.new ≡ self.old) × (out.new ≡ out.old))) }
+        ensures adds { IfOk result (λ answer.
+            AddsEntry self.old.pair self.new.pair (Called caller (request event.now) (reply_in answer out.new.items))) }
+        ensures book { IfOk result (λ answer.
+            Adds self.old.book (entry_of caller (request event.now) out.new.items answer) self.new.book) }
+    {
+        match self.pair.call(caller, event, out) {
+            Err(refusal) => Err(refusal),
+            Ok(answer) => {
+                self.calls = self.calls.saturating_add(1);
+                Ok(answer)
+            }
+        }
+    }
+
+    /// Makes a turn of an enabled queue. The book stays.
+    pub fn turn(&mut self, name: QueueName) -> Result<Turn, Refusal>
+        ensures refused { MatchOption (queue_refused self.old.pair name) (IsOk result)
+            (λ r. (result ≡ Err r) × (self.new ≡ self.old)) }
+        ensures adds { IfOk result (λ turn. AddsEntry self.old.pair self.new.pair (Turned name turn)) }
+        ensures book { self.new.book ≡ self.old.book }
+    {
+        self.pair.turn(name)
+    }
+
+    /// What all ends were told together.
+    pub fn told(&self) -> Told
+        ensures { result ≡ self.now.book.totals }
+    {
+        Told {
+            calls: self.calls,
+            written: Each {
+                from_master: self.pair.written(Dir::MasterToSlave),
+                from_slave: self.pair.written(Dir::SlaveToMaster),
+            },
+            read: Each {
+                from_master: self.pair.read(Dir::MasterToSlave),
+                from_slave: self.pair.read(Dir::SlaveToMaster),
+            },
+        }
+    }
+
+    // A turn of the queue that was enabled first, if any.
+    pub(crate) fn turn_first(&mut self) -> Option<Result<Turn, Refusal>>
+        ensures { self.new.book ≡ self.old.book }
+    {
+        let name = self.pair.first_enabled()?;
+        Some(self.turn(name))
+    }
+
+    // A call, and what it told.
+    pub(crate) fn call_told(
+        &mut self,
+        caller: Caller,
+        event: &Event<&[u8]>,
+        out: &mut Content,
+    ) -> (Result<Answer<usize>, Refusal>, Told)
+        ensures answer { Did self.old caller (request event.now) out.old.items out.new.items result.0 self.new }
+        ensures below { IsBelow self.old.book.totals self.new.book.totals }
+        ensures fits { Fits self.new.book.totals }
+        ensures growth { result.1 ≡ minus self.new.book.totals self.old.book.totals }
+    {
+        let before = self.told();
+        let answer = self.call(caller, event, out);
+        let after = self.told();
+        (answer, after.minus(&before))
+    }
+
+    // The call that opens the master, where no end has a part: it gives all parts away. Else EINVAL, which tells nothing.
+    pub(crate) fn open(&mut self, out: &mut Content) -> (Result<Answer<usize>, Refusal>, Told)
+        ensures answer { Opens self.old out.new.items result.0 self.new }
+        ensures below { IsBelow self.old.book.totals self.new.book.totals }
+        ensures fits { Fits self.new.book.totals }
+        ensures growth { result.1 ≡ minus self.new.book.totals self.old.book.totals }
+    {
+        if self.left != ALL_PARTS {
+            let told = self.told();
+            return (Err(Refusal::Einval), told.minus(&told));
+        }
+        let caller = Caller { side: Side::Master };
+        let (answer, more) = self.call_told(caller, &Event::OpenMaster, out);
+        if answer.is_ok() {
+            self.left = 0;
+        }
+        (answer, more)
+    }
+
+    // Closes the book, and gives what it had. The pair is as new, and no end has a part.
+    pub(crate) fn close(&mut self) -> Settled
+        ensures pair { IsNew self.new.pair }
+        ensures closed { self.new.book ≡ closed_book }
+        ensures gives { IsClosed self.old result }
+    {
+        self.pair.audit();
+        let told = self.told();
+        let ms = self.pair.ledger(Dir::MasterToSlave);
+        let sm = self.pair.ledger(Dir::SlaveToMaster);
+        self.pair.reset();
+        self.calls = 0;
+        self.left = ALL_PARTS;
+        Settled { told, ms, sm }
+    }
+}

@@ -1,0 +1,24 @@
+//! The lock of a pair, for threads that share it: a thread has an end of the pair, calls by it under the lock, and is told what its
+//! calls wrote, read and were. What is locked is any `Object`: a pair as contracts see it.
+#![tactic(auto)]
+
+mod calls;
+mod end;
+mod held;
+mod lock;
+mod object;
+mod rule;
+mod system;
+#[cfg(test)]
+mod tests;
+mod told;
+mod view;
+mod workers;
+
+pub use end::{ALL_PARTS, End, StillShared};
+pub use held::{Held, Settled};
+pub use lock::Lock;
+pub use object::Object;
+pub use system::{PairEnd, System};
+pub use told::{Each, Told};
+pub use workers::Report;

@@ -1,0 +1,123 @@
+//! The lock of a pair: a table with one word, which is 1 while a seat has the pair, and one slot, in which the pair lies with its book
+//! while the word is 0. Each function but `new` is one kind of step.
+
+ghost use Rattle.std.specs.Prelude.{◌≡◌, ◌≤◌, [], ◌∷◌};
+ghost use Rattle.strm_locks.specs.Books.{closed_book, Kept, Fits};
+ghost use Rattle.strm_locks.specs.Rules.{fresh, kept_half, split_half, joined, grown};
+ghost use Rattle.strm_locks.specs.Shares.{IsFree, IsSame, HasLock, MayGive};
+
+use crate::end::ALL_PARTS;
+use crate::held::Held;
+use crate::object::Object;
+use crate::rule::{Board, Empty, Give, Halves, Look, Place, Sit, Take};
+use atomic_table::{Refused, Table};
+use std::alloc::{AllocError, Global};
+use std::marker::Model;
+use std::sync::Wait;
+
+/// A pair under its lock, which threads share by a `&`. One thread at a time has the pair, and with it the book of what all ends were told.
+///
+/// A call that takes the lock waits until it is free: it parks, and is woken where the lock is given back. Nothing is said of which thread
+/// gets it, nor when. An end that is handed in is of this lock: it was opened with it, or split or joined from such.
+///
+/// Contracts see which lock it is.
+#[derive(Drop)]
+pub struct Lock<P: Object> {
+    pub(crate) table: Board<P>,
+}
+
+impl<P: Object> Model for Lock<P> {
+    ghost use Rattle.std.specs.Prelude.{◌≡◌};
+    ghost use Rattle.atomic_table.specs.Seated.{TableId};
+
+    ghost Value = { TableId };
+
+    ghost view = { λ l. l.table.shared.table_id };
+
+    ghost invariant = { λ l. (l.table.shared.table_id.words ≡ 1) × (l.table.shared.table_id.slots ≡ 1) };
+}
+
+impl<P: Object> Lock<P> {
+    /// The lock of a pair that nobody opened, which is free. It is refused for want of memory alone, and no later call takes any.
+    pub fn new(alloc: Global, held: Held<P>) -> Result<Lock<P>, AllocError>
+        requires { held.book ≡ closed_book }
+    {
+        let mut slots = Vec::with_capacity(alloc, 1)?;
+        slots.push_reserved(held);
+        match Table::new(alloc, &[0], slots, &()) {
+            Ok((table, _seat)) => Ok(Lock { table }),
+            Err(Refused { slots: _ }) => Err(AllocError),
+        }
+    }
+
+    // A seat that was told nothing and has no part.
+    pub(crate) fn sit(&self) -> Place<P>
+        ensures { (result.table_id ≡ self.now) × (result.me ≡ (fresh, [])) }
+    {
+        self.table.shared.load_new_seat::<Sit>(0).1
+    }
+
+    // Takes the lock, and with it the pair. The word is tested and set in one step; where it was 1 the thread parks until it is given back.
+    pub(crate) fn take<R: Wait>(&self, rt: &R, seat: &mut Place<P>)
+        requires own { seat.old.table_id ≡ self.now }
+        requires free { IsFree seat.old }
+        ensures same { IsSame seat.old seat.new }
+        ensures lock { (k : Kept) × HasLock seat.old.me.0 k seat.new }
+    {
+        let shared = &self.table.shared;
+        for _ in rt.forever() {
+            if shared.compare_exchange::<Take>(seat, 0, 0, 1) == 0 {
+                return;
+            }
+            shared.park(rt, 0, 1);
+        }
+        unreachable!()
+    }
+
+    // Gives the pair and the lock back, and wakes one that waits. The seat was told what the book gained.
+    pub(crate) fn give(&self, seat: &mut Place<P>)
+        requires own { seat.old.table_id ≡ self.now }
+        requires held { seat.old.me.0.holds ≡ 1 }
+        requires lock { (k : Kept) × (seat.old.me.1 ≡ (0, k) ∷ []) × MayGive seat.old.me.0 k.book }
+        ensures same { IsSame seat.old seat.new }
+        ensures told { (k : Kept) → seat.old.me.1 ≡ (0, k) ∷ [] → seat.new.me ≡ (grown seat.old.me.0 seat.old.me.0.found k.book, []) }
+    {
+        self.table.shared.store::<Give>(seat, 0, 0);
+        self.table.shared.wake_one(0);
+    }
+
+    // The same where the book was closed, by a seat that had all parts.
+    pub(crate) fn give_closed(&self, seat: &mut Place<P>)
+        requires own { seat.old.table_id ≡ self.now }
+        requires held { (seat.old.me.0.holds ≡ 1) × (seat.old.me.0.parts ≡ ALL_PARTS) }
+        requires lock { (k : Kept) × (seat.old.me.1 ≡ (0, k) ∷ []) × (k.book ≡ closed_book) }
+        ensures { IsSame seat.old seat.new × (seat.new.me ≡ (fresh, [])) }
+    {
+        self.table.shared.store::<Empty>(seat, 0, 0);
+        self.table.shared.wake_one(0);
+    }
+
+    // Cuts a seat in two: this one keeps what was told, and the second has half of the parts, rounded down.
+    pub(crate) fn split_seat(&self, seat: &mut Place<P>) -> Place<P>
+        requires own { seat.old.table_id ≡ self.now }
+        requires free { IsFree seat.old }
+        ensures first { IsSame seat.old seat.new × (seat.new.me ≡ (kept_half seat.old.me.0, [])) }
+        ensures second { (result.table_id ≡ self.now) × (result.me ≡ (split_half seat.old.me.0, [])) }
+    {
+        self.table.shared.split_seat::<Halves>(seat)
+    }
+
+    // Joins two seats, and looks: the rule says that the numbers of both together fit.
+    pub(crate) fn join_seat(&self, seat: &mut Place<P>, other: Place<P>)
+        requires own { seat.old.table_id ≡ self.now }
+        requires free { IsFree seat.old }
+        requires other_own { other.table_id ≡ self.now }
+        requires other_free { IsFree other }
+        ensures same { IsSame seat.old seat.new × (seat.new.me ≡ (joined seat.old.me.0 other.me.0, [])) }
+        ensures fits { Fits seat.new.me.0.told }
+        ensures most { seat.new.me.0.parts ≤ ALL_PARTS }
+    {
+        self.table.shared.join_seat::<Halves>(seat, other);
+        self.table.shared.load::<Look>(seat, 0);
+    }
+}

@@ -1,0 +1,235 @@
+//! Pairs that threads share, a lock each, and the numbers by which they are opened.
+
+ghost use Rattle.std.specs.Prelude.{◌≡◌, ◌≢◌, ◌⊎◌, ◌<◌, ◌≤◌, All, Some, IfOk, MatchResult, length, slice_get};
+ghost use Rattle.strm_types.specs.declared.events.Event.TheVariants.{OpenMaster, OpenSlave};
+ghost use Rattle.strm_types.specs.declared.refusals.Refusal.TheVariants.{Einval};
+ghost use Rattle.strm_types.specs.Events.{request};
+ghost use Rattle.strm_minors.specs.Openers.{opening};
+ghost use Rattle.strm_locks.specs.Books.{IsNew};
+ghost use Rattle.strm_locks.specs.Ends.{Gains, IsOpened, IsRefused, OpensSlave, joined_end, kept_end, slave_end, split_end};
+ghost use Rattle.strm_locks.specs.Settles.{IsSettled};
+ghost use Rattle.strm_locks.specs.Shares.{entry_of, opener};
+ghost use Rattle.strm_locks.specs.Systems.{IsOne};
+
+use crate::end::{ALL_PARTS, End, StillShared};
+use crate::held::{Held, Settled};
+use crate::lock::Lock;
+use crate::object::Object;
+use std::alloc::{AllocError, Global};
+use std::marker::Model;
+use std::sync::Wait;
+use strm_minors::{Minor, Minors, Opener};
+use strm_types::{Answer, Content, Event, Refusal, Turn};
+
+/// Up to 64 pairs, each under a lock of its own, and their minor numbers. Threads share it by a `&`. No lock is round the whole: calls on
+/// different pairs don't wait for each other, and numbers are claimed without a lock.
+///
+/// Contracts see the lock of each pair, by its number, and the minors.
+#[derive(Drop)]
+pub struct System<P: Object> {
+    locks: Vec<Lock<P>>,
+    minors: Minors,
+}
+
+impl<P: Object> Model for System<P> {
+    ghost use Rattle.std.specs.Prelude.{◌≡◌, ◌≤◌, length};
+    ghost use Rattle.strm_locks.specs.Systems.{Plan};
+
+    ghost Value = { Plan };
+
+    ghost view = { λ s. record { locks = s.locks.items; minors = s.minors } };
+
+    ghost invariant = { λ s. (s.minors.pairs ≡ length s.locks.items) × (length s.locks.items ≤ 64) };
+}
+
+/// An end of one of a system's pairs, with the pair's number. One that is handed in is of that system.
+#[derive(Drop)]
+pub struct PairEnd<P: Object> {
+    pair: u32,
+    end: End<P>,
+}
+
+impl<P: Object> Model for PairEnd<P> {
+    ghost use Rattle.strm_locks.specs.Systems.{Numbered};
+
+    ghost Value = { Numbered };
+
+    ghost view = { λ e. record { pair = e.pair; end = e.end } };
+}
+
+impl<P: Object> PairEnd<P> {
+    /// The number of its pair: that of its minor.
+    pub fn pair(&self) -> u32
+        ensures { result ≡ self.now.pair }
+    {
+        self.pair
+    }
+
+    /// The end, which tells whom it calls as, what it was told, and its parts.
+    pub fn end(&self) -> &End<P>
+        ensures { result.now ≡ self.now.end }
+    {
+        &self.end
+    }
+}
+
+// The locks of pairs that nobody opened.
+fn locked<P: Object>(alloc: Global, pairs: Vec<P>) -> Result<Vec<Lock<P>>, AllocError>
+    requires { All (λ p. IsNew (P.pair_of p)) pairs.items }
+    ensures { IfOk result (λ v. length v.items ≡ length pairs.items) }
+{
+    let mut locks = Vec::with_capacity(alloc, pairs.len())?;
+    for pair in pairs {
+        locks.push(Lock::new(alloc, Held::new(pair))?)?;
+    }
+    Ok(locks)
+}
+
+impl<P: Object> System<P> {
+    /// A system of pairs that nobody opened, at most 64, and the first opener of its minors, which holds none. It is refused for want of
+    /// memory alone, and no later call takes any.
+    pub fn new(alloc: Global, pairs: Vec<P>) -> Result<(System<P>, Opener), AllocError>
+        requires new { All (λ p. IsNew (P.pair_of p)) pairs.items }
+        requires few { length pairs.items ≤ 64 }
+        ensures pairs { IfOk result (λ made. length made.0.locks ≡ length pairs.items) }
+        ensures opener { IfOk result (λ made. made.1 ≡ opening made.0.minors) }
+    {
+        let (minors, opener) = Minors::new(alloc, pairs.len() as u32)?;
+        let locks = locked(alloc, pairs)?;
+        Ok((System { locks, minors }, opener))
+    }
+
+    /// How many pairs it has.
+    pub fn pairs(&self) -> u32
+        ensures value { result ≡ length self.now.locks }
+        ensures at_most { result ≤ 64 }
+    {
+        self.locks.len() as u32
+    }
+
+    /// The numbers of its pairs: openers claim them there, and release them.
+    pub fn minors(&self) -> &Minors
+        ensures word { result.now ≡ self.now.minors }
+        ensures pairs { result.now.pairs ≡ length self.now.locks }
+    {
+        &self.minors
+    }
+
+    // The lock of a pair.
+    fn lock(&self, pair: u32) -> &Lock<P>
+        requires { pair < length self.now.locks }
+        ensures { slice_get self.now.locks pair ≡ Some result.now }
+    {
+        &self.locks[pair as usize]
+    }
+
+    /// Opens the master of a minor's pair, as [`Lock::open`] does.
+    pub fn open<R: Wait>(&self, rt: &R, minor: &Minor) -> Result<PairEnd<P>, Refusal>
+        requires { minor.now < length self.now.locks }
+        ensures { MatchResult result
+            (λ e. (e.pair ≡ minor.now) × IsOne self.now e × IsOpened e.end.table e.end)
+            (λ z. (z ≡ Einval) ⊎ IsRefused opener OpenMaster z) }
+    {
+        let pair = minor.number();
+        let end = self.lock(pair).open(rt)?;
+        Ok(PairEnd { pair, end })
+    }
+
+    /// Makes one call as the end does, as [`Lock::call`] does.
+    pub fn call<R: Wait>(
+        &self,
+        rt: &R,
+        end: &mut PairEnd<P>,
+        event: &Event<&[u8]>,
+        out: &mut Content,
+    ) -> Result<Answer<usize>, Refusal>
+        requires { IsOne self.now end.old }
+        ensures pair { end.new.pair ≡ end.old.pair }
+        ensures told { MatchResult result
+            (λ a. Gains end.old.end (entry_of end.old.end.caller (request event.now) out.new.items a) end.new.end)
+            (λ z. (end.new.end ≡ end.old.end) × (out.new.items ≡ out.old.items) × IsRefused end.old.end.caller (request event.now) z) }
+    {
+        self.lock(end.pair).call(rt, &mut end.end, event, out)
+    }
+
+    /// Opens the slave of the end's pair by a call of the end, as [`Lock::open_slave`] does.
+    pub fn open_slave<R: Wait>(&self, rt: &R, end: &mut PairEnd<P>) -> Result<PairEnd<P>, Refusal>
+        requires { IsOne self.now end.old }
+        ensures pair { end.new.pair ≡ end.old.pair }
+        ensures opened { MatchResult result
+            (λ e. OpensSlave end.old.end end.new.end × (e ≡ record { pair = end.old.pair; end = slave_end end.old.end }))
+            (λ z. (end.new.end ≡ end.old.end) × ((end.old.end.parts ≡ 1) ⊎ IsRefused end.old.end.caller OpenSlave z)) }
+    {
+        let slave = self.lock(end.pair).open_slave(rt, &mut end.end)?;
+        Ok(PairEnd {
+            pair: end.pair,
+            end: slave,
+        })
+    }
+
+    /// Cuts an end in two, as [`Lock::split`] does. An end of one part comes back.
+    pub fn split(&self, end: PairEnd<P>) -> Result<(PairEnd<P>, PairEnd<P>), PairEnd<P>>
+        requires { IsOne self.now end }
+        ensures { MatchResult result
+            (λ r. (end.end.parts ≢ 1) × (r.0 ≡ record end { end = kept_end end.end }) × (r.1 ≡ record end { end = split_end end.end }))
+            (λ e. (end.end.parts ≡ 1) × (e ≡ end)) }
+    {
+        let PairEnd { pair, end } = end;
+        match self.lock(pair).split(end) {
+            Ok((first, second)) => Ok((
+                PairEnd { pair, end: first },
+                PairEnd { pair, end: second },
+            )),
+            Err(end) => Err(PairEnd { pair, end }),
+        }
+    }
+
+    /// One end of two of one pair, as [`Lock::join`] does. Ends of two pairs come back.
+    pub fn join(
+        &self,
+        first: PairEnd<P>,
+        second: PairEnd<P>,
+    ) -> Result<PairEnd<P>, (PairEnd<P>, PairEnd<P>)>
+        requires first { IsOne self.now first }
+        requires second { IsOne self.now second }
+        ensures { MatchResult result
+            (λ e. (first.pair ≡ second.pair) × (e ≡ record first { end = joined_end first.end second.end }))
+            (λ r. (first.pair ≢ second.pair) × (r.0 ≡ first) × (r.1 ≡ second)) }
+    {
+        if first.pair != second.pair {
+            return Err((first, second));
+        }
+        let PairEnd { pair, end } = first;
+        let PairEnd {
+            pair: _,
+            end: other,
+        } = second;
+        let end = self.lock(pair).join(end, other);
+        Ok(PairEnd { pair, end })
+    }
+
+    /// Settles the end's pair, as [`Lock::settle`] does. An end that lacks parts comes back.
+    pub fn settle<R: Wait>(
+        &self,
+        rt: &R,
+        end: PairEnd<P>,
+    ) -> Result<Settled, (StillShared, PairEnd<P>)>
+        requires { IsOne self.now end }
+        ensures { MatchResult result
+            (λ s. (end.end.parts ≡ ALL_PARTS) × IsSettled end.end.told end.end.made s)
+            (λ r. (end.end.parts ≢ ALL_PARTS) × (r.1 ≡ end)) }
+    {
+        let PairEnd { pair, end } = end;
+        match self.lock(pair).settle(rt, end) {
+            Ok(settled) => Ok(settled),
+            Err((shared, end)) => Err((shared, PairEnd { pair, end })),
+        }
+    }
+
+    /// Makes a turn of the queue of a pair that was enabled first, as [`Lock::turn`] does.
+    pub fn turn<R: Wait>(&self, rt: &R, pair: u32) -> Option<Result<Turn, Refusal>>
+        requires { pair < length self.now.locks }
+    {
+        self.lock(pair).turn(rt)
+    }
+}

@@ -1,0 +1,101 @@
+//! Threads at the locks of pairs that nobody can open, as their journals take no entry: each visit takes the lock and gives it back.
+
+ghost use Rattle.std.specs.Prelude.{◌≡◌, Some};
+ghost use Rattle.strm_types.specs.Events.{request};
+ghost use Rattle.strm_types.specs.declared.events.Caller.{Caller};
+ghost use Rattle.strm_laws.specs.Pair.{call_refused};
+ghost use Rattle.strm_locks.specs.Unopened.{unopened};
+
+use super::*;
+use std::test::Fail;
+use strm_types::{Answer, Caller, Content, Dir, Event, Ledger, QueueName, Refusal, Turn};
+
+// A pair whose journal takes no entry.
+#[derive(Drop)]
+struct Unopened;
+
+// Why it refuses a call.
+fn refusal(event: &Event<&[u8]>) -> Refusal
+    ensures { (caller : Caller) → call_refused unopened caller (request event.now) ≡ Some result }
+{
+    match event {
+        Event::OpenMaster => Refusal::JournalFull,
+        _ => Refusal::Enxio,
+    }
+}
+
+impl Object for Unopened {
+    ghost pair_of = { λ _. unopened };
+
+    fn call(
+        &mut self,
+        _caller: Caller,
+        event: &Event<&[u8]>,
+        _out: &mut Content,
+    ) -> Result<Answer<usize>, Refusal> {
+        Err(refusal(event))
+    }
+
+    fn turn(&mut self, _name: QueueName) -> Result<Turn, Refusal> {
+        Err(Refusal::Einval)
+    }
+
+    fn first_enabled(&self) -> Option<QueueName> {
+        None
+    }
+
+    fn written(&self, _direction: Dir) -> u64 {
+        0
+    }
+
+    fn read(&self, _direction: Dir) -> u64 {
+        0
+    }
+
+    fn ledger(&self, _direction: Dir) -> Ledger {
+        Ledger {
+            written: 0,
+            made: 0,
+            queued: 0,
+            inline: 0,
+            fates: [0; 21],
+        }
+    }
+
+    fn audit(&self) {}
+
+    fn reset(&mut self) {}
+}
+
+fn may_be_sent<T: Send>() {}
+
+fn may_be_shared<T: Sync>() {}
+
+// Threads share locks and systems, and have ends of their own.
+#[test]
+fn ends_may_be_sent_and_locks_shared() {
+    may_be_sent::<End<Unopened>>();
+    may_be_sent::<PairEnd<Unopened>>();
+    may_be_shared::<Lock<Unopened>>();
+    may_be_shared::<System<Unopened>>();
+}
+
+#[test]
+fn threads_take_turns_at_two_locks(rt: HostRuntime) -> Result<(), Fail> {
+    let mut pairs = Vec::new(rt.alloc());
+    pairs.push(Unopened)?;
+    pairs.push(Unopened)?;
+    let (system, mut opener) = System::new(rt.alloc(), pairs)?;
+    let report = system.run_workers(&rt, 4, 10000);
+    assert_eq!(rt; report.turns, 0);
+    assert_eq!(rt; report.refused, 0);
+
+    let minor = system.minors().claim(&mut opener)?;
+    let Err(refused) = system.open(&rt, &minor) else {
+        panic!(rt; "opened")
+    };
+    assert!(rt; refused == Refusal::JournalFull);
+    let report = system.run_workers(&rt, 2, 1);
+    assert_eq!(rt; report.turns, 0);
+    Ok(())
+}
