@@ -1,5 +1,5 @@
 -- Bytes that are written behind a block, where it alone names its data block.
-use Rattle.std.proofs.Common.{ℕ, ◌≡◌, ◌≢◌, ◌≤◌, ◌<◌, ◌+◌, ◌-◌, Bool, true, false, cond, eqb, ltb, min, List, ◌++◌, length, get_or, take, drop, sym, ap, ◌∙◌, arith}
+use Rattle.std.proofs.Common.{ℕ, ◌≡◌, ◌≢◌, ◌≤◌, ◌<◌, ◌+◌, ◌-◌, Bool, true, false, cond, eqb, ltb, min, List, ◌++◌, length, get_or, take, drop, refl, sym, ap, ◌∙◌, arith}
 use Rattle.std.proofs.Math.ListN.{length-set}
 use Rattle.std.specs.Prelude.{Option, slice_range}
 use Rattle.std.proofs.lemmas.Bool.Decides.{nat_tests}
@@ -9,11 +9,14 @@ use Rattle.strm_blocks.proofs.Shown.{shown-written}
 use Rattle.strm_raw.specs.Numbered.{Nodes, Row, DataRow, row_at, data_at, no_row, no_data, msg_number, with_row, with_data}
 use Rattle.strm_raw.specs.Roster.{Roster}
 use Rattle.strm_raw.specs.Raw.{ids, block_no, shown, value_of, IsRaw, IsHere, askew}
+use Rattle.strm_raw.specs.Lists.{AreListed}
+use Rattle.strm_raw.specs.declared.neighbours.Ends.{Ends}
 use Rattle.strm_raw.specs.declared.msg_nodes.MsgLink.{MsgLink}
 use Rattle.strm_raw.specs.declared.data_nodes.DataLink.{DataLink}
 use Rattle.strm_raw.proofs.Finding.{found}
 use Rattle.strm_raw.proofs.Standing.{stored}
 use Rattle.strm_raw.proofs.Edited.{row-raw, block, block-there, one-changed, inside, link-is, block-is}
+use Rattle.strm_raw.proofs.Listed.{kept-listed}
 use Rattle.strm_raw.proofs.Writing as writing
 
 module _ {v : Nodes} {b : Roster} {first_m : Option MsgLink} {first_d : Option DataLink} {spare_m spare_d : ℕ} (is : IsRaw v first_m first_d spare_m spare_d b)
@@ -94,3 +97,7 @@ module _ {v : Nodes} {b : Roster} {first_m : Option MsgLink} {first_d : Option D
         ap (λ (w : Nodes). value_of w b) v2-is
         ∙ one-changed is l here at (inside is view l here name at within link number) (λ j. cond (eqb (row_at j v.rows).number d) 1 0) hits (omega arith) v2 (length-set v.rows t x) (length-set v.datas d _) block-other
         ∙ (λ j. changed (view j) (name j) (with_block at ((block-new ∙ ap (λ (y : Block). written new y) (sym shows)) j) (in_hand (view j) (name j))))
+
+    pub appended-listed : {ends : List Ends} → AreListed v ends b → AreListed v' ends b
+    appended-listed listed =
+        kept-listed listed v' b (ap (λ (w : Nodes). w.mat) v2-is) t t-there x (ap (λ (y : Row). y.ahead) row-is) (ap (λ (y : Row). y.behind) row-is) (ap (λ (w : Nodes). w.rows) v2-is) refl _ appended-value (sym (ap (λ (z : StoreValue). z.lists) view))

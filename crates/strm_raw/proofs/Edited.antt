@@ -11,11 +11,14 @@ use Rattle.strm_blocks.proofs.Shown.{length-range, shown-head, shown-tail}
 use Rattle.strm_raw.specs.Numbered.{Nodes, Row, DataRow, row_at, data_at, no_row, msg_number, with_row}
 use Rattle.strm_raw.specs.Roster.{Msg, Roster}
 use Rattle.strm_raw.specs.Raw.{weigh, ids, times, chain_of, held_of, block_no, shown, value_of, breaks, IsRaw, IsHere, next_of, is_there, askew, msg_in, without_in, heads}
+use Rattle.strm_raw.specs.Lists.{AreListed}
+use Rattle.strm_raw.specs.declared.neighbours.Ends.{Ends}
 use Rattle.strm_raw.specs.declared.msg_nodes.MsgLink.{MsgLink}
 use Rattle.strm_raw.specs.declared.data_nodes.DataLink.{DataLink}
 use Rattle.strm_raw.proofs.Apart.{hand-apart, lists-apart, map-none, map-one}
 use Rattle.strm_raw.proofs.Finding.{sum-without, found, found-some, found-chain, found-len, found-block}
 use Rattle.strm_raw.proofs.Parting.{row-keeps}
+use Rattle.strm_raw.proofs.Listed.{kept-listed}
 
 -- how many bytes a block shows
 pub shown-len : (datas : List DataRow) (r : Row) → askew r ≡ 0 → length (data_at r.number datas).bytes ≡ 256 → length (shown datas r).bytes ≡ r.end - r.start
@@ -170,3 +173,9 @@ module _ {v : Nodes} {b : Roster} {first_m : Option MsgLink} {first_d : Option D
         ap (λ (w : Nodes). value_of w b) memory-is
         ∙ row-changed is l here at inside r
         ∙ (λ j. changed (view j) (name j) (with_block at (shows j) (in_hand (view j) (name j))))
+
+    -- the lists stay where the row keeps its neighbours
+    pub edited-listed : {ends : List Ends} → AreListed v ends b → r.ahead ≡ (row_at (msg_number v.mat link) v.rows).ahead → r.behind ≡ (row_at (msg_number v.mat link) v.rows).behind → AreListed v' ends b
+    edited-listed listed ahead behind =
+        let there = subst (λ k. k < length v.rows) (sym link-is) (block-there is l here at inside) in
+        kept-listed listed v' b (ap (λ (w : Nodes). w.mat) written) (msg_number v.mat link) there r ahead behind (ap (λ (w : Nodes). w.rows) written) refl _ (edited-value _ refl) (sym (ap (λ (x : StoreValue). x.lists) view))

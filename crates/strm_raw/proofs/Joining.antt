@@ -95,7 +95,7 @@ module _ {v : Nodes} {b : Roster} {first_m : Option MsgLink} {first_d : Option D
   sum-whole : (g : ℕ → ℕ) → sum_by g (ids whole) ≡ sum_by g (ids m) + sum_by g (ids p)
   sum-whole g = sum_by-append g (ids m) (ids p)
 
-  abbrev t : ℕ
+  abbrev pub t : ℕ
   t = last_in m.head m.tail
 
   once : times t (ids m) ≡ 1
@@ -116,7 +116,7 @@ module _ {v : Nodes} {b : Roster} {first_m : Option MsgLink} {first_d : Option D
   out-rest : weigh (λ m. times t (ids m)) b.lists rest ≡ 0
   out-rest = let o = is.owned_m t in let s = parts (λ m. times t (ids m)) in let e = once in grind (arith, nat_tests)
 
-  within : t < length v.rows
+  pub within : t < length v.rows
   within = let o = is.owned_m t in let s = parts (λ m. times t (ids m)) in let e = once in grind (arith, nat_tests)
 
   abbrev r : Row

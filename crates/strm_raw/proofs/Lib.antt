@@ -5,6 +5,11 @@ pub mod Made
 pub mod Apart
 pub mod Standing
 pub mod Finding
+pub mod Listed
+pub mod Tied
+pub mod Leading
+pub mod Moved
+pub mod Seating
 pub mod Taking
 pub mod Parting
 pub mod Giving

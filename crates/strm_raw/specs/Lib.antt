@@ -5,4 +5,6 @@ pub mod Numbered
 pub mod Made
 pub mod Roster
 pub mod Raw
+pub mod Lists
+pub mod Outcomes
 pub mod RawStore

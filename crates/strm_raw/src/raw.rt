@@ -7,6 +7,7 @@ ghost use Rattle.strm_raw.specs.Numbered.{IsData, IsDataOrNone, data_at, data_nu
 
 use crate::chains::{block_link, last_link};
 use crate::data_nodes::{DataLink, DataNode};
+use crate::neighbours::{Ends, NO_ENDS};
 use crate::ledger::Ledger;
 use crate::memory::Memory;
 use crate::msg_nodes::{MsgLink, MsgNode};
@@ -24,6 +25,7 @@ use strm_types::{Band, MsgKind};
 #[derive(Drop)]
 pub struct RawStore {
     pub(crate) memory: Memory,
+    pub(crate) ends: [Ends; 8],
     free_msg: Option<MsgLink>,
     free_data: Option<DataLink>,
     spare_m: usize,
@@ -61,6 +63,7 @@ impl RawStore {
         ledger.note(message.at, datum.at, mblks, dblks);
         Ok(RawStore {
             memory,
+            ends: [NO_ENDS; 8],
             free_msg,
             free_data,
             spare_m: mblks,
@@ -116,13 +119,11 @@ impl RawStore {
             MsgNode {
                 kind,
                 band: band.0,
-                name: free.name,
                 number,
                 start: 0,
                 end: bytes.len(),
                 next: None,
-                ahead: None,
-                behind: None,
+                ..free
             },
         );
         self.free_msg = free.next;
@@ -165,8 +166,8 @@ impl RawStore {
             MsgNode {
                 name: taken.name,
                 next: None,
-                ahead: None,
-                behind: None,
+                ahead: taken.ahead,
+                behind: taken.behind,
                 ..block
             },
         );

@@ -9,11 +9,11 @@ use Rattle.strm_raw.proofs.Appended as appended
 use Rattle.strm_raw.proofs.raw.RawStore.append.Goals as goal
 
 pub message_link-first-requires : goal.message_link-first-requires
-message_link-first-requires c = finding.token-below c.self.invariant _ c.self.view_is (token c.args.message.now) _ c.name.ensures c.requires
+message_link-first-requires c = finding.token-below c.self.invariant.raw _ c.self.view_is (token c.args.message.now) _ c.name.ensures c.requires
 
 pub returns-then-datum-gt1-clause-count : goal.returns-then-datum-gt1-clause-count
 returns-then-datum-gt1-clause-count c =
-    let v = c.self.inside.memory in let is = c.self.invariant in let l = c.message_link-first.result in let k = c.last_link-last.result in let n = token c.args.message.now in
+    let v = c.self.inside.memory in let is = c.self.invariant.raw in let l = c.message_link-first.result in let k = c.last_link-last.result in let n = token c.args.message.now in
     let here = finding.here-by v c.self.inside.ledger.roster _ c.self.view_is l n _ c.message_link-first.ensures.there c.message_link-first.ensures.number c.name.ensures c.requires in
     let name = c.message_link-first.ensures.number ∙ c.name.ensures in
     let at = length (in_hand c.args.self.now n) - 1 in
@@ -28,7 +28,7 @@ returns-then-datum-gt1-clause-written c = sym (extended-none c.args.self.now (to
 
 pub returns-clause-count : goal.returns-clause-count
 returns-clause-count c =
-    let v = c.self.inside.memory in let is = c.self.invariant in let l = c.message_link-first.result in let k = c.last_link-last.result in let n = token c.args.message.now in
+    let v = c.self.inside.memory in let is = c.self.invariant.raw in let l = c.message_link-first.result in let k = c.last_link-last.result in let n = token c.args.message.now in
     let here = finding.here-by v c.self.inside.ledger.roster _ c.self.view_is l n _ c.message_link-first.ensures.there c.message_link-first.ensures.number c.name.ensures c.requires in
     let name = c.message_link-first.ensures.number ∙ c.name.ensures in
     let at = length (in_hand c.args.self.now n) - 1 in
@@ -40,7 +40,7 @@ returns-clause-count c =
 
 pub invariant_of-self : goal.invariant_of-self
 invariant_of-self c =
-    let v = c.self.inside.memory in let is = c.self.invariant in let l = c.message_link-first.result in let k = c.last_link-last.result in let n = token c.args.message.now in
+    let v = c.self.inside.memory in let is = c.self.invariant.raw in let l = c.message_link-first.result in let k = c.last_link-last.result in let n = token c.args.message.now in
     let here = finding.here-by v c.self.inside.ledger.roster _ c.self.view_is l n _ c.message_link-first.ensures.there c.message_link-first.ensures.number c.name.ensures c.requires in
     let name = c.message_link-first.ensures.number ∙ c.name.ensures in
     let at = length (in_hand c.args.self.now n) - 1 in
@@ -53,12 +53,14 @@ invariant_of-self c =
     let taken = length-take-le c.min-count.result c.args.bytes.now (omega arith) in
     let old = ap (λ (y : Row). askew y) c.message-node.ensures.row ∙ is.straight (msg_number v.mat k) in
     let memory = c.set_message.ensures ∙ ap (λ (w : Nodes). with_row (msg_number w.mat k) (row_of w.mat w.dat (record c.message-node.result { end = c.message-node.result.end + c.min-count.result })) w) c.write.ensures in
-    appended.appended-raw is c.self.view_is l here name at within k (λ _. last) r c.message-node.ensures.row c.message-node.ensures.links.number.0 (omega arith) (ap (λ (d : DataRow). length d.bytes) (sym c.datum.ensures.row) ∙ c.datum.ensures.sized)
-    new c.min-count.result (sym taken) (omega arith) c.set_message.new.self memory
+    record {
+      raw = appended.appended-raw is c.self.view_is l here name at within k (λ _. last) r c.message-node.ensures.row c.message-node.ensures.links.number.0 (omega arith) (ap (λ (d : DataRow). length d.bytes) (sym c.datum.ensures.row) ∙ c.datum.ensures.sized) new c.min-count.result (sym taken) (omega arith) c.set_message.new.self memory;
+      listed = appended.appended-listed is c.self.view_is l here name at within k (λ _. last) r c.message-node.ensures.row c.message-node.ensures.links.number.0 (omega arith) (ap (λ (d : DataRow). length d.bytes) (sym c.datum.ensures.row) ∙ c.datum.ensures.sized) new c.min-count.result (sym taken) (omega arith) c.set_message.new.self memory c.self.invariant.listed;
+    }
 
 pub returns-clause-written : goal.returns-clause-written
 returns-clause-written c =
-    let v = c.self.inside.memory in let is = c.self.invariant in let l = c.message_link-first.result in let k = c.last_link-last.result in let n = token c.args.message.now in
+    let v = c.self.inside.memory in let is = c.self.invariant.raw in let l = c.message_link-first.result in let k = c.last_link-last.result in let n = token c.args.message.now in
     let here = finding.here-by v c.self.inside.ledger.roster _ c.self.view_is l n _ c.message_link-first.ensures.there c.message_link-first.ensures.number c.name.ensures c.requires in
     let name = c.message_link-first.ensures.number ∙ c.name.ensures in
     let at = length (in_hand c.args.self.now n) - 1 in

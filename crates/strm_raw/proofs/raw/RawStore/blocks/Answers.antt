@@ -5,11 +5,11 @@ use Rattle.strm_raw.proofs.Finding as finding
 use Rattle.strm_raw.proofs.raw.RawStore.blocks.Goals as goal
 
 pub message_link-first-requires : goal.message_link-first-requires
-message_link-first-requires c = finding.token-below c.self.invariant _ c.self.view_is (token c.args.message.now) _ c.name.ensures c.requires
+message_link-first-requires c = finding.token-below c.self.invariant.raw _ c.self.view_is (token c.args.message.now) _ c.name.ensures c.requires
 
 pub returns-clause-count : goal.returns-clause-count
 returns-clause-count c =
-    let t = c.self.inside in let v = t.memory in let is = c.self.invariant in let l = c.message_link-first.result in
+    let t = c.self.inside in let v = t.memory in let is = c.self.invariant.raw in let l = c.message_link-first.result in
     let e = c.message_link-first.ensures.number ∙ c.name.ensures in
     let here = finding.here-by v t.ledger.roster _ c.self.view_is l (token c.args.message.now) _ c.message_link-first.ensures.there c.message_link-first.ensures.number c.name.ensures c.requires in
     let few = subst (λ k. length (ids (finding.found is l here)) ≤ k) (sym c.messages.ensures) (finding.found-few is l here) in
@@ -19,7 +19,7 @@ returns-clause-count c =
 
 pub returns-clause-some : goal.returns-clause-some
 returns-clause-some c =
-    let t = c.self.inside in let v = t.memory in let is = c.self.invariant in let l = c.message_link-first.result in
+    let t = c.self.inside in let v = t.memory in let is = c.self.invariant.raw in let l = c.message_link-first.result in
     let here = finding.here-by v t.ledger.roster _ c.self.view_is l (token c.args.message.now) _ c.message_link-first.ensures.there c.message_link-first.ensures.number c.name.ensures c.requires in
     let few = subst (λ k. length (ids (finding.found is l here)) ≤ k) (sym c.messages.ensures) (finding.found-few is l here) in
     let n = c.chain_len.ensures (ids (finding.found is l here)) (finding.found-linked is l here) few in

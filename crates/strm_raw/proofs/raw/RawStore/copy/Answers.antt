@@ -17,17 +17,17 @@ recopied old new b number room (Ok m) c = record { number = c.number; room_m = c
 recopied old new b number room (Err _) none = none
 
 pub message_link-first-requires : goal.message_link-first-requires
-message_link-first-requires c = finding.token-below c.self.invariant _ c.self.view_is (token c.args.message.now) _ c.name.ensures c.requires.in_hand
+message_link-first-requires c = finding.token-below c.self.invariant.raw _ c.self.view_is (token c.args.message.now) _ c.name.ensures c.requires.in_hand
 
 pub slice_bounds-shown-end : goal.slice_bounds-shown-end
 slice_bounds-shown-end c =
-    let o = ap (λ (r : Row). askew r) c.message-block.ensures.row ∙ c.self.invariant.straight (msg_number c.self.inside.memory.mat c.block_link-link.result) in
+    let o = ap (λ (r : Row). askew r) c.message-block.ensures.row ∙ c.self.invariant.raw.straight (msg_number c.self.inside.memory.mat c.block_link-link.result) in
     let sized = c.datum.ensures.sized in
     omega arith
 
 pub returns : goal.returns
 returns c =
-    let v = c.self.inside.memory in let is = c.self.invariant in let l = c.message_link-first.result in let k = c.block_link-link.result in
+    let v = c.self.inside.memory in let is = c.self.invariant.raw in let l = c.message_link-first.result in let k = c.block_link-link.result in
     let here = finding.here-by v c.self.inside.ledger.roster _ c.self.view_is l (token c.args.message.now) _ c.message_link-first.ensures.there c.message_link-first.ensures.number c.name.ensures c.requires.in_hand in
     let node = c.message-block.result in
     let number = data_number v.dat node.number in

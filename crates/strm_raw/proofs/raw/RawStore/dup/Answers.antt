@@ -8,22 +8,23 @@ use Rattle.strm_raw.specs.declared.msg_nodes.MsgNode.{MsgNode}
 use Rattle.strm_raw.specs.Roster.{Roster}
 use Rattle.strm_raw.specs.Raw.{value_of, IsRaw, duplicated, ids, shown, block_no}
 use Rattle.strm_raw.proofs.Standing.{none-m, stored}
+use Rattle.strm_raw.proofs.Listed.{kept-listed}
 use Rattle.strm_raw.proofs.Taking as taking
 use Rattle.strm_raw.proofs.Finding as finding
 use Rattle.strm_raw.proofs.raw.RawStore.dup.Goals as goal
 
 pub message_link-first-requires : goal.message_link-first-requires
-message_link-first-requires c = finding.token-below c.self.invariant _ c.self.view_is (token c.args.message.now) _ c.name.ensures c.requires.in_hand
+message_link-first-requires c = finding.token-below c.self.invariant.raw _ c.self.view_is (token c.args.message.now) _ c.name.ensures c.requires.in_hand
 
 pub returns-in_default : goal.returns-in_default
 returns-in_default c =
     let t = c.self.inside in
-    let none = ap (λ s. Rattle.strm_blocks.specs.Blocks.free_m s) (sym c.self.view_is) ∙ none-m t.memory t.ledger.roster c.self.invariant c.in_default.is in
+    let none = ap (λ s. Rattle.strm_blocks.specs.Blocks.free_m s) (sym c.self.view_is) ∙ none-m t.memory t.ledger.roster c.self.invariant.raw c.in_default.is in
     record { none = inl none; same = refl }
 
 pub returns-then-references : goal.returns-then-references
 returns-then-references c =
-    let t = c.self.inside in let v = t.memory in let is = c.self.invariant in let l = c.message_link-first.result in let n = token c.args.message.now in let e = c.message_link-first.ensures.number ∙ c.name.ensures in let at = c.args.at in
+    let t = c.self.inside in let v = t.memory in let is = c.self.invariant.raw in let l = c.message_link-first.result in let n = token c.args.message.now in let e = c.message_link-first.ensures.number ∙ c.name.ensures in let at = c.args.at in
     let here = finding.here-by c.self.inside.memory c.self.inside.ledger.roster _ c.self.view_is l n _ c.message_link-first.ensures.there c.message_link-first.ensures.number c.name.ensures c.requires.in_hand in
     let within = subst (λ (x : StoreValue × ℕ). at < length (in_hand x.0 x.1)) (λ j. (sym c.self.view_is j, sym e j)) c.requires.within in
     let len = finding.found-len is l here in
@@ -35,11 +36,11 @@ returns-then-references c =
     (record { none = inr (ap (λ k. Rattle.strm_blocks.specs.Blocks.references (value_of v t.ledger.roster) k) (sym number) ∙ full); same = refl })
 
 pub overflow_sub-self : goal.overflow_sub-self
-overflow_sub-self c = let a = ap length (taking.first-m c.self.invariant c.in-Some.free c.in-Some.is).1.0 in let n = c.self.invariant.count_m in omega arith
+overflow_sub-self c = let a = ap length (taking.first-m c.self.invariant.raw c.in-Some.free c.in-Some.is).1.0 in let n = c.self.invariant.raw.count_m in omega arith
 
 pub invariant_of-self : goal.invariant_of-self
 invariant_of-self c =
-    let t = c.self.inside in let v = t.memory in let is = c.self.invariant in let l = c.message_link-first.result in let n = token c.args.message.now in let e = c.message_link-first.ensures.number ∙ c.name.ensures in let at = c.args.at in
+    let t = c.self.inside in let v = t.memory in let is = c.self.invariant.raw in let l = c.message_link-first.result in let n = token c.args.message.now in let e = c.message_link-first.ensures.number ∙ c.name.ensures in let at = c.args.at in
     let here = finding.here-by c.self.inside.memory c.self.inside.ledger.roster _ c.self.view_is l n _ c.message_link-first.ensures.there c.message_link-first.ensures.number c.name.ensures c.requires.in_hand in
     let within = subst (λ (x : StoreValue × ℕ). at < length (in_hand x.0 x.1)) (λ j. (sym c.self.view_is j, sym e j)) c.requires.within in
     let len = finding.found-len is l here in
@@ -47,7 +48,7 @@ invariant_of-self c =
     let row = c.message-block.ensures.row ∙ ap (λ k. row_at k v.rows) j in
     let d = data_number v.dat c.message-block.result.number in
     let free = c.in-Some.free in
-    let node : MsgNode = record c.message-block.result { name = c.message-taken.result.name; next = None; ahead = None; behind = None } in
+    let node : MsgNode = record c.message-block.result { name = c.message-taken.result.name; next = None; ahead = c.message-taken.result.ahead; behind = c.message-taken.result.behind } in
     let memory = c.set_message.ensures ∙ ap (λ (w : Nodes). with_row (msg_number w.mat free) (row_of w.mat w.dat node) w) c.set_datum.ensures in
     let some : 0 < (data_at d v.datas).references = subst (λ k. 0 < (data_at k v.datas).references) (sym (ap (λ (r : Row). r.number) row)) (finding.found-named is l here at (omega arith)) in
     let count = ap (λ (r : DataRow). r.references) c.datum.ensures.row in
@@ -55,12 +56,18 @@ invariant_of-self c =
     let x : DataRow = record { next = Rattle.std.specs.Prelude.option_map (data_number v.dat) c.datum.result.now.next; references = c.datum.result.now.references + 1; bytes = (data_at d v.datas).bytes } in
     let refers = taking.refers-more is d c.message-block.ensures.links.number.0 some few x (omega arith) refl in
     let straight = ap (λ (r : Row). Rattle.strm_raw.specs.Raw.askew r) row ∙ is.straight _ in
-    let done = taking.added is free c.in-Some.is (row_of v.mat v.dat node) refl straight c.message-taken.result.next (ap (λ (r : Row). r.next) c.message-taken.ensures.row) c.message-taken.ensures.links.next _ _ _ _ refers in
-    subst (λ (w : Nodes × Roster). IsRaw w.0 c.message-taken.result.next t.free_data (t.spare_m - 1) t.spare_d w.1) (λ j. (sym memory j, sym c.note.ensures j)) done
+    let row_next = ap (λ (r : Row). r.next) c.message-taken.ensures.row in
+    let done = taking.added is free c.in-Some.is (row_of v.mat v.dat node) refl straight c.message-taken.result.next row_next c.message-taken.ensures.links.next _ _ _ _ refers in
+    let value = (λ j. value_of (memory j) (c.note.ensures j)) ∙ taking.added-value is free c.in-Some.is (row_of v.mat v.dat node) refl straight c.message-taken.result.next row_next c.message-taken.ensures.links.next _ _ _ _ refers in
+    record {
+      raw = subst (λ (w : Nodes × Roster). IsRaw w.0 c.message-taken.result.next t.free_data (t.spare_m - 1) t.spare_d w.1) (λ j. (sym memory j, sym c.note.ensures j)) done;
+      listed = kept-listed c.self.invariant.listed _ _ (ap (λ (w : Nodes). w.mat) memory) (msg_number v.mat free) (taking.place-m is free c.in-Some.is).0 (row_of v.mat v.dat node) (ap (λ (r : Row). r.ahead) c.message-taken.ensures.row) (ap (λ (r : Row). r.behind) c.message-taken.ensures.row)
+      (ap (λ (w : Nodes). w.rows) memory) (ap (λ (x : Roster). x.lists) c.note.ensures) _ value refl;
+    }
 
 pub returns : goal.returns
 returns c =
-    let t = c.self.inside in let v = t.memory in let is = c.self.invariant in let l = c.message_link-first.result in let n = token c.args.message.now in let e = c.message_link-first.ensures.number ∙ c.name.ensures in let at = c.args.at in
+    let t = c.self.inside in let v = t.memory in let is = c.self.invariant.raw in let l = c.message_link-first.result in let n = token c.args.message.now in let e = c.message_link-first.ensures.number ∙ c.name.ensures in let at = c.args.at in
     let here = finding.here-by c.self.inside.memory c.self.inside.ledger.roster _ c.self.view_is l n _ c.message_link-first.ensures.there c.message_link-first.ensures.number c.name.ensures c.requires.in_hand in
     let within = subst (λ (x : StoreValue × ℕ). at < length (in_hand x.0 x.1)) (λ j. (sym c.self.view_is j, sym e j)) c.requires.within in
     let len = finding.found-len is l here in
@@ -68,7 +75,7 @@ returns c =
     let row = c.message-block.ensures.row ∙ ap (λ k. row_at k v.rows) j in
     let d = data_number v.dat c.message-block.result.number in
     let free = c.in-Some.free in
-    let node : MsgNode = record c.message-block.result { name = c.message-taken.result.name; next = None; ahead = None; behind = None } in
+    let node : MsgNode = record c.message-block.result { name = c.message-taken.result.name; next = None; ahead = c.message-taken.result.ahead; behind = c.message-taken.result.behind } in
     let memory = c.set_message.ensures ∙ ap (λ (w : Nodes). with_row (msg_number w.mat free) (row_of w.mat w.dat node) w) c.set_datum.ensures in
     let some : 0 < (data_at d v.datas).references = subst (λ k. 0 < (data_at k v.datas).references) (sym (ap (λ (r : Row). r.number) row)) (finding.found-named is l here at (omega arith)) in
     let count = ap (λ (r : DataRow). r.references) c.datum.ensures.row in

@@ -1,19 +1,20 @@
-use Rattle.std.proofs.Common.{◌+◌, ◌<◌, sym, ap, ◌∙◌, subst, arith, length, ◌∷◌}
+use Rattle.std.proofs.Common.{◌+◌, ◌<◌, refl, sym, ap, ◌∙◌, subst, arith, length, ◌∷◌}
 use Rattle.std.specs.Prelude.{Some, option_map}
 use Rattle.strm_blocks.specs.Blocks.{token, in_hand, dropped}
 use Rattle.strm_raw.specs.Numbered.{Nodes, Row, row_of, row_at, data_at, with_row, msg_number, IsMsg}
 use Rattle.strm_raw.specs.Roster.{Roster}
 use Rattle.strm_raw.specs.Raw.{value_of, IsRaw, without_in}
 use Rattle.strm_raw.proofs.Finding as finding
+use Rattle.strm_raw.proofs.Listed.{kept-listed}
 use Rattle.strm_raw.proofs.Giving.{released, Drops, given-raw, given-value}
 use Rattle.strm_raw.proofs.raw.RawStore.free_one.Goals as goal
 
 pub message_link-at-requires : goal.message_link-at-requires
-message_link-at-requires c = finding.token-below c.self.invariant _ c.self.view_is (token c.args.message) _ c.name.ensures c.requires.in_hand
+message_link-at-requires c = finding.token-below c.self.invariant.raw _ c.self.view_is (token c.args.message) _ c.name.ensures c.requires.in_hand
 
 pub release-free_data-requires-clause-named : goal.release-free_data-requires-clause-named
 release-free_data-requires-clause-named c =
-    let v = c.self.inside.memory in let b = c.self.inside.ledger.roster in let is = c.self.invariant in let l = c.message_link-at.result in let n = token c.args.message in let e = c.message_link-at.ensures.number ∙ c.name.ensures in
+    let v = c.self.inside.memory in let b = c.self.inside.ledger.roster in let is = c.self.invariant.raw in let l = c.message_link-at.result in let n = token c.args.message in let e = c.message_link-at.ensures.number ∙ c.name.ensures in
     let here = finding.here-by c.self.inside.memory c.self.inside.ledger.roster _ c.self.view_is l n _ c.message_link-at.ensures.there c.message_link-at.ensures.number c.name.ensures c.requires.in_hand in
     let number = ap (λ (r : Row). r.number) c.message-node.ensures.row in
     let head = ap (λ j. (row_at j v.rows).number) (finding.found-head is l here) in
@@ -21,7 +22,7 @@ release-free_data-requires-clause-named c =
 
 pub set_message-requires-clause-there : goal.set_message-requires-clause-there
 set_message-requires-clause-there c =
-    let t = c.self.inside in let v = t.memory in let b = t.ledger.roster in let is = c.self.invariant in let l = c.message_link-at.result in let n = token c.args.message in let e = c.message_link-at.ensures.number ∙ c.name.ensures in
+    let t = c.self.inside in let v = t.memory in let b = t.ledger.roster in let is = c.self.invariant.raw in let l = c.message_link-at.result in let n = token c.args.message in let e = c.message_link-at.ensures.number ∙ c.name.ensures in
     let here = finding.here-by c.self.inside.memory c.self.inside.ledger.roster _ c.self.view_is l n _ c.message_link-at.ensures.there c.message_link-at.ensures.number c.name.ensures c.requires.in_hand in
     let number = ap (λ (r : Row). r.number) c.message-node.ensures.row in
     let head = ap (λ j. (row_at j v.rows).number) (finding.found-head is l here) in
@@ -31,7 +32,7 @@ set_message-requires-clause-there c =
 
 pub invariant_of-self : goal.invariant_of-self
 invariant_of-self c =
-    let t = c.self.inside in let v = t.memory in let b = t.ledger.roster in let is = c.self.invariant in let l = c.message_link-at.result in let n = token c.args.message in let e = c.message_link-at.ensures.number ∙ c.name.ensures in
+    let t = c.self.inside in let v = t.memory in let b = t.ledger.roster in let is = c.self.invariant.raw in let l = c.message_link-at.result in let n = token c.args.message in let e = c.message_link-at.ensures.number ∙ c.name.ensures in
     let here = finding.here-by c.self.inside.memory c.self.inside.ledger.roster _ c.self.view_is l n _ c.message_link-at.ensures.there c.message_link-at.ensures.number c.name.ensures c.requires.in_hand in
     let number = ap (λ (r : Row). r.number) c.message-node.ensures.row in
     let head = ap (λ j. (row_at j v.rows).number) (finding.found-head is l here) in
@@ -44,11 +45,15 @@ invariant_of-self c =
     ∙ ap (λ (r : Row). with_row (msg_number v.mat l) (record r { next = option_map (msg_number v.mat) t.free_msg }) (record v { datas = done.datas })) c.message-node.ensures.row in
     let roster = c.note.ensures ∙ ap (λ (x : Roster). let i = msg_number x.mat l in record x { free_m = i ∷ x.free_m; hand = without_in i x.hand }) done.roster
     ∙ ap (λ mat. let i = msg_number mat l in record b { free_m = i ∷ b.free_m; free_d = done.free_d; hand = without_in i b.hand }) is.same in
-    subst (λ (w : Nodes × Roster). IsRaw w.0 (Some l) c.release-free_data.result.0 (t.spare_m + 1) c.release-free_data.result.1 w.1) (λ j. (sym memory j, sym roster j)) (given-raw is l here single _ _ _ _ drops)
+    let value = (λ j. value_of (memory j) (roster j)) ∙ given-value is l here single _ _ _ _ drops in
+    record {
+      raw = subst (λ (w : Nodes × Roster). IsRaw w.0 (Some l) c.release-free_data.result.0 (t.spare_m + 1) c.release-free_data.result.1 w.1) (λ j. (sym memory j, sym roster j)) (given-raw is l here single _ _ _ _ drops);
+      listed = kept-listed c.self.invariant.listed _ _ (ap (λ (w : Nodes). w.mat) memory) (msg_number v.mat l) (here.0).0 _ refl refl (ap (λ (w : Nodes). w.rows) memory) (ap (λ (x : Roster). x.lists) roster) _ value refl;
+    }
 
 pub returns : goal.returns
 returns c =
-    let t = c.self.inside in let v = t.memory in let b = t.ledger.roster in let is = c.self.invariant in let l = c.message_link-at.result in let n = token c.args.message in let e = c.message_link-at.ensures.number ∙ c.name.ensures in
+    let t = c.self.inside in let v = t.memory in let b = t.ledger.roster in let is = c.self.invariant.raw in let l = c.message_link-at.result in let n = token c.args.message in let e = c.message_link-at.ensures.number ∙ c.name.ensures in
     let here = finding.here-by c.self.inside.memory c.self.inside.ledger.roster _ c.self.view_is l n _ c.message_link-at.ensures.there c.message_link-at.ensures.number c.name.ensures c.requires.in_hand in
     let number = ap (λ (r : Row). r.number) c.message-node.ensures.row in
     let head = ap (λ j. (row_at j v.rows).number) (finding.found-head is l here) in

@@ -1,0 +1,123 @@
+-- The lists of a raw store: how a list leads through its messages, on and back.
+use Rattle.std.specs.Prelude.{ℕ, ◌≡◌, ◌≢◌, ◌==◌, if◌then◌else◌, List, [], ◌∷◌, length, slice_index_or, slice_set, Option, None, Some, option_map}
+use denote.RawPtr.{Ptr}
+use Rattle.strm_types.specs.Ranked as ranked
+use Rattle.strm_blocks.specs.Blocks.{rank_of, list_at}
+use Rattle.strm_raw.specs.Numbered.{Nodes, Row, row_at, msg_number, IsMsgOrNone}
+use Rattle.strm_raw.specs.Roster.{Msg, Roster}
+use Rattle.strm_raw.specs.Raw.{value_of, msg_in, without_in}
+use Rattle.strm_raw.specs.declared.neighbours.Ends.{Ends}
+use Rattle.strm_raw.specs.declared.msg_nodes.MsgLink.{MsgLink}
+
+abbrev pub no_ends : Ends
+no_ends = record { first = None; last = None }
+
+abbrev pub ends_at : ℕ → List Ends → Ends
+ends_at k ends = slice_index_or ends k no_ends
+
+abbrev pub queue_at : ℕ → List (List Msg) → List Msg
+queue_at k lists = slice_index_or lists k []
+
+-- Where a list leads from a place. A place is the first block of a message, or None: the list's outside, from which it
+-- leads on to its first message and back to its last one.
+abbrev pub Step : Type 0
+Step = Option ℕ → Option ℕ
+
+abbrev pub ahead_of : List Row → ℕ → Option ℕ
+ahead_of rows i = (row_at i rows).ahead
+
+abbrev pub behind_of : List Row → ℕ → Option ℕ
+behind_of rows i = (row_at i rows).behind
+
+abbrev pub on : Ptr → (ℕ → Option ℕ) → Ends → Step
+on mat ahead ends None = option_map (msg_number mat) ends.first
+on mat ahead ends (Some i) = ahead i
+
+abbrev pub back : Ptr → (ℕ → Option ℕ) → Ends → Step
+back mat behind ends None = option_map (msg_number mat) ends.last
+back mat behind ends (Some i) = behind i
+
+-- from a place on, the steps on lead through the messages in order and to the outside, and each step back undoes one on
+abbrev pub IsTied : Step → Step → Option ℕ → List Msg → Type 0
+IsTied on back from [] = (on from ≡ None) × (back None ≡ from)
+IsTied on back from (m ∷ q) = (on from ≡ Some m.head) × ((back (Some m.head) ≡ from) × IsTied on back (Some m.head) q)
+
+abbrev pub IsList : Nodes → Ends → List Msg → Type 0
+IsList v ends q = IsTied (on v.mat (ahead_of v.rows) ends) (back v.mat (behind_of v.rows) ends) None q
+
+-- the place behind some messages, and the place before some
+abbrev pub end_of : Option ℕ → List Msg → Option ℕ
+end_of from [] = from
+end_of from (m ∷ q) = end_of (Some m.head) q
+
+abbrev pub begin_of : List Msg → Option ℕ
+begin_of [] = None
+begin_of (m ∷ q) = Some m.head
+
+-- The ends of each list lead to nodes, the links of each list are its messages, and each list is in order of rank.
+pub record AreListed (v : Nodes) (ends : List Ends) (b : Roster) : Type 0 where
+  pub eight : length ends ≡ 8
+  pub first : (k : ℕ) → IsMsgOrNone v.mat (length v.rows) (ends_at k ends).first
+  pub last : (k : ℕ) → IsMsgOrNone v.mat (length v.rows) (ends_at k ends).last
+  pub tied : (k : ℕ) → IsList v (ends_at k ends) (queue_at k b.lists)
+  pub ordered : (k : ℕ) → ranked.IsOrdered rank_of (list_at (value_of v b) k)
+
+-- a message block without its neighbours
+abbrev pub plain : Row → Row
+plain r = record r { ahead = None; behind = None }
+
+-- A list leads on from a place to another one, or back. What else it leads to stays, and so do the blocks themselves.
+pub record LeadsOn (mat : Ptr) (rows rows' : List Row) (e e' : Ends) (a b : Option ℕ) : Type 0 where
+  pub len : length rows' ≡ length rows
+  pub plain : (i : ℕ) → plain (row_at i rows') ≡ plain (row_at i rows)
+  pub on_at : on mat (ahead_of rows') e' a ≡ b
+  pub on_else : (p : Option ℕ) → p ≢ a → on mat (ahead_of rows') e' p ≡ on mat (ahead_of rows) e p
+  pub back_same : (p : Option ℕ) → back mat (behind_of rows') e' p ≡ back mat (behind_of rows) e p
+
+pub record LeadsBack (mat : Ptr) (rows rows' : List Row) (e e' : Ends) (a b : Option ℕ) : Type 0 where
+  pub len : length rows' ≡ length rows
+  pub plain : (i : ℕ) → plain (row_at i rows') ≡ plain (row_at i rows)
+  pub back_at : back mat (behind_of rows') e' a ≡ b
+  pub back_else : (p : Option ℕ) → p ≢ a → back mat (behind_of rows') e' p ≡ back mat (behind_of rows) e p
+  pub on_same : (p : Option ℕ) → on mat (ahead_of rows') e' p ≡ on mat (ahead_of rows) e p
+
+-- a list leads on from one place to another one, and back
+pub record Ties (mat : Ptr) (rows rows' : List Row) (e e' : Ends) (a b : Option ℕ) : Type 0 where
+  pub len : length rows' ≡ length rows
+  pub plain : (i : ℕ) → plain (row_at i rows') ≡ plain (row_at i rows)
+  pub on_at : on mat (ahead_of rows') e' a ≡ b
+  pub back_at : back mat (behind_of rows') e' b ≡ a
+  pub on_else : (p : Option ℕ) → p ≢ a → on mat (ahead_of rows') e' p ≡ on mat (ahead_of rows) e p
+  pub back_else : (p : Option ℕ) → p ≢ b → back mat (behind_of rows') e' p ≡ back mat (behind_of rows) e p
+
+-- a message lies between two places that follow one another
+pub record Seats (mat : Ptr) (rows rows' : List Row) (e e' : Ends) (a : Option ℕ) (x : ℕ) (b : Option ℕ) : Type 0 where
+  pub middle : List Row
+  pub ends : Ends
+  pub front : Ties mat rows middle e ends a (Some x)
+  pub rear : Ties mat middle rows' ends e' (Some x) b
+
+-- how a call on a list changes the roster
+
+-- the messages with another one in front of that which begins with a block, and at the end where none does
+abbrev pub seat_in : ℕ → Msg → List Msg → List Msg
+seat_in j x [] = x ∷ []
+seat_in j x (m ∷ q) = if m.head == j then x ∷ m ∷ q else m ∷ seat_in j x q
+
+-- a message of a list is in hand
+abbrev pub unseated : ℕ → MsgLink → Roster → Roster
+unseated k l b = let i = msg_number b.mat l in let q = queue_at k b.lists in record b { lists = slice_set b.lists k (without_in i q); hand = msg_in i q ∷ b.hand }
+
+-- a message in hand is on a list, in front of the one to which a link leads
+abbrev pub seated : ℕ → ℕ → MsgLink → Roster → Roster
+seated k i l b = record b { lists = slice_set b.lists k (seat_in (msg_number b.mat l) (msg_in i b.hand) (queue_at k b.lists)); hand = without_in i b.hand }
+
+-- A message is taken off a list: its neighbours are tied.
+pub record Unseats (v v' : Nodes) (ends ends' : List Ends) (b b' : Roster) (k : ℕ) (l : MsgLink) : Type 0 where
+  pub after : Ends
+  pub nodes : v' ≡ record v { rows = v'.rows }
+  pub tied : Ties v.mat v.rows v'.rows (ends_at k ends) after (behind_of v.rows (msg_number v.mat l)) (ahead_of v.rows (msg_number v.mat l))
+  pub first : IsMsgOrNone v.mat (length v.rows) after.first
+  pub last : IsMsgOrNone v.mat (length v.rows) after.last
+  pub ends_are : ends' ≡ slice_set ends k after
+  pub roster_is : b' ≡ unseated k l b

@@ -1,0 +1,90 @@
+//! The two ends of a list of messages, and its links.
+ghost use Rattle.std.specs.Prelude.{◌≡◌, length, option_map, MatchOption};
+ghost use Rattle.strm_raw.specs.Numbered.{IsMsgOrNone, msg_number, row_at, with_row};
+ghost use Rattle.strm_raw.specs.Lists.{Ties};
+
+use crate::memory::Memory;
+use crate::msg_nodes::{MsgLink, MsgNode};
+
+/// Where the first and the last message of a list lie; both are `None` where no message stands on it.
+#[derive(Clone, Copy)]
+pub(crate) struct Ends {
+    pub(crate) first: Option<MsgLink>,
+    pub(crate) last: Option<MsgLink>,
+}
+
+/// The ends of a list with no message on it.
+pub(crate) const NO_ENDS: Ends = Ends {
+    first: None,
+    last: None,
+};
+
+// Lets a list lead on from a message, or from its outside, to another one.
+fn lead_on(
+    memory: &mut Memory,
+    ends: Ends,
+    from: Option<MsgLink>,
+    to: Option<MsgLink>,
+) -> Ends
+    requires from { IsMsgOrNone memory.old.mat (length memory.old.rows) from }
+    requires to { IsMsgOrNone memory.old.mat (length memory.old.rows) to }
+    ensures { let v = memory.old in MatchOption from
+        ((memory.new ≡ v) × (result ≡ record ends { first = to }))
+        (λ at. let i = msg_number v.mat at in
+            (memory.new ≡ with_row i (record (row_at i v.rows) { ahead = option_map (msg_number v.mat) to }) v) × (result ≡ ends)) }
+{
+    match from {
+        None => Ends { first: to, ..ends },
+        Some(at) => {
+            let node = memory.message(at);
+            memory.set_message(at, MsgNode { ahead: to, ..node });
+            ends
+        }
+    }
+}
+
+// Lets a list lead back from a message, or from its outside, to another one.
+fn lead_back(
+    memory: &mut Memory,
+    ends: Ends,
+    from: Option<MsgLink>,
+    to: Option<MsgLink>,
+) -> Ends
+    requires from { IsMsgOrNone memory.old.mat (length memory.old.rows) from }
+    requires to { IsMsgOrNone memory.old.mat (length memory.old.rows) to }
+    ensures { let v = memory.old in MatchOption from
+        ((memory.new ≡ v) × (result ≡ record ends { last = to }))
+        (λ at. let i = msg_number v.mat at in
+            (memory.new ≡ with_row i (record (row_at i v.rows) { behind = option_map (msg_number v.mat) to }) v) × (result ≡ ends)) }
+{
+    match from {
+        None => Ends { last: to, ..ends },
+        Some(at) => {
+            let node = memory.message(at);
+            memory.set_message(at, MsgNode { behind: to, ..node });
+            ends
+        }
+    }
+}
+
+/// Lets a list lead from one message on to another one, and back. `None` stands for what lies outside the list: it leads
+/// on to the first message and back to the last one. Returns the list's ends.
+pub(crate) fn tie(
+    memory: &mut Memory,
+    ends: Ends,
+    before: Option<MsgLink>,
+    after: Option<MsgLink>,
+) -> Ends
+    requires before { IsMsgOrNone memory.old.mat (length memory.old.rows) before }
+    requires after { IsMsgOrNone memory.old.mat (length memory.old.rows) after }
+    ensures nodes { memory.new ≡ record memory.old { rows = memory.new.rows } }
+    ensures tied { let v = memory.old in
+        Ties v.mat v.rows memory.new.rows ends result (option_map (msg_number v.mat) before) (option_map (msg_number v.mat) after) }
+    ensures first { let v = memory.old in
+        IsMsgOrNone v.mat (length v.rows) ends.first → IsMsgOrNone v.mat (length v.rows) result.first }
+    ensures last { let v = memory.old in
+        IsMsgOrNone v.mat (length v.rows) ends.last → IsMsgOrNone v.mat (length v.rows) result.last }
+{
+    let led = lead_on(memory, ends, before, after);
+    lead_back(memory, led, after, before)
+}
