@@ -10,6 +10,8 @@ pub mod Tied
 pub mod Leading
 pub mod Moved
 pub mod Seating
+pub mod Placing
+pub mod Inserting
 pub mod Taking
 pub mod Parting
 pub mod Giving

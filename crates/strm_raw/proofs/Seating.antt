@@ -1,10 +1,10 @@
 -- A message that is put on a list, and one that is taken off it.
 use Rattle.std.proofs.Common.{ℕ, ◌≡◌, ◌≢◌, ◌≤◌, ◌<◌, ◌+◌, true, false, cond, eqb, List, [], ◌∷◌, ◌++◌, length, get_or, map, refl, sym, ap, ◌∙◌, subst, arith}
 use Rattle.std.proofs.Math.ListN.{set}
-use Rattle.std.specs.Prelude.{sum_by, Option, None, Some, unwrap_or}
+use Rattle.std.specs.Prelude.{sum_by, Option, None, Some, option_map, unwrap_or}
 use Rattle.std.specs.List.{AllByRecursion}
 use Rattle.std.proofs.lemmas.Bool.Decides.{nat_tests}
-use Rattle.std.proofs.lemmas.List.{map-append}
+use Rattle.std.proofs.lemmas.List.{append_assoc, map-append}
 use Rattle.std.proofs.lemmas.List.Sums.{sum_by-cons, sum_by-append}
 use Rattle.strm_types.specs.Ranked as ranked
 use Rattle.strm_blocks.specs.Blocks.{Block, StoreValue, rank_of, list_at, held, dropped, placed, IsFreshName}
@@ -249,3 +249,46 @@ left-by {v = v} {v' = v'} {ends = ends} is listed k within l xs m ys shape name 
 -- a list with nothing on it
 pub no-queue : (v : Nodes) (b : Roster) (k : ℕ) → queue_at k b.lists ≡ [] → list_at (value_of v b) k ≡ []
 no-queue v b k e = queue-value v b.lists k ∙ ap (λ q. map (chain_of v) q) e
+
+-- where the roster puts a message
+number-of-next : (f : MsgLink → ℕ) (o : Option MsgLink) (l : MsgLink) → f (unwrap_or o l) ≡ unwrap_or (option_map f o) (f l)
+number-of-next f None l = refl
+number-of-next f (Some k) l = refl
+
+seat-is : (i : ℕ) (x : Msg) (xs ys : List Msg) → ((j : ℕ) → heads j (xs ++ ys) ≤ 1) → heads i (xs ++ ys) ≡ 0 → seat_in (unwrap_or (begin_of ys) i) x (xs ++ ys) ≡ xs ++ x ∷ ys
+seat-is i x xs [] once off = seat-last i x (xs ++ []) off ∙ append_assoc xs [] (x ∷ [])
+seat-is i x xs (y ∷ ys) once off =
+    let o = once y.head in let h = heads-append y.head xs (y ∷ ys) in let c = heads-cons y.head y ys in
+    seat-before x y xs ys (grind (arith, nat_tests))
+
+-- what a call leaves that puts a message on a list
+pub record Placed (v v' : Nodes) (ends' : List Ends) (b b' : Roster) (first_m : Option MsgLink) (first_d : Option DataLink) (spare_m spare_d k i : ℕ) (q : List (List Block)) : Type 0 where
+  pub raw : IsRaw v' first_m first_d spare_m spare_d b'
+  pub listed : AreListed v' ends' b'
+  pub value : value_of v' b' ≡ placed (dropped (value_of v b) i) k q
+
+module _ {v v' : Nodes} {ends ends' : List Ends} {b b' : Roster} {first_m : Option MsgLink} {first_d : Option DataLink} {spare_m spare_d : ℕ} (is : IsRaw v first_m first_d spare_m spare_d b) (listed : AreListed v ends b)
+    (k : ℕ) (within : k < 8) (l : MsgLink) (here : IsHere v b l) (xs ys : List Msg) (shape : queue_at k b.lists ≡ xs ++ ys) where
+  pub placed-by : (e : Ends) (before after : Option ℕ) → before ≡ end_of None xs → after ≡ begin_of ys → Seats v.mat v.rows v'.rows (ends_at k ends) e before (msg_number v.mat l) after
+      → IsMsgOrNone v.mat (length v.rows) e.first → IsMsgOrNone v.mat (length v.rows) e.last → v' ≡ record v { rows = v'.rows } → ends' ≡ set ends k e
+      → (o : Option MsgLink) → option_map (msg_number v.mat) o ≡ after → (n : ℕ) → n ≡ msg_number v.mat l → b' ≡ seated k n (unwrap_or o l) b
+      → (q : List (List Block)) → map (chain_of v) (xs ++ msg_in (msg_number v.mat l) b.hand ∷ ys) ≡ q → ranked.IsOrdered rank_of q
+      → Placed v v' ends' b b' first_m first_d spare_m spare_d k (msg_number v.mat l) q
+  placed-by e before after before_is after_is seats first last nodes ends_are o o_is n n_is roster_is q q_is order =
+      let i = msg_number v.mat l in
+      let x = msg_in i b.hand in
+      let seats' = subst (λ (p : Option ℕ × Option ℕ). Seats v.mat v.rows v'.rows (ends_at k ends) e p.0 i p.1) (λ j. (before_is j, after_is j)) seats in
+      let order' = subst (λ (q : List (List Block)). ranked.IsOrdered rank_of q) (sym q_is) order in
+      let once : (j : ℕ) → heads j (xs ++ ys) ≤ 1 = λ j. subst (λ (q : List Msg). heads j q ≤ 1) shape (once-queue is j k) in
+      let off = ap (λ q. heads i q) (sym shape) ∙ apart-lists is i k (found-some is l here) in
+      let next : msg_number b.mat (unwrap_or o l) ≡ unwrap_or (begin_of ys) i =
+      ap (λ mat. msg_number mat (unwrap_or o l)) is.same ∙ number-of-next (msg_number v.mat) o l ∙ ap (λ p. unwrap_or p i) (o_is ∙ after_is) in
+      let roster : b' ≡ record b { lists = set b.lists k (xs ++ x ∷ ys); hand = without_in i b.hand } =
+      roster_is
+      ∙ (λ j. record b { lists = set b.lists k (seat_in (next j) (msg_in (n_is j) b.hand) (shape j)); hand = without_in (n_is j) b.hand })
+      ∙ (λ j. record b { lists = set b.lists k (seat-is i x xs ys once off j); hand = without_in i b.hand }) in
+      record {
+        raw = subst (λ (w : Nodes × Roster). IsRaw w.0 first_m first_d spare_m spare_d w.1) (λ j. (sym nodes j, sym roster j)) (on-raw is listed k within l here xs ys shape v'.rows e seats' first last order');
+        listed = subst (λ (w : Nodes × List Ends × Roster). AreListed w.0 w.1 w.2) (λ j. (sym nodes j, sym ends_are j, sym roster j)) (on-listed is listed k within l here xs ys shape v'.rows e seats' first last order');
+        value = (λ j. value_of (nodes j) (roster j)) ∙ on-value is listed k within l here xs ys shape v'.rows e seats' first last order' ∙ ap (λ q. placed (dropped (value_of v b) i) k q) q_is;
+      }

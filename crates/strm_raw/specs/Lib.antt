@@ -6,5 +6,6 @@ pub mod Made
 pub mod Roster
 pub mod Raw
 pub mod Lists
+pub mod Places
 pub mod Outcomes
 pub mod RawStore

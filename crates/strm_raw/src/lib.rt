@@ -12,6 +12,7 @@ mod memory;
 mod msg_nodes;
 mod neighbours;
 mod nodes;
+mod ranks;
 mod raw;
 mod sending;
 #[cfg(test)]

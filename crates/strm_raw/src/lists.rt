@@ -1,6 +1,6 @@
 //! Messages that come on a list and go off it.
 ghost use Rattle.std.specs.Prelude.{◌≡◌, ◌<◌, ◌==◌, length, MatchOption};
-ghost use Rattle.strm_blocks.specs.Blocks.{list_at, token};
+ghost use Rattle.strm_blocks.specs.Blocks.{IsInHand, dropped, in_hand, list_at, placed, put, put_back, token};
 ghost use Rattle.strm_blocks.specs.Outcomes.{Popped, Unpopped};
 ghost use Rattle.strm_raw.specs.Numbered.{IsMsg, IsMsgOrNone, msg_number};
 ghost use Rattle.strm_raw.specs.Lists.{Unseats, ends_at};
@@ -9,7 +9,8 @@ ghost use Rattle.strm_raw.specs.Outcomes.{PoppedLast};
 use crate::ledger::Ledger;
 use crate::memory::Memory;
 use crate::msg_nodes::MsgLink;
-use crate::neighbours::{Ends, tie};
+use crate::neighbours::{Ends, ahead, behind, seat, tie};
+use crate::ranks::{first_ranked, last_ranked, rank_of};
 use crate::raw::RawStore;
 use std::ptr::null_mut;
 use strm_blocks::InHand;
@@ -62,6 +63,46 @@ impl RawStore {
             last,
         );
         Some(message)
+    }
+
+    /// Puts a message on a list, behind all of at least its rank: `putq(9F)`. It takes one step where the last message of
+    /// the list has at least the new one's rank, and else a step for each message that is passed.
+    pub fn insert_back(&mut self, list: usize, message: InHand)
+        requires list { list < 8 }
+        requires in_hand { IsInHand self.old (token message) }
+        ensures { let s = self.old in
+            self.new ≡ placed (dropped s (token message)) list
+            (put (in_hand s (token message)) (list_at s list)) }
+    {
+        let at = self.memory.message_link(message.name() as usize);
+        let rank = rank_of(self.memory.message(at));
+        let ends = self.ends[list];
+        let before = last_ranked(&self.memory, ends, rank);
+        let after = ahead(&self.memory, ends, before);
+        self.ends[list] = seat(&mut self.memory, ends, before, at, after);
+        let next = after.unwrap_or(at);
+        self.ledger
+            .note(next.at, null_mut(), list, message.name() as usize);
+    }
+
+    /// Puts a message on a list, in front of all of at most its rank: `putbq(9F)`. It takes one step where the first
+    /// message of the list has at most the new one's rank, and else a step for each message that is passed.
+    pub fn insert_front(&mut self, list: usize, message: InHand)
+        requires list { list < 8 }
+        requires in_hand { IsInHand self.old (token message) }
+        ensures { let s = self.old in
+            self.new ≡ placed (dropped s (token message)) list
+            (put_back (in_hand s (token message)) (list_at s list)) }
+    {
+        let at = self.memory.message_link(message.name() as usize);
+        let rank = rank_of(self.memory.message(at));
+        let ends = self.ends[list];
+        let after = first_ranked(&self.memory, ends, rank);
+        let before = behind(&self.memory, ends, after);
+        self.ends[list] = seat(&mut self.memory, ends, before, at, after);
+        let next = after.unwrap_or(at);
+        self.ledger
+            .note(next.at, null_mut(), list, message.name() as usize);
     }
 }
 

@@ -1,7 +1,7 @@
 //! The two ends of a list of messages, and its links.
 ghost use Rattle.std.specs.Prelude.{◌≡◌, length, option_map, MatchOption};
-ghost use Rattle.strm_raw.specs.Numbered.{IsMsgOrNone, msg_number, row_at, with_row};
-ghost use Rattle.strm_raw.specs.Lists.{Ties};
+ghost use Rattle.strm_raw.specs.Numbered.{IsMsg, IsMsgOrNone, msg_number, row_at, with_row};
+ghost use Rattle.strm_raw.specs.Lists.{Seats, Ties, ahead_of, back, behind_of, on};
 
 use crate::memory::Memory;
 use crate::msg_nodes::{MsgLink, MsgNode};
@@ -87,4 +87,55 @@ pub(crate) fn tie(
 {
     let led = lead_on(memory, ends, before, after);
     lead_back(memory, led, after, before)
+}
+
+/// The message to which a list leads on from a message, or from its outside.
+pub(crate) fn ahead(memory: &Memory, ends: Ends, from: Option<MsgLink>) -> Option<MsgLink>
+    requires first { IsMsgOrNone memory.now.mat (length memory.now.rows) ends.first }
+    requires from { IsMsgOrNone memory.now.mat (length memory.now.rows) from }
+    ensures there { IsMsgOrNone memory.now.mat (length memory.now.rows) result }
+    ensures step { let v = memory.now in
+        option_map (msg_number v.mat) result ≡ on v.mat (ahead_of v.rows) ends (option_map (msg_number v.mat) from) }
+{
+    match from {
+        None => ends.first,
+        Some(at) => memory.message(at).ahead,
+    }
+}
+
+/// The message to which a list leads back from a message, or from its outside.
+pub(crate) fn behind(memory: &Memory, ends: Ends, from: Option<MsgLink>) -> Option<MsgLink>
+    requires last { IsMsgOrNone memory.now.mat (length memory.now.rows) ends.last }
+    requires from { IsMsgOrNone memory.now.mat (length memory.now.rows) from }
+    ensures there { IsMsgOrNone memory.now.mat (length memory.now.rows) result }
+    ensures step { let v = memory.now in
+        option_map (msg_number v.mat) result ≡ back v.mat (behind_of v.rows) ends (option_map (msg_number v.mat) from) }
+{
+    match from {
+        None => ends.last,
+        Some(at) => memory.message(at).behind,
+    }
+}
+
+/// Puts a message between two places of a list that follow one another. Returns the list's ends.
+pub(crate) fn seat(
+    memory: &mut Memory,
+    ends: Ends,
+    before: Option<MsgLink>,
+    at: MsgLink,
+    after: Option<MsgLink>,
+) -> Ends
+    requires before { IsMsgOrNone memory.old.mat (length memory.old.rows) before }
+    requires at { IsMsg memory.old.mat (length memory.old.rows) at }
+    requires after { IsMsgOrNone memory.old.mat (length memory.old.rows) after }
+    ensures nodes { memory.new ≡ record memory.old { rows = memory.new.rows } }
+    ensures seats { let v = memory.old in
+        Seats v.mat v.rows memory.new.rows ends result (option_map (msg_number v.mat) before) (msg_number v.mat at) (option_map (msg_number v.mat) after) }
+    ensures first { let v = memory.old in
+        IsMsgOrNone v.mat (length v.rows) ends.first → IsMsgOrNone v.mat (length v.rows) result.first }
+    ensures last { let v = memory.old in
+        IsMsgOrNone v.mat (length v.rows) ends.last → IsMsgOrNone v.mat (length v.rows) result.last }
+{
+    let front = tie(memory, ends, before, Some(at));
+    tie(memory, front, Some(at), after)
 }

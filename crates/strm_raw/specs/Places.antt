@@ -1,0 +1,37 @@
+-- Where on a list a message of a rank belongs.
+use Rattle.std.specs.Prelude.{ℕ, ◌≡◌, ◌≤◌, ◌<◌, if◌then◌else◌, List, ◌++◌, Option, None, MatchOption}
+use Rattle.std.specs.List.{AllByRecursion}
+use Rattle.strm_types.specs.Message.{is_high_priority}
+use Rattle.strm_types.specs.declared.kinds.MsgKind.{MsgKind}
+use Rattle.strm_raw.specs.Numbered.{Row, row_at}
+use Rattle.strm_raw.specs.Roster.{Msg}
+use Rattle.strm_raw.specs.Lists.{end_of, begin_of}
+
+-- 256 for high priority, else the band
+abbrev pub rank_by : MsgKind → ℕ → ℕ
+rank_by kind band = if is_high_priority kind then 256 else band
+
+-- the rank of the message that begins with a block, and of a message
+abbrev pub rank_at : List Row → ℕ → ℕ
+rank_at rows i = rank_by (row_at i rows).kind (row_at i rows).band
+
+abbrev pub msg_rank : List Row → Msg → ℕ
+msg_rank rows m = rank_at rows m.head
+
+-- All messages behind a place have a lower rank, and the place is the list's outside or a message of at least the rank.
+pub record RanksBehind (rows : List Row) (r : ℕ) (q : List Msg) (p : Option ℕ) : Type 0 where
+  pub front : List Msg
+  pub rear : List Msg
+  pub joined : q ≡ front ++ rear
+  pub place : p ≡ end_of None front
+  pub lower : AllByRecursion (λ m. msg_rank rows m < r) rear
+  pub upper : MatchOption p (Unit {0}) (λ i. r ≤ rank_at rows i)
+
+-- All messages before a place have a higher rank, and the place is the list's outside or a message of at most the rank.
+pub record RanksBefore (rows : List Row) (r : ℕ) (q : List Msg) (p : Option ℕ) : Type 0 where
+  pub front : List Msg
+  pub rear : List Msg
+  pub joined : q ≡ front ++ rear
+  pub place : p ≡ begin_of rear
+  pub higher : AllByRecursion (λ m. r < msg_rank rows m) front
+  pub lower : MatchOption p (Unit {0}) (λ i. rank_at rows i ≤ r)
