@@ -13,7 +13,7 @@ apart-fresh : (s : StoreValue) (i j : ℕ) → IsInHand s i → IsFreshName s j 
 apart-fresh s i j here fresh same = absurd (let e = ap (λ (n : ℕ). times_in n s.hand) same in omega arith)
 
 -- a new message is in hand
-in-hand-held : (s : StoreValue) (i : ℕ) (chain : List Block) → IsFreshName s i → IsInHand (held s i chain) i
+pub in-hand-held : (s : StoreValue) (i : ℕ) (chain : List Block) → IsFreshName s i → IsInHand (held s i chain) i
 in-hand-held s i chain fresh = let c = sum_by-cons (λ (h : Held). cond (eqb h.name i) 1 0) (record { name = i; chain = chain }) s.hand in grind (arith, nat_tests)
 
 -- no name is that of more messages where one is out of hand

@@ -28,18 +28,17 @@ straight-rows zero i = refl
 straight-rows (suc m) zero = refl
 straight-rows (suc m) (suc i) = straight-rows m i
 
--- the fields of a store that was made
-pub fresh-raw : (v0 v1 v2 : Nodes) (m d : ℕ) (first_m : Option MsgLink) (first_d : Option DataLink) (mat dat : Ptr) → v0.rows ≡ replicate m no_row → v0.datas ≡ replicate d new_data
+-- the fields of a store all of whose blocks were linked as free ones
+pub threaded-raw : (v0 v1 v2 : Nodes) (m d : ℕ) (first_m : Option MsgLink) (first_d : Option DataLink) (mat dat : Ptr) → length v0.rows ≡ m → length v0.datas ≡ d → ((i : ℕ) → askew (row_at i v0.rows) ≡ 0)
     → m ≤ 65536 → d ≤ 65536 → ThreadsMessages v0 v1 first_m 0 → ThreadsData v1 v2 first_d 0 → mat ≡ v2.mat → dat ≡ v2.dat
     → IsRaw v2 first_m first_d m d (record { mat = mat; dat = dat; free_m = numbers 0 m; free_d = numbers 0 d; lists = replicate 8 []; hand = [] })
-fresh-raw v0 v1 v2 m d first_m first_d mat dat rows datas few_m few_d ms ds mat_is dat_is =
+threaded-raw v0 v1 v2 m d first_m first_d mat dat len0 lend straight few_m few_d ms ds mat_is dat_is =
     let is_m : v2.mat ≡ v0.mat = ap (λ (v : Nodes). v.mat) ds.same ∙ ap (λ (v : Nodes). v.mat) ms.same in
     let is_d : v2.dat ≡ v1.dat = ap (λ (v : Nodes). v.dat) ds.same in
     let is_r : v2.rows ≡ v1.rows = ap (λ (v : Nodes). v.rows) ds.same in
-    let len0 : length v0.rows ≡ m = ap length rows ∙ length-replicate m no_row in
     let len_m : length v2.rows ≡ m = ap length is_r ∙ ms.len ∙ len0 in
     let same_d : v1.datas ≡ v0.datas = ap (λ (v : Nodes). v.datas) ms.same in
-    let len1 : length v1.datas ≡ d = ap length same_d ∙ ap length datas ∙ length-replicate d new_data in
+    let len1 : length v1.datas ≡ d = ap length same_d ∙ lend in
     let len_d : length v2.datas ≡ d = ds.len ∙ len1 in
     let none : (i : ℕ) → (data_at i v2.datas).references ≡ 0 = λ i. ds.free i (omega arith) in
     let from_m : m ≡ length v0.rows - 0 = omega arith in
@@ -59,9 +58,16 @@ fresh-raw v0 v1 v2 m d first_m first_d mat dat rows datas few_m few_d ms ds mat_
       linked_m = (λ j. breaks (next_of (is_r j)) (option_map (msg_number (is_m j)) first_m) (numbers 0 (from_m j))) ∙ ms.linked;
       linked_d = (λ j. breaks (free_after v2.datas) (option_map (data_number (is_d j)) first_d) (numbers 0 (from_d j))) ∙ ds.linked;
       chained = refl;
-      straight = λ i. ap (λ rs. askew (row_at i rs)) is_r ∙ ms.straight (λ k. ap (λ rs. askew (row_at k rs)) rows ∙ straight-rows m k) i;
+      straight = λ i. ap (λ rs. askew (row_at i rs)) is_r ∙ ms.straight straight i;
       count_m = sym (numbers-len 0 m);
       count_d = sym (numbers-len 0 d);
       there_m = subst (λ (x : Ptr × ℕ). IsMsgOrNone x.0 x.1 first_m) (λ j. (sym is_m j, (len0 ∙ sym len_m) j)) ms.there;
       there_d = subst (λ (x : Ptr × ℕ). IsDataOrNone x.0 x.1 first_d) (λ j. (sym is_d j, (len1 ∙ sym len_d) j)) ds.there;
     }
+
+-- the fields of a store that was made
+pub fresh-raw : (v0 v1 v2 : Nodes) (m d : ℕ) (first_m : Option MsgLink) (first_d : Option DataLink) (mat dat : Ptr) → v0.rows ≡ replicate m no_row → v0.datas ≡ replicate d new_data
+    → m ≤ 65536 → d ≤ 65536 → ThreadsMessages v0 v1 first_m 0 → ThreadsData v1 v2 first_d 0 → mat ≡ v2.mat → dat ≡ v2.dat
+    → IsRaw v2 first_m first_d m d (record { mat = mat; dat = dat; free_m = numbers 0 m; free_d = numbers 0 d; lists = replicate 8 []; hand = [] })
+fresh-raw v0 v1 v2 m d first_m first_d mat dat rows datas few_m few_d ms ds mat_is dat_is =
+    threaded-raw v0 v1 v2 m d first_m first_d mat dat (ap length rows ∙ length-replicate m no_row) (ap length datas ∙ length-replicate d new_data) (λ k. ap (λ rs. askew (row_at k rs)) rows ∙ straight-rows m k) few_m few_d ms ds mat_is dat_is

@@ -110,7 +110,7 @@ module _ {v : Nodes} {b : Roster} {first_m : Option MsgLink} {first_d : Option D
         there = rw len is.there_d;
       }
 
-empty : {A : Type 0} (xs : List A) → length xs ≡ 0 → xs ≡ []
+pub empty : {A : Type 0} (xs : List A) → length xs ≡ 0 → xs ≡ []
 empty [] z = refl
 empty (x ∷ xs) z = absurd (omega arith)
 

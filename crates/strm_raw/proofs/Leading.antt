@@ -5,10 +5,25 @@ use Rattle.std.specs.Prelude.{Option, None, Some, option_map, MatchOption}
 use Rattle.std.proofs.lemmas.List.{get_or-set_same, get_or-set_other}
 use denote.RawPtr.{Ptr}
 use Rattle.strm_raw.specs.Numbered.{Nodes, Row, row_at, no_row, msg_number, with_row, IsMsgOrNone}
-use Rattle.strm_raw.specs.Lists.{on, back, ahead_of, behind_of, plain, LeadsOn, LeadsBack, Ties}
+use Rattle.strm_raw.specs.Lists.{on, back, ahead_of, behind_of, plain, Ties}
 use Rattle.strm_raw.specs.declared.neighbours.Ends.{Ends}
 use Rattle.strm_raw.specs.declared.msg_nodes.MsgLink.{MsgLink}
 use Rattle.strm_raw.proofs.Parting.{row-keeps}
+
+-- A list leads on from a place to another one, or back. What else it leads to stays, and so do the blocks themselves.
+pub record LeadsOn (mat : Ptr) (rows rows' : List Row) (e e' : Ends) (a b : Option ℕ) : Type 0 where
+  pub len : length rows' ≡ length rows
+  pub plain : (i : ℕ) → plain (row_at i rows') ≡ plain (row_at i rows)
+  pub on_at : on mat (ahead_of rows') e' a ≡ b
+  pub on_else : (p : Option ℕ) → p ≢ a → on mat (ahead_of rows') e' p ≡ on mat (ahead_of rows) e p
+  pub back_same : (p : Option ℕ) → back mat (behind_of rows') e' p ≡ back mat (behind_of rows) e p
+
+pub record LeadsBack (mat : Ptr) (rows rows' : List Row) (e e' : Ends) (a b : Option ℕ) : Type 0 where
+  pub len : length rows' ≡ length rows
+  pub plain : (i : ℕ) → plain (row_at i rows') ≡ plain (row_at i rows)
+  pub back_at : back mat (behind_of rows') e' a ≡ b
+  pub back_else : (p : Option ℕ) → p ≢ a → back mat (behind_of rows') e' p ≡ back mat (behind_of rows) e p
+  pub on_same : (p : Option ℕ) → on mat (ahead_of rows') e' p ≡ on mat (ahead_of rows) e p
 
 module _ (mat : Ptr) (rows : List Row) (e : Ends) where
   -- a link of a message

@@ -12,6 +12,8 @@ pub mod Moved
 pub mod Seating
 pub mod Placing
 pub mod Inserting
+pub mod Flushed
+pub mod Sound
 pub mod Taking
 pub mod Parting
 pub mod Giving

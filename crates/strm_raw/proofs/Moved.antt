@@ -1,13 +1,13 @@
 -- Messages that move between the hand and a list.
-use Rattle.std.proofs.Common.{ℕ, zero, suc, ◌≡◌, ◌≢◌, ◌≤◌, ◌<◌, ◌+◌, cond, eqb, List, [], ◌∷◌, length, get_or, map, refl, sym, ap, ◌∙◌, subst, arith, inl, inr}
+use Rattle.std.proofs.Common.{ℕ, zero, suc, ◌≡◌, ◌≢◌, ◌≤◌, ◌<◌, ◌+◌, eqb, List, [], ◌∷◌, length, get_or, map, refl, sym, ap, ◌∙◌, subst, arith, inl, inr}
 use Rattle.std.proofs.Math.ListN.{set, length-set}
-use Rattle.std.specs.Prelude.{sum_by, count_by, Option, None, Some, option_map}
+use Rattle.std.specs.Prelude.{sum_by, count_by, Option, None, option_map}
 use Rattle.std.proofs.lemmas.Bool.{cases_eq}
 use Rattle.std.proofs.lemmas.Bool.Decides.{nat_tests}
-use Rattle.std.proofs.lemmas.List.{get_or-set_same, get_or-set_other, length-map}
+use Rattle.std.proofs.lemmas.List.{get_or-set_same, get_or-set_other}
 use Rattle.std.proofs.lemmas.List.Sums.{sum_by-cons, sum_by-set}
 use Rattle.strm_types.specs.Ranked as ranked
-use Rattle.strm_blocks.specs.Blocks.{Block, Held, StoreValue, rank_of, list_at}
+use Rattle.strm_blocks.specs.Blocks.{Block, rank_of}
 use Rattle.strm_raw.specs.Numbered.{Nodes, Row, row_at, msg_number, IsMsgOrNone}
 use Rattle.strm_raw.specs.Roster.{Msg, Roster}
 use Rattle.strm_raw.specs.Raw.{weigh, ids, times, chain_of, held_of, block_no, shown, value_of, naming, breaks, broken, IsRaw, next_of, is_there, askew, heads}
@@ -15,17 +15,9 @@ use Rattle.strm_raw.specs.Lists.{AreListed, IsList, plain, ends_at, queue_at, no
 use Rattle.strm_raw.specs.declared.neighbours.Ends.{Ends}
 use Rattle.strm_raw.specs.declared.msg_nodes.MsgLink.{MsgLink}
 use Rattle.strm_raw.specs.declared.data_nodes.DataLink.{DataLink}
-use Rattle.strm_raw.proofs.Apart.{times-cons}
 use Rattle.strm_raw.proofs.Numbered.{map-set}
-use Rattle.strm_raw.proofs.Parting.{map-ext}
+use Rattle.strm_raw.proofs.Parting.{heads-few, map-ext}
 use Rattle.strm_raw.proofs.Tied.{tied-same}
-
--- no more messages begin with a block than have it
-heads-few : (j : ℕ) (q : List Msg) → heads j q ≤ sum_by (λ m. times j (ids m)) q
-heads-few j [] = omega arith
-heads-few j (m ∷ q) =
-    let ih = heads-few j q in let c = times-cons j m.head m.tail in
-    omega (arith, sum_by-cons (λ (m : Msg). cond (eqb m.head j) 1 0) m q, sum_by-cons (λ (m : Msg). times j (ids m)) m q)
 
 -- what one list has, and what two have, is no more than what all have
 module _ (g : List Msg → ℕ) (none : g [] ≡ 0) where
@@ -51,6 +43,9 @@ module _ {v : Nodes} {b : Roster} {first_m : Option MsgLink} {first_d : Option D
   -- each first block is that of one message
   pub once-queue : (k : ℕ) → heads i (queue_at k b.lists) ≤ 1
   once-queue k = let a = at-most in let f = heads-few i (queue_at k b.lists) in let o = one-queue all_times refl b.lists k in omega arith
+
+  pub once-hand : heads i b.hand ≤ 1
+  once-hand = let a = at-most in let f = heads-few i b.hand in omega arith
 
   pub apart-queues : (j k : ℕ) → j ≢ k → 0 < heads i (queue_at j b.lists) → heads i (queue_at k b.lists) ≡ 0
   apart-queues j k other some = let a = at-most in let f = heads-few i (queue_at k b.lists) in let g = heads-few i (queue_at j b.lists) in let o = two-queues all_times refl b.lists j k other in omega arith

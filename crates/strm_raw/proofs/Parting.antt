@@ -32,7 +32,7 @@ map-ext f g same [] = refl
 map-ext f g same (j ∷ xs) = λ k. same j k ∷ map-ext f g same xs k
 
 -- no more messages begin with a block than have it
-heads-few : (j : ℕ) (q : List Msg) → heads j q ≤ sum_by (λ m. times j (ids m)) q
+pub heads-few : (j : ℕ) (q : List Msg) → heads j q ≤ sum_by (λ m. times j (ids m)) q
 heads-few j [] = omega arith
 heads-few j (m ∷ q) =
     let ih = heads-few j q in let c = times-cons j m.head m.tail in

@@ -1,21 +1,22 @@
 -- The walk to the place on a list where a message belongs, and what is put there.
-use Rattle.std.proofs.Common.{ℕ, ◌≡◌, ◌≤◌, ◌<◌, ◌+◌, ◌-◌, true, false, cond, List, [], ◌∷◌, ◌++◌, length, map, refl, sym, ap, ◌∙◌, subst, arith}
-use Rattle.std.specs.Prelude.{sum_by, Option, None, Some, option_map, unwrap_or, MatchOption, nat_le, nat_lt}
+use Rattle.std.proofs.Common.{ℕ, ◌≡◌, ◌≤◌, ◌<◌, ◌-◌, true, false, List, [], ◌∷◌, ◌++◌, length, map, refl, sym, ap, ◌∙◌, subst, arith}
+use Rattle.std.specs.Prelude.{sum_by, Option, None, Some, option_map, MatchOption, nat_le, nat_lt}
 use Rattle.std.specs.List.{AllByRecursion}
 use Rattle.std.proofs.lemmas.Bool.Decides.{nat_tests}
 use Rattle.std.proofs.lemmas.List.{append-nil, append_assoc, length-append}
 use Rattle.std.proofs.lemmas.List.Sums.{sum_by-cons}
 use Rattle.strm_types.specs.Ranked as ranked
 use Rattle.strm_types.proofs.Ranked.{Ordered-put, Ordered-put_back, put-map, put_back-map}
-use Rattle.strm_blocks.specs.Blocks.{Block, rank_of, list_at}
-use Rattle.strm_raw.specs.Numbered.{Nodes, Row, row_at, msg_number, IsMsgOrNone}
+use Rattle.strm_blocks.specs.Blocks.{Block, rank_of}
+use Rattle.strm_raw.specs.Numbered.{Nodes, row_at, msg_number, IsMsgOrNone}
 use Rattle.strm_raw.specs.Roster.{Msg, Roster}
 use Rattle.strm_raw.specs.Raw.{ids, chain_of, IsRaw}
 use Rattle.strm_raw.specs.Lists.{IsList, queue_at, end_of, begin_of}
-use Rattle.strm_raw.specs.Places.{rank_at, msg_rank, RanksBehind, RanksBefore}
+use Rattle.strm_raw.specs.Places.{rank_at, msg_rank, RanksBehind, RanksBefore, StopsAt}
 use Rattle.strm_raw.specs.declared.neighbours.Ends.{Ends}
 use Rattle.strm_raw.specs.declared.msg_nodes.MsgLink.{MsgLink}
 use Rattle.strm_raw.specs.declared.data_nodes.DataLink.{DataLink}
+use Rattle.strm_raw.proofs.Giving.{empty}
 use Rattle.strm_raw.proofs.Tied.{list-begin, list-end, list-behind, list-ahead, a-first, a-last}
 use Rattle.strm_raw.proofs.Moved.{one-queue}
 
@@ -28,10 +29,6 @@ pub queue-few : {v : Nodes} {b : Roster} {first_m : Option MsgLink} {first_d : O
 queue-few {b = b} is k =
     let c = is.counted_m in let f = messages-few (queue_at k b.lists) in
     let o = one-queue (λ q. sum_by (λ m. length (ids m)) q) refl b.lists k in omega arith
-
-nothing : {A : Type 0} (xs : List A) → length xs ≤ 0 → xs ≡ []
-nothing [] le = refl
-nothing (x ∷ xs) le = absurd (omega arith)
 
 module _ (v : Nodes) (e : Ends) (r : ℕ) where
   abbrev number_of : Option MsgLink → Option ℕ
@@ -87,39 +84,40 @@ module _ (v : Nodes) (e : Ends) (r : ℕ) where
   pub back-ends : (o : Option MsgLink) (left : ℕ) → Backward o left → left ≤ 0 → (q : List Msg) → IsList v e q → length q ≤ length v.rows → RanksBehind v.rows r q (number_of o)
   back-ends o left w zero q t few =
       let p = w.passed q t few in let s = p.short in
-      let none = nothing p.front (omega arith) in
+      let none = empty p.front (omega arith) in
       record { front = p.front; rear = p.rear; joined = p.joined; place = p.place; lower = p.lower; upper = subst (λ (o : Option ℕ). MatchOption o (Unit {0}) (λ i. r ≤ rank_at v.rows i)) (sym (p.place ∙ ap (λ xs. end_of None xs) none)) tt }
 
-  -- from the first message on, past those of a higher rank
+-- from the first message on, past those that pass a test
+module _ (v : Nodes) (e : Ends) (passes stops : ℕ → Type 0) where
   pub record Skipped (q : List Msg) (p : Option ℕ) (left : ℕ) : Type 0 where
     pub front : List Msg
     pub rear : List Msg
     pub joined : q ≡ front ++ rear
     pub place : p ≡ begin_of rear
-    pub higher : AllByRecursion (λ m. r < msg_rank v.rows m) front
+    pub passed : AllByRecursion (λ m. passes m.head) front
     pub short : length rear ≤ left
 
   pub record Forward (o : Option MsgLink) (left : ℕ) : Type 0 where
     pub there : IsMsgOrNone v.mat (length v.rows) o
-    pub skipped : (q : List Msg) → IsList v e q → length q ≤ length v.rows → Skipped q (number_of o) left
+    pub skipped : (q : List Msg) → IsList v e q → length q ≤ length v.rows → Skipped q (option_map (msg_number v.mat) o) left
 
   pub on-begins : IsMsgOrNone v.mat (length v.rows) e.first → (n : ℕ) → n ≡ length v.rows → Forward e.first n
   on-begins there n all = record {
     there = there;
-    skipped = λ q t few. record { front = []; rear = q; joined = refl; place = list-begin v e q t; higher = tt; short = omega arith };
+    skipped = λ q t few. record { front = []; rear = q; joined = refl; place = list-begin v e q t; passed = tt; short = omega arith };
   }
 
-  all-more : (xs : List Msg) (m : Msg) → AllByRecursion (λ m. r < msg_rank v.rows m) xs → r < msg_rank v.rows m → AllByRecursion (λ m. r < msg_rank v.rows m) (xs ++ m ∷ [])
+  all-more : (xs : List Msg) (m : Msg) → AllByRecursion (λ m. passes m.head) xs → passes m.head → AllByRecursion (λ m. passes m.head) (xs ++ m ∷ [])
   all-more [] m all here = (here, tt)
   all-more (x ∷ xs) m all here = (all.0, all-more xs m all.1 here)
 
-  pub on-steps : (o : Option MsgLink) (left : ℕ) → Forward o left → 0 < left → (l : MsgLink) → o ≡ Some l → r < rank_at v.rows (msg_number v.mat l)
-      → (next : Option MsgLink) → number_of next ≡ (row_at (msg_number v.mat l) v.rows).ahead → IsMsgOrNone v.mat (length v.rows) next → Forward next (left - 1)
-  on-steps o left w more l eq less next step there = record {
+  pub on-steps : (o : Option MsgLink) (left : ℕ) → Forward o left → 0 < left → (l : MsgLink) → o ≡ Some l → passes (msg_number v.mat l)
+      → (next : Option MsgLink) → option_map (msg_number v.mat) next ≡ (row_at (msg_number v.mat l) v.rows).ahead → IsMsgOrNone v.mat (length v.rows) next → Forward next (left - 1)
+  on-steps o left w more l eq pass next step there = record {
     there = there;
     skipped = λ q t few. (
         let p = w.skipped q t few in
-        let f = a-first p.rear (msg_number v.mat l) (sym p.place ∙ ap number_of eq) in
+        let f = a-first p.rear (msg_number v.mat l) (sym p.place ∙ ap (λ o. option_map (msg_number v.mat) o) eq) in
         let joined = p.joined ∙ ap (λ ys. p.front ++ ys) f.1.1.0 in
         let seam = list-ahead v e p.front f.0 f.1.0 (subst (λ (q : List Msg). IsList v e q) joined t) in
         let len = ap length f.1.1.0 in
@@ -128,24 +126,24 @@ module _ (v : Nodes) (e : Ends) (r : ℕ) where
           rear = f.1.0;
           joined = joined ∙ sym (append_assoc p.front (f.0 ∷ []) f.1.0);
           place = step ∙ ap (λ i. (row_at i v.rows).ahead) (sym f.1.1.1) ∙ seam;
-          higher = all-more p.front f.0 p.higher (subst (λ i. r < rank_at v.rows i) (sym f.1.1.1) less);
+          passed = all-more p.front f.0 p.passed (subst passes (sym f.1.1.1) pass);
           short = let s = p.short in omega arith;
         });
   }
 
-  pub on-none : (o : Option MsgLink) (left : ℕ) → Forward o left → o ≡ None → (q : List Msg) → IsList v e q → length q ≤ length v.rows → RanksBefore v.rows r q None
-  on-none o left w eq q t few = let p = w.skipped q t few in record { front = p.front; rear = p.rear; joined = p.joined; place = sym (ap number_of eq) ∙ p.place; higher = p.higher; lower = tt }
+  pub on-none : (o : Option MsgLink) (left : ℕ) → Forward o left → o ≡ None → (q : List Msg) → IsList v e q → length q ≤ length v.rows → StopsAt passes stops q None
+  on-none o left w eq q t few = let p = w.skipped q t few in record { front = p.front; rear = p.rear; joined = p.joined; place = sym (ap (λ o. option_map (msg_number v.mat) o) eq) ∙ p.place; passed = p.passed; stopped = tt }
 
-  pub on-stops : (o : Option MsgLink) (left : ℕ) → Forward o left → (l : MsgLink) → o ≡ Some l → rank_at v.rows (msg_number v.mat l) ≤ r → (q : List Msg) → IsList v e q → length q ≤ length v.rows → RanksBefore v.rows r q (number_of o)
-  on-stops o left w l eq le q t few =
+  pub on-stops : (o : Option MsgLink) (left : ℕ) → Forward o left → (l : MsgLink) → o ≡ Some l → stops (msg_number v.mat l) → (q : List Msg) → IsList v e q → length q ≤ length v.rows → StopsAt passes stops q (option_map (msg_number v.mat) o)
+  on-stops o left w l eq stop q t few =
       let p = w.skipped q t few in
-      record { front = p.front; rear = p.rear; joined = p.joined; place = p.place; higher = p.higher; lower = subst (λ (o : Option ℕ). MatchOption o (Unit {0}) (λ i. rank_at v.rows i ≤ r)) (sym (ap number_of eq)) le }
+      record { front = p.front; rear = p.rear; joined = p.joined; place = p.place; passed = p.passed; stopped = subst (λ (o : Option ℕ). MatchOption o (Unit {0}) stops) (sym (ap (λ o. option_map (msg_number v.mat) o) eq)) stop }
 
-  pub on-ends : (o : Option MsgLink) (left : ℕ) → Forward o left → left ≤ 0 → (q : List Msg) → IsList v e q → length q ≤ length v.rows → RanksBefore v.rows r q (number_of o)
+  pub on-ends : (o : Option MsgLink) (left : ℕ) → Forward o left → left ≤ 0 → (q : List Msg) → IsList v e q → length q ≤ length v.rows → StopsAt passes stops q (option_map (msg_number v.mat) o)
   on-ends o left w zero q t few =
       let p = w.skipped q t few in let s = p.short in
-      let none = nothing p.rear (omega arith) in
-      record { front = p.front; rear = p.rear; joined = p.joined; place = p.place; higher = p.higher; lower = subst (λ (o : Option ℕ). MatchOption o (Unit {0}) (λ i. rank_at v.rows i ≤ r)) (sym (p.place ∙ ap begin_of none)) tt }
+      let none = empty p.rear (omega arith) in
+      record { front = p.front; rear = p.rear; joined = p.joined; place = p.place; passed = p.passed; stopped = subst (λ (o : Option ℕ). MatchOption o (Unit {0}) stops) (sym (p.place ∙ ap begin_of none)) tt }
 
 -- a put between members of at least a rank and members of a lower one, and a put back between higher ones and lower ones
 module _ {A : Type 0} (rank : A → ℕ) (m : A) where
@@ -199,8 +197,8 @@ module _ (v : Nodes) (x : Msg) (q : List Msg) (order : ranked.IsOrdered rank_of 
 
   pub puts-before : (p : Option ℕ) (w : RanksBefore v.rows (rank x) q p) → map (chain_of v) (w.front ++ x ∷ w.rear) ≡ ranked.put_back rank_of (chain_of v x) (map (chain_of v) q)
   puts-before p w =
-      let low = low-first w.rear (subst (λ (p : Option ℕ). MatchOption p (Unit {0}) (λ i. rank_at v.rows i ≤ rank x)) w.place w.lower) in
-      ap (λ q. map (chain_of v) q) (sym (put_back-between rank x w.front w.rear w.higher low) ∙ ap (λ q. ranked.put_back rank x q) (sym w.joined))
+      let low = low-first w.rear (subst (λ (p : Option ℕ). MatchOption p (Unit {0}) (λ i. rank_at v.rows i ≤ rank x)) w.place w.stopped) in
+      ap (λ q. map (chain_of v) q) (sym (put_back-between rank x w.front w.rear w.passed low) ∙ ap (λ q. ranked.put_back rank x q) (sym w.joined))
       ∙ put_back-map (chain_of v) rank rank_of (λ m. refl) x q
 
   -- and the list stays in order

@@ -1,5 +1,5 @@
 -- A message that is put on a list, and one that is taken off it.
-use Rattle.std.proofs.Common.{ℕ, ◌≡◌, ◌≢◌, ◌≤◌, ◌<◌, ◌+◌, true, false, cond, eqb, List, [], ◌∷◌, ◌++◌, length, get_or, map, refl, sym, ap, ◌∙◌, subst, arith}
+use Rattle.std.proofs.Common.{ℕ, ◌≡◌, ◌≢◌, ◌≤◌, ◌<◌, ◌+◌, true, false, cond, eqb, List, [], ◌∷◌, ◌++◌, length, map, refl, sym, ap, ◌∙◌, subst, arith}
 use Rattle.std.proofs.Math.ListN.{set}
 use Rattle.std.specs.Prelude.{sum_by, Option, None, Some, option_map, unwrap_or}
 use Rattle.std.specs.List.{AllByRecursion}
@@ -7,15 +7,15 @@ use Rattle.std.proofs.lemmas.Bool.Decides.{nat_tests}
 use Rattle.std.proofs.lemmas.List.{append_assoc, map-append}
 use Rattle.std.proofs.lemmas.List.Sums.{sum_by-cons, sum_by-append}
 use Rattle.strm_types.specs.Ranked as ranked
-use Rattle.strm_blocks.specs.Blocks.{Block, StoreValue, rank_of, list_at, held, dropped, placed, IsFreshName}
+use Rattle.strm_blocks.specs.Blocks.{Block, rank_of, list_at, held, dropped, placed, IsFreshName}
 use Rattle.strm_raw.specs.Numbered.{Nodes, Row, row_at, msg_number, IsMsgOrNone}
 use Rattle.strm_raw.specs.Roster.{Msg, Roster}
-use Rattle.strm_raw.specs.Raw.{chain_of, held_of, value_of, IsRaw, IsHere, heads, msg_in, without_in}
+use Rattle.strm_raw.specs.Raw.{chain_of, value_of, IsRaw, IsHere, heads, msg_in, without_in}
 use Rattle.strm_raw.specs.Lists.{AreListed, end_of, begin_of, IsList, IsTied, Ties, Seats, Unseats, on, back, plain, ends_at, queue_at, ahead_of, behind_of, seat_in, unseated, seated}
 use Rattle.strm_raw.specs.declared.neighbours.Ends.{Ends}
 use Rattle.strm_raw.specs.declared.msg_nodes.MsgLink.{MsgLink}
 use Rattle.strm_raw.specs.declared.data_nodes.DataLink.{DataLink}
-use Rattle.strm_raw.proofs.Finding.{found, found-head, found-some, sum-without, times-heads, without-value}
+use Rattle.strm_raw.proofs.Finding.{found-head, found-some, sum-without, times-heads, without-value}
 use Rattle.strm_raw.proofs.Tied.{heads-cons, heads-append, list-behind, list-ahead, tied-in, tied-out, off-end, off-begin, some-none}
 use Rattle.strm_raw.proofs.Moved.{once-queue, apart-queues, apart-hand, apart-lists, queue-value, moved-raw, moved-value, moved-listed}
 
@@ -195,14 +195,14 @@ module _ {v : Nodes} {ends : List Ends} {b : Roster} {first_m : Option MsgLink} 
     tied-here =
         let at = ap (λ (n : ℕ). Some n) name in
         tied-in (on v.mat (ahead_of v.rows) (ends_at k ends)) (back v.mat (behind_of v.rows) (ends_at k ends)) (on v.mat (ahead_of rows) e) (back v.mat (behind_of rows) e) x None xs ys
-            (seats.rear.on_else (end_of None xs) (λ e. not-before (sym e)) ∙ seats.front.on_at ∙ sym at)
-            (ap (λ p. back v.mat (behind_of rows) e p) at ∙ seats.rear.back_else (Some i) not-behind ∙ seats.front.back_at)
-            (ap (λ p. on v.mat (ahead_of rows) e p) at ∙ seats.rear.on_at)
-            (seats.rear.back_at ∙ sym at)
-            (λ p before here. on-else p before (λ s. here (s ∙ sym at)))
-            (λ p behind here. back-else p behind (λ s. here (s ∙ sym at)))
-            once-in refl (ap (λ n. heads n (xs ++ ys)) name ∙ off) (λ n. some-none x.head (sym n))
-            (subst (λ (q : List Msg). IsList v (ends_at k ends) q) shape (listed.tied k))
+        (seats.rear.on_else (end_of None xs) (λ e. not-before (sym e)) ∙ seats.front.on_at ∙ sym at)
+        (ap (λ p. back v.mat (behind_of rows) e p) at ∙ seats.rear.back_else (Some i) not-behind ∙ seats.front.back_at)
+        (ap (λ p. on v.mat (ahead_of rows) e p) at ∙ seats.rear.on_at)
+        (seats.rear.back_at ∙ sym at)
+        (λ p before here. on-else p before (λ s. here (s ∙ sym at)))
+        (λ p behind here. back-else p behind (λ s. here (s ∙ sym at)))
+        once-in refl (ap (λ n. heads n (xs ++ ys)) name ∙ off) (λ n. some-none x.head (sym n))
+        (subst (λ (q : List Msg). IsList v (ends_at k ends) q) shape (listed.tied k))
 
     pub on-raw : IsRaw (record v { rows = rows }) first_m first_d spare_m spare_d (record b { lists = set b.lists k (xs ++ x ∷ ys); hand = without_in i b.hand })
     on-raw = moved-raw is listed k within rows len same (xs ++ x ∷ ys) (without_in i b.hand) all-in
@@ -226,17 +226,17 @@ module _ {v : Nodes} {ends : List Ends} {b : Roster} {first_m : Option MsgLink} 
         (λ n j other s. (let z = none-there n j other s in let h = heads-append n xs ys in back-else (Some n) (off-begin n ys (omega arith)) (hand-elsewhere n j s)))
 
 -- what a call leaves that takes a message off a list
-pub record Left (v v' : Nodes) (ends' : List Ends) (b b' : Roster) (first_m : Option MsgLink) (first_d : Option DataLink) (spare_m spare_d k i : ℕ) (xs : List Msg) (m : Msg) (ys : List Msg) : Type 0 where
+pub record TakenOff (v v' : Nodes) (ends' : List Ends) (b b' : Roster) (first_m : Option MsgLink) (first_d : Option DataLink) (spare_m spare_d k i : ℕ) (xs : List Msg) (m : Msg) (ys : List Msg) : Type 0 where
   pub raw : IsRaw v' first_m first_d spare_m spare_d b'
   pub listed : AreListed v' ends' b'
   pub value : value_of v' b' ≡ held (placed (value_of v b) k (map (chain_of v) xs ++ map (chain_of v) ys)) i (chain_of v m)
   pub fresh : IsFreshName (value_of v b) i
   pub shape : list_at (value_of v b) k ≡ map (chain_of v) xs ++ chain_of v m ∷ map (chain_of v) ys
 
-pub left-by : {v v' : Nodes} {ends ends' : List Ends} {b b' : Roster} {first_m : Option MsgLink} {first_d : Option DataLink} {spare_m spare_d : ℕ} (is : IsRaw v first_m first_d spare_m spare_d b) (listed : AreListed v ends b)
+pub taken-off : {v v' : Nodes} {ends ends' : List Ends} {b b' : Roster} {first_m : Option MsgLink} {first_d : Option DataLink} {spare_m spare_d : ℕ} (is : IsRaw v first_m first_d spare_m spare_d b) (listed : AreListed v ends b)
     (k : ℕ) (within : k < 8) (l : MsgLink) (xs : List Msg) (m : Msg) (ys : List Msg) → queue_at k b.lists ≡ xs ++ m ∷ ys → m.head ≡ msg_number v.mat l → Unseats v v' ends ends' b b' k l
-    → Left v v' ends' b b' first_m first_d spare_m spare_d k (msg_number v.mat l) xs m ys
-left-by {v = v} {v' = v'} {ends = ends} is listed k within l xs m ys shape name u =
+    → TakenOff v v' ends' b b' first_m first_d spare_m spare_d k (msg_number v.mat l) xs m ys
+taken-off {v = v} {v' = v'} {ends = ends} is listed k within l xs m ys shape name u =
     let ties = subst (λ n. Ties v.mat v.rows v'.rows (ends_at k ends) u.after (behind_of v.rows n) (ahead_of v.rows n)) (sym name) u.tied in
     record {
       raw = unseated-raw is listed k within xs m ys shape v'.rows u.after ties u.first u.last l name u.nodes u.ends_are u.roster_is;
@@ -262,19 +262,19 @@ seat-is i x xs (y ∷ ys) once off =
     seat-before x y xs ys (grind (arith, nat_tests))
 
 -- what a call leaves that puts a message on a list
-pub record Placed (v v' : Nodes) (ends' : List Ends) (b b' : Roster) (first_m : Option MsgLink) (first_d : Option DataLink) (spare_m spare_d k i : ℕ) (q : List (List Block)) : Type 0 where
+pub record PutOn (v v' : Nodes) (ends' : List Ends) (b b' : Roster) (first_m : Option MsgLink) (first_d : Option DataLink) (spare_m spare_d k i : ℕ) (q : List (List Block)) : Type 0 where
   pub raw : IsRaw v' first_m first_d spare_m spare_d b'
   pub listed : AreListed v' ends' b'
   pub value : value_of v' b' ≡ placed (dropped (value_of v b) i) k q
 
 module _ {v v' : Nodes} {ends ends' : List Ends} {b b' : Roster} {first_m : Option MsgLink} {first_d : Option DataLink} {spare_m spare_d : ℕ} (is : IsRaw v first_m first_d spare_m spare_d b) (listed : AreListed v ends b)
     (k : ℕ) (within : k < 8) (l : MsgLink) (here : IsHere v b l) (xs ys : List Msg) (shape : queue_at k b.lists ≡ xs ++ ys) where
-  pub placed-by : (e : Ends) (before after : Option ℕ) → before ≡ end_of None xs → after ≡ begin_of ys → Seats v.mat v.rows v'.rows (ends_at k ends) e before (msg_number v.mat l) after
+  pub put-on : (e : Ends) (before after : Option ℕ) → before ≡ end_of None xs → after ≡ begin_of ys → Seats v.mat v.rows v'.rows (ends_at k ends) e before (msg_number v.mat l) after
       → IsMsgOrNone v.mat (length v.rows) e.first → IsMsgOrNone v.mat (length v.rows) e.last → v' ≡ record v { rows = v'.rows } → ends' ≡ set ends k e
       → (o : Option MsgLink) → option_map (msg_number v.mat) o ≡ after → (n : ℕ) → n ≡ msg_number v.mat l → b' ≡ seated k n (unwrap_or o l) b
       → (q : List (List Block)) → map (chain_of v) (xs ++ msg_in (msg_number v.mat l) b.hand ∷ ys) ≡ q → ranked.IsOrdered rank_of q
-      → Placed v v' ends' b b' first_m first_d spare_m spare_d k (msg_number v.mat l) q
-  placed-by e before after before_is after_is seats first last nodes ends_are o o_is n n_is roster_is q q_is order =
+      → PutOn v v' ends' b b' first_m first_d spare_m spare_d k (msg_number v.mat l) q
+  put-on e before after before_is after_is seats first last nodes ends_are o o_is n n_is roster_is q q_is order =
       let i = msg_number v.mat l in
       let x = msg_in i b.hand in
       let seats' = subst (λ (p : Option ℕ × Option ℕ). Seats v.mat v.rows v'.rows (ends_at k ends) e p.0 i p.1) (λ j. (before_is j, after_is j)) seats in

@@ -5,7 +5,7 @@ use Rattle.std.proofs.lemmas.Bool.Decides.{nat_tests}
 use Rattle.std.proofs.lemmas.List.Sums.{sum_by-cons, sum_by-append}
 use Rattle.strm_raw.specs.Roster.{Msg}
 use Rattle.strm_raw.specs.Raw.{heads}
-use Rattle.strm_raw.specs.Numbered.{Nodes, row_at}
+use Rattle.strm_raw.specs.Numbered.{Nodes}
 use Rattle.strm_raw.specs.Lists.{Step, IsTied, IsList, on, back, ahead_of, behind_of, end_of, begin_of}
 use Rattle.strm_raw.specs.declared.neighbours.Ends.{Ends}
 
@@ -123,21 +123,35 @@ module _ (on back on' back' : Step) where
       → IsTied on back from (xs ++ ys) → IsTied on' back' from (xs ++ x ∷ ys)
   tied-in x from [] [] on_end back_x on_x back_b on_else back_else once off off_x apart t = (on_end, (back_x, (on_x, back_b)))
   tied-in x from [] (y ∷ ys) on_end back_x on_x back_b on_else back_else once off off_x apart t =
-      let first = once-first y ys once in
-      (on_end, (back_x, (on_x, (back_b, tied-same (Some y.head) ys
-          (on_else (Some y.head) (off-first from y ys off) (off-first (Some x.head) y ys off_x))
-          (back_else None (λ e. some-none y.head (sym e)) (λ e. some-none x.head (sym e)))
-          (λ i s. on_else (Some i) (off-member from ys (off-rest from y ys off) i s) (off-member (Some x.head) ys (off-rest (Some x.head) y ys off_x) i s))
-          (λ i s. back_else (Some i) (off-member (Some y.head) ys first i s) (off-member (Some x.head) ys (off-rest (Some x.head) y ys off_x) i s))
-          t.1.1))))
+      let first = once-first y ys once in (
+        on_end,
+        (
+          back_x,
+          (
+            on_x,
+            (
+              back_b,
+              tied-same (Some y.head) ys
+                  (on_else (Some y.head) (off-first from y ys off) (off-first (Some x.head) y ys off_x))
+                  (back_else None (λ e. some-none y.head (sym e)) (λ e. some-none x.head (sym e)))
+                  (λ i s. on_else (Some i) (off-member from ys (off-rest from y ys off) i s) (off-member (Some x.head) ys (off-rest (Some x.head) y ys off_x) i s))
+                  (λ i s. back_else (Some i) (off-member (Some y.head) ys first i s) (off-member (Some x.head) ys (off-rest (Some x.head) y ys off_x) i s))
+                  t.1.1,
+            ),
+          ),
+        ),
+      )
   tied-in x from (w ∷ xs) ys on_end back_x on_x back_b on_else back_else once off off_x apart t =
       let first = once-first w (xs ++ ys) once in
       let later = off-rest from w (xs ++ ys) off in
       let front : times_at from xs ≡ 0 = off-front from xs ys later in
-      let beyond : heads w.head ys ≡ 0 = (let h = heads-append w.head xs ys in omega arith) in
-      (on_else from (λ e. off-end (Some w.head) from xs (off-first from w (xs ++ ys) off) front (sym e)) apart ∙ t.0,
-        (back_else (Some w.head) (off-begin w.head ys beyond) (off-first (Some x.head) w (xs ++ ys) off_x) ∙ t.1.0,
-        tied-in x (Some w.head) xs ys on_end back_x on_x back_b on_else back_else (once-rest w (xs ++ ys) once) first (off-rest (Some x.head) w (xs ++ ys) off_x) (off-first (Some x.head) w (xs ++ ys) off_x) t.1.1))
+      let beyond : heads w.head ys ≡ 0 = (let h = heads-append w.head xs ys in omega arith) in (
+        on_else from (λ e. off-end (Some w.head) from xs (off-first from w (xs ++ ys) off) front (sym e)) apart ∙ t.0,
+        (
+          back_else (Some w.head) (off-begin w.head ys beyond) (off-first (Some x.head) w (xs ++ ys) off_x) ∙ t.1.0,
+          tied-in x (Some w.head) xs ys on_end back_x on_x back_b on_else back_else (once-rest w (xs ++ ys) once) first (off-rest (Some x.head) w (xs ++ ys) off_x) (off-first (Some x.head) w (xs ++ ys) off_x) t.1.1,
+        ),
+      )
 
   -- others without a message between them
   pub tied-out : (m : Msg) (from : Option ℕ) (xs ys : List Msg)
@@ -148,21 +162,29 @@ module _ (on back on' back' : Step) where
   tied-out m from [] [] on_end back_b on_else back_else once off t = (on_end, back_b)
   tied-out m from [] (y ∷ ys) on_end back_b on_else back_else once off t =
       let later = off-rest from m (y ∷ ys) off in
-      let first = once-first y ys (once-rest m (y ∷ ys) once) in
-      (on_end, (back_b, tied-same (Some y.head) ys
-          (on_else (Some y.head) (off-first from y ys later))
-          (back_else None (λ e. some-none y.head (sym e)))
-          (λ i s. on_else (Some i) (off-member from ys (off-rest from y ys later) i s))
-          (λ i s. back_else (Some i) (off-member (Some y.head) ys first i s))
-          t.1.1.1.1))
+      let first = once-first y ys (once-rest m (y ∷ ys) once) in (
+        on_end,
+        (
+          back_b,
+          tied-same (Some y.head) ys
+              (on_else (Some y.head) (off-first from y ys later))
+              (back_else None (λ e. some-none y.head (sym e)))
+              (λ i s. on_else (Some i) (off-member from ys (off-rest from y ys later) i s))
+              (λ i s. back_else (Some i) (off-member (Some y.head) ys first i s))
+              t.1.1.1.1,
+        ),
+      )
   tied-out m from (w ∷ xs) ys on_end back_b on_else back_else once off t =
       let first = once-first w (xs ++ m ∷ ys) once in
       let later = off-rest from w (xs ++ m ∷ ys) off in
       let front : times_at from xs ≡ 0 = off-front from xs (m ∷ ys) later in
-      let beyond : heads w.head ys ≡ 0 = (let h = heads-append w.head xs (m ∷ ys) in let c = heads-cons w.head m ys in omega arith) in
-      (on_else from (λ e. off-end (Some w.head) from xs (off-first from w (xs ++ m ∷ ys) off) front (sym e)) ∙ t.0,
-        (back_else (Some w.head) (off-begin w.head ys beyond) ∙ t.1.0,
-        tied-out m (Some w.head) xs ys on_end back_b on_else back_else (once-rest w (xs ++ m ∷ ys) once) first t.1.1))
+      let beyond : heads w.head ys ≡ 0 = (let h = heads-append w.head xs (m ∷ ys) in let c = heads-cons w.head m ys in omega arith) in (
+        on_else from (λ e. off-end (Some w.head) from xs (off-first from w (xs ++ m ∷ ys) off) front (sym e)) ∙ t.0,
+        (
+          back_else (Some w.head) (off-begin w.head ys beyond) ∙ t.1.0,
+          tied-out m (Some w.head) xs ys on_end back_b on_else back_else (once-rest w (xs ++ m ∷ ys) once) first t.1.1,
+        ),
+      )
 
 -- the links of a list
 module _ (v : Nodes) (e : Ends) where

@@ -7,5 +7,6 @@ pub mod Roster
 pub mod Raw
 pub mod Lists
 pub mod Places
+pub mod Flushing
 pub mod Outcomes
 pub mod RawStore

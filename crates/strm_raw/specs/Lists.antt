@@ -66,21 +66,6 @@ pub record AreListed (v : Nodes) (ends : List Ends) (b : Roster) : Type 0 where
 abbrev pub plain : Row → Row
 plain r = record r { ahead = None; behind = None }
 
--- A list leads on from a place to another one, or back. What else it leads to stays, and so do the blocks themselves.
-pub record LeadsOn (mat : Ptr) (rows rows' : List Row) (e e' : Ends) (a b : Option ℕ) : Type 0 where
-  pub len : length rows' ≡ length rows
-  pub plain : (i : ℕ) → plain (row_at i rows') ≡ plain (row_at i rows)
-  pub on_at : on mat (ahead_of rows') e' a ≡ b
-  pub on_else : (p : Option ℕ) → p ≢ a → on mat (ahead_of rows') e' p ≡ on mat (ahead_of rows) e p
-  pub back_same : (p : Option ℕ) → back mat (behind_of rows') e' p ≡ back mat (behind_of rows) e p
-
-pub record LeadsBack (mat : Ptr) (rows rows' : List Row) (e e' : Ends) (a b : Option ℕ) : Type 0 where
-  pub len : length rows' ≡ length rows
-  pub plain : (i : ℕ) → plain (row_at i rows') ≡ plain (row_at i rows)
-  pub back_at : back mat (behind_of rows') e' a ≡ b
-  pub back_else : (p : Option ℕ) → p ≢ a → back mat (behind_of rows') e' p ≡ back mat (behind_of rows) e p
-  pub on_same : (p : Option ℕ) → on mat (ahead_of rows') e' p ≡ on mat (ahead_of rows) e p
-
 -- a list leads on from one place to another one, and back
 pub record Ties (mat : Ptr) (rows rows' : List Row) (e e' : Ends) (a b : Option ℕ) : Type 0 where
   pub len : length rows' ≡ length rows

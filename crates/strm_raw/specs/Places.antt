@@ -27,11 +27,15 @@ pub record RanksBehind (rows : List Row) (r : ℕ) (q : List Msg) (p : Option �
   pub lower : AllByRecursion (λ m. msg_rank rows m < r) rear
   pub upper : MatchOption p (Unit {0}) (λ i. r ≤ rank_at rows i)
 
--- All messages before a place have a higher rank, and the place is the list's outside or a message of at most the rank.
-pub record RanksBefore (rows : List Row) (r : ℕ) (q : List Msg) (p : Option ℕ) : Type 0 where
+-- A place, or the end of the list, before which each message passes a test, where the message that stands there stops.
+pub record StopsAt (passes stops : ℕ → Type 0) (q : List Msg) (p : Option ℕ) : Type 0 where
   pub front : List Msg
   pub rear : List Msg
   pub joined : q ≡ front ++ rear
   pub place : p ≡ begin_of rear
-  pub higher : AllByRecursion (λ m. r < msg_rank rows m) front
-  pub lower : MatchOption p (Unit {0}) (λ i. rank_at rows i ≤ r)
+  pub passed : AllByRecursion (λ m. passes m.head) front
+  pub stopped : MatchOption p (Unit {0}) stops
+
+-- All messages before a place have a higher rank, and the place is the list's end or a message of at most the rank.
+abbrev pub RanksBefore : List Row → ℕ → List Msg → Option ℕ → Type 0
+RanksBefore rows r q p = StopsAt (λ i. r < rank_at rows i) (λ i. rank_at rows i ≤ r) q p

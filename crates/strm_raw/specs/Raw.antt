@@ -209,3 +209,7 @@ pub record ThreadsData (old new : Nodes) (first : Option DataLink) (from : ℕ) 
 -- the roster of a store of so many blocks with nothing in it
 abbrev pub empty_roster : ℕ → ℕ → MsgLink → DataLink → Roster
 empty_roster m d l k = record { mat = l.at; dat = k.at; free_m = numbers 0 m; free_d = numbers 0 d; lists = replicate 8 []; hand = [] }
+
+-- all blocks of a store are free
+abbrev pub emptied : ℕ → ℕ → Roster → Roster
+emptied m d b = record b { free_m = numbers 0 m; free_d = numbers 0 d; lists = replicate 8 []; hand = [] }

@@ -4,6 +4,7 @@
 mod chains;
 mod changing;
 mod data_nodes;
+mod flushing;
 mod ledger;
 mod lists;
 mod looks;

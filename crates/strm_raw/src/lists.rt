@@ -106,8 +106,8 @@ impl RawStore {
     }
 }
 
-// Takes a message off the list on which it stands.
-fn unseat(
+/// Takes a message off the list on which it stands.
+pub(crate) fn unseat(
     memory: &mut Memory,
     ends: &mut [Ends; 8],
     ledger: &mut Ledger,

@@ -1,6 +1,6 @@
 //! How long a message and its blocks are, and what a message is counted by.
 ghost use Rattle.std.specs.Prelude.{◌≡◌, ◌<◌, ◌≤◌, length};
-ghost use Rattle.strm_blocks.specs.Blocks.{IsInHand, token, in_hand, block_at};
+ghost use Rattle.strm_blocks.specs.Blocks.{IsInHand, IsStore, token, in_hand, block_at};
 ghost use Rattle.strm_blocks.specs.Outcomes.{summary_of};
 
 use crate::chains::{chain_bytes, chain_len};
@@ -9,6 +9,13 @@ use strm_blocks::{InHand, Summary};
 use strm_types::Band;
 
 impl RawStore {
+    /// Does nothing. Its contract is what holds of every store.
+    pub fn audit(&self)
+        ensures { IsStore self.now }
+    {
+        let _ = &self.ledger;
+    }
+
     /// How many blocks a message has, at least one. It takes a step for each of them.
     pub fn blocks(&self, message: &InHand) -> usize
         requires { IsInHand self.now (token message.now) }

@@ -48,6 +48,13 @@ impl Memory {
         self.msgs.len()
     }
 
+    /// How many data blocks there are.
+    pub(crate) fn data_blocks(&self) -> usize
+        ensures { result ≡ length self.now.datas }
+    {
+        self.datas.len()
+    }
+
     /// Where a message block lies.
     pub(crate) fn message_link(&self, index: usize) -> MsgLink
         requires { index < length self.now.rows }

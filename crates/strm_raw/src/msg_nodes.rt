@@ -4,8 +4,8 @@ use std::marker::{Send, Sync};
 use strm_types::MsgKind;
 
 /// A message block: its own number, its kind and band, its data block, and of that the read place and the write place.
-/// `next` is b_cont, or the next free one. Of the first block of a message, `ahead` and `behind` are its neighbours on a
-/// list.
+/// `next` is b_cont, or the next free one. Of the first block of a message on a list, `ahead` leads on to the next message
+/// of the list, and `behind` back to the one before.
 #[derive(Clone, Copy)]
 pub(crate) struct MsgNode {
     pub(crate) kind: MsgKind,

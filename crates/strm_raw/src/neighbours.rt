@@ -20,18 +20,13 @@ pub(crate) const NO_ENDS: Ends = Ends {
 };
 
 // Lets a list lead on from a message, or from its outside, to another one.
-fn lead_on(
-    memory: &mut Memory,
-    ends: Ends,
-    from: Option<MsgLink>,
-    to: Option<MsgLink>,
-) -> Ends
+fn lead_on(memory: &mut Memory, ends: Ends, from: Option<MsgLink>, to: Option<MsgLink>) -> Ends
     requires from { IsMsgOrNone memory.old.mat (length memory.old.rows) from }
     requires to { IsMsgOrNone memory.old.mat (length memory.old.rows) to }
     ensures { let v = memory.old in MatchOption from
         ((memory.new ≡ v) × (result ≡ record ends { first = to }))
         (λ at. let i = msg_number v.mat at in
-            (memory.new ≡ with_row i (record (row_at i v.rows) { ahead = option_map (msg_number v.mat) to }) v) × (result ≡ ends)) }
+        (memory.new ≡ with_row i (record (row_at i v.rows) { ahead = option_map (msg_number v.mat) to }) v) × (result ≡ ends)) }
 {
     match from {
         None => Ends { first: to, ..ends },
@@ -44,18 +39,13 @@ fn lead_on(
 }
 
 // Lets a list lead back from a message, or from its outside, to another one.
-fn lead_back(
-    memory: &mut Memory,
-    ends: Ends,
-    from: Option<MsgLink>,
-    to: Option<MsgLink>,
-) -> Ends
+fn lead_back(memory: &mut Memory, ends: Ends, from: Option<MsgLink>, to: Option<MsgLink>) -> Ends
     requires from { IsMsgOrNone memory.old.mat (length memory.old.rows) from }
     requires to { IsMsgOrNone memory.old.mat (length memory.old.rows) to }
     ensures { let v = memory.old in MatchOption from
         ((memory.new ≡ v) × (result ≡ record ends { last = to }))
         (λ at. let i = msg_number v.mat at in
-            (memory.new ≡ with_row i (record (row_at i v.rows) { behind = option_map (msg_number v.mat) to }) v) × (result ≡ ends)) }
+        (memory.new ≡ with_row i (record (row_at i v.rows) { behind = option_map (msg_number v.mat) to }) v) × (result ≡ ends)) }
 {
     match from {
         None => Ends { last: to, ..ends },

@@ -7,10 +7,10 @@ ghost use Rattle.strm_raw.specs.Numbered.{IsData, IsDataOrNone, data_at, data_nu
 
 use crate::chains::{block_link, last_link};
 use crate::data_nodes::{DataLink, DataNode};
-use crate::neighbours::{Ends, NO_ENDS};
 use crate::ledger::Ledger;
 use crate::memory::Memory;
 use crate::msg_nodes::{MsgLink, MsgNode};
+use crate::neighbours::{Ends, NO_ENDS};
 use crate::threading::{thread_data, thread_messages};
 use std::alloc::{AllocError, Global};
 use std::marker::Model;
@@ -26,10 +26,10 @@ use strm_types::{Band, MsgKind};
 pub struct RawStore {
     pub(crate) memory: Memory,
     pub(crate) ends: [Ends; 8],
-    free_msg: Option<MsgLink>,
-    free_data: Option<DataLink>,
-    spare_m: usize,
-    spare_d: usize,
+    pub(crate) free_msg: Option<MsgLink>,
+    pub(crate) free_data: Option<DataLink>,
+    pub(crate) spare_m: usize,
+    pub(crate) spare_d: usize,
     pub(crate) ledger: Ledger,
 }
 

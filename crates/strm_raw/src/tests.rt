@@ -1,10 +1,10 @@
 //! What a caller sees of a store, with answers worked out by hand.
-ghost use Rattle.std.specs.Prelude.{◌≡◌, ◌<◌, length};
+ghost use Rattle.std.specs.Prelude.{◌≡◌, ◌<◌, ◌≤◌, length};
 ghost use Rattle.strm_blocks.specs.Blocks.{IsInHand, in_hand, token};
 
 use crate::raw::RawStore;
 use std::test::Fail;
-use strm_blocks::{InHand, NoBlocks, Summary};
+use strm_blocks::{Blocks, FlushWhat, InHand, NoBlocks, Summary, TableStore};
 use strm_types::{Band, MsgKind};
 
 // Whether a block more of the message's data block is refused, after so many were taken, each of which is given back.
@@ -130,5 +130,91 @@ fn two_stores_give_out_equal_numbers(rt: HostRuntime) -> Result<(), Fail> {
     assert_eq!(rt; (one.free_blocks(), other.free_blocks()), ((2, 2), (2, 2)));
     other.free(b);
     assert_eq!(rt; other.free_blocks(), (3, 3));
+    Ok(())
+}
+
+// Puts a message on list 1 of both stores, at the back or in front of its rank.
+fn put_on_both(
+    raw: &mut RawStore,
+    table: &mut TableStore,
+    head: (MsgKind, u8),
+    bytes: &[u8],
+    in_front: bool,
+) -> Result<(), NoBlocks>
+    requires { length bytes.now ≤ 256 }
+{
+    let (kind, band) = head;
+    let one = raw.alloc_with(kind, Band(band), bytes)?;
+    let other = table.alloc_with(kind, Band(band), bytes)?;
+    if in_front {
+        raw.insert_front(1, one);
+        table.insert_front(1, other);
+    } else {
+        raw.insert_back(1, one);
+        table.insert_back(1, other);
+    }
+    Ok(())
+}
+
+// Takes the first message of list 1 off both stores. Whether they are alike, or there is none in both.
+fn first_is_alike(raw: &mut RawStore, table: &mut TableStore) -> bool {
+    let Some(one) = raw.pop(1) else {
+        return table.is_empty(1);
+    };
+    let Some(other) = table.pop(1) else {
+        return false;
+    };
+    let alike = raw.summary(&one) == table.summary(&other);
+    raw.free(one);
+    table.free(other);
+    alike
+}
+
+#[test]
+fn a_list_is_that_of_a_table_store(rt: HostRuntime) -> Result<(), Fail> {
+    let mut raw = RawStore::new(rt.alloc(), 8, 8)?;
+    let mut table = TableStore::new(rt.alloc(), 8, 8)?;
+    put_on_both(&mut raw, &mut table, (MsgKind::Data, 0), b"", false)?;
+    put_on_both(&mut raw, &mut table, (MsgKind::Data, 2), b"a", false)?;
+    put_on_both(&mut raw, &mut table, (MsgKind::Pcproto, 0), b"ab", false)?;
+    put_on_both(&mut raw, &mut table, (MsgKind::Data, 0), b"abc", true)?;
+    put_on_both(&mut raw, &mut table, (MsgKind::Data, 2), b"abcd", true)?;
+    put_on_both(&mut raw, &mut table, (MsgKind::Proto, 1), b"abcde", false)?;
+    put_on_both(&mut raw, &mut table, (MsgKind::Data, 0), b"abcdef", false)?;
+    let what = FlushWhat {
+        all: false,
+        band: Some(Band(2)),
+    };
+    raw.drop_where(1, what);
+    table.drop_where(1, what);
+    assert_eq!(rt; raw.free_blocks(), (3, 3));
+    assert!(rt; first_is_alike(&mut raw, &mut table));
+    assert!(rt; first_is_alike(&mut raw, &mut table));
+    assert!(rt; first_is_alike(&mut raw, &mut table));
+    assert!(rt; first_is_alike(&mut raw, &mut table));
+    assert!(rt; !raw.is_empty(1));
+    assert!(rt; first_is_alike(&mut raw, &mut table));
+    assert!(rt; first_is_alike(&mut raw, &mut table));
+    assert!(rt; raw.is_empty(1));
+    assert_eq!(rt; raw.free_blocks(), (8, 8));
+    Ok(())
+}
+
+#[test]
+fn the_last_of_a_list_has_the_lowest_rank(rt: HostRuntime) -> Result<(), Fail> {
+    let mut store = RawStore::new(rt.alloc(), 3, 3)?;
+    let low = store.alloc_with(MsgKind::Data, Band(0), b"a")?;
+    store.insert_back(7, low);
+    let high = store.alloc_with(MsgKind::Data, Band(1), b"bc")?;
+    store.insert_back(7, high);
+    let Some(last) = store.pop_last(7) else {
+        return Err(Fail::new("the list is empty"));
+    };
+    let Summary { band, bytes, .. } = store.summary(&last);
+    assert!(rt; band == Band(0) && bytes == 1);
+    store.audit();
+    store.reset();
+    assert!(rt; store.is_empty(7));
+    assert_eq!(rt; store.free_blocks(), (3, 3));
     Ok(())
 }

@@ -53,7 +53,7 @@ invariant_of-self c =
     record {
       raw = subst (λ (w : Nodes × Roster). IsRaw w.0 c.message-free.result.next c.datum.result.now.next (t.spare_m - 1) (t.spare_d - 1) w.1) (λ j. (sym memory j, sym c.note.ensures j)) done;
       listed = kept-listed c.self.invariant.listed _ _ (ap (λ (w : Nodes). w.mat) memory) (msg_number v.mat at) (taking.place-m is0 at c.in-Some.is).0 (row_of v.mat v.dat node) (ap (λ (r : Row). r.ahead) c.message-free.ensures.row) (ap (λ (r : Row). r.behind) c.message-free.ensures.row)
-      (ap (λ (w : Nodes). w.rows) memory) (ap (λ (x : Roster). x.lists) c.note.ensures) _ value (ap (λ (s : StoreValue). s.lists) (writing.written-value is0 d within filled none));
+          (ap (λ (w : Nodes). w.rows) memory) (ap (λ (x : Roster). x.lists) c.note.ensures) _ value (ap (λ (s : StoreValue). s.lists) (writing.written-value is0 d within filled none));
     }
 
 pub returns : goal.returns

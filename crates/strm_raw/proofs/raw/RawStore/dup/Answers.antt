@@ -62,7 +62,7 @@ invariant_of-self c =
     record {
       raw = subst (λ (w : Nodes × Roster). IsRaw w.0 c.message-taken.result.next t.free_data (t.spare_m - 1) t.spare_d w.1) (λ j. (sym memory j, sym c.note.ensures j)) done;
       listed = kept-listed c.self.invariant.listed _ _ (ap (λ (w : Nodes). w.mat) memory) (msg_number v.mat free) (taking.place-m is free c.in-Some.is).0 (row_of v.mat v.dat node) (ap (λ (r : Row). r.ahead) c.message-taken.ensures.row) (ap (λ (r : Row). r.behind) c.message-taken.ensures.row)
-      (ap (λ (w : Nodes). w.rows) memory) (ap (λ (x : Roster). x.lists) c.note.ensures) _ value refl;
+          (ap (λ (w : Nodes). w.rows) memory) (ap (λ (x : Roster). x.lists) c.note.ensures) _ value refl;
     }
 
 pub returns : goal.returns

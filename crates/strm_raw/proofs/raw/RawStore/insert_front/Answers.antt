@@ -1,6 +1,6 @@
-use Rattle.std.proofs.Common.{◌≡◌, refl, sym, ap, ◌∙◌, subst}
+use Rattle.std.proofs.Common.{refl, sym, ap, ◌∙◌}
 use Rattle.strm_blocks.specs.Blocks.{token, in_hand, list_at, dropped, placed, put_back}
-use Rattle.strm_raw.specs.Numbered.{Row, row_at, msg_number}
+use Rattle.strm_raw.specs.Numbered.{Row}
 use Rattle.strm_raw.specs.Lists.{seated}
 use Rattle.strm_raw.specs.Places.{rank_by}
 use Rattle.strm_raw.specs.declared.msg_nodes.MsgLink.{MsgLink}
@@ -18,7 +18,7 @@ invariant_of-self c =
     let rank = c.rank_of-rank.ensures ∙ ap (λ (r : Row). rank_by r.kind r.band) c.message.ensures.row in
     let roster = c.note.ensures ∙ ap (λ (x : MsgLink). seated k c.name-2.result x b) c.unwrap_or-next.ensures in
     let done = inserted-front is listed k c.requires.list l here _ rank c.behind-before.result c.first_ranked-after.result c.seat.result c.seat.ensures.seats (c.seat.ensures.first (listed.first k)) (c.seat.ensures.last (listed.last k)) c.seat.ensures.nodes refl
-        _ (c.name-2.ensures ∙ sym (c.message_link-at.ensures.number ∙ c.name.ensures)) roster c.first_ranked-after.ensures.place c.behind-before.ensures.step in
+    _ (c.name-2.ensures ∙ sym (c.message_link-at.ensures.number ∙ c.name.ensures)) roster c.first_ranked-after.ensures.place c.behind-before.ensures.step in
     record { raw = done.raw; listed = done.listed }
 
 pub returns : goal.returns
@@ -28,6 +28,6 @@ returns c =
     let rank = c.rank_of-rank.ensures ∙ ap (λ (r : Row). rank_by r.kind r.band) c.message.ensures.row in
     let roster = c.note.ensures ∙ ap (λ (x : MsgLink). seated k c.name-2.result x b) c.unwrap_or-next.ensures in
     let done = inserted-front is listed k c.requires.list l here _ rank c.behind-before.result c.first_ranked-after.result c.seat.result c.seat.ensures.seats (c.seat.ensures.first (listed.first k)) (c.seat.ensures.last (listed.last k)) c.seat.ensures.nodes refl
-        _ (c.name-2.ensures ∙ sym (c.message_link-at.ensures.number ∙ c.name.ensures)) roster c.first_ranked-after.ensures.place c.behind-before.ensures.step in
+    _ (c.name-2.ensures ∙ sym (c.message_link-at.ensures.number ∙ c.name.ensures)) roster c.first_ranked-after.ensures.place c.behind-before.ensures.step in
     let e = c.message_link-at.ensures.number ∙ c.name.ensures in
     done.value ∙ (λ j. placed (dropped (c.self.view_is j) (e j)) k (put_back (in_hand (c.self.view_is j) (e j)) (list_at (c.self.view_is j) k)))
