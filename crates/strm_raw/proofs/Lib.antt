@@ -26,3 +26,4 @@ pub mod Joining
 pub mod Writing
 pub mod Edited
 pub mod Appended
+pub mod Telling

@@ -21,7 +21,7 @@ use Rattle.strm_raw.proofs.Tied.{list-begin, list-end, list-behind, list-ahead, 
 use Rattle.strm_raw.proofs.Moved.{one-queue}
 
 -- a list has no more messages than there are message blocks
-messages-few : (q : List Msg) → length q ≤ sum_by (λ m. length (ids m)) q
+pub messages-few : (q : List Msg) → length q ≤ sum_by (λ m. length (ids m)) q
 messages-few [] = omega arith
 messages-few (m ∷ q) = let ih = messages-few q in omega (arith, sum_by-cons (λ (m : Msg). length (ids m)) m q)
 

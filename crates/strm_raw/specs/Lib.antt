@@ -8,5 +8,4 @@ pub mod Raw
 pub mod Lists
 pub mod Places
 pub mod Flushing
-pub mod Outcomes
 pub mod RawStore

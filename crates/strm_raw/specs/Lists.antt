@@ -1,11 +1,11 @@
 -- The lists of a raw store: how a list leads through its messages, on and back.
-use Rattle.std.specs.Prelude.{ℕ, ◌≡◌, ◌≢◌, ◌==◌, if◌then◌else◌, List, [], ◌∷◌, length, slice_index_or, slice_set, Option, None, Some, option_map}
+use Rattle.std.specs.Prelude.{ℕ, ◌≡◌, ◌≢◌, ◌≤◌, ◌==◌, if◌then◌else◌, List, [], ◌∷◌, length, sum_by, slice_index_or, slice_set, Option, None, Some, option_map}
 use denote.RawPtr.{Ptr}
 use Rattle.strm_types.specs.Ranked as ranked
 use Rattle.strm_blocks.specs.Blocks.{rank_of, list_at}
 use Rattle.strm_raw.specs.Numbered.{Nodes, Row, row_at, msg_number, IsMsgOrNone}
 use Rattle.strm_raw.specs.Roster.{Msg, Roster}
-use Rattle.strm_raw.specs.Raw.{value_of, msg_in, without_in}
+use Rattle.strm_raw.specs.Raw.{value_of, msg_in, without_in, ids, broken}
 use Rattle.strm_raw.specs.declared.neighbours.Ends.{Ends}
 use Rattle.strm_raw.specs.declared.msg_nodes.MsgLink.{MsgLink}
 
@@ -53,6 +53,11 @@ end_of from (m ∷ q) = end_of (Some m.head) q
 abbrev pub begin_of : List Msg → Option ℕ
 begin_of [] = None
 begin_of (m ∷ q) = Some m.head
+
+-- the blocks of each message of a list are linked in order, and are no more than there are message blocks
+pub record AreWhole (rows : List Row) (q : List Msg) : Type 0 where
+  pub chained : sum_by (broken rows) q ≡ 0
+  pub few : sum_by (λ m. length (ids m)) q ≤ length rows
 
 -- The ends of each list lead to nodes, the links of each list are its messages, and each list is in order of rank.
 pub record AreListed (v : Nodes) (ends : List Ends) (b : Roster) : Type 0 where

@@ -1,8 +1,7 @@
-//! A flush of a list, and a reset of the store.
+//! Which messages of a list a flush takes.
 ghost use Rattle.std.specs.Prelude.{◌≡◌, ◌≤◌, ◌<◌, List, length, option_map, MatchOption};
 ghost use Rattle.strm_types.specs.Flush.{is_flushed};
-ghost use Rattle.strm_blocks.specs.Blocks.{empty_store, list_at, placed, token};
-ghost use Rattle.strm_blocks.specs.Outcomes.{flushed};
+ghost use Rattle.strm_blocks.specs.Blocks.{token};
 ghost use Rattle.strm_raw.specs.Flushing.{FlushesFirst, FlushesNone, TakesFlushed};
 ghost use Rattle.strm_raw.specs.Lists.{IsList};
 ghost use Rattle.strm_raw.specs.Numbered.{IsMsgOrNone, msg_number};
@@ -11,27 +10,13 @@ ghost use Rattle.strm_raw.specs.Roster.{Msg};
 use crate::lists::unseat;
 use crate::memory::Memory;
 use crate::msg_nodes::{MsgLink, MsgNode};
-use crate::neighbours::{Ends, NO_ENDS};
+use crate::neighbours::Ends;
 use crate::raw::RawStore;
-use crate::threading::{thread_data, thread_messages};
-use std::ptr::null_mut;
 use strm_blocks::{FlushWhat, InHand};
 
 impl RawStore {
-    /// Frees the messages of a list that a flush takes: `flushq(9F)`, `flushband(9F)`. For each of these it takes a step
-    /// for each block, and one for each message in front of it that stays.
-    pub fn drop_where(&mut self, list: usize, what: FlushWhat)
-        requires { list < 8 }
-        ensures { let s = self.old in
-            self.new ≡ placed s list (flushed what (list_at s list)) }
-    {
-        while let Some(message) = self.take_flushed(list, what) {
-            self.free(message);
-        }
-    }
-
-    // Takes the first message of a list that a flush takes.
-    fn take_flushed(&mut self, list: usize, what: FlushWhat) -> Option<InHand>
+    /// Takes the first message of a list that a flush takes.
+    pub(crate) fn take_flushed(&mut self, list: usize, what: FlushWhat) -> Option<InHand>
         requires { list < 8 }
         ensures { MatchOption result
             (FlushesNone self.old self.new list what)
@@ -49,23 +34,6 @@ impl RawStore {
             first,
         );
         Some(message)
-    }
-
-    /// Frees all messages, on the lists and in hand. Names of messages that were in hand stand for none from then on. It
-    /// takes a step for each block of the store.
-    pub fn reset(&mut self)
-        ensures { self.new ≡ empty_store self.old.mblks self.old.dblks }
-    {
-        let mblks = self.memory.messages();
-        let dblks = self.memory.data_blocks();
-        let free_msg = thread_messages(&mut self.memory, mblks);
-        let free_data = thread_data(&mut self.memory, dblks);
-        self.ledger.note(null_mut(), null_mut(), mblks, dblks);
-        self.ends = [NO_ENDS; 8];
-        self.free_msg = free_msg;
-        self.free_data = free_data;
-        self.spare_m = mblks;
-        self.spare_d = dblks;
     }
 }
 

@@ -2,12 +2,10 @@
 #![tactic(auto)]
 
 mod chains;
-mod changing;
 mod data_nodes;
 mod flushing;
 mod ledger;
 mod lists;
-mod looks;
 mod making;
 mod memory;
 mod msg_nodes;
@@ -16,9 +14,11 @@ mod nodes;
 mod ranks;
 mod raw;
 mod sending;
+mod store;
 #[cfg(test)]
 mod tests;
 mod threading;
+mod visiting;
 
 pub use raw::RawStore;
 pub use sending::sent;

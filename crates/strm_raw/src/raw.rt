@@ -1,11 +1,9 @@
 //! The store whose blocks are nodes in raw memory.
-ghost use Rattle.std.specs.Prelude.{◌≡◌, ◌≢◌, ◌++◌, ◌<◌, ◌≤◌, ◌^◌, ◌⊎◌, length, IfOk, MatchResult, MatchOption};
-ghost use Rattle.strm_blocks.specs.Blocks.{IsInHand, token, in_hand, block_at, dropped, changed, empty_store, filled_block, free_m, free_d};
-ghost use Rattle.strm_blocks.specs.Outcomes.{Allocated, Copied, Duplicated, Unlinked, UnlinkedLast, NoneFree, NoneShared};
+ghost use Rattle.std.specs.Prelude.{◌≡◌, ◌<◌, ◌≤◌, ◌^◌, ◌⊎◌, length, IfOk};
+ghost use Rattle.strm_blocks.specs.Blocks.{IsInHand, token, in_hand, dropped, empty_store};
 ghost use Rattle.strm_raw.specs.Raw.{GivesLast, GivesOne};
 ghost use Rattle.strm_raw.specs.Numbered.{IsData, IsDataOrNone, data_at, data_number};
 
-use crate::chains::{block_link, last_link};
 use crate::data_nodes::{DataLink, DataNode};
 use crate::ledger::Ledger;
 use crate::memory::Memory;
@@ -15,8 +13,7 @@ use crate::threading::{thread_data, thread_messages};
 use std::alloc::{AllocError, Global};
 use std::marker::Model;
 use std::ptr::null_mut;
-use strm_blocks::{InHand, NoBlocks};
-use strm_types::{Band, MsgKind};
+use strm_blocks::InHand;
 
 /// A store of message blocks and data blocks (STREAMS Programming Guide, "Message Structure"). Each block is a node, in
 /// memory that is reserved when the store is made and given back when it is dropped: a message block leads to the next one
@@ -72,231 +69,8 @@ impl RawStore {
         })
     }
 
-    /// How many message blocks and how many data blocks are free. Two loads.
-    pub fn free_blocks(&self) -> (usize, usize)
-        ensures message_blocks { result.0 ≡ free_m self.now }
-        ensures data_blocks { result.1 ≡ free_d self.now }
-    {
-        let _ = &self.ledger;
-        (self.spare_m, self.spare_d)
-    }
-
-    /// Takes a message block and a data block with nothing written, as a message of that kind and of band 0:
-    /// `allocb(9F)`. `NoBlocks` where none of either kind is free. The cost is the same whatever the store's size.
-    pub fn alloc(&mut self, kind: MsgKind) -> Result<InHand, NoBlocks>
-        ensures { MatchResult result
-            (λ m. Allocated self.old self.new (token m) kind)
-            (λ _. NoneFree self.old self.new) }
-    {
-        self.alloc_with(kind, Band(0), &[])
-    }
-
-    /// Takes a message block and a data block with these bytes written, as a message of that kind and band: `allocb(9F)`
-    /// and a copy. `NoBlocks` where none of either kind is free. The cost is that of the bytes, whatever the store's size.
-    pub fn alloc_with(
-        &mut self,
-        kind: MsgKind,
-        band: Band,
-        bytes: &[u8],
-    ) -> Result<InHand, NoBlocks>
-        requires { length bytes.now ≤ 256 }
-        ensures { MatchResult result
-            (λ m. Copied self.old self.new (token m) (filled_block kind band.0 bytes.now))
-            (λ _. NoneFree self.old self.new) }
-    {
-        let Some(at) = self.free_msg else {
-            return Err(NoBlocks);
-        };
-        let Some(number) = self.free_data else {
-            return Err(NoBlocks);
-        };
-        let free = self.memory.message(at);
-        let next = self.memory.datum(number).next;
-        self.memory.write(number, 0, bytes);
-        self.memory.set_datum(number, 1, None);
-        self.memory.set_message(
-            at,
-            MsgNode {
-                kind,
-                band: band.0,
-                number,
-                start: 0,
-                end: bytes.len(),
-                next: None,
-                ..free
-            },
-        );
-        self.free_msg = free.next;
-        self.free_data = next;
-        self.spare_m -= 1;
-        self.spare_d -= 1;
-        self.ledger.note(at.at, number.at, 0, 0);
-        Ok(InHand::of(free.name))
-    }
-
-    /// Takes a message block that names the same bytes of the same data block as block `at` of the message does:
-    /// `dupb(9F)`. `NoBlocks` where no message block is free, or the data block has 255 references. It takes a step for
-    /// each block of the message before that one.
-    pub fn dup(&mut self, message: &InHand, at: usize) -> Result<InHand, NoBlocks>
-        requires in_hand { IsInHand self.old (token message.now) }
-        requires within { at < length (in_hand self.old (token message.now)) }
-        ensures { let b = block_at at (in_hand self.old (token message.now)) in
-            MatchResult result
-            (λ m. Duplicated self.old self.new (token m) b)
-            (λ _. NoneShared self.old self.new b.number) }
-    {
-        let Some(free) = self.free_msg else {
-            return Err(NoBlocks);
-        };
-        let first = self.memory.message_link(message.name() as usize);
-        let link = block_link(&self.memory, first, at);
-        let block = self.memory.message(link);
-        let DataNode {
-            next,
-            references,
-            ..
-        } = *self.memory.datum(block.number);
-        if references == 255 {
-            return Err(NoBlocks);
-        }
-        let taken = self.memory.message(free);
-        self.memory.set_datum(block.number, references + 1, next);
-        self.memory.set_message(
-            free,
-            MsgNode {
-                name: taken.name,
-                next: None,
-                ahead: taken.ahead,
-                behind: taken.behind,
-                ..block
-            },
-        );
-        self.free_msg = taken.next;
-        self.spare_m -= 1;
-        self.ledger.note(free.at, block.number.at, 0, 0);
-        Ok(InHand::of(taken.name))
-    }
-
-    /// Takes a message block and a data block, and copies into it the bytes that block `at` of the message shows:
-    /// `copyb(9F)`. `NoBlocks` where none of either kind is free. It takes a step for each block of the message before that
-    /// one, and copies 512 bytes at most.
-    pub fn copy(&mut self, message: &InHand, at: usize) -> Result<InHand, NoBlocks>
-        requires in_hand { IsInHand self.old (token message.now) }
-        requires within { at < length (in_hand self.old (token message.now)) }
-        ensures { let b = block_at at (in_hand self.old (token message.now)) in
-            MatchResult result
-            (λ m. Copied self.old self.new (token m) b)
-            (λ _. NoneFree self.old self.new) }
-    {
-        let first = self.memory.message_link(message.name() as usize);
-        let link = block_link(&self.memory, first, at);
-        let block = self.memory.message(link);
-        let DataNode { bytes, .. } = *self.memory.datum(block.number);
-        let shown = &bytes[block.start..block.end];
-        self.alloc_with(block.kind, Band(block.band), shown)
-    }
-
-    /// The bytes from the read place to the write place of block `at` of a message, at most 256. It takes a step for each
-    /// block of the message before that one.
-    pub fn bytes_at(&self, message: &InHand, at: usize) -> &[u8]
-        requires in_hand { IsInHand self.now (token message.now) }
-        requires within { at < length (in_hand self.now (token message.now)) }
-        ensures bytes { result.now ≡ (block_at at (in_hand self.now (token message.now))).bytes }
-        ensures few { length result.now ≤ 256 }
-    {
-        let _ = &self.ledger;
-        let first = self.memory.message_link(message.name() as usize);
-        let link = block_link(&self.memory, first, at);
-        let node = self.memory.message(link);
-        let datum = self.memory.datum(node.number);
-        &datum.bytes[node.start..node.end]
-    }
-
-    /// The kind of block `at` of a message. The kind of the message is that of block 0. It takes a step for each block of
-    /// the message before that one.
-    pub fn kind(&self, message: &InHand, at: usize) -> MsgKind
-        requires in_hand { IsInHand self.now (token message.now) }
-        requires within { at < length (in_hand self.now (token message.now)) }
-        ensures { result ≡ (block_at at (in_hand self.now (token message.now))).kind }
-    {
-        let _ = &self.ledger;
-        let first = self.memory.message_link(message.name() as usize);
-        let link = block_link(&self.memory, first, at);
-        self.memory.message(link).kind
-    }
-
-    /// The band of a message, which is that of its first block. The cost is the same whatever the message's length.
-    pub fn band(&self, message: &InHand) -> Band
-        requires { IsInHand self.now (token message.now) }
-        ensures { result.0 ≡ (block_at 0 (in_hand self.now (token message.now))).band }
-    {
-        let _ = &self.ledger;
-        let first = self.memory.message_link(message.name() as usize);
-        Band(self.memory.message(first).band)
-    }
-
-    /// Parts a message into its first block and the rest, if there is any: `unlinkb(9F)`. The cost is the same whatever
-    /// the message's length.
-    pub fn unlink(&mut self, message: InHand) -> (InHand, Option<InHand>)
-        requires { IsInHand self.old (token message) }
-        ensures { let old = self.old in let new = self.new in
-            MatchOption result.1
-            (UnlinkedLast old new (token message) (token result.0))
-            (λ rest. Unlinked old new (token message) (token result.0) (token rest)) }
-    {
-        let at = self.memory.message_link(message.name() as usize);
-        let node = self.memory.message(at);
-        let Some(rest) = node.next else {
-            return (message, None);
-        };
-        let name = self.memory.message(rest).name;
-        self.memory.set_message(at, MsgNode { next: None, ..node });
-        self.ledger.note(at.at, node.number.at, 0, 0);
-        (message, Some(InHand::of(name)))
-    }
-
-    /// Hangs the second message behind the first: `linkb(9F)`. It takes a step for each block of the first.
-    pub fn link(&mut self, first: InHand, second: InHand) -> InHand
-        requires first_in_hand { IsInHand self.old (token first) }
-        requires second_in_hand { IsInHand self.old (token second) }
-        requires apart { token first ≢ token second }
-        ensures kept_name { token result ≡ token first }
-        ensures linked { let s = self.old in
-            self.new ≡ changed (dropped s (token second)) (token first)
-            (in_hand s (token first) ++ in_hand s (token second)) }
-    {
-        let head = self.memory.message_link(first.name() as usize);
-        let behind = second.name() as usize;
-        let next = self.memory.message_link(behind);
-        let last = last_link(&self.memory, head, self.memory.messages());
-        let node = self.memory.message(last);
-        self.memory.set_message(
-            last,
-            MsgNode {
-                next: Some(next),
-                ..node
-            },
-        );
-        self.ledger.note(head.at, null_mut(), behind, 0);
-        first
-    }
-
-    /// Gives back all message blocks of a message, and each data block that no other message block names: `freemsg(9F)`.
-    /// It takes a step for each block.
-    pub fn free(&mut self, message: InHand)
-        requires { IsInHand self.old (token message) }
-        ensures { self.new ≡ dropped self.old (token message) }
-    {
-        let mut left = Some(message);
-        while let Some(whole) = left {
-            let (first, rest) = self.unlink(whole);
-            self.free_one(first);
-            left = rest;
-        }
-    }
-
-    // Gives back a message of one block.
-    fn free_one(&mut self, message: InHand)
+    /// Gives back a message of one block.
+    pub(crate) fn free_one(&mut self, message: InHand)
         requires in_hand { IsInHand self.old (token message) }
         requires single { length (in_hand self.old (token message)) ≡ 1 }
         ensures { self.new ≡ dropped self.old (token message) }

@@ -1,5 +1,0 @@
-use Rattle.strm_raw.specs.Raw.{allocated}
-use Rattle.strm_raw.proofs.raw.RawStore.alloc_with.Given as goal
-
-abbrev pub ghost-note : goal.ghost-note
-ghost-note a = allocated

@@ -1,5 +1,0 @@
-use Rattle.strm_raw.specs.Raw.{linked}
-use Rattle.strm_raw.proofs.raw.RawStore.link.Given as goal
-
-abbrev pub ghost-note : goal.ghost-note
-ghost-note a = linked (record { at = a._message }) a._first

@@ -1,5 +1,0 @@
-use Rattle.strm_raw.specs.Raw.{parted}
-use Rattle.strm_raw.proofs.raw.RawStore.unlink.Given as goal
-
-abbrev pub ghost-note : goal.ghost-note
-ghost-note a = parted (record { at = a._message })

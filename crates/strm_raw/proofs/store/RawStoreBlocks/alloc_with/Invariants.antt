@@ -1,0 +1,5 @@
+use Rattle.strm_raw.specs.Raw.{allocated}
+use Rattle.strm_raw.proofs.store.RawStoreBlocks.alloc_with.Given as goal
+
+abbrev pub ghost-note : goal.ghost-note
+ghost-note a = allocated

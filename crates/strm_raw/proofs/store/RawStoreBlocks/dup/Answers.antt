@@ -1,0 +1,99 @@
+use Rattle.std.proofs.Common.{ℕ, ◌≡◌, ◌+◌, ◌-◌, ◌<◌, refl, sym, ap, ◌∙◌, subst, arith, length, drop, inl, inr, List, get_or, []}
+use Rattle.std.proofs.lemmas.Bool.Decides.{nat_tests}
+use Rattle.std.specs.Prelude.{None, Some, map}
+use Rattle.strm_blocks.specs.Blocks.{StoreValue, token, Block, block_at, in_hand, IsInHand, held, times_in}
+use Rattle.strm_blocks.specs.Outcomes.{NoneShared, Duplicated}
+use Rattle.strm_raw.specs.Numbered.{Nodes, Row, DataRow, row_of, data_at, row_at, with_row, msg_number, data_number}
+use Rattle.strm_raw.specs.declared.msg_nodes.MsgNode.{MsgNode}
+use Rattle.strm_raw.specs.Roster.{Roster}
+use Rattle.strm_raw.specs.Raw.{value_of, IsRaw, duplicated, ids, shown, block_no}
+use Rattle.strm_raw.proofs.Standing.{none-m, stored}
+use Rattle.strm_raw.proofs.Listed.{kept-listed}
+use Rattle.strm_raw.proofs.Taking as taking
+use Rattle.strm_raw.proofs.Finding as finding
+use Rattle.strm_raw.proofs.store.RawStoreBlocks.dup.Goals as goal
+
+pub message_link-first-requires : goal.message_link-first-requires
+message_link-first-requires c = finding.token-below c.self.invariant.raw _ c.self.view_is (token c.args.message.now) _ c.name.ensures c.requires.in_hand
+
+pub returns-in_default : goal.returns-in_default
+returns-in_default c =
+    let t = c.self.inside in
+    let none = ap (λ s. Rattle.strm_blocks.specs.Blocks.free_m s) (sym c.self.view_is) ∙ none-m t.memory t.ledger.roster c.self.invariant.raw c.in_default.is in
+    record { none = inl none; same = refl }
+
+pub returns-then-references : goal.returns-then-references
+returns-then-references c =
+    let t = c.self.inside in let v = t.memory in let is = c.self.invariant.raw in let l = c.message_link-first.result in let n = token c.args.message.now in let e = c.message_link-first.ensures.number ∙ c.name.ensures in let at = c.args.at in
+    let here = finding.here-by c.self.inside.memory c.self.inside.ledger.roster _ c.self.view_is l n _ c.message_link-first.ensures.there c.message_link-first.ensures.number c.name.ensures c.requires.in_hand in
+    let within = subst (λ (x : StoreValue × ℕ). at < length (in_hand x.0 x.1)) (λ j. (sym c.self.view_is j, sym e j)) c.requires.within in
+    let len = finding.found-len is l here in
+    let j = c.block_link-link.ensures.number (ids (finding.found is l here)) (finding.found-linked is l here) (omega arith) in
+    let block = finding.found-block is l here at within in
+    let number = ap (λ (r : Row). r.number) c.message-block.ensures.row ∙ ap (λ k. (row_at k v.rows).number) j ∙ sym (ap (λ (b : Block). b.number) block) in
+    let full = stored v t.ledger.roster is (data_number v.dat c.message-block.result.number) ∙ sym (ap (λ (r : DataRow). r.references) c.datum.ensures.row) ∙ c.if-references.true in
+    subst (λ (x : StoreValue × ℕ). NoneShared x.0 x.0 (block_at at (in_hand x.0 x.1)).number) (λ j. (c.self.view_is j, e j))
+    (record { none = inr (ap (λ k. Rattle.strm_blocks.specs.Blocks.references (value_of v t.ledger.roster) k) (sym number) ∙ full); same = refl })
+
+pub overflow_sub-self : goal.overflow_sub-self
+overflow_sub-self c = let a = ap length (taking.first-m c.self.invariant.raw c.in-Some.free c.in-Some.is).1.0 in let n = c.self.invariant.raw.count_m in omega arith
+
+pub invariant_of-self : goal.invariant_of-self
+invariant_of-self c =
+    let t = c.self.inside in let v = t.memory in let is = c.self.invariant.raw in let l = c.message_link-first.result in let n = token c.args.message.now in let e = c.message_link-first.ensures.number ∙ c.name.ensures in let at = c.args.at in
+    let here = finding.here-by c.self.inside.memory c.self.inside.ledger.roster _ c.self.view_is l n _ c.message_link-first.ensures.there c.message_link-first.ensures.number c.name.ensures c.requires.in_hand in
+    let within = subst (λ (x : StoreValue × ℕ). at < length (in_hand x.0 x.1)) (λ j. (sym c.self.view_is j, sym e j)) c.requires.within in
+    let len = finding.found-len is l here in
+    let j = c.block_link-link.ensures.number (ids (finding.found is l here)) (finding.found-linked is l here) (omega arith) in
+    let row = c.message-block.ensures.row ∙ ap (λ k. row_at k v.rows) j in
+    let d = data_number v.dat c.message-block.result.number in
+    let free = c.in-Some.free in
+    let node : MsgNode = record c.message-block.result { name = c.message-taken.result.name; next = None; ahead = c.message-taken.result.ahead; behind = c.message-taken.result.behind } in
+    let memory = c.set_message.ensures ∙ ap (λ (w : Nodes). with_row (msg_number w.mat free) (row_of w.mat w.dat node) w) c.set_datum.ensures in
+    let some : 0 < (data_at d v.datas).references = subst (λ k. 0 < (data_at k v.datas).references) (sym (ap (λ (r : Row). r.number) row)) (finding.found-named is l here at (omega arith)) in
+    let count = ap (λ (r : DataRow). r.references) c.datum.ensures.row in
+    let few : (data_at d v.datas).references < 255 = let b = is.bounded d in grind (arith, nat_tests) in
+    let x : DataRow = record { next = Rattle.std.specs.Prelude.option_map (data_number v.dat) c.datum.result.now.next; references = c.datum.result.now.references + 1; bytes = (data_at d v.datas).bytes } in
+    let refers = taking.refers-more is d c.message-block.ensures.links.number.0 some few x (omega arith) refl in
+    let straight = ap (λ (r : Row). Rattle.strm_raw.specs.Raw.askew r) row ∙ is.straight _ in
+    let row_next = ap (λ (r : Row). r.next) c.message-taken.ensures.row in
+    let done = taking.added is free c.in-Some.is (row_of v.mat v.dat node) refl straight c.message-taken.result.next row_next c.message-taken.ensures.links.next _ _ _ _ refers in
+    let value = (λ j. value_of (memory j) (c.note.ensures j)) ∙ taking.added-value is free c.in-Some.is (row_of v.mat v.dat node) refl straight c.message-taken.result.next row_next c.message-taken.ensures.links.next _ _ _ _ refers in
+    record {
+      raw = subst (λ (w : Nodes × Roster). IsRaw w.0 c.message-taken.result.next t.free_data (t.spare_m - 1) t.spare_d w.1) (λ j. (sym memory j, sym c.note.ensures j)) done;
+      listed = kept-listed c.self.invariant.listed _ _ (ap (λ (w : Nodes). w.mat) memory) (msg_number v.mat free) (taking.place-m is free c.in-Some.is).0 (row_of v.mat v.dat node) (ap (λ (r : Row). r.ahead) c.message-taken.ensures.row) (ap (λ (r : Row). r.behind) c.message-taken.ensures.row)
+          (ap (λ (w : Nodes). w.rows) memory) (ap (λ (x : Roster). x.lists) c.note.ensures) _ value refl;
+    }
+
+pub returns : goal.returns
+returns c =
+    let t = c.self.inside in let v = t.memory in let is = c.self.invariant.raw in let l = c.message_link-first.result in let n = token c.args.message.now in let e = c.message_link-first.ensures.number ∙ c.name.ensures in let at = c.args.at in
+    let here = finding.here-by c.self.inside.memory c.self.inside.ledger.roster _ c.self.view_is l n _ c.message_link-first.ensures.there c.message_link-first.ensures.number c.name.ensures c.requires.in_hand in
+    let within = subst (λ (x : StoreValue × ℕ). at < length (in_hand x.0 x.1)) (λ j. (sym c.self.view_is j, sym e j)) c.requires.within in
+    let len = finding.found-len is l here in
+    let j = c.block_link-link.ensures.number (ids (finding.found is l here)) (finding.found-linked is l here) (omega arith) in
+    let row = c.message-block.ensures.row ∙ ap (λ k. row_at k v.rows) j in
+    let d = data_number v.dat c.message-block.result.number in
+    let free = c.in-Some.free in
+    let node : MsgNode = record c.message-block.result { name = c.message-taken.result.name; next = None; ahead = c.message-taken.result.ahead; behind = c.message-taken.result.behind } in
+    let memory = c.set_message.ensures ∙ ap (λ (w : Nodes). with_row (msg_number w.mat free) (row_of w.mat w.dat node) w) c.set_datum.ensures in
+    let some : 0 < (data_at d v.datas).references = subst (λ k. 0 < (data_at k v.datas).references) (sym (ap (λ (r : Row). r.number) row)) (finding.found-named is l here at (omega arith)) in
+    let count = ap (λ (r : DataRow). r.references) c.datum.ensures.row in
+    let few : (data_at d v.datas).references < 255 = let b = is.bounded d in grind (arith, nat_tests) in
+    let x : DataRow = record { next = Rattle.std.specs.Prelude.option_map (data_number v.dat) c.datum.result.now.next; references = c.datum.result.now.references + 1; bytes = (data_at d v.datas).bytes } in
+    let refers = taking.refers-more is d c.message-block.ensures.links.number.0 some few x (omega arith) refl in
+    let straight = ap (λ (r : Row). Rattle.strm_raw.specs.Raw.askew r) row ∙ is.straight _ in
+    let row_next = ap (λ (r : Row). r.next) c.message-taken.ensures.row in
+    let value = (λ j. value_of (memory j) (c.note.ensures j)) ∙ taking.added-value is free c.in-Some.is (row_of v.mat v.dat node) refl straight c.message-taken.result.next row_next c.message-taken.ensures.links.next _ _ _ _ refers in
+    let block : shown _ (row_of v.mat v.dat node) ≡ block_at at (in_hand (value_of v t.ledger.roster) (msg_number v.mat l)) =
+    taking.shown-kept v.datas _ refers.bytes (row_of v.mat v.dat node) ∙ ap (λ (r : Row). shown v.datas r) row ∙ sym (finding.found-block is l here at within) in
+    let after = value ∙ ap (λ (x : Block). held (value_of v t.ledger.roster) (msg_number v.mat free) (Rattle.std.proofs.Common.◌∷◌ x [])) block in
+    let number = ap (λ (r : Row). r.number) row ∙ sym (ap (λ (b : Block). b.number) (finding.found-block is l here at within)) in
+    let named : msg_number v.mat free ≡ c.of.result.name = sym (c.of.ensures ∙ c.message-taken.ensures.name) in
+    let room = stored v t.ledger.roster is d in
+    subst (λ (s : StoreValue × StoreValue × ℕ × ℕ). Duplicated s.0 s.1 s.2 (block_at at (in_hand s.0 s.3))) (λ j. (c.self.view_is j, sym value j, named j, e j)) (record {
+      room_m = taking.added-room is free c.in-Some.is (row_of v.mat v.dat node) refl straight c.message-taken.result.next row_next c.message-taken.ensures.links.next _ _ _ _ refers;
+      room_r = subst (λ k. Rattle.strm_blocks.specs.Blocks.references (value_of v t.ledger.roster) k < 255) number (omega arith);
+      fresh_name = taking.added-fresh is free c.in-Some.is (row_of v.mat v.dat node) refl straight c.message-taken.result.next row_next c.message-taken.ensures.links.next _ _ _ _ refers;
+      after = sym value ∙ after;
+    })

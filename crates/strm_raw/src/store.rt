@@ -1,0 +1,364 @@
+//! The calls of the store, and what each of them costs.
+
+use crate::chains::{block_link, chain_bytes, chain_len, last_link};
+use crate::data_nodes::DataNode;
+use crate::lists::unseat;
+use crate::msg_nodes::MsgNode;
+use crate::neighbours::{NO_ENDS, ahead, behind, seat};
+use crate::ranks::{first_ranked, last_ranked, rank_of};
+use crate::raw::RawStore;
+use crate::threading::{thread_data, thread_messages};
+use crate::visiting::{tell_list, tell_message};
+use std::ptr::null_mut;
+use strm_blocks::{Blocks, FlushWhat, InHand, NoBlocks, Peek, Summary, Visitor};
+use strm_types::{Band, MsgKind};
+
+impl Blocks for RawStore {
+    ghost value = { λ s. s };
+
+    fn audit(&self) {
+        let _ = &self.ledger;
+    }
+
+    /// The cost is the same whatever the store's size.
+    fn alloc(&mut self, kind: MsgKind) -> Result<InHand, NoBlocks> {
+        self.alloc_with(kind, Band(0), &[])
+    }
+
+    /// The cost is that of the bytes, whatever the store's size.
+    fn alloc_with(&mut self, kind: MsgKind, band: Band, bytes: &[u8]) -> Result<InHand, NoBlocks> {
+        let Some(at) = self.free_msg else {
+            return Err(NoBlocks);
+        };
+        let Some(number) = self.free_data else {
+            return Err(NoBlocks);
+        };
+        let free = self.memory.message(at);
+        let next = self.memory.datum(number).next;
+        self.memory.write(number, 0, bytes);
+        self.memory.set_datum(number, 1, None);
+        self.memory.set_message(
+            at,
+            MsgNode {
+                kind,
+                band: band.0,
+                number,
+                start: 0,
+                end: bytes.len(),
+                next: None,
+                ..free
+            },
+        );
+        self.free_msg = free.next;
+        self.free_data = next;
+        self.spare_m -= 1;
+        self.spare_d -= 1;
+        self.ledger.note(at.at, number.at, 0, 0);
+        Ok(InHand::of(free.name))
+    }
+
+    /// It takes a step for each block before block `at`.
+    fn dup(&mut self, message: &InHand, at: usize) -> Result<InHand, NoBlocks> {
+        let Some(free) = self.free_msg else {
+            return Err(NoBlocks);
+        };
+        let first = self.memory.message_link(message.name() as usize);
+        let link = block_link(&self.memory, first, at);
+        let block = self.memory.message(link);
+        let DataNode {
+            next,
+            references,
+            ..
+        } = *self.memory.datum(block.number);
+        if references == 255 {
+            return Err(NoBlocks);
+        }
+        let taken = self.memory.message(free);
+        self.memory.set_datum(block.number, references + 1, next);
+        self.memory.set_message(
+            free,
+            MsgNode {
+                name: taken.name,
+                next: None,
+                ahead: taken.ahead,
+                behind: taken.behind,
+                ..block
+            },
+        );
+        self.free_msg = taken.next;
+        self.spare_m -= 1;
+        self.ledger.note(free.at, block.number.at, 0, 0);
+        Ok(InHand::of(taken.name))
+    }
+
+    /// It takes a step for each block before block `at`, and copies 512 bytes at most.
+    fn copy(&mut self, message: &InHand, at: usize) -> Result<InHand, NoBlocks> {
+        let first = self.memory.message_link(message.name() as usize);
+        let link = block_link(&self.memory, first, at);
+        let block = self.memory.message(link);
+        let DataNode { bytes, .. } = *self.memory.datum(block.number);
+        let shown = &bytes[block.start..block.end];
+        self.alloc_with(block.kind, Band(block.band), shown)
+    }
+
+    /// It takes a step for each block.
+    fn free(&mut self, message: InHand) {
+        let mut left = Some(message);
+        while let Some(whole) = left {
+            let (first, rest) = self.unlink(whole);
+            self.free_one(first);
+            left = rest;
+        }
+    }
+
+    /// It takes a step for each block of the first.
+    fn link(&mut self, first: InHand, second: InHand) -> InHand {
+        let head = self.memory.message_link(first.name() as usize);
+        let behind = second.name() as usize;
+        let next = self.memory.message_link(behind);
+        let last = last_link(&self.memory, head, self.memory.messages());
+        let node = self.memory.message(last);
+        self.memory.set_message(
+            last,
+            MsgNode {
+                next: Some(next),
+                ..node
+            },
+        );
+        self.ledger.note(head.at, null_mut(), behind, 0);
+        first
+    }
+
+    /// The cost is the same whatever the message's length.
+    fn unlink(&mut self, message: InHand) -> (InHand, Option<InHand>) {
+        let at = self.memory.message_link(message.name() as usize);
+        let node = self.memory.message(at);
+        let Some(rest) = node.next else {
+            return (message, None);
+        };
+        let name = self.memory.message(rest).name;
+        self.memory.set_message(at, MsgNode { next: None, ..node });
+        self.ledger.note(at.at, node.number.at, 0, 0);
+        (message, Some(InHand::of(name)))
+    }
+
+    /// It takes a step for each block of the message, and the cost of the bytes.
+    fn append(&mut self, message: &InHand, bytes: &[u8]) -> usize {
+        let first = self.memory.message_link(message.name() as usize);
+        let last = last_link(&self.memory, first, self.memory.messages());
+        let node = self.memory.message(last);
+        if self.memory.datum(node.number).references > 1 {
+            return 0;
+        }
+        let count = bytes.len().min(256 - node.end);
+        self.memory.write(node.number, node.end, &bytes[..count]);
+        let end = node.end + count;
+        self.memory.set_message(last, MsgNode { end, ..node });
+        count
+    }
+
+    /// It takes a step for each block before block `at`.
+    fn bytes_at(&self, message: &InHand, at: usize) -> &[u8] {
+        let _ = &self.ledger;
+        let first = self.memory.message_link(message.name() as usize);
+        let link = block_link(&self.memory, first, at);
+        let node = self.memory.message(link);
+        let datum = self.memory.datum(node.number);
+        &datum.bytes[node.start..node.end]
+    }
+
+    /// It takes a step for each block before block `at`.
+    fn trim_head(&mut self, message: &InHand, at: usize, n: usize) {
+        let first = self.memory.message_link(message.name() as usize);
+        let link = block_link(&self.memory, first, at);
+        let node = self.memory.message(link);
+        let shown = self.memory.datum(node.number).bytes[node.start..node.end].len();
+        let start = node.start + n.min(shown);
+        self.memory.set_message(link, MsgNode { start, ..node });
+    }
+
+    /// It takes a step for each block before block `at`.
+    fn trim_tail(&mut self, message: &InHand, at: usize, n: usize) {
+        let first = self.memory.message_link(message.name() as usize);
+        let link = block_link(&self.memory, first, at);
+        let node = self.memory.message(link);
+        let shown = self.memory.datum(node.number).bytes[node.start..node.end].len();
+        let end = node.end - n.min(shown);
+        self.memory.set_message(link, MsgNode { end, ..node });
+    }
+
+    /// It takes a step for each block.
+    fn blocks(&self, message: &InHand) -> usize {
+        let _ = &self.ledger;
+        let first = self.memory.message_link(message.name() as usize);
+        chain_len(&self.memory, first, self.memory.messages())
+    }
+
+    /// It takes a step for each block before block `at`.
+    fn block_len(&self, message: &InHand, at: usize) -> usize {
+        self.bytes_at(message, at).len()
+    }
+
+    /// It takes a step for each block before block `at`.
+    fn kind(&self, message: &InHand, at: usize) -> MsgKind {
+        let _ = &self.ledger;
+        let first = self.memory.message_link(message.name() as usize);
+        let link = block_link(&self.memory, first, at);
+        self.memory.message(link).kind
+    }
+
+    /// It takes a step for each block before block `at`.
+    fn set_kind(&mut self, message: &InHand, at: usize, kind: MsgKind) {
+        let first = self.memory.message_link(message.name() as usize);
+        let link = block_link(&self.memory, first, at);
+        let node = self.memory.message(link);
+        self.memory.set_message(link, MsgNode { kind, ..node });
+    }
+
+    /// The cost is the same whatever the message's length.
+    fn band(&self, message: &InHand) -> Band {
+        let _ = &self.ledger;
+        let first = self.memory.message_link(message.name() as usize);
+        Band(self.memory.message(first).band)
+    }
+
+    /// It takes a step for each block.
+    fn summary(&self, message: &InHand) -> Summary {
+        let _ = &self.ledger;
+        let first = self.memory.message_link(message.name() as usize);
+        let node = self.memory.message(first);
+        Summary {
+            kind: node.kind,
+            band: Band(node.band),
+            bytes: chain_bytes(&self.memory, first, self.memory.messages()),
+        }
+    }
+
+    /// The cost is the same whatever the message's length.
+    fn set_band(&mut self, message: &InHand, band: Band) {
+        let first = self.memory.message_link(message.name() as usize);
+        let node = self.memory.message(first);
+        self.memory.set_message(
+            first,
+            MsgNode {
+                band: band.0,
+                ..node
+            },
+        );
+    }
+
+    /// One load.
+    fn is_empty(&self, list: usize) -> bool {
+        let _ = &self.ledger;
+        self.ends[list].first.is_none()
+    }
+
+    /// It takes one step where the last message of the list has at least the new one's rank, and else a step for each
+    /// message that is passed.
+    fn insert_back(&mut self, list: usize, message: InHand) {
+        let at = self.memory.message_link(message.name() as usize);
+        let rank = rank_of(self.memory.message(at));
+        let ends = self.ends[list];
+        let before = last_ranked(&self.memory, ends, rank);
+        let after = ahead(&self.memory, ends, before);
+        self.ends[list] = seat(&mut self.memory, ends, before, at, after);
+        let next = after.unwrap_or(at);
+        self.ledger
+            .note(next.at, null_mut(), list, message.name() as usize);
+    }
+
+    /// It takes one step where the first message of the list has at most the new one's rank, and else a step for each
+    /// message that is passed.
+    fn insert_front(&mut self, list: usize, message: InHand) {
+        let at = self.memory.message_link(message.name() as usize);
+        let rank = rank_of(self.memory.message(at));
+        let ends = self.ends[list];
+        let after = first_ranked(&self.memory, ends, rank);
+        let before = behind(&self.memory, ends, after);
+        self.ends[list] = seat(&mut self.memory, ends, before, at, after);
+        let next = after.unwrap_or(at);
+        self.ledger
+            .note(next.at, null_mut(), list, message.name() as usize);
+    }
+
+    /// The cost is the same whatever the list's length.
+    fn pop(&mut self, list: usize) -> Option<InHand> {
+        let Some(first) = self.ends[list].first else {
+            return None;
+        };
+        let message = unseat(
+            &mut self.memory,
+            &mut self.ends,
+            &mut self.ledger,
+            list,
+            first,
+        );
+        Some(message)
+    }
+
+    /// The cost is the same whatever the list's length.
+    fn pop_last(&mut self, list: usize) -> Option<InHand> {
+        let Some(last) = self.ends[list].last else {
+            return None;
+        };
+        let message = unseat(
+            &mut self.memory,
+            &mut self.ends,
+            &mut self.ledger,
+            list,
+            last,
+        );
+        Some(message)
+    }
+
+    /// The cost is the same whatever the list's length.
+    fn peek(&self, list: usize) -> Option<Peek> {
+        let _ = &self.ledger;
+        let first = self.ends[list].first?;
+        let node = self.memory.message(first);
+        Some(Peek {
+            kind: node.kind,
+            band: Band(node.band),
+        })
+    }
+
+    /// It takes a step for each block of which the visitor is told.
+    fn visit<V: Visitor>(&self, list: usize, visitor: &mut V) {
+        let _ = &self.ledger;
+        tell_list(&self.memory, self.ends[list], visitor);
+    }
+
+    /// It takes a step for each block of which the visitor is told.
+    fn visit_message<V: Visitor>(&self, message: &InHand, visitor: &mut V) {
+        let _ = &self.ledger;
+        let first = self.memory.message_link(message.name() as usize);
+        let _ = tell_message(&self.memory, first, visitor);
+    }
+
+    /// For each message that goes it takes a step for each block, and one for each message in front of it that stays.
+    fn drop_where(&mut self, list: usize, what: FlushWhat) {
+        while let Some(message) = self.take_flushed(list, what) {
+            self.free(message);
+        }
+    }
+
+    /// Two loads.
+    fn free_blocks(&self) -> (usize, usize) {
+        let _ = &self.ledger;
+        (self.spare_m, self.spare_d)
+    }
+
+    /// It takes a step for each block of the store.
+    fn reset(&mut self) {
+        let mblks = self.memory.messages();
+        let dblks = self.memory.data_blocks();
+        let free_msg = thread_messages(&mut self.memory, mblks);
+        let free_data = thread_data(&mut self.memory, dblks);
+        self.ledger.note(null_mut(), null_mut(), mblks, dblks);
+        self.ends = [NO_ENDS; 8];
+        self.free_msg = free_msg;
+        self.free_data = free_data;
+        self.spare_m = mblks;
+        self.spare_d = dblks;
+    }
+}
