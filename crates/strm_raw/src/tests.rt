@@ -1,10 +1,10 @@
 //! What a caller sees of a store, with answers worked out by hand.
-ghost use Rattle.std.specs.Prelude.{◌≡◌, ◌<◌, ◌≤◌, length};
+ghost use Rattle.std.specs.Prelude.{true, ◌≡◌, ◌<◌, ◌≤◌, ◌-◌, ◌==◌, if◌then◌else◌, length, not};
 ghost use Rattle.strm_blocks.specs.Blocks.{IsInHand, in_hand, token};
 
 use crate::raw::RawStore;
 use std::test::Fail;
-use strm_blocks::{Blocks, FlushWhat, InHand, NoBlocks, Summary, TableStore};
+use strm_blocks::{Blocks, FlushWhat, InHand, NoBlocks, Peek, Summary, TableStore, Visitor};
 use strm_types::{Band, MsgKind};
 
 // Whether a block more of the message's data block is refused, after so many were taken, each of which is given back.
@@ -133,10 +133,53 @@ fn two_stores_give_out_equal_numbers(rt: HostRuntime) -> Result<(), Fail> {
     Ok(())
 }
 
-// Puts a message on list 1 of both stores, at the back or in front of its rank.
-fn put_on_both(
-    raw: &mut RawStore,
-    table: &mut TableStore,
+// What a visitor sees of one block of those that it is told of, and nothing where there are fewer.
+#[derive(PartialEq, Drop)]
+struct BlockAt {
+    left: usize,
+    found: bool,
+    first: bool,
+    kind: MsgKind,
+    band: u8,
+    len: usize,
+}
+
+impl Visitor for BlockAt {
+    ghost after = { λ v b. if v.left == 0
+        then record { left = 0; found = true; first = b.first; kind = b.kind; band = b.band; len = length b.bytes }
+        else record v { left = v.left - 1 } };
+
+    ghost goes_on = { λ v. not v.found };
+
+    fn see(&mut self, first: bool, kind: MsgKind, band: Band, bytes: &[u8]) -> bool {
+        if self.left == 0 {
+            self.found = true;
+            self.first = first;
+            self.kind = kind;
+            self.band = band.0;
+            self.len = bytes.len();
+        } else {
+            self.left -= 1;
+        }
+        !self.found
+    }
+}
+
+// No block, where the one behind so many is looked for.
+fn sought(left: usize) -> BlockAt {
+    BlockAt {
+        left,
+        found: false,
+        first: false,
+        kind: MsgKind::Data,
+        band: 0,
+        len: 0,
+    }
+}
+
+// Puts a message on list 1, at the back or in front of its rank.
+fn put_on<B: Blocks>(
+    store: &mut B,
     head: (MsgKind, u8),
     bytes: &[u8],
     in_front: bool,
@@ -144,59 +187,95 @@ fn put_on_both(
     requires { length bytes.now ≤ 256 }
 {
     let (kind, band) = head;
-    let one = raw.alloc_with(kind, Band(band), bytes)?;
-    let other = table.alloc_with(kind, Band(band), bytes)?;
+    let message = store.alloc_with(kind, Band(band), bytes)?;
     if in_front {
-        raw.insert_front(1, one);
-        table.insert_front(1, other);
+        store.insert_front(1, message);
     } else {
-        raw.insert_back(1, one);
-        table.insert_back(1, other);
+        store.insert_back(1, message);
     }
     Ok(())
 }
 
-// Takes the first message of list 1 off both stores. Whether they are alike, or there is none in both.
-fn first_is_alike(raw: &mut RawStore, table: &mut TableStore) -> bool {
-    let Some(one) = raw.pop(1) else {
-        return table.is_empty(1);
+// Makes list 1 of messages of several ranks, of which a flush takes two. The last one has two blocks.
+fn make_list<B: Blocks>(store: &mut B) -> Result<(), NoBlocks> {
+    put_on(store, (MsgKind::Data, 0), b"", false)?;
+    put_on(store, (MsgKind::Data, 2), b"a", false)?;
+    put_on(store, (MsgKind::Pcproto, 0), b"ab", false)?;
+    put_on(store, (MsgKind::Data, 0), b"abc", true)?;
+    put_on(store, (MsgKind::Data, 2), b"abcd", true)?;
+    put_on(store, (MsgKind::Proto, 1), b"abcde", false)?;
+    put_on(store, (MsgKind::Data, 0), b"abcdef", false)?;
+    let what = FlushWhat {
+        all: false,
+        band: Some(Band(2)),
     };
-    let Some(other) = table.pop(1) else {
-        return false;
-    };
-    let alike = raw.summary(&one) == table.summary(&other);
-    raw.free(one);
-    table.free(other);
-    alike
+    store.drop_where(1, what);
+    let first = store.alloc_with(MsgKind::Data, Band(0), b"a")?;
+    let second = store.alloc_with(MsgKind::Data, Band(0), b"bc")?;
+    let message = store.link(first, second);
+    store.insert_back(1, message);
+    Ok(())
+}
+
+// What is seen of a list, and of its last and its first message, and how many blocks are free without these two.
+#[derive(PartialEq, Drop)]
+struct Seen {
+    block: BlockAt,
+    peek: Option<Peek>,
+    of_last: BlockAt,
+    last: Option<Summary>,
+    first: Option<Summary>,
+    free: (usize, usize),
+}
+
+fn look_at<B: Blocks>(store: &mut B, at: usize) -> Result<Seen, NoBlocks> {
+    store.reset();
+    make_list(store)?;
+    let (mut block, mut of_last) = (sought(at), sought(at));
+    store.visit(1, &mut block);
+    let peek = store.peek(1);
+    let (mut last, mut first) = (None, None);
+    if let Some(message) = store.pop_last(1) {
+        store.visit_message(&message, &mut of_last);
+        last = Some(store.summary(&message));
+        store.free(message);
+    }
+    if let Some(message) = store.pop(1) {
+        first = Some(store.summary(&message));
+        store.free(message);
+    }
+    let free = store.free_blocks();
+    Ok(Seen {
+        block,
+        peek,
+        of_last,
+        last,
+        first,
+        free,
+    })
 }
 
 #[test]
 fn a_list_is_that_of_a_table_store(rt: HostRuntime) -> Result<(), Fail> {
     let mut raw = RawStore::new(rt.alloc(), 8, 8)?;
     let mut table = TableStore::new(rt.alloc(), 8, 8)?;
-    put_on_both(&mut raw, &mut table, (MsgKind::Data, 0), b"", false)?;
-    put_on_both(&mut raw, &mut table, (MsgKind::Data, 2), b"a", false)?;
-    put_on_both(&mut raw, &mut table, (MsgKind::Pcproto, 0), b"ab", false)?;
-    put_on_both(&mut raw, &mut table, (MsgKind::Data, 0), b"abc", true)?;
-    put_on_both(&mut raw, &mut table, (MsgKind::Data, 2), b"abcd", true)?;
-    put_on_both(&mut raw, &mut table, (MsgKind::Proto, 1), b"abcde", false)?;
-    put_on_both(&mut raw, &mut table, (MsgKind::Data, 0), b"abcdef", false)?;
-    let what = FlushWhat {
-        all: false,
-        band: Some(Band(2)),
+    for at in 0..8 {
+        assert!(rt; look_at(&mut raw, at)? == look_at(&mut table, at)?);
+    }
+    let Seen {
+        block,
+        peek,
+        of_last,
+        ..
+    } = look_at(&mut raw, 6)?;
+    assert!(rt; block.found && !block.first && block.len == 2 && !of_last.found);
+    let wanted = Peek {
+        kind: MsgKind::Pcproto,
+        band: Band(0),
     };
-    raw.drop_where(1, what);
-    table.drop_where(1, what);
-    assert_eq!(rt; raw.free_blocks(), (3, 3));
-    assert!(rt; first_is_alike(&mut raw, &mut table));
-    assert!(rt; first_is_alike(&mut raw, &mut table));
-    assert!(rt; first_is_alike(&mut raw, &mut table));
-    assert!(rt; first_is_alike(&mut raw, &mut table));
-    assert!(rt; !raw.is_empty(1));
-    assert!(rt; first_is_alike(&mut raw, &mut table));
-    assert!(rt; first_is_alike(&mut raw, &mut table));
-    assert!(rt; raw.is_empty(1));
-    assert_eq!(rt; raw.free_blocks(), (8, 8));
+    assert!(rt; peek == Some(wanted));
+    let Seen { of_last, free, .. } = look_at(&mut raw, 1)?;
+    assert!(rt; of_last.found && !of_last.first && of_last.len == 2 && free == (4, 4));
     Ok(())
 }
 
