@@ -1,0 +1,7 @@
+pub mod Counting
+pub mod Reading
+pub mod Taken
+pub mod Tallying
+pub mod Unread
+pub mod UnreadTurns
+pub mod Written

@@ -1,0 +1,8 @@
+//! Pairs under locks: a pair of streams as a lock may hold it, so that a system of strm_locks is one of real pairs.
+#![tactic(auto)]
+
+mod laws;
+mod locked;
+
+pub use laws::entries_are_tallied;
+pub use locked::{Locked, over_tables};

@@ -1,0 +1,105 @@
+//! A pair, as a lock holds it.
+
+ghost use Rattle.std.specs.Prelude.{◌≡◌, ◌<◌, ◌^◌, IfOk, MatchOption, IsOk, Err, length, slice_get, slice_index_or};
+ghost use Rattle.strm_types.specs.declared.entries.Entry.TheVariants.{Called, Turned};
+ghost use Rattle.strm_types.specs.Names.{direction_of, head_of};
+ghost use Rattle.strm_locks.specs.Books.{IsNew};
+ghost use Rattle.strm_system.specs.Known.{AreCounts, Agrees};
+
+use std::alloc::{AllocError, Global};
+use strm_blocks::{Blocks, TableStore};
+use strm_locks::Object;
+use strm_pair::Pair;
+use strm_types::{
+    Answer, Caller, Config, Content, Dir, Event, Ledger, QueueName, RULES, Refusal, Rule, Side, Turn,
+};
+
+/// A pair over a store. It stands in a type of this crate, as the pair and what a lock asks for are of two others.
+#[derive(Drop)]
+pub struct Locked<B: Blocks + Drop> {
+    pub pair: Pair<B>,
+}
+
+// The first of the counts by rule, of which there is one at least. It is of 64 bits.
+fn first(counts: &[u64; RULES]) -> u64
+    ensures some { 0 < length counts.now }
+    ensures small { slice_index_or counts.now 0 0 < 2 ^ 64 }
+{
+    let count = counts[0];
+    count
+}
+
+impl<B: Blocks + Drop> Locked<B> {
+    // What is known of the pair's counts: the ledger of the direction that a side reads agrees. It does nothing.
+    fn know(&self, side: Side)
+        ensures counts { AreCounts self.now.pair.fates }
+        ensures agrees { Agrees (direction_of (head_of side)) self.now.pair }
+    {
+        let master = self.pair.fates().of(Dir::MasterToSlave);
+        let slave = self.pair.fates().of(Dir::SlaveToMaster);
+        let _ = first(master);
+        let _ = first(slave);
+        let _ = self.pair.ledger(side.head().direction());
+    }
+}
+
+impl<B: Blocks + Drop> Object for Locked<B> {
+    ghost pair_of = { λ l. l.pair };
+
+    fn call(
+        &mut self,
+        caller: Caller,
+        event: &Event<&[u8]>,
+        out: &mut Content,
+    ) -> Result<Answer<usize>, Refusal> {
+        self.know(caller.side);
+        let answer = self.pair.call(caller, event, out);
+        self.know(caller.side);
+        answer
+    }
+
+    fn turn(&mut self, name: QueueName) -> Result<Turn, Refusal> {
+        self.know(name.side);
+        let turn = self.pair.turn(name);
+        self.know(name.side);
+        turn
+    }
+
+    fn first_enabled(&self) -> Option<QueueName> {
+        self.pair.first_enabled()
+    }
+
+    fn written(&self, direction: Dir) -> u64 {
+        self.pair.ledger(direction).written
+    }
+
+    fn read(&self, direction: Dir) -> u64 {
+        self.pair.fates().of(direction)[Rule::Read.number()]
+    }
+
+    fn ledger(&self, direction: Dir) -> Ledger {
+        self.pair.ledger(direction)
+    }
+
+    fn audit(&self) {
+        let _ = self.pair.journal();
+    }
+
+    fn reset(&mut self) {
+        self.pair.reset();
+    }
+}
+
+/// A pair over a store of tables that nobody opened, with the journal of these sizes and so many blocks of each kind, from 1 to 65536: a
+/// number beyond is as the nearest of them. It is refused for want of memory alone.
+pub fn over_tables(alloc: Global, sizes: Config) -> Result<Locked<TableStore>, AllocError>
+    ensures { IfOk result (λ l. IsNew l.pair) }
+{
+    let mblks = sizes.mblks.clamp(1, 65536);
+    let dblks = sizes.dblks.clamp(1, 65536);
+    let store = TableStore::new(alloc, mblks, dblks)?;
+    match Pair::new(alloc, sizes, store) {
+        Ok(pair) => Ok(Locked { pair }),
+        Err(_) => Err(AllocError),
+    }
+}
