@@ -3,6 +3,8 @@
 
 mod laws;
 mod locked;
+#[cfg(test)]
+mod tests;
 
 pub use laws::entries_are_tallied;
 pub use locked::{Locked, over_tables};

@@ -11,7 +11,8 @@ use strm_blocks::{Blocks, TableStore};
 use strm_locks::Object;
 use strm_pair::Pair;
 use strm_types::{
-    Answer, Caller, Config, Content, Dir, Event, Ledger, QueueName, RULES, Refusal, Rule, Side, Turn,
+    Answer, Caller, Config, Content, Dir, Event, Ledger, QueueName, RULES, Refusal, Rule, Side,
+    Turn,
 };
 
 /// A pair over a store. It stands in a type of this crate, as the pair and what a lock asks for are of two others.
@@ -25,8 +26,7 @@ fn first(counts: &[u64; RULES]) -> u64
     ensures some { 0 < length counts.now }
     ensures small { slice_index_or counts.now 0 0 < 2 ^ 64 }
 {
-    let count = counts[0];
-    count
+    counts[0]
 }
 
 impl<B: Blocks + Drop> Locked<B> {
