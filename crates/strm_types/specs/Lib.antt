@@ -5,6 +5,7 @@ pub mod Message
 pub mod Queue
 pub mod Names
 pub mod Books
+pub mod Both
 pub mod Flush
 pub mod Head
 pub mod Write

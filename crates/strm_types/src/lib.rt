@@ -5,6 +5,7 @@
 
 mod answers;
 mod books;
+mod both;
 mod entries;
 mod events;
 mod flushing;
@@ -28,6 +29,7 @@ mod winsize;
 
 pub use answers::{Answer, Content, ReadBytes, Turn};
 pub use books::{BOOK_MAX, Book};
+pub use both::Both;
 pub use entries::Entry;
 pub use events::{Caller, Event, FlushQueues};
 pub use flushing::FlushAsked;

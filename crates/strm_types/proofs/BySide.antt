@@ -1,0 +1,34 @@
+-- Gets and sets of what there is once for each side.
+use Rattle.std.proofs.Common.{◌≡◌, refl}
+use Rattle.strm_types.specs.declared.names.Side.{Side}
+use Rattle.strm_types.specs.declared.names.Side.TheVariants.{Master, Slave}
+use Rattle.strm_types.specs.declared.both.Both.{Both}
+use Rattle.strm_types.specs.Both.{get, set, AllSides, map_both}
+use Rattle.strm_types.specs.Names.{other}
+
+module _ {A : Type 0} where
+  pub get-set-same : (side : Side) (x : A) (b : Both A) → get side (set side x b) ≡ x
+  get-set-same Master x b = refl
+  get-set-same Slave x b = refl
+
+  pub get-set-other : (side : Side) (x : A) (b : Both A) → get (other side) (set side x b) ≡ get (other side) b
+  get-set-other Master x b = refl
+  get-set-other Slave x b = refl
+
+  -- what holds of each, told for both or of one and the other
+  pub each-side : (P : Side → A → Type 0) (b : Both A) → P Master b.master → P Slave b.slave → AllSides P b
+  each-side P b m s Master = m
+  each-side P b m s Slave = s
+
+  pub side-and-other : (P : Side → A → Type 0) (side : Side) (b : Both A) → P side (get side b) → P (other side) (get (other side) b) → AllSides P b
+  side-and-other P Master b here there = each-side P b here there
+  side-and-other P Slave b here there = each-side P b there here
+
+module _ {A B : Type 0} (f : A → B) where
+  pub get-map : (side : Side) (b : Both A) → get side (map_both f b) ≡ f (get side b)
+  get-map Master b = refl
+  get-map Slave b = refl
+
+  pub map-set : (side : Side) (x : A) (b : Both A) → map_both f (set side x b) ≡ set side (f x) (map_both f b)
+  map-set Master x b = refl
+  map-set Slave x b = refl
