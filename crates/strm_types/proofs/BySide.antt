@@ -29,6 +29,11 @@ module _ {A : Type 0} where
   side-and-other P Master b here there = each-side P b here there
   side-and-other P Slave b here there = each-side P b there here
 
+  -- and behind one that is set
+  pub set-all : (P : Side → A → Type 0) (side : Side) (x : A) (b : Both A) → P side x → AllSides P b → AllSides P (set side x b)
+  set-all P Master x b good all = each-side P (set Master x b) good (all Slave)
+  set-all P Slave x b good all = each-side P (set Slave x b) (all Master) good
+
 module _ {A B : Type 0} (f : A → B) where
   pub get-map : (side : Side) (b : Both A) → get side (map_both f b) ≡ f (get side b)
   get-map Master b = refl
