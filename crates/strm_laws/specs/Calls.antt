@@ -11,7 +11,7 @@ use Rattle.strm_types.specs.declared.modes.Prio.{Prio}
 use Rattle.strm_types.specs.declared.modes.Wanted.{Wanted}
 use Rattle.strm_types.specs.declared.names.ModuleName.{ModuleName}
 use Rattle.strm_types.specs.declared.names.Side.{Side}
-use Rattle.strm_types.specs.declared.names.Side.TheVariants.{Master}
+use Rattle.strm_types.specs.declared.names.Side.TheVariants.{Master, Slave}
 use Rattle.strm_types.specs.declared.names.Openness.TheVariants.{Open}
 use Rattle.strm_types.specs.declared.names.Way.TheVariants.{Down}
 use Rattle.strm_types.specs.Cells.{Cells, cells_written, bytes_of}
@@ -64,13 +64,12 @@ module _ {C : Type 0} where
 
   -- the master is opened
   abbrev pub opened_master : State C → State C
-  opened_master s = record s { master = record s.master { opened = Open } }
+  opened_master s = with_stream Master (record (stream Master s) { opened = Open }) s
 
   -- The slave is opened: its head is as new, and what waits for it on the master's driver may come.
   abbrev pub opened_slave : State C → State C
-  opened_slave s = record s {
-    slave = record s.slave { opened = Open; head = new_head };
-    enabled = enable_if (not (is_none_left s.master.driver.queue.messages)) (driver_of Master) s.enabled;
+  opened_slave s = record (with_stream Slave (record (stream Slave s) { opened = Open; head = new_head }) s) {
+    enabled = enable_if (not (is_none_left (stream Master s).driver.queue.messages)) (driver_of Master) s.enabled;
   }
 
   -- what a write of these bytes on a side's stream sends down

@@ -7,6 +7,7 @@ use Rattle.strm_types.specs.declared.names.QueueName.{QueueName}
 use Rattle.strm_types.specs.declared.names.Side.{Side}
 use Rattle.strm_types.specs.declared.names.Way.{Way}
 use Rattle.strm_types.specs.declared.names.Way.TheVariants.{Up, Down}
+use Rattle.strm_types.specs.Both.{AllSides}
 use Rattle.strm_types.specs.ModuleQueues.{place_before}
 use Rattle.strm_types.specs.Names.{driver_of, other, place_of}
 use Rattle.strm_laws.specs.Stacked.{Module, module_name, module_queue}
@@ -56,6 +57,5 @@ module _ {C : Type 0} where
   before_driver side s = before_at side Down (driver_place side s) s
 
 -- No module stands on either stream.
-pub record NoModules {C : Type 0} (s : State C) : Type 0 where
-  pub master : s.master.modules ≡ []
-  pub slave : s.slave.modules ≡ []
+abbrev pub NoModules : {C : Type 0} → State C → Type 0
+NoModules s = AllSides (λ side t. t.modules ≡ []) s.ends

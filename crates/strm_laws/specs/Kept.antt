@@ -12,6 +12,7 @@ use Rattle.strm_types.specs.declared.names.Way.TheVariants.{Up, Down}
 use Rattle.strm_types.specs.declared.events.Event.TheVariants.{Shut, Push, Pop, Flush, Write, Read, Put, Get, Ioctl}
 use Rattle.strm_types.specs.declared.entries.Entry.TheVariants.{Called, Turned}
 use Rattle.strm_laws.specs.Calls.{message_put, put_at, ioctl_sent, write_sent}
+use Rattle.strm_types.specs.Both.{AllSides}
 use Rattle.strm_types.specs.Cells.{Cells, cells_written}
 use Rattle.strm_types.specs.GetQueues.{get_gone}
 use Rattle.strm_laws.specs.LdtermWeights.{IgnoresMapping}
@@ -49,17 +50,15 @@ module _ {C : Type 0} where
       weight (p (direction_at Up side)) t.head.queue.messages + (modules_weight p side t.modules + weight (p (direction_at Down side)) t.driver.queue.messages)
 
   abbrev pub state_weight : (Dir → C → Bool) → State C → ℕ
-  state_weight p s = stream_weight p Master s.master + stream_weight p Slave s.slave
+  state_weight p s = stream_weight p Master (stream Master s) + stream_weight p Slave (stream Slave s)
 
   -- A side that isn't open has nothing for its readers. A head that is opened is as new, so else it could lose bytes.
-  pub record NothingUnread (s : State C) : Type 0 where
-    pub master : is_open s.master.opened ≡ false → s.master.head.queue.messages ≡ []
-    pub slave : is_open s.slave.opened ≡ false → s.slave.head.queue.messages ≡ []
+  abbrev pub NothingUnread : State C → Type 0
+  NothingUnread s = AllSides (λ side t. is_open t.opened ≡ false → t.head.queue.messages ≡ []) s.ends
 
   -- Between turns no module of a stream has anything of a turn under way.
-  pub record AreIdle (s : State C) : Type 0 where
-    pub master : AllByRecursion (λ p. IsAtRest p) s.master.modules
-    pub slave : AllByRecursion (λ p. IsAtRest p) s.slave.modules
+  abbrev pub AreIdle : State C → Type 0
+  AreIdle s = AllSides (λ side t. AllByRecursion (λ p. IsAtRest p) t.modules) s.ends
 
   -- the cells that a write on a side's stream takes: the first ones of its bytes
   abbrev pub cells_taken : Cells C → Side → List ℕ → State C → List C

@@ -4,7 +4,9 @@ use Rattle.std.specs.Prelude.{ℕ, suc, ◌≡◌, ◌-◌, ◌&&◌, ◌==◌, 
 use Rattle.strm_types.specs.declared.events.FlushQueues.{FlushQueues}
 use Rattle.strm_types.specs.declared.kinds.Band.{Band}
 use Rattle.strm_types.specs.declared.limits.TheConstants.{MODULES, HOPS}
+use Rattle.strm_types.specs.declared.names.Dir.{Dir}
 use Rattle.strm_types.specs.declared.names.Side.{Side}
+use Rattle.strm_types.specs.declared.names.Side.TheVariants.{Master}
 use Rattle.strm_types.specs.declared.names.Place.{Place}
 use Rattle.strm_types.specs.declared.names.Place.TheVariants as places
 use Rattle.strm_types.specs.declared.names.QueueName.{QueueName}
@@ -41,7 +43,7 @@ module _ {C : Type 0} where
 
   -- what the driver of a side is told of the other one
   abbrev pub across_of : Side → State C → Across
-  across_of side s = record { is_open = is_open (stream (other side) s).opened; bottom = modules_on (other side) s; ended = is_closed s.master.opened }
+  across_of side s = record { is_open = is_open (stream (other side) s).opened; bottom = modules_on (other side) s; ended = is_closed (stream Master s).opened }
 
   -- a message that comes to the head of a side's stream; where that isn't open nobody reads, and its bytes go
   abbrev pub put_at_head : Side → Spot → Message C → State C → Took C (State C)
@@ -122,9 +124,7 @@ module _ {C : Type 0} where
 -- Two states with the same ends: which sides are open, the lock, the number of the next ioctl, and what was written. Cells may have been
 -- made.
 pub record SameButMade {C : Type 0} (s t : State C) : Type 0 where
-  pub master : t.master.opened ≡ s.master.opened
-  pub slave : t.slave.opened ≡ s.slave.opened
+  pub opened : (side : Side) → (stream side t).opened ≡ (stream side s).opened
   pub locked : t.locked ≡ s.locked
   pub next_ioctl : t.next_ioctl ≡ s.next_ioctl
-  pub from_master : t.from_master.written ≡ s.from_master.written
-  pub from_slave : t.from_slave.written ≡ s.from_slave.written
+  pub written : (dir : Dir) → (book dir t).written ≡ (book dir s).written

@@ -6,6 +6,7 @@ use Rattle.strm_types.specs.declared.events.Caller.{Caller}
 use Rattle.strm_types.specs.declared.names.QueueName.{QueueName}
 use Rattle.strm_types.specs.declared.refusals.Refusal.{Refusal}
 use Rattle.strm_types.specs.declared.refusals.Refusal.TheVariants.{Einval, Eagain, Enxio, Enosr, Erange, JournalFull}
+use Rattle.strm_types.specs.declared.names.Dir.TheVariants.{MasterToSlave, SlaveToMaster}
 use Rattle.strm_types.specs.declared.names.Side.{Side}
 use Rattle.strm_types.specs.declared.names.Side.TheVariants.{Master, Slave}
 use Rattle.strm_types.specs.declared.needs.Needs.{Needs}
@@ -14,7 +15,7 @@ use Rattle.strm_types.specs.declared.needs.Reach.TheVariants as reaches
 use Rattle.std.specs.List.{list_any}
 use Rattle.strm_types.specs.Names.{is_master, is_enabled, is_open, is_never, is_closed}
 use Rattle.strm_laws.specs.Pushes.{may_stand, named_by, top_on}
-use Rattle.strm_laws.specs.State.{State, stream}
+use Rattle.strm_laws.specs.State.{State, book, stream}
 use Rattle.strm_types.specs.Slots.{is_free, result_refusal}
 use Rattle.strm_types.specs.Write.{chunk_count}
 use Rattle.strm_types.specs.Reads.{read_refusal}
@@ -74,19 +75,21 @@ module _ {C : Type 0} where
   -- The end of input at a side's head, where nothing is to be read there: the other end is gone, or the slave was closed and
   -- no M_DATA or M_PROTO of it stands anywhere.
   abbrev pub at_end : Side → State C → Bool
-  at_end Slave s = s.slave.head.hung_up
+  at_end Slave s = (stream Slave s).head.hung_up
   at_end Master s =
-      s.master.head.hung_up
-      || (is_closed s.slave.opened && (has_no_data s.slave.driver.queue.messages && (none_waits_up s.master.modules && has_no_data s.master.head.queue.messages)))
+      let above = stream Master s in
+      let across = stream Slave s in
+      above.head.hung_up
+      || (is_closed across.opened && (has_no_data across.driver.queue.messages && (none_waits_up above.modules && has_no_data above.head.queue.messages)))
 
   -- more may be written and made in both directions, as a call in one may make bytes in the other
   abbrev pub in_range : State C → Bool
-  in_range s = books.has_room s.from_master && books.has_room s.from_slave
+  in_range s = books.has_room (book MasterToSlave s) && books.has_room (book SlaveToMaster s)
 
   -- the stream that a call asks for is there
   abbrev pub is_reached : Side → Reach → State C → Bool
   is_reached side reaches.Nothing s = true
-  is_reached side reaches.Master s = is_open s.master.opened
+  is_reached side reaches.Master s = is_open (stream Master s).opened
   is_reached side reaches.Own s = is_open (stream side s).opened
   is_reached side reaches.Down s = goes_down side s
 
@@ -110,9 +113,9 @@ module _ {C : Type 0} where
 
   -- what a call is refused for after all else: what the state says
   abbrev pub refused_by_state : State C → Caller → Request → Option Refusal
-  refused_by_state s caller OpenMaster = unless (is_never s.master.opened) Einval
+  refused_by_state s caller OpenMaster = unless (is_never (stream Master s).opened) Einval
   refused_by_state s caller OpenSlave =
-      or_else (unless (not (is_open s.slave.opened)) Einval) (unless (not s.locked) Eagain)
+      or_else (unless (not (is_open (stream Slave s).opened)) Einval) (unless (not s.locked) Eagain)
   refused_by_state s caller (Write bytes) = unless (not (is_full_below 0 caller.side s)) Eagain
   refused_by_state s caller (Read n) =
       let h = (stream caller.side s).head in

@@ -1,6 +1,7 @@
 -- How many blocks of each kind a delivery takes at most where pckt stands on a stream: each message that comes up to it becomes a packet there,
 -- in one block more, and an M_FLUSH with FLUSHW is passed on in another one (pckt(7M)). This comes to what a delivery takes without packets.
 use Rattle.std.specs.Prelude.{ℕ, ◌≤◌, zero, suc, ◌+◌, ◌-◌, ◌*◌, Bool, not, ◌&&◌, ◌==◌, if◌then◌else◌, false, List, map, slice_index_or}
+use Rattle.strm_types.specs.declared.both.Both.{Both}
 use Rattle.strm_types.specs.declared.kinds.MsgKind.{MsgKind}
 use Rattle.strm_types.specs.declared.kinds.MsgKind.TheVariants.{Flush, Ioctl, Iocack}
 use Rattle.strm_types.specs.declared.limits.TheConstants.{MODULES}
@@ -11,6 +12,7 @@ use Rattle.strm_types.specs.declared.names.Side.TheVariants.{Master, Slave}
 use Rattle.strm_types.specs.declared.names.Way.{Way}
 use Rattle.strm_types.specs.declared.names.Way.TheVariants.{Up, Down}
 use Rattle.strm_types.specs.declared.spots.Spot.{Spot}
+use Rattle.strm_types.specs.Both.{AllSides, get, map_both}
 use Rattle.strm_types.specs.Costs.{cost, cost_of, pckt_takes}
 use Rattle.strm_types.specs.Flushing.{asked_by}
 use Rattle.strm_types.specs.LdtermPuts.{ldterm_puts}
@@ -22,16 +24,14 @@ use Rattle.strm_laws.specs.Stacked.{Module, OfLdterm, OfPtem, OfPckt, module_nam
 use Rattle.strm_laws.specs.State.{State}
 
 -- the names of the modules of both streams, from the top
-pub record Stands : Type 0 where
-  pub master : List ModuleName
-  pub slave : List ModuleName
+abbrev pub Stands : Type 0
+Stands = Both (List ModuleName)
 
 abbrev pub stands_on : Side → Stands → List ModuleName
-stands_on Master all = all.master
-stands_on Slave all = all.slave
+stands_on side all = get side all
 
 abbrev pub stands_of : {C : Type 0} → State C → Stands
-stands_of s = record { master = map module_name s.master.modules; slave = map module_name s.slave.modules }
+stands_of s = map_both (λ t. map module_name t.modules) s.ends
 
 -- whether a module of this name stands there, counted from the top, from 0
 abbrev pub stands_at : ModuleName → List ModuleName → ℕ → Bool
@@ -95,9 +95,8 @@ module _ (all : Stands) where
 pub record EachOnce (on : List ModuleName) : Type 0 where
   pub once : (name : ModuleName) (at : ℕ) → times_there name on at ≤ 1
 
-pub record StandOnce (all : Stands) : Type 0 where
-  pub master : EachOnce all.master
-  pub slave : EachOnce all.slave
+abbrev pub StandOnce : Stands → Type 0
+StandOnce all = AllSides (λ side on. EachOnce on) all
 
 -- what a module takes of a message that is put at it, and what it leaves free of that
 abbrev pub module_takes : {C : Type 0} → Spot → Message C → Module C → ℕ

@@ -5,11 +5,13 @@ use Rattle.strm_types.specs.declared.names.Side.{Side}
 use Rattle.strm_types.specs.declared.names.Side.TheVariants.{Master, Slave}
 use Rattle.strm_types.specs.declared.names.QueueName.{QueueName}
 use Rattle.strm_types.specs.declared.names.Dir.{Dir}
-use Rattle.strm_types.specs.declared.names.Dir.TheVariants.{MasterToSlave, SlaveToMaster}
 use Rattle.strm_types.specs.declared.names.Openness.{Openness}
 use Rattle.strm_types.specs.declared.names.Openness.TheVariants.{Never}
 use Rattle.strm_types.specs.declared.books.Book.{Book}
+use Rattle.strm_types.specs.declared.both.Both.{Both}
+use Rattle.strm_types.specs.Both.{get, set, map_both}
 use Rattle.strm_types.specs.Books.{new_book}
+use Rattle.strm_types.specs.Names.{side_from}
 use Rattle.strm_types.specs.Heads.{Head, new_head, map_head}
 use Rattle.strm_types.specs.Slots.{PlainSlot}
 use Rattle.strm_types.specs.Queue.{Queue, IsOrdered, new_queue, map_queue}
@@ -26,16 +28,14 @@ pub record Stream (C : Type 0) : Type 0 where
   pub modules : List (Module C)
   pub driver : Driver C
 
--- A pair: its two streams, whether the slave is locked, the enabled queues in order of enabling, the number that the next
--- ioctl gets, and the books of the two directions.
+-- A pair: the stream of each side, whether the slave is locked, the enabled queues in order of enabling, the number that the next
+-- ioctl gets, and the book of what each side writes.
 pub record State (C : Type 0) : Type 0 where
-  pub master : Stream C
-  pub slave : Stream C
+  pub ends : Both (Stream C)
   pub locked : Bool
   pub enabled : List QueueName
   pub next_ioctl : ℕ
-  pub from_master : Book
-  pub from_slave : Book
+  pub books : Both Book
 
 module _ {C : Type 0} where
   -- a driver as it is made: marks 512 and 128
@@ -49,34 +49,28 @@ module _ {C : Type 0} where
   -- a pair as it is made
   abbrev pub opening : State C
   opening = record {
-    master = new_stream;
-    slave = new_stream;
+    ends = record { master = new_stream; slave = new_stream };
     locked = true;
     enabled = [];
     next_ioctl = 1;
-    from_master = new_book;
-    from_slave = new_book;
+    books = record { master = new_book; slave = new_book };
   }
 
   -- the stream of a side
   abbrev pub stream : Side → State C → Stream C
-  stream Master s = s.master
-  stream Slave s = s.slave
+  stream side s = get side s.ends
 
   -- the state with another stream on a side
   abbrev pub with_stream : Side → Stream C → State C → State C
-  with_stream Master new s = record s { master = new }
-  with_stream Slave new s = record s { slave = new }
+  with_stream side new s = record s { ends = set side new s.ends }
 
   -- the book of a direction
   abbrev pub book : Dir → State C → Book
-  book MasterToSlave s = s.from_master
-  book SlaveToMaster s = s.from_slave
+  book dir s = get (side_from dir) s.books
 
   -- the state with another book of a direction
   abbrev pub with_book : Dir → Book → State C → State C
-  with_book MasterToSlave new s = record s { from_master = new }
-  with_book SlaveToMaster new s = record s { from_slave = new }
+  with_book dir new s = record s { books = set (side_from dir) new s.books }
 
   -- a side's stream with another ioctl under way, and with other signals that wait
   abbrev pub with_ioctl : Side → PlainSlot → State C → State C
@@ -96,7 +90,7 @@ abbrev pub stream_queues : {C : Type 0} → Stream C → List (Queue C)
 stream_queues t = t.head.queue ∷ queues_of_modules t.modules ++ t.driver.queue ∷ []
 
 abbrev pub queues_of : {C : Type 0} → State C → List (Queue C)
-queues_of s = stream_queues s.master ++ stream_queues s.slave
+queues_of s = stream_queues (stream Master s) ++ stream_queues (stream Slave s)
 
 -- each queue has its messages in order of rank
 abbrev pub AreOrdered : {C : Type 0} → State C → Type 0
@@ -116,11 +110,9 @@ map_stream f t = record {
 
 abbrev pub map_state : {C D : Type 0} → (C → D) → State C → State D
 map_state f s = record {
-  master = map_stream f s.master;
-  slave = map_stream f s.slave;
+  ends = map_both (map_stream f) s.ends;
   locked = s.locked;
   enabled = s.enabled;
   next_ioctl = s.next_ioctl;
-  from_master = s.from_master;
-  from_slave = s.from_slave;
+  books = s.books;
 }

@@ -1,6 +1,7 @@
 -- That what a stream head keeps has a bounded size: the signals that wait, and the answer of the ioctl under way.
 use Rattle.std.specs.Prelude.{◌≤◌, length}
 use Rattle.strm_types.specs.declared.limits.TheConstants.{IOCTL_MAX}
+use Rattle.strm_types.specs.Both.{AllSides}
 use Rattle.strm_types.specs.Signals.{AreSignals}
 use Rattle.strm_types.specs.Slots.{answer_bytes}
 use Rattle.strm_types.specs.Heads.{Head}
@@ -12,6 +13,5 @@ pub record IsWithin {C : Type 0} (h : Head C) : Type 0 where
   pub answer : length (answer_bytes h.ioctl) ≤ IOCTL_MAX
 
 -- at both sides
-pub record AreWithin {C : Type 0} (s : State C) : Type 0 where
-  pub master : IsWithin s.master.head
-  pub slave : IsWithin s.slave.head
+abbrev pub AreWithin : {C : Type 0} → State C → Type 0
+AreWithin s = AllSides (λ side t. IsWithin t.head) s.ends
