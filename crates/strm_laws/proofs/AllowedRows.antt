@@ -38,7 +38,7 @@ use Rattle.strm_laws.specs.Refusals.{blocks_asked, blocks_taken, at_end, in_rang
 use Rattle.strm_types.specs.Needs.{needs}
 use Rattle.strm_types.specs.Refused.{is_a_band, has_no_data}
 use Rattle.strm_laws.specs.Stacked.{OfLdterm}
-use Rattle.strm_laws.specs.State.{State, Stream}
+use Rattle.strm_laws.specs.State.{State, Stream, with_stream}
 use Rattle.strm_laws.proofs.Samples.{head_with, flow, queue, ordinary, proto, urgent, options}
 
 abbrev caller : Side → Caller
@@ -98,13 +98,11 @@ end opened hung_up head driver = record { opened = opened; head = head_with (que
 
 abbrev pair : Stream ℕ → Stream ℕ → Book → Book → State ℕ
 pair master slave from_master from_slave = record {
-  master = master;
-  slave = slave;
+  ends = record { master = master; slave = slave };
   locked = false;
   enabled = driver_of Master ∷ [];
   next_ioctl = 1;
-  from_master = from_master;
-  from_slave = from_slave;
+  books = record { master = from_master; slave = from_slave };
 }
 
 abbrev state : Openness → Bool → Book → Book → State ℕ
@@ -264,7 +262,7 @@ read_of dir given discarded dropped =
 
 -- the same with the slave's head in RMSGD and RPROTDIS
 abbrev held_in_messages : State ℕ
-held_in_messages = record held { slave = record held.slave { head = record held.slave.head { read_mode = MessageDiscard; control_mode = Discard } } }
+held_in_messages = with_stream Slave (record held.ends.slave { head = record held.ends.slave.head { read_mode = MessageDiscard; control_mode = Discard } }) held
 
 -- an M_PROTO is refused, and nothing goes; in the modes of the head some is given, some discarded and some dropped
 pub reads-take-away : gone plain held (Called (caller Slave) (Read 2) Done) ∷ gone plain held (Called (caller Master) (Read 9) Done) ∷ gone plain held_in_messages (Called (caller Slave) (Read 2) Done) ∷ []

@@ -26,8 +26,7 @@ use Rattle.strm_laws.specs.Within.{AreWithin}
 use Rattle.strm_laws.proofs.GetKeeps.{get-control, get-data}
 use Rattle.strm_types.proofs.ReadKeeps.{head_draw-most}
 use Rattle.strm_types.proofs.SignalRoom.{signals-fit}
-use Rattle.strm_laws.proofs.WithinHeads.{begun-within, side-within}
-use Rattle.strm_laws.proofs.WithinSteps.{delivered-within}
+use Rattle.strm_laws.proofs.WithinSteps.{begun-within, delivered-within}
 
 module _ {C : Type 0} (cells : Cells C) where
   part-bytes : (o : Option (List C)) → length (part (option_map (bytes_of cells) o)) ≡ length (part o)
@@ -76,9 +75,9 @@ module _ {C : Type 0} (cells : Cells C) where
   content-fits caller (Ioctl command body) s within =
       let sent = (ioctl_sent cells caller.side command body s).state in
       answer-fits (stream caller.side sent).head.ioctl
-      (side-within caller.side sent (delivered-within cells (record { side = caller.side; at = 1; way = Down }) (ioctl_message (asking command s.next_ioctl) body) (ioctl_begun caller.side command s) (begun-within caller.side command s within))).answer
-  content-fits caller (IoctlResult number) s within = answer-fits (stream caller.side s).head.ioctl (side-within caller.side s within).answer
-  content-fits caller Signals s within = omega (arith, signals-fit (stream caller.side s).head.signals (side-within caller.side s within).signals)
+      (delivered-within cells (record { side = caller.side; at = 1; way = Down }) (ioctl_message (asking command s.next_ioctl) body) (ioctl_begun caller.side command s) (begun-within caller.side command s within) caller.side).answer
+  content-fits caller (IoctlResult number) s within = answer-fits (stream caller.side s).head.ioctl (within caller.side).answer
+  content-fits caller Signals s within = omega (arith, signals-fit (stream caller.side s).head.signals (within caller.side).signals)
   content-fits caller _ s within = omega arith
 
 pub content-bounded : (asked : Request) → content_max asked ≤ CONTENT_MAX

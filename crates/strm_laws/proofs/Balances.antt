@@ -42,7 +42,7 @@ use Rattle.strm_laws.specs.Puts.{delivered, flushed_on}
 use Rattle.strm_laws.specs.Refusals.{blocks_asked, in_range, refused_at_once, refused_by_state}
 use Rattle.strm_types.specs.Refused.{or_else}
 use Rattle.strm_laws.specs.Stacked.{Module}
-use Rattle.strm_laws.specs.State.{State, book, stream, with_book}
+use Rattle.strm_laws.specs.State.{State, book, stream, with_book, with_stream}
 use Rattle.strm_laws.specs.Step.{after}
 use Rattle.strm_laws.specs.Turns.{turned}
 use Rattle.strm_types.specs.Write.{chunk_count, chunks_of}
@@ -52,7 +52,7 @@ use Rattle.strm_laws.proofs.ChangesMake.{close-none, get-none, pop-none, push-no
 use Rattle.strm_laws.proofs.InOrder.{AreNext, BooksMade, InOrder, Numbered, books-both}
 use Rattle.strm_types.proofs.MadeCells.{made-long}
 use Rattle.strm_laws.proofs.PushHolds.{Survives, modules_emptied-holds, pop-holds, push-holds}
-use Rattle.strm_laws.proofs.PutsBook.{SameBooks, books-are, books-on, booked-before, booked-behind, delivered-books, head-same, none-booked, none-changed, nothing-booked}
+use Rattle.strm_laws.proofs.PutsBook.{SameBooks, books-are, booked-before, booked-behind, delivered-books, head-same, none-booked, nothing-booked}
 use Rattle.strm_laws.proofs.StepBooks.{turn-books}
 use Rattle.strm_laws.proofs.TurnOrder.{all_made}
 
@@ -63,67 +63,33 @@ module _ {C : Type 0} where
 
   books-survive : (s : State C) (side : Side) → Survives side (SameBooks s) AnyModules
   books-survive s side = record {
-    named = λ names t same. record { from_master = same.from_master; from_slave = same.from_slave };
-    apart = λ ps t good same. books-on s t (with_modules side ps t) same (apart side ps t);
-    given = λ m t same. books-on s t _ same (head-same side (head_above side) m t);
+    named = λ names t same. same;
+    apart = λ ps t good same. same;
+    given = λ m t same. head-same side (head_above side) m t ∙ same;
     good = λ t same. tt;
-    dropped = λ ms t same. books-on s t (ioctl_dropped side ms t) same (dropped side ms t);
+    dropped = λ ms t same. same;
     below = λ q ps good. tt;
   }
-    where
-      apart : (side : Side) (ps : List (Module C)) (t : State C) → SameBooks t (with_modules side ps t)
-      apart Master ps t = record { from_master = refl; from_slave = refl }
-      apart Slave ps t = record { from_master = refl; from_slave = refl }
-
-      dropped : (side : Side) (ms : List (Message C)) (t : State C) → SameBooks t (ioctl_dropped side ms t)
-      dropped Master ms t = record { from_master = refl; from_slave = refl }
-      dropped Slave ms t = record { from_master = refl; from_slave = refl }
-
-  head-books : (side : Side) (s : State C) → SameBooks s (head_emptied EndClosed of_all side s).state
-  head-books Master s = record { from_master = refl; from_slave = refl }
-  head-books Slave s = record { from_master = refl; from_slave = refl }
-
-  driver-books : (side : Side) (s : State C) → SameBooks s (driver_emptied EndClosed of_all side s).state
-  driver-books Master s = record { from_master = refl; from_slave = refl }
-  driver-books Slave s = record { from_master = refl; from_slave = refl }
 
   emptied-books : (side : Side) (s : State C) → SameBooks s (stream_emptied side s).state
-  emptied-books side s = modules_emptied-holds side (SameBooks s) AnyModules (books-survive s side) EndClosed (head_emptied EndClosed of_all side s).state (head-books side s)
-
-  ended-books : (side : Side) (s : State C) → SameBooks s (ended side s)
-  ended-books Master s = record { from_master = refl; from_slave = refl }
-  ended-books Slave s = record { from_master = refl; from_slave = refl }
+  emptied-books side s = modules_emptied-holds side (SameBooks s) AnyModules (books-survive s side) EndClosed (head_emptied EndClosed of_all side s).state refl
 
   hung_up-books : (s : State C) → SameBooks s (hung_up_at Slave s)
-  hung_up-books s = at (is_open s.slave.opened)
+  hung_up-books s = at (is_open (stream Slave s).opened)
     where
-      at : (opened : Bool) → SameBooks s (cond opened (record s { slave = record s.slave { head = record s.slave.head { hung_up = true } } }) s)
-      at true = record { from_master = refl; from_slave = refl }
-      at false = none-changed s
+      at : (opened : Bool) → SameBooks s (cond opened (with_stream Slave (record (stream Slave s) { head = record (stream Slave s).head { hung_up = true } }) s) s)
+      at true = refl
+      at false = refl
 
   close-books : (side : Side) (s : State C) → SameBooks s (closed_at side s).state
-  close-books Slave s = books-on s (stream_emptied Slave s).state _ (emptied-books Slave s) (ended-books Slave (stream_emptied Slave s).state)
+  close-books Slave s = emptied-books Slave s
   close-books Master s =
       let heads = (stream_emptied Master s).state in
-      let one = (driver_emptied EndClosed of_all Master heads).state in
-      let all = (driver_emptied EndClosed of_all Slave one).state in
-      books-on s heads _ (emptied-books Master s)
-      (books-on heads one _ (driver-books Master heads)
-      (books-on one all _ (driver-books Slave one)
-      (books-on all (ended Master all) _ (ended-books Master all) (hung_up-books (ended Master all)))))
-
-  -- what is done on either side
-  on-side : (side : Side) (s : State C) (t : Side → State C) → SameBooks s (t Master) → SameBooks s (t Slave) → SameBooks s (t side)
-  on-side Master s t master slave = master
-  on-side Slave s t master slave = slave
-
-  begun-books : (side : Side) (command : ℕ) (s : State C) → SameBooks s (ioctl_begun side command s)
-  begun-books Master command s = record { from_master = refl; from_slave = refl }
-  begun-books Slave command s = record { from_master = refl; from_slave = refl }
+      let all = (driver_emptied EndClosed of_all Slave (driver_emptied EndClosed of_all Master heads).state).state in
+      hung_up-books (ended Master all) ∙ emptied-books Master s
 
   pub told-books : (side : Side) (s : State C) → SameBooks s (ioctl_told side s).state
-  told-books Master s = record { from_master = refl; from_slave = refl }
-  told-books Slave s = record { from_master = refl; from_slave = refl }
+  told-books side s = refl
 
 -- a call books what it tells as made, and what it writes
 module _ {C : Type 0} (cells : Cells C) where
@@ -132,23 +98,14 @@ module _ {C : Type 0} (cells : Cells C) where
 
   -- a call that delivers nothing books nothing, and makes nothing
   pub still-same : (caller : Caller) (asked : Request) (s : State C) → delivers asked ≡ false → SameBooks s (called cells caller asked s).state
-  still-same caller OpenMaster s still = record { from_master = refl; from_slave = refl }
-  still-same caller Unlock s still = record { from_master = refl; from_slave = refl }
-  still-same caller OpenSlave s still = record { from_master = refl; from_slave = refl }
   still-same caller Shut s still = close-books caller.side s
-  still-same caller (Push name) s still = push-holds caller.side (SameBooks s) AnyModules (books-survive s caller.side) (named_by name) s (λ q. tt) (none-changed s)
-  still-same caller Pop s still = pop-holds caller.side (SameBooks s) AnyModules (books-survive s caller.side) s (none-changed s)
-  still-same caller Look s still = none-changed s
+  still-same caller (Push name) s still = push-holds caller.side (SameBooks s) AnyModules (books-survive s caller.side) (named_by name) s (λ q. tt) refl
+  still-same caller Pop s still = pop-holds caller.side (SameBooks s) AnyModules (books-survive s caller.side) s refl
   still-same caller (Flush what band) s still = absurd (cc)
   still-same caller (Write bytes) s still = absurd (cc)
-  still-same caller (Read n) s still = on-side caller.side s (λ side. (read_at cells side n s).state) (record { from_master = refl; from_slave = refl }) (record { from_master = refl; from_slave = refl })
   still-same caller (Put prio control body) s still = absurd (cc)
-  still-same caller (Get wanted cmax dmax) s still = on-side caller.side s (λ side. (get_at cells side wanted cmax dmax s).state) (record { from_master = refl; from_slave = refl }) (record { from_master = refl; from_slave = refl })
-  still-same caller (Mode mode) s still = on-side caller.side s (λ side. mode_set side mode s) (record { from_master = refl; from_slave = refl }) (record { from_master = refl; from_slave = refl })
-  still-same caller Nread s still = none-changed s
   still-same caller (Ioctl command body) s still = absurd (cc)
-  still-same caller (IoctlResult number) s still = told-books caller.side s
-  still-same caller Signals s still = on-side caller.side s (λ side. (signals_told side s).state) (record { from_master = refl; from_slave = refl }) (record { from_master = refl; from_slave = refl })
+  still-same caller _ s still = refl
 
   still-none : (caller : Caller) (asked : Request) (answer : Reply) (s : State C) → delivers asked ≡ false → all_made (gone cells s (Called caller asked answer)) ≡ 0
   still-none caller Shut answer s still = close-none (λ d c. true) caller.side s
@@ -172,16 +129,16 @@ module _ {C : Type 0} (cells : Cells C) where
   ioctl-books side command body s =
       let begun = ioctl_begun side command s in
       let t = ioctl_sent cells side command body s in
-      booked-before cells s begun _ t.gone (begun-books side command s)
-      (booked-behind cells begun t.state (ioctl_told side t.state).state t.gone (delivered-books cells (record { side = side; at = 1; way = Down }) (ioctl_message (asking command s.next_ioctl) body) begun) (told-books side t.state))
+      booked-before cells s begun _ t.gone refl
+      (booked-behind cells begun t.state (ioctl_told side t.state).state t.gone (delivered-books cells (record { side = side; at = 1; way = Down }) (ioctl_message (asking command s.next_ioctl) body) begun) refl)
 
   -- the chunks of a write
   pub chunks-book : (side : Side) (chunks : List (List C)) (s : State C) → let t = chunks_sent cells side chunks s in Books s t.gone t.state
-  chunks-book side [] s = nothing-booked cells s s (none-changed s)
+  chunks-book side [] s = nothing-booked cells s s refl
   chunks-book side (chunk ∷ chunks) s =
       let t = delivered cells (below_head side) (data_message chunk) s in
       let more = chunks_sent cells side chunks t.state in
-      either-books (is_full_below 0 side s) _ _ (nothing-booked cells s s (none-changed s))
+      either-books (is_full_below 0 side s) _ _ (nothing-booked cells s s refl)
       (books-both cells s t.state more.state t.gone more.gone (delivered-books cells (below_head side) (data_message chunk) s) (chunks-book side chunks t.state))
     where
       either-books : (full : Bool) (one another : Wrote C) → Books s one.gone one.state → Books s another.gone another.state → Books s (cond full one another).gone (cond full one another).state
@@ -236,7 +193,7 @@ module _ {C : Type 0} (cells : Cells C) (p : Dir → C → Bool) (numbered : Num
   upto dir b = numbered.upto_written dir b.written + numbered.upto_made dir b.made
 
   abbrev pub total : State C → ℕ
-  total s = upto MasterToSlave s.from_master + upto SlaveToMaster s.from_slave
+  total s = upto MasterToSlave s.books.master + upto SlaveToMaster s.books.slave
 
   -- the numbers of two books
   by-numbers : (dir : Dir) (w w' m m' : ℕ) → w ≡ w' → m ≡ m' → numbered.upto_written dir w + numbered.upto_made dir m ≡ numbered.upto_written dir w' + numbered.upto_made dir m'
@@ -261,7 +218,7 @@ module _ {C : Type 0} (cells : Cells C) (p : Dir → C → Bool) (numbered : Num
   books-count s t told books =
       omega (
         arith,
-        made-counts told s.from_master.made t.from_master.made s.from_slave.made t.from_slave.made (books.made MasterToSlave) (books.made SlaveToMaster),
+        made-counts told s.books.master.made t.books.master.made s.books.slave.made t.books.slave.made (books.made MasterToSlave) (books.made SlaveToMaster),
         ap (λ n. numbered.upto_written MasterToSlave n) (books.written MasterToSlave),
         ap (λ n. numbered.upto_written SlaveToMaster n) (books.written SlaveToMaster),
       )
@@ -274,7 +231,7 @@ module _ {C : Type 0} (cells : Cells C) (p : Dir → C → Bool) (numbered : Num
       omega (
         arith,
         books-count s t told books,
-        numbered.written MasterToSlave s.from_master.written bytes,
+        numbered.written MasterToSlave s.books.master.written bytes,
         ap (λ n. numbered.upto_written MasterToSlave n) same,
         ap (λ n. numbered.upto_written MasterToSlave (n + length bytes)) same,
       )
@@ -283,7 +240,7 @@ module _ {C : Type 0} (cells : Cells C) (p : Dir → C → Bool) (numbered : Num
       omega (
         arith,
         books-count s t told books,
-        numbered.written SlaveToMaster s.from_slave.written bytes,
+        numbered.written SlaveToMaster s.books.slave.written bytes,
         ap (λ n. numbered.upto_written SlaveToMaster n) same,
         ap (λ n. numbered.upto_written SlaveToMaster (n + length bytes)) same,
       )
@@ -391,8 +348,8 @@ parts-few prio control body none = at (is_no_prio prio control) (is_too_long con
 
 module _ {C : Type 0} where
   pub range-low : (dir : Dir) (s : State C) → in_range s ≡ true → ((book dir s).written < BOOK_MAX) × ((book dir s).made < BOOK_MAX)
-  range-low MasterToSlave s room = has-room s.from_master (both-true (books.has_room s.from_master) (books.has_room s.from_slave) room).0
-  range-low SlaveToMaster s room = has-room s.from_slave (both-true (books.has_room s.from_master) (books.has_room s.from_slave) room).1
+  range-low MasterToSlave s room = has-room s.books.master (both-true (books.has_room s.books.master) (books.has_room s.books.slave) room).0
+  range-low SlaveToMaster s room = has-room s.books.slave (both-true (books.has_room s.books.master) (books.has_room s.books.slave) room).1
 
   -- a turn books nothing as written, and where it makes few bytes
   pub turn-few : (cells : Cells C) (s t : State C) (told : List (Fate C)) → in_range s ≡ true → BooksMade cells s told t → ((dir : Dir) → (book dir t).made < 2 ^ 63) → FewBooked t
@@ -438,4 +395,4 @@ module _ {C : Type 0} where
   call-few cells caller (Ioctl command body) s allowed less few made =
       let range = (allowed-met s caller (Ioctl command body) allowed).booked in
       turn-few cells s (called cells caller (Ioctl command body) s).state (ioctl_sent cells caller.side command body s).gone range (ioctl-books cells caller.side command body s) (made range)
-  call-few cells caller asked s allowed less few made = same-few s _ (still-same cells caller asked s refl) few
+  call-few cells caller asked s allowed less few made = same-few s (called cells caller asked s).state (still-same cells caller asked s refl) few

@@ -11,7 +11,7 @@ use Rattle.strm_types.specs.Books.{with_made}
 use Rattle.strm_types.specs.Deliver.{Fate, Goes, Comes, counted_with, tallied}
 use Rattle.strm_types.specs.Input.{made_of}
 use Rattle.strm_laws.specs.Puts.{booked}
-use Rattle.strm_laws.specs.State.{State, Stream, book, with_stream}
+use Rattle.strm_laws.specs.State.{State, Stream, book, with_stream, with_book}
 
 -- how many cells were made in a direction, of what is told
 abbrev pub made_in : Dir → List (Fate ℕ) → ℕ
@@ -30,37 +30,37 @@ made-within (Comes SlaveToMaster cells ∷ told) = let rest = made-within told i
 
 -- books with so many more made in both directions
 abbrev pub both_made : ℕ → ℕ → State ℕ → State ℕ
-both_made m n s = record s { from_master = with_made m s.from_master; from_slave = with_made n s.from_slave }
+both_made m n s = with_book SlaveToMaster (with_made n s.books.slave) (with_book MasterToSlave (with_made m s.books.master) s)
 
 same-made : (m n m' n' : ℕ) (s : State ℕ) → m ≡ m' → n ≡ n' → both_made m n s ≡ both_made m' n' s
 same-made m n m' n' s e f = ap (λ k. both_made k n s) e ∙ ap (λ k. both_made m' k s) f
 
-first-more : (a m n : ℕ) (s : State ℕ) → both_made m n (record s { from_master = with_made a s.from_master }) ≡ both_made (a + m) n s
-first-more a m n s = ap (λ (k : ℕ). record s { from_master = record s.from_master { made = k }; from_slave = with_made n s.from_slave }) (let e : s.from_master.made + a + m ≡ s.from_master.made + (a + m) = omega arith in e)
+first-more : (a m n : ℕ) (s : State ℕ) → both_made m n (with_book MasterToSlave (with_made a s.books.master) s) ≡ both_made (a + m) n s
+first-more a m n s = ap (λ (k : ℕ). (with_book SlaveToMaster (with_made n s.books.slave) (with_book MasterToSlave (record s.books.master { made = k }) s))) (let e : s.books.master.made + a + m ≡ s.books.master.made + (a + m) = omega arith in e)
 
-second-more : (a m n : ℕ) (s : State ℕ) → both_made m n (record s { from_slave = with_made a s.from_slave }) ≡ both_made m (a + n) s
-second-more a m n s = ap (λ (k : ℕ). record s { from_master = with_made m s.from_master; from_slave = record s.from_slave { made = k } }) (let e : s.from_slave.made + a + n ≡ s.from_slave.made + (a + n) = omega arith in e)
+second-more : (a m n : ℕ) (s : State ℕ) → both_made m n (with_book SlaveToMaster (with_made a s.books.slave) s) ≡ both_made m (a + n) s
+second-more a m n s = ap (λ (k : ℕ). (with_book SlaveToMaster (record s.books.slave { made = k }) (with_book MasterToSlave (with_made m s.books.master) s))) (let e : s.books.slave.made + a + n ≡ s.books.slave.made + (a + n) = omega arith in e)
 
 none-made : (s : State ℕ) → s ≡ both_made 0 0 s
 none-made s =
-    ap (λ (k : ℕ). record s { from_master = record s.from_master { made = k } }) (let e : s.from_master.made ≡ s.from_master.made + 0 = omega arith in e)
-    ∙ ap (λ (k : ℕ). record s { from_master = with_made 0 s.from_master; from_slave = record s.from_slave { made = k } }) (let e : s.from_slave.made ≡ s.from_slave.made + 0 = omega arith in e)
+    ap (λ (k : ℕ). (with_book MasterToSlave (record s.books.master { made = k }) s)) (let e : s.books.master.made ≡ s.books.master.made + 0 = omega arith in e)
+    ∙ ap (λ (k : ℕ). (with_book SlaveToMaster (record s.books.slave { made = k }) (with_book MasterToSlave (with_made 0 s.books.master) s))) (let e : s.books.slave.made ≡ s.books.slave.made + 0 = omega arith in e)
 
 pub booked-is : (told : List (Fate ℕ)) (s : State ℕ) → booked told s ≡ both_made (made_in MasterToSlave told) (made_in SlaveToMaster told) s
 booked-is [] s = none-made s
 booked-is (Goes dir rule cells ∷ told) s = booked-is told s
-booked-is (Comes MasterToSlave cells ∷ told) s = booked-is told (record s { from_master = with_made (length cells) s.from_master }) ∙ first-more (length cells) _ _ s
-booked-is (Comes SlaveToMaster cells ∷ told) s = booked-is told (record s { from_slave = with_made (length cells) s.from_slave }) ∙ second-more (length cells) _ _ s
+booked-is (Comes MasterToSlave cells ∷ told) s = booked-is told (with_book MasterToSlave (with_made (length cells) s.books.master) s) ∙ first-more (length cells) _ _ s
+booked-is (Comes SlaveToMaster cells ∷ told) s = booked-is told (with_book SlaveToMaster (with_made (length cells) s.books.slave) s) ∙ second-more (length cells) _ _ s
 
 -- the same of a stream of one side that changed, with other queues enabled
 pub booked-on : (side : Side) (t : Stream ℕ) (names : List QueueName) (told : List (Fate ℕ)) (s : State ℕ) → booked told (record (with_stream side t s) { enabled = names })
-    ≡ record (with_stream side t s) { enabled = names; from_master = with_made (made_in MasterToSlave told) s.from_master; from_slave = with_made (made_in SlaveToMaster told) s.from_slave }
+    ≡ (record (with_book SlaveToMaster (with_made (made_in SlaveToMaster told) s.books.slave) (with_book MasterToSlave (with_made (made_in MasterToSlave told) s.books.master) (with_stream side t s))) { enabled = names })
 booked-on Master t names told s = booked-is told (record (with_stream Master t s) { enabled = names })
 booked-on Slave t names told s = booked-is told (record (with_stream Slave t s) { enabled = names })
 
 pub book-made : (dir : Dir) (told : List (Fate ℕ)) (s : State ℕ) → (book dir (booked told s)).made ≡ (book dir s).made + made_in dir told
-book-made MasterToSlave told s = ap (λ (v : State ℕ). v.from_master.made) (booked-is told s)
-book-made SlaveToMaster told s = ap (λ (v : State ℕ). v.from_slave.made) (booked-is told s)
+book-made MasterToSlave told s = ap (λ (v : State ℕ). v.books.master.made) (booked-is told s)
+book-made SlaveToMaster told s = ap (λ (v : State ℕ). v.books.slave.made) (booked-is told s)
 
 -- so the counts tell, modulo 2^64
 wraps-on : (a b n : ℕ) → ((a + b) % 2 ^ 64 + n) % 2 ^ 64 ≡ (a + (b + n)) % 2 ^ 64

@@ -10,7 +10,7 @@ use Rattle.strm_types.specs.Emptied.{of_all}
 use Rattle.strm_types.specs.Names.{is_open}
 use Rattle.strm_types.specs.Origins.{map_carried, map_fate}
 use Rattle.strm_laws.specs.Pushes.{modules_emptied}
-use Rattle.strm_laws.specs.State.{State, map_state}
+use Rattle.strm_laws.specs.State.{State, map_state, with_stream}
 use Rattle.strm_laws.proofs.EmptiedForgets.{driver_emptied-forgets, head_emptied-forgets}
 use Rattle.strm_laws.proofs.PushForgets.{modules_emptied-forgets}
 
@@ -30,10 +30,10 @@ module _ {C D : Type 0} (f : C → D) where
 
   -- a close
   hung_up-forgets : (s : State C) → hung_up_at Slave (map_state f s) ≡ map_state f (hung_up_at Slave s)
-  hung_up-forgets s = at (is_open s.slave.opened)
+  hung_up-forgets s = at (is_open s.ends.slave.opened)
     where
       hung : {E : Type 0} → State E → State E
-      hung s = record s { slave = record s.slave { head = record s.slave.head { hung_up = true } } }
+      hung s = with_stream Slave (record s.ends.slave { head = record s.ends.slave.head { hung_up = true } }) s
 
       at : (opened : Bool) → cond opened (hung (map_state f s)) (map_state f s) ≡ map_state f (cond opened (hung s) s)
       at true = refl

@@ -103,13 +103,11 @@ end opened head driver = record { opened = opened; head = head_with head false; 
 
 abbrev pair : Stream ℕ → Stream ℕ → State ℕ
 pair master slave = record {
-  master = master;
-  slave = slave;
+  ends = record { master = master; slave = slave };
   locked = false;
   enabled = [];
   next_ioctl = 1;
-  from_master = new_book;
-  from_slave = new_book;
+  books = record { master = new_book; slave = new_book };
 }
 
 abbrev one : ℕ → Queue ℕ
@@ -232,7 +230,7 @@ unfolding size_of cells_of
 close-of-the-master-alone = refl
 
 -- a master that is hung up is so no more once it is closed
-pub close-forgets-a-hangup : (ended Master (hung_up_at Master (ones Open Open))).master.head.hung_up ∷ (hung_up_at Master (ones Open Open)).master.head.hung_up ∷ [] ≡ false ∷ true ∷ []
+pub close-forgets-a-hangup : (ended Master (hung_up_at Master (ones Open Open))).ends.master.head.hung_up ∷ (hung_up_at Master (ones Open Open)).ends.master.head.hung_up ∷ [] ≡ false ∷ true ∷ []
 close-forgets-a-hangup = refl
 
 pub close-call : called plain (caller Slave) events.Shut (ones Open Open) ≡ record { answer = Done; state = pair (end Open (one 1) (one 2)) (end Closed (new_queue 5120 1024) (one 4)) }

@@ -20,7 +20,7 @@ use Rattle.strm_laws.specs.State.{State}
 use Rattle.strm_laws.proofs.DeliveryKeeps.{carried-keeps}
 use Rattle.strm_laws.proofs.PutParts.{delivered-holds}
 use Rattle.strm_laws.proofs.PutsFall.{far-within, puts-fall}
-use Rattle.strm_laws.proofs.PutsKeep.{puts-keep, same-itself, same-stays, unread-stays}
+use Rattle.strm_laws.proofs.PutsKeep.{puts-keep, same-itself, same-stays}
 use Rattle.strm_laws.proofs.PutWeights.{weight-flush}
 
 module _ {C : Type 0} (cells : Cells C) where
@@ -28,9 +28,6 @@ module _ {C : Type 0} (cells : Cells C) where
       state_weight p (delivered cells to m s).state + weight_gone p (delivered cells to m s).gone
       ≡ state_weight p s + (weight_of (p (direction_to to)) m + weight_made p (delivered cells to m s).gone)
   delivered-keeps p to m s low = carried-keeps p (state_weight p) far (put_in cells) (puts-keep p cells) (puts-fall cells) HOPS (record { to = to; message = m }) (far-within to m low) s
-
-  pub delivered-unread : (to : Spot) (m : Message C) (s : State C) → NothingUnread s → NothingUnread (delivered cells to m s).state
-  delivered-unread to m s unread = delivered-holds NothingUnread unread-stays cells to m s unread
 
   pub delivered-same : (to : Spot) (m : Message C) (s : State C) → SameButMade s (delivered cells to m s).state
   delivered-same to m s = delivered-holds (SameButMade s) (same-stays s) cells to m s (same-itself s)
@@ -41,6 +38,3 @@ module _ {C : Type 0} (cells : Cells C) where
   flushed_on-keeps p band side what s =
       let bytes = flush_bytes (asked_of what band) in
       omega (arith, delivered-keeps p (record { side = side; at = 1; way = Down }) (flush_message bytes) s (omega arith), weight-flush (p (direction_from side)) bytes)
-
-  pub flushed_on-unread : (band : Option Band) (side : Side) (what : FlushQueues) (s : State C) → NothingUnread s → NothingUnread (flushed_on cells band side what s).state
-  flushed_on-unread band side what s unread = delivered-unread (record { side = side; at = 1; way = Down }) (flush_message (flush_bytes (asked_of what band))) s unread

@@ -58,12 +58,12 @@ module _ {C D : Type 0} (f : C → D) where
       ∙ ap (λ o. before_by side way at (places_of ps) o) (place-forgets way at ps)
 
   pub before_at-forgets : (side : Side) (way : Way) (at : ℕ) (s : State C) → before_at side way at (map_state f s) ≡ before_at side way at s
-  before_at-forgets Master way at s = before_among-forgets Master way at s.master.modules
-  before_at-forgets Slave way at s = before_among-forgets Slave way at s.slave.modules
+  before_at-forgets Master way at s = before_among-forgets Master way at s.ends.master.modules
+  before_at-forgets Slave way at s = before_among-forgets Slave way at s.ends.slave.modules
 
   pub modules_on-forgets : (side : Side) (s : State C) → modules_on side (map_state f s) ≡ modules_on side s
-  modules_on-forgets Master s = ap (λ n. min MODULES n) (length-map s.master.modules (map_module f))
-  modules_on-forgets Slave s = ap (λ n. min MODULES n) (length-map s.slave.modules (map_module f))
+  modules_on-forgets Master s = ap (λ n. min MODULES n) (length-map s.ends.master.modules (map_module f))
+  modules_on-forgets Slave s = ap (λ n. min MODULES n) (length-map s.ends.slave.modules (map_module f))
 
   pub before_head-forgets : (side : Side) (s : State C) → before_head side (map_state f s) ≡ before_head side s
   before_head-forgets side s = before_at-forgets side Up 0 s
@@ -76,8 +76,7 @@ module _ {C D : Type 0} (f : C → D) where
 -- where no module stands on a pair
 module _ {C : Type 0} where
   pub none-among : (side : Side) (s : State C) → NoModules s → (stream side s).modules ≡ []
-  none-among Master s none = none.master
-  none-among Slave s none = none.slave
+  none-among side s none = none side
 
   pub none-on : (side : Side) (s : State C) → NoModules s → modules_on side s ≡ 0
   none-on side s none = ap (λ (ps : List (Module C)). min MODULES (length ps)) (none-among side s none)

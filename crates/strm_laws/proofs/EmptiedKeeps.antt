@@ -14,9 +14,10 @@ use Rattle.strm_laws.specs.Kept.{state_weight, NothingUnread}
 use Rattle.strm_types.specs.Message.{Message, cells_of}
 use Rattle.strm_laws.specs.Places.{weight_gone, weight_made}
 use Rattle.strm_types.specs.Queue.{Queue, weight, relieved}
-use Rattle.strm_laws.specs.State.{State}
+use Rattle.strm_laws.specs.State.{State, stream, with_head_queue, with_driver_queue}
 use Rattle.strm_laws.proofs.DeliveryKeeps.{gone-append, made-append}
 use Rattle.strm_types.proofs.Weights.{weight-take, count-join, weight-whole}
+use Rattle.strm_laws.proofs.StreamWeights.{stream-weighs}
 
 module _ {C : Type 0} where
   -- over one queue
@@ -54,25 +55,19 @@ module _ {C : Type 0} where
 
     -- over a side's head and its driver
     pub head_emptied-keeps : (rule : Rule) (chosen : Choice) (side : Side) (s : State C) → Keeps (head_emptied rule chosen side s) (state_weight p s)
-    head_emptied-keeps rule chosen Master s = omega (arith, behind-keeps (p (direction_at Up Master)) chosen s.master.head.queue)
-    head_emptied-keeps rule chosen Slave s = omega (arith, behind-keeps (p (direction_at Up Slave)) chosen s.slave.head.queue)
+    head_emptied-keeps rule chosen side s =
+        let t = stream side s in
+        omega (arith, stream-weighs p side (with_head_queue (queue_behind chosen t.head.queue) t) s, behind-keeps (p (direction_at Up side)) chosen t.head.queue)
 
     pub driver_emptied-keeps : (rule : Rule) (chosen : Choice) (side : Side) (s : State C) → Keeps (driver_emptied rule chosen side s) (state_weight p s)
-    driver_emptied-keeps rule chosen Master s = omega (arith, behind-keeps (p (direction_at Down Master)) chosen s.master.driver.queue)
-    driver_emptied-keeps rule chosen Slave s = omega (arith, behind-keeps (p (direction_at Down Slave)) chosen s.slave.driver.queue)
+    driver_emptied-keeps rule chosen side s =
+        let t = stream side s in
+        omega (arith, stream-weighs p side (with_driver_queue (queue_behind chosen t.driver.queue) t) s, behind-keeps (p (direction_at Down side)) chosen t.driver.queue)
 
     -- one after the other
     pub and_then-keeps : (n : ℕ) (t : Carried C (State C)) (next : State C → Carried C (State C)) → Keeps t n → ((s : State C) → Keeps (next s) (state_weight p s)) → Keeps (and_then t next) n
     and_then-keeps n t next is keeps = omega (arith, is, keeps t.state, gone-append p t.gone (next t.state).gone, made-append p t.gone (next t.state).gone)
 
-  -- a side that isn't open has nothing for its readers: so it stays
-  behind-none : (chosen : Choice) (q : Queue C) → q.messages ≡ [] → (queue_behind chosen q).messages ≡ []
+  -- where nothing stood
+  pub behind-none : (chosen : Choice) (q : Queue C) → q.messages ≡ [] → (queue_behind chosen q).messages ≡ []
   behind-none chosen q none = behind-is chosen q ∙ ap (λ (ms : List (Message C)). stayed chosen ms) none
-
-  pub head_emptied-unread : (rule : Rule) (chosen : Choice) (side : Side) (s : State C) → NothingUnread s → NothingUnread (head_emptied rule chosen side s).state
-  head_emptied-unread rule chosen Master s unread = record { master = λ closed. behind-none chosen s.master.head.queue (unread.master closed); slave = unread.slave }
-  head_emptied-unread rule chosen Slave s unread = record { master = unread.master; slave = λ closed. behind-none chosen s.slave.head.queue (unread.slave closed) }
-
-  pub driver_emptied-unread : (rule : Rule) (chosen : Choice) (side : Side) (s : State C) → NothingUnread s → NothingUnread (driver_emptied rule chosen side s).state
-  driver_emptied-unread rule chosen Master s unread = record { master = unread.master; slave = unread.slave }
-  driver_emptied-unread rule chosen Slave s unread = record { master = unread.master; slave = unread.slave }

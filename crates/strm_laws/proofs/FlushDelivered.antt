@@ -32,6 +32,7 @@ use Rattle.strm_types.specs.Queue.{Queue}
 use Rattle.strm_types.specs.Refused.{is_a_band}
 use Rattle.strm_laws.specs.State.{State, stream, with_stream, with_head_queue, with_driver_queue}
 use Rattle.strm_laws.proofs.Earlier.{few-behind, none-on}
+use Rattle.strm_types.proofs.BySide.{set-all}
 
 -- what the bytes of an M_FLUSH ask for is what they were made of, where a band is one that queues have
 pub bytes-ask : (what : FlushQueues) (band : Option Band) → is_a_band band ≡ true → asked_by (flush_bytes (asked_of what band)) ≡ asked_of what band
@@ -166,12 +167,14 @@ module _ {C : Type 0} (cells : Cells C) where
 
   -- and no module comes to stand there
   driver-none : (chosen : Choice) (side : Side) (s : State C) → NoModules s → NoModules (driver_behind chosen side s)
-  driver-none chosen Master s none = record { master = none.master; slave = none.slave }
-  driver-none chosen Slave s none = record { master = none.master; slave = none.slave }
+  driver-none chosen side s none =
+      let t = stream side s in
+      set-all (λ of u. u.modules ≡ []) side (with_driver_queue (queue_behind chosen t.driver.queue) t) s.ends (none side) none
 
   head-none : (chosen : Choice) (side : Side) (s : State C) → NoModules s → NoModules (head_behind chosen side s)
-  head-none chosen Master s none = record { master = none.master; slave = none.slave }
-  head-none chosen Slave s none = record { master = none.master; slave = none.slave }
+  head-none chosen side s none =
+      let t = stream side s in
+      set-all (λ of u. u.modules ≡ []) side (with_head_queue (queue_behind chosen t.head.queue) t) s.ends (none side) none
 
   reached-none : (chosen : Choice) (side : Side) (s : State C) → NoModules s → NoModules (reached chosen side s).state
   reached-none chosen side s none = at (is_open (stream side s).opened)

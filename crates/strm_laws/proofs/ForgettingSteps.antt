@@ -101,8 +101,8 @@ module _ {C D : Type 0} (f : C → D) where
   told-forgets q t = ap (λ n. told_of t n (length (map_messages f q))) (first-forgets q) ∙ ap (λ n. told_of t (first_data q) n) (length-map q (map_message f))
 
   sizes-forgets : (side : Side) (s : State C) → sizes_at side (map_state f s) ≡ map_outcome f (sizes_at side s)
-  sizes-forgets Master s = told-forgets s.master.head.queue.messages (map_state f s)
-  sizes-forgets Slave s = told-forgets s.slave.head.queue.messages (map_state f s)
+  sizes-forgets Master s = told-forgets s.ends.master.head.queue.messages (map_state f s)
+  sizes-forgets Slave s = told-forgets s.ends.slave.head.queue.messages (map_state f s)
 
   -- a write
   sent_on-forgets : (side : Side) (t : Wrote C) → sent_on side (map_wrote f t) ≡ map_outcome f (sent_on side t)
@@ -156,8 +156,8 @@ module _ {C : Type 0} (cells : Cells C) (are : AreCells cells) where
 
       over : (side : Side) → let g = (stream side s).head in let k = min n READ_MAX in
           read_at plain side n (map_state cells.byte s) ≡ taken_from side (map_state cells.byte s) (Bytes (bytes_of cells (head_draw g.read_mode g.control_mode k g.queue.messages).given)) (map_queue cells.byte (read_queue g.read_mode g.control_mode k g.queue)) (read_lets_go g.read_mode g.control_mode k g.queue)
-      over Master = from-head Master (min n READ_MAX) s.master.head
-      over Slave = from-head Slave (min n READ_MAX) s.slave.head
+      over Master = from-head Master (min n READ_MAX) s.ends.master.head
+      over Slave = from-head Slave (min n READ_MAX) s.ends.slave.head
 
   -- a get, which gives the bytes of its cells
   bytes-forget : (o : Option (List C)) → option_map (bytes_of plain) (option_map (map cells.byte) o) ≡ option_map (bytes_of cells) o
@@ -188,16 +188,16 @@ module _ {C : Type 0} (cells : Cells C) (are : AreCells cells) where
 
       over : (side : Side) → let q = (stream side s).head.queue in let c = min cmax READ_MAX in let d = min dmax READ_MAX in
           get_at plain side wanted cmax dmax (map_state cells.byte s) ≡ taken_from side (map_state cells.byte s) (got_answer cells (head_get wanted c d q.messages)) (map_queue cells.byte (get_queue wanted c d q)) (get_lets_go wanted c d q)
-      over Master = from-queue Master (min cmax READ_MAX) (min dmax READ_MAX) s.master.head.queue
-      over Slave = from-queue Slave (min cmax READ_MAX) (min dmax READ_MAX) s.slave.head.queue
+      over Master = from-queue Master (min cmax READ_MAX) (min dmax READ_MAX) s.ends.master.head.queue
+      over Slave = from-queue Slave (min cmax READ_MAX) (min dmax READ_MAX) s.ends.slave.head.queue
 
   pub call-forgets : (caller : Caller) (asked : Request) (s : State C) → called plain caller asked (map_state cells.byte s) ≡ map_outcome cells.byte (called cells caller asked s)
   call-forgets caller OpenMaster s = refl
   call-forgets caller Unlock s = refl
-  call-forgets caller OpenSlave s = ap (λ (none : Bool). opened-with none) (none-forgets {D = ℕ} cells.byte (map_message cells.byte) s.master.driver.queue.messages)
+  call-forgets caller OpenSlave s = ap (λ (none : Bool). opened-with none) (none-forgets {D = ℕ} cells.byte (map_message cells.byte) s.ends.master.driver.queue.messages)
     where
       opened-with : Bool → Outcome ℕ
-      opened-with none = record { answer = Done; state = map_state cells.byte (record s { slave = record s.slave { opened = Open; head = new_head }; enabled = enable_if (not none) (driver_of Master) s.enabled }) }
+      opened-with none = record { answer = Done; state = map_state cells.byte (record (with_stream Slave (record s.ends.slave { opened = Open; head = new_head }) s) { enabled = enable_if (not none) (driver_of Master) s.enabled }) }
   call-forgets caller Shut s = ap (λ (t : Carried ℕ (State ℕ)). done t.state) (closed_at-forgets cells.byte caller.side s)
   call-forgets caller (Push name) s = ap (λ (t : Carried ℕ (State ℕ)). done t.state) (push-forgets cells.byte caller.side name s)
   call-forgets caller Pop s = ap (λ (t : Carried ℕ (State ℕ)). done t.state) (pop-forgets cells.byte caller.side s)

@@ -37,7 +37,7 @@ use Rattle.strm_types.specs.Queue.{Queue, Flow}
 use Rattle.strm_types.specs.Needs.{asks_a_band}
 use Rattle.strm_laws.specs.Refusals.{blocks_asked, refused_at_once, refused_by_state}
 use Rattle.strm_types.specs.Heads.{Head}
-use Rattle.strm_laws.specs.State.{State, Stream}
+use Rattle.strm_laws.specs.State.{State, Stream, with_stream}
 use Rattle.strm_laws.proofs.Samples.{flow, queue, ordinary, proto, urgent}
 
 abbrev caller : Side → Caller
@@ -58,13 +58,11 @@ end h = record { opened = Open; head = h; modules = []; driver = record { queue 
 -- a pair whose slave has this head
 abbrev pair : Head ℕ → List QueueName → State ℕ
 pair h enabled = record {
-  master = end (head (queue [] []) ByteStream controls.Refuse false);
-  slave = end h;
+  ends = record { master = end (head (queue [] []) ByteStream controls.Refuse false); slave = end h };
   locked = false;
   enabled = enabled;
   next_ioctl = 1;
-  from_master = new_book;
-  from_slave = new_book;
+  books = record { master = new_book; slave = new_book };
 }
 
 -- the slave's head has these messages, in the modes of a new one
@@ -128,7 +126,7 @@ unfolding is_high_priority
 get-waits-before-the-end = refl
 
 -- on the master the input ends where the slave was closed and left no data
-pub get-of-the-master-at-the-end : map (λ slave. refused_by_state (record (ended [] false) { slave = slave }) (caller Master) (Get Any 9 9)) (end (at_head [] [] true false) ∷ record (end (at_head [] [] true false)) { opened = Closed } ∷ []) ≡ Some Eagain ∷ None ∷ []
+pub get-of-the-master-at-the-end : map (λ slave. refused_by_state (with_stream Slave slave (ended [] false)) (caller Master) (Get Any 9 9)) (end (at_head [] [] true false) ∷ record (end (at_head [] [] true false)) { opened = Closed } ∷ []) ≡ Some Eagain ∷ None ∷ []
 unfolding is_held
 get-of-the-master-at-the-end = refl
 
@@ -136,7 +134,7 @@ get-of-the-master-at-the-end = refl
 pub bands-that-gets-ask-for : map asks_a_band (Any ∷ High ∷ of_band 0 ∷ of_band 7 ∷ of_band 8 ∷ []) ≡ true ∷ true ∷ true ∷ true ∷ false ∷ []
 bands-that-gets-ask-for = refl
 
-pub bad-bands-are-refused : map (λ side. refused_at_once (record one_waits { master = record one_waits.master { opened = Closed } }) (caller side) (Get (of_band 8) 9 9)) (Slave ∷ Master ∷ []) ≡ Some Einval ∷ Some Enxio ∷ []
+pub bad-bands-are-refused : map (λ side. refused_at_once (with_stream Master (record one_waits.ends.master { opened = Closed }) one_waits) (caller side) (Get (of_band 8) 9 9)) (Slave ∷ Master ∷ []) ≡ Some Einval ∷ Some Enxio ∷ []
 bad-bands-are-refused = refl
 
 -- at most 4096 bytes of each part, and room in the journal for both
@@ -180,7 +178,7 @@ pub mode-leaves-the-other-mode : map (λ mode. called plain (caller Slave) (Mode
     ≡ record { answer = Done; state = moded MessageDiscard controls.Discard } ∷ record { answer = Done; state = moded MessageKeep controls.Data } ∷ []
 mode-leaves-the-other-mode = refl
 
-pub mode-is-of-its-own-side : (called plain (caller Master) (Mode (modes.Read MessageKeep)) (moded ByteStream controls.Refuse)).state.slave ≡ (moded ByteStream controls.Refuse).slave
+pub mode-is-of-its-own-side : (called plain (caller Master) (Mode (modes.Read MessageKeep)) (moded ByteStream controls.Refuse)).state.ends.slave ≡ (moded ByteStream controls.Refuse).ends.slave
 mode-is-of-its-own-side = refl
 
 -- what stands at a head: the data bytes of the first message, and how many messages there are

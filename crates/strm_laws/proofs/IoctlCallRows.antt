@@ -30,10 +30,11 @@ use Rattle.strm_types.specs.Message.{Message, band_of, cells_of, is_high_priorit
 use Rattle.strm_types.specs.Names.{driver_of}
 use Rattle.strm_laws.specs.Refusals.{blocks_asked, blocks_taken, refused, refused_at_once, refused_by_state}
 use Rattle.strm_types.specs.Slots.{PlainSlot}
-use Rattle.strm_laws.specs.State.{State, Stream}
+use Rattle.strm_laws.specs.State.{State, Stream, with_book}
 use Rattle.strm_laws.specs.Step.{IsLegal, replay}
 use Rattle.strm_laws.specs.Turns.{turned, whole_turn}
 use Rattle.strm_laws.proofs.Samples.{head_with, header, ordinary, queue, without_parts}
+use Rattle.strm_types.specs.declared.names.Dir.TheVariants.{MasterToSlave}
 
 -- In a pair, whose sides have these ioctls under way, and whose drivers these messages.
 
@@ -42,13 +43,11 @@ end opened slot driver = record { opened = opened; head = record (head_with (que
 
 abbrev pair : Stream ℕ → Stream ℕ → List QueueName → ℕ → State ℕ
 pair master slave enabled next = record {
-  master = master;
-  slave = slave;
+  ends = record { master = master; slave = slave };
   locked = false;
   enabled = enabled;
   next_ioctl = next;
-  from_master = new_book;
-  from_slave = new_book;
+  books = record { master = new_book; slave = new_book };
 }
 
 abbrev none : Stream ℕ
@@ -162,7 +161,7 @@ no-answer-is-left = refl
 -- and too few blocks one that is under way.
 
 abbrev refuses : Openness → Bool → ℕ → Book → Request → Option Refusal
-refuses opened hung_up next book x = refused_at_once (record (pair none (record none { opened = opened; head = head_with (queue [] []) hung_up }) [] next) { from_master = book }) (caller Slave) x
+refuses opened hung_up next book x = refused_at_once (with_book MasterToSlave book (pair none (record none { opened = opened; head = head_with (queue [] []) hung_up }) [] next)) (caller Slave) x
 
 abbrev sized : ℕ → Request
 sized n = Ioctl 99 (replicate n 97)

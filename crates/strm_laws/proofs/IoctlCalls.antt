@@ -17,9 +17,12 @@ use Rattle.strm_types.specs.Origins.{map_carried}
 use Rattle.strm_laws.specs.Places.{weight_gone, weight_made}
 use Rattle.strm_laws.specs.Puts.{delivered}
 use Rattle.strm_types.specs.Slots.{PlainSlot}
-use Rattle.strm_laws.specs.State.{State, map_state, with_ioctl, with_signals}
-use Rattle.strm_laws.proofs.Deliveries.{delivered-keeps, delivered-unread}
+use Rattle.strm_laws.specs.State.{State, map_state, with_ioctl, with_signals, stream}
+use Rattle.strm_laws.proofs.Deliveries.{delivered-keeps}
 use Rattle.strm_laws.proofs.PutsForget.{delivered-forgets}
+use Rattle.strm_laws.proofs.StreamWeights.{same-weighs}
+use Rattle.strm_types.specs.declared.slots.Slot.TheVariants.{Waiting}
+use Rattle.strm_types.specs.Slots.{slot_behind}
 
 abbrev below : Side → Spot
 below side = record { side = side; at = 1; way = Down }
@@ -30,21 +33,14 @@ weight-ioctl p ioc body = refl
 
 module _ {C : Type 0} where
   module _ (p : Dir → C → Bool) where
-    begun-keeps : (side : Side) (command : ℕ) (s : State C) → state_weight p (ioctl_begun side command s) ≡ state_weight p s
-    begun-keeps Master command s = refl
-    begun-keeps Slave command s = refl
-
     pub ioctl-keeps : (side : Side) (slot : PlainSlot) (s : State C) → state_weight p (with_ioctl side slot s) ≡ state_weight p s
-    ioctl-keeps Master slot s = refl
-    ioctl-keeps Slave slot s = refl
+    ioctl-keeps side slot s = same-weighs p side (record (stream side s) { head = record (stream side s).head { ioctl = slot } }) s refl
 
     pub signals-keep : (side : Side) (signals : List ℕ) (s : State C) → state_weight p (with_signals side signals s) ≡ state_weight p s
-    signals-keep Master signals s = refl
-    signals-keep Slave signals s = refl
+    signals-keep side signals s = same-weighs p side (record (stream side s) { head = record (stream side s).head { signals = signals } }) s refl
 
     pub told-keeps : (side : Side) (s : State C) → state_weight p (ioctl_told side s).state ≡ state_weight p s
-    told-keeps Master s = refl
-    told-keeps Slave s = refl
+    told-keeps side s = ioctl-keeps side (slot_behind (stream side s).head.ioctl) s
 
     pub sent-keeps : (cells : Cells C) (side : Side) (command : ℕ) (body : List ℕ) (s : State C) → let t = ioctl_sent cells side command body s in
         state_weight p (ioctl_told side t.state).state + weight_gone p t.gone ≡ state_weight p s + weight_made p t.gone
@@ -52,23 +48,7 @@ module _ {C : Type 0} where
         let ioc = asking command s.next_ioctl in
         let m : Message C = ioctl_message ioc body in
         let begun = ioctl_begun side command s in
-        omega (arith, told-keeps side (delivered cells (below side) m begun).state, delivered-keeps cells p (below side) m begun (omega arith), weight-ioctl (p (direction_from side)) ioc body, begun-keeps side command s)
-
-  begun-unread : (side : Side) (command : ℕ) (s : State C) → NothingUnread s → NothingUnread (ioctl_begun side command s)
-  begun-unread Master command s unread = record { master = unread.master; slave = unread.slave }
-  begun-unread Slave command s unread = record { master = unread.master; slave = unread.slave }
-
-  pub told-unread : (side : Side) (s : State C) → NothingUnread s → NothingUnread (ioctl_told side s).state
-  told-unread Master s unread = record { master = unread.master; slave = unread.slave }
-  told-unread Slave s unread = record { master = unread.master; slave = unread.slave }
-
-  pub signals-unread : (side : Side) (s : State C) → NothingUnread s → NothingUnread (signals_told side s).state
-  signals-unread Master s unread = record { master = unread.master; slave = unread.slave }
-  signals-unread Slave s unread = record { master = unread.master; slave = unread.slave }
-
-  pub sent-unread : (cells : Cells C) (side : Side) (command : ℕ) (body : List ℕ) (s : State C) → NothingUnread s → NothingUnread (ioctl_sent cells side command body s).state
-  sent-unread cells side command body s unread =
-      delivered-unread cells (below side) (ioctl_message (asking command s.next_ioctl) body) (ioctl_begun side command s) (begun-unread side command s unread)
+        omega (arith, told-keeps side (delivered cells (below side) m begun).state, delivered-keeps cells p (below side) m begun (omega arith), weight-ioctl (p (direction_from side)) ioc body, ioctl-keeps side (Waiting s.next_ioctl command) s)
 
 module _ {C D : Type 0} (f : C → D) where
   message-forgets : (ioc : Ioc) (body : List ℕ) → map_message f (ioctl_message ioc body) ≡ ioctl_message ioc body

@@ -20,7 +20,8 @@ use Rattle.strm_laws.proofs.Balances.{step-counts, total, written-long}
 use Rattle.strm_laws.proofs.DeliveryKeeps.{gone-append}
 use Rattle.strm_laws.proofs.InOrder.{Numbered}
 use Rattle.strm_types.proofs.MadeCells.{made-long}
-use Rattle.strm_laws.proofs.Kept.{opening-unread, step-keeps, step-unread}
+use Rattle.strm_laws.proofs.Kept.{step-keeps}
+use Rattle.strm_laws.proofs.Unread.{opening-unread, step-unread}
 use Rattle.strm_laws.proofs.StepsIdle.{opening-idle, step-idle}
 use Rattle.strm_types.proofs.Weights.{count-join}
 
@@ -51,7 +52,7 @@ module _ {C : Type 0} (cells : Cells C) (p : Dir → C → Bool) (numbered : Num
   pub from-opening : (entries : List PlainEntry) → IsLegal cells opening entries
       → state_weight p (replay cells opening entries) + weight_gone p (all_gone cells opening entries) ≡ total cells p numbered (replay cells opening entries)
   from-opening entries legal =
-      omega (arith, follows opening opening-unread opening-idle entries legal, numbered.none_written MasterToSlave, numbered.none_written SlaveToMaster, numbered.none_made MasterToSlave, numbered.none_made SlaveToMaster)
+      omega (arith, follows opening opening-unread (opening-idle C) entries legal, numbered.none_written MasterToSlave, numbered.none_written SlaveToMaster, numbered.none_made MasterToSlave, numbered.none_made SlaveToMaster)
 
 -- all bytes of a direction
 abbrev pub of_dir : {C : Type 0} → Dir → Dir → C → Bool
@@ -87,8 +88,8 @@ module _ {C : Type 0} (cells : Cells C) where
 
   of-total : (dir : Dir) (s : State C) → total cells (of_dir dir) (direction-numbered dir) s ≡ (book dir s).written + (book dir s).made
   unfolding direction-numbered
-  of-total MasterToSlave s = let e : s.from_master.written + s.from_master.made + (0 + 0) ≡ s.from_master.written + s.from_master.made = omega arith in e
-  of-total SlaveToMaster s = let e : 0 + 0 + (s.from_slave.written + s.from_slave.made) ≡ s.from_slave.written + s.from_slave.made = omega arith in e
+  of-total MasterToSlave s = let e : s.books.master.written + s.books.master.made + (0 + 0) ≡ s.books.master.written + s.books.master.made = omega arith in e
+  of-total SlaveToMaster s = let e : 0 + 0 + (s.books.slave.written + s.books.slave.made) ≡ s.books.slave.written + s.books.slave.made = omega arith in e
 
   -- of each direction: what stands and what has gone is what was written and made
   pub balanced : (dir : Dir) (entries : List PlainEntry) → IsLegal cells opening entries → let s = replay cells opening entries in
@@ -197,10 +198,10 @@ module _ (guard : Dir → Bool) where
   -- once, where it was booked
   once : (o : Origin) → guard (direction_in o) ≡ true → (s : State Tagged) → total tagged (the_byte o) (byte-numbered o) s ≡ one_if (is_booked o s)
   unfolding byte-numbered
-  once (Written MasterToSlave k) holds s = omega (arith, ap (λ g. one_if (g && (true && nat_lt k s.from_master.written))) holds, out (guard SlaveToMaster))
-  once (Written SlaveToMaster k) holds s = omega (arith, ap (λ g. one_if (g && (true && nat_lt k s.from_slave.written))) holds, out (guard MasterToSlave))
-  once (Made MasterToSlave k) holds s = omega (arith, ap (λ g. one_if (g && (true && nat_lt k s.from_master.made))) holds, out (guard SlaveToMaster))
-  once (Made SlaveToMaster k) holds s = omega (arith, ap (λ g. one_if (g && (true && nat_lt k s.from_slave.made))) holds, out (guard MasterToSlave))
+  once (Written MasterToSlave k) holds s = omega (arith, ap (λ g. one_if (g && (true && nat_lt k s.books.master.written))) holds, out (guard SlaveToMaster))
+  once (Written SlaveToMaster k) holds s = omega (arith, ap (λ g. one_if (g && (true && nat_lt k s.books.slave.written))) holds, out (guard MasterToSlave))
+  once (Made MasterToSlave k) holds s = omega (arith, ap (λ g. one_if (g && (true && nat_lt k s.books.master.made))) holds, out (guard SlaveToMaster))
+  once (Made SlaveToMaster k) holds s = omega (arith, ap (λ g. one_if (g && (true && nat_lt k s.books.slave.made))) holds, out (guard MasterToSlave))
   once (Base dir k) holds s = refl
 
   pub placed : (o : Origin) → guard (direction_in o) ≡ true → (entries : List PlainEntry) → IsLegal tagged opening entries

@@ -26,7 +26,7 @@ use Rattle.strm_laws.specs.Pushes.{named_by}
 use Rattle.strm_types.specs.Queue.{Queue, weight, left_with, relieved}
 use Rattle.strm_types.specs.Books.{with_written}
 use Rattle.strm_laws.specs.Stacked.{IsAtRest}
-use Rattle.strm_laws.specs.State.{State, stream, book, opening, with_book}
+use Rattle.strm_laws.specs.State.{State, stream, book, opening, with_book, with_head_queue}
 use Rattle.strm_types.specs.Reads.{Drawn, head_draw, none_went, queue_drawn, read_fates, read_gone, read_lets_go, read_queue, takes_none}
 use Rattle.strm_types.specs.Events.{Request, Reply}
 use Rattle.strm_laws.specs.Calls.{read_at, write_sent, wrote, get_at, mode_set, ioctl_sent, called}
@@ -38,17 +38,18 @@ use Rattle.strm_laws.specs.Step.{Step}
 use Rattle.strm_laws.specs.Turns.{turned}
 use Rattle.strm_laws.specs.Places.{weight_gone, weight_made}
 use Rattle.strm_laws.specs.Kept.{state_weight, NothingUnread, AreIdle, MayTest, cells_taken, gone, count_came}
-use Rattle.strm_laws.proofs.ClosesKeep.{closed_at-keeps, closed_at-unread, pop-unread, push-unread}
+use Rattle.strm_laws.proofs.ClosesKeep.{closed_at-keeps}
 use Rattle.strm_laws.proofs.PushKeeps.{pop-keeps, push-keeps}
-use Rattle.strm_laws.proofs.Deliveries.{flushed_on-keeps, flushed_on-unread, delivered-unread}
+use Rattle.strm_laws.proofs.Deliveries.{flushed_on-keeps}
 use Rattle.strm_laws.proofs.WriteSteps.{cells_sent-holds, cells_sent-keeps}
 use Rattle.strm_laws.proofs.GotQueues.{get_queue-keeps}
-use Rattle.strm_laws.proofs.IoctlCalls.{sent-keeps, sent-unread, signals-keep, signals-unread, told-keeps, told-unread}
-use Rattle.strm_laws.proofs.PutMessages.{put_at-keeps, put_at-unread}
+use Rattle.strm_laws.proofs.IoctlCalls.{sent-keeps, signals-keep, told-keeps}
+use Rattle.strm_laws.proofs.PutMessages.{put_at-keeps}
 use Rattle.strm_types.proofs.ReadKeeps.{head_draw-keeps}
-use Rattle.strm_laws.proofs.TurnKeeps.{turn-keeps, turn-unread}
+use Rattle.strm_laws.proofs.TurnKeeps.{turn-keeps}
 use Rattle.strm_laws.proofs.Replay.{allowed-met, unless-none, or_else-none}
 use Rattle.strm_laws.proofs.ForgettingSteps.{taken_from}
+use Rattle.strm_laws.proofs.StreamWeights.{same-weighs, stream-weighs}
 
 closed-of : (b : Bool) → not b ≡ true → b ≡ false
 closed-of false is = refl
@@ -63,16 +64,12 @@ module _ {C : Type 0} where
       at false = refl
 
   module _ (p : Dir → C → Bool) where
-    book-weight : (dir : Dir) (b : Book) (s : State C) → state_weight p (with_book dir b s) ≡ state_weight p s
-    book-weight MasterToSlave b s = refl
-    book-weight SlaveToMaster b s = refl
-
     write-keeps : (cells : Cells C) (side : Side) (bytes : List ℕ) (s : State C) → let t = write_sent cells side bytes s in
         state_weight p (wrote cells side bytes s).state + weight_gone p t.gone ≡ state_weight p s + (count_by (p (direction_from side)) (cells_taken cells side bytes s) + weight_made p t.gone)
     write-keeps cells side bytes s =
         let dir = direction_from side in
         let t = write_sent cells side bytes s in
-        omega (arith, book-weight dir (with_written t.taken (book dir t.state)) t.state, cells_sent-keeps cells p side (cells_written cells dir (book dir s).written bytes) s)
+        omega (arith, cells_sent-keeps cells p side (cells_written cells dir (book dir s).written bytes) s)
 
     -- what a read leaves on the queue, and what goes by its rules
     drawn-keeps : (dir : Dir) (read : ReadMode) (control : ControlMode) (n : ℕ) (q : Queue C) → weight (p dir) (read_queue read control n q).messages + weight_gone p (read_gone dir read control n q.messages) ≡ weight (p dir) q.messages + weight_made p (read_gone dir read control n q.messages)
@@ -87,36 +84,41 @@ module _ {C : Type 0} where
     read-keeps : (cells : Cells C) (side : Side) (n : ℕ) (answer : Reply) (s : State C) → let h = (stream side s).head in
         let gone = read_gone (direction_of (head_of side)) h.read_mode h.control_mode (min n READ_MAX) h.queue.messages in
         state_weight p (read_at cells side n s).state + weight_gone p gone ≡ state_weight p s + weight_made p gone
-    read-keeps cells Master n answer s = let h = s.master.head in omega (arith, drawn-keeps (direction_of (head_of Master)) h.read_mode h.control_mode (min n READ_MAX) h.queue)
-    read-keeps cells Slave n answer s = let h = s.slave.head in omega (arith, drawn-keeps (direction_of (head_of Slave)) h.read_mode h.control_mode (min n READ_MAX) h.queue)
+    read-keeps cells side n answer s =
+        let t = stream side s in
+        let h = t.head in
+        omega (
+          arith,
+          stream-weighs p side (with_head_queue (read_queue h.read_mode h.control_mode (min n READ_MAX) h.queue) t) s,
+          drawn-keeps (direction_of (head_of side)) h.read_mode h.control_mode (min n READ_MAX) h.queue,
+        )
 
     get-keeps : (cells : Cells C) (side : Side) (wanted : Wanted) (cmax dmax : ℕ) (s : State C) →
         let gone = get_gone (direction_of (head_of side)) wanted (min cmax READ_MAX) (min dmax READ_MAX) (stream side s).head.queue.messages in
         state_weight p (get_at cells side wanted cmax dmax s).state + weight_gone p gone ≡ state_weight p s + weight_made p gone
-    get-keeps cells Master wanted cmax dmax s = omega (arith, get_queue-keeps p (direction_of (head_of Master)) wanted (min cmax READ_MAX) (min dmax READ_MAX) s.master.head.queue)
-    get-keeps cells Slave wanted cmax dmax s = omega (arith, get_queue-keeps p (direction_of (head_of Slave)) wanted (min cmax READ_MAX) (min dmax READ_MAX) s.slave.head.queue)
+    get-keeps cells side wanted cmax dmax s =
+        let t = stream side s in
+        omega (
+          arith,
+          stream-weighs p side (with_head_queue (get_queue wanted (min cmax READ_MAX) (min dmax READ_MAX) t.head.queue) t) s,
+          get_queue-keeps p (direction_of (head_of side)) wanted (min cmax READ_MAX) (min dmax READ_MAX) t.head.queue,
+        )
 
     mode-keeps : (side : Side) (mode : modes.Mode) (s : State C) → state_weight p (mode_set side mode s) ≡ state_weight p s
-    mode-keeps Master (chosen.Read mode) s = refl
-    mode-keeps Master (chosen.Control mode) s = refl
-    mode-keeps Slave (chosen.Read mode) s = refl
-    mode-keeps Slave (chosen.Control mode) s = refl
-
-    idle-at : (side : Side) (s : State C) → AreIdle s → AllByRecursion (λ l. IsAtRest l) (stream side s).modules
-    idle-at Master s idle = idle.master
-    idle-at Slave s idle = idle.slave
+    mode-keeps side (chosen.Read mode) s = same-weighs p side (record (stream side s) { head = record (stream side s).head { read_mode = mode } }) s refl
+    mode-keeps side (chosen.Control mode) s = same-weighs p side (record (stream side s) { head = record (stream side s).head { control_mode = mode } }) s refl
 
     call-keeps : (cells : Cells C) (caller : Caller) (asked : Request) (answer : Reply) (s : State C) → NothingUnread s → AreIdle s → or_else (refused_at_once s caller asked) (refused_by_state s caller asked) ≡ None
         → let entry = Called caller asked answer in
         state_weight p (called cells caller asked s).state + weight_gone p (gone cells s entry) ≡ state_weight p s + (count_came cells p s entry + weight_made p (gone cells s entry))
-    call-keeps cells caller Shut answer s unread idle allowed = omega (arith, closed_at-keeps p caller.side s (idle-at caller.side s idle))
+    call-keeps cells caller Shut answer s unread idle allowed = omega (arith, closed_at-keeps p caller.side s (idle caller.side))
     call-keeps cells caller (Push name) answer s unread idle allowed = omega (arith, push-keeps p caller.side name s)
-    call-keeps cells caller Pop answer s unread idle allowed = omega (arith, pop-keeps p caller.side s (idle-at caller.side s idle))
+    call-keeps cells caller Pop answer s unread idle allowed = omega (arith, pop-keeps p caller.side s (idle caller.side))
     call-keeps cells caller (Flush what band) answer s unread idle allowed = omega (arith, flushed_on-keeps cells p band caller.side what s)
     call-keeps cells caller OpenSlave answer s unread idle allowed =
         let by_state = or_else-none _ _ (or_else-none (refused_at_once s caller OpenSlave) _ allowed).1 in
-        let closed = closed-of (is_open s.slave.opened) (unless-none (not (is_open s.slave.opened)) Einval by_state.0) in
-        let nothing = ap (λ (q : List (Message C)). weight (p (direction_at Up Slave)) q) (unread.slave closed) in
+        let closed = closed-of (is_open s.ends.slave.opened) (unless-none (not (is_open s.ends.slave.opened)) Einval by_state.0) in
+        let nothing = ap (λ (q : List (Message C)). weight (p (direction_at Up Slave)) q) (unread Slave closed) in
         omega (arith, nothing)
     call-keeps cells caller (Write bytes) answer s unread idle allowed = write-keeps cells caller.side bytes s
     call-keeps cells caller (Read n) answer s unread idle allowed = omega (arith, read-keeps cells caller.side n answer s)
@@ -136,59 +138,3 @@ module _ {C : Type 0} where
         ap (λ (s : State C). state_weight p s + weight_gone p (gone cells old (Called caller asked answer))) (sym step.leads) ∙ call-keeps cells caller asked answer old unread idle step.allowed
     step-keeps cells old new (Turned name turn) tests unread idle step =
         ap (λ (s : State C). state_weight p s + weight_gone p (gone cells old (Turned name turn))) (sym step.leads) ∙ turn-keeps p cells name tests turn old idle ∙ (let same : state_weight p old + weight_made p (turned cells name turn old).gone ≡ state_weight p old + (0 + weight_made p (turned cells name turn old).gone) = omega arith in same)
-
-  -- a side that isn't open has nothing for its readers, from the opening on
-  pub opening-unread : NothingUnread {C = C} opening
-  opening-unread = record { master = λ closed. refl; slave = λ closed. refl }
-
-  book-unread : (dir : Dir) (b : Book) (s : State C) → NothingUnread s → NothingUnread (with_book dir b s)
-  book-unread MasterToSlave b s unread = record { master = unread.master; slave = unread.slave }
-  book-unread SlaveToMaster b s unread = record { master = unread.master; slave = unread.slave }
-
-  write-unread : (cells : Cells C) (side : Side) (bytes : List ℕ) (s : State C) → NothingUnread s → NothingUnread (wrote cells side bytes s).state
-  write-unread cells side bytes s unread =
-      let dir = direction_from side in
-      let t = write_sent cells side bytes s in
-      book-unread dir (with_written t.taken (book dir t.state)) t.state (cells_sent-holds cells NothingUnread (delivered-unread cells) side (cells_written cells dir (book dir s).written bytes) s unread)
-
-  taken-unread : (side : Side) (s : State C) (answer : Reply) (q : Queue C) (lets : Bool) → NothingUnread s → is_open (stream side s).opened ≡ true → NothingUnread (taken_from side s answer q lets).state
-  taken-unread Master s answer q lets unread is = record { master = λ closed. absurd (cc); slave = unread.slave }
-  taken-unread Slave s answer q lets unread is = record { master = unread.master; slave = λ closed. absurd (cc) }
-
-  mode-unread : (side : Side) (mode : modes.Mode) (s : State C) → NothingUnread s → NothingUnread (mode_set side mode s)
-  mode-unread Master (chosen.Read mode) s unread = record { master = unread.master; slave = unread.slave }
-  mode-unread Master (chosen.Control mode) s unread = record { master = unread.master; slave = unread.slave }
-  mode-unread Slave (chosen.Read mode) s unread = record { master = unread.master; slave = unread.slave }
-  mode-unread Slave (chosen.Control mode) s unread = record { master = unread.master; slave = unread.slave }
-
-  call-unread : (cells : Cells C) (caller : Caller) (asked : Request) (s : State C) → NothingUnread s → or_else (refused_at_once s caller asked) (refused_by_state s caller asked) ≡ None → NothingUnread (called cells caller asked s).state
-  call-unread cells caller OpenMaster s unread allowed = record { master = λ closed. absurd (cc); slave = unread.slave }
-  call-unread cells caller Unlock s unread allowed = record { master = unread.master; slave = unread.slave }
-  call-unread cells caller OpenSlave s unread allowed = record { master = unread.master; slave = λ closed. refl }
-  call-unread cells caller Shut s unread allowed = closed_at-unread caller.side s unread
-  call-unread cells caller (Push name) s unread allowed = push-unread caller.side (named_by name) s unread
-  call-unread cells caller Pop s unread allowed = pop-unread caller.side s unread
-  call-unread cells caller (Flush what band) s unread allowed = flushed_on-unread cells band caller.side what s unread
-  call-unread cells caller (Write bytes) s unread allowed = write-unread cells caller.side bytes s unread
-  call-unread cells caller (Read n) s unread allowed =
-      let h = (stream caller.side s).head in
-      let most = min n READ_MAX in
-      taken-unread caller.side s (Bytes (bytes_of cells (head_draw h.read_mode h.control_mode most h.queue.messages).given)) (read_queue h.read_mode h.control_mode most h.queue) (read_lets_go h.read_mode h.control_mode most h.queue) unread
-      (allowed-met s caller (Read n) allowed).reached
-  call-unread cells caller (Put prio control body) s unread allowed = put_at-unread cells caller.side prio control body s unread
-  call-unread cells caller (Get wanted cmax dmax) s unread allowed =
-      let q = (stream caller.side s).head.queue in
-      let c = min cmax READ_MAX in
-      let d = min dmax READ_MAX in
-      taken-unread caller.side s (get_at cells caller.side wanted cmax dmax s).answer (get_queue wanted c d q) (get_lets_go wanted c d q) unread
-      (allowed-met s caller (Get wanted cmax dmax) allowed).reached
-  call-unread cells caller (Mode mode) s unread allowed = mode-unread caller.side mode s unread
-  call-unread cells caller (Ioctl command body) s unread allowed =
-      told-unread caller.side (ioctl_sent cells caller.side command body s).state (sent-unread cells caller.side command body s unread)
-  call-unread cells caller (IoctlResult number) s unread allowed = told-unread caller.side s unread
-  call-unread cells caller Signals s unread allowed = signals-unread caller.side s unread
-  call-unread cells caller _ s unread allowed = unread
-
-  pub step-unread : (cells : Cells C) (old new : State C) (entry : PlainEntry) → NothingUnread old → Step cells old entry new → NothingUnread new
-  step-unread cells old new (Called caller asked answer) unread step = subst (λ (s : State C). NothingUnread s) step.leads (call-unread cells caller asked old unread step.allowed)
-  step-unread cells old new (Turned name turn) unread step = subst (λ (s : State C). NothingUnread s) step.leads (turn-unread cells name turn old unread)

@@ -118,18 +118,18 @@ module _ {C : Type 0} where
   stands-there MasterToSlave s idle =
       omega (
         arith,
-        modules-down (of_dir MasterToSlave) Master refl refl s.master.modules idle.master,
-        modules-up (of_dir MasterToSlave) Slave refl refl s.slave.modules idle.slave,
-        none-weighs s.master.head.queue.messages,
-        none-weighs s.slave.driver.queue.messages,
+        modules-down (of_dir MasterToSlave) Master refl refl s.ends.master.modules (idle Master),
+        modules-up (of_dir MasterToSlave) Slave refl refl s.ends.slave.modules (idle Slave),
+        none-weighs s.ends.master.head.queue.messages,
+        none-weighs s.ends.slave.driver.queue.messages,
       )
   stands-there SlaveToMaster s idle =
       omega (
         arith,
-        modules-down (of_dir SlaveToMaster) Slave refl refl s.slave.modules idle.slave,
-        modules-up (of_dir SlaveToMaster) Master refl refl s.master.modules idle.master,
-        none-weighs s.slave.head.queue.messages,
-        none-weighs s.master.driver.queue.messages,
+        modules-down (of_dir SlaveToMaster) Slave refl refl s.ends.slave.modules (idle Slave),
+        modules-up (of_dir SlaveToMaster) Master refl refl s.ends.master.modules (idle Master),
+        none-weighs s.ends.slave.head.queue.messages,
+        none-weighs s.ends.master.driver.queue.messages,
       )
 
 -- what has gone in a direction
@@ -221,7 +221,7 @@ agrees dir entries legal low =
     let told = all_gone plain opening entries in
     let balance = balanced plain dir entries legal in
     let sums = sums-on dir told no_fates (refl, refl) (omega (arith, none-yet dir, balance, low)) in
-    omega (arith, balance, stands-there dir s (legal-idle opening entries opening-idle legal), sums, none-yet dir, ap (λ f. sum_of (fates_of dir f)) (tells-all plain opening entries no_fates))
+    omega (arith, balance, stands-there dir s (legal-idle opening entries (opening-idle ℕ) legal), sums, none-yet dir, ap (λ f. sum_of (fates_of dir f)) (tells-all plain opening entries no_fates))
   where
     none-yet : (dir : Dir) → sum_of (fates_of dir no_fates) ≡ 0
     none-yet MasterToSlave = refl

@@ -17,6 +17,9 @@ pub mod StepsIdle
 pub mod ForgettingSteps
 pub mod EmptiedKeeps
 pub mod WriteSteps
+pub mod EachStream
+pub mod Unread
+pub mod StreamWeights
 pub mod Kept
 pub mod DeliveryKeeps
 pub mod DeliveryForgets

@@ -28,7 +28,7 @@ use Rattle.strm_types.specs.Modules.{act_among, put_among}
 use Rattle.strm_laws.specs.Puts.{booked, module_acted, put_in}
 use Rattle.strm_types.specs.Service.{Serving}
 use Rattle.strm_laws.specs.Stacked.{Module, OfLdterm, OfPtem, OfPckt, module_puts, module_queue, module_serves, served_by}
-use Rattle.strm_laws.specs.State.{State, book, stream, with_book, with_stream}
+use Rattle.strm_laws.specs.State.{State, book, stream, with_book, with_stream, Stream}
 use Rattle.strm_types.specs.LdtermCalls.{Begins, Ends, bytes_left}
 use Rattle.strm_laws.specs.TurnCalls.{Stopped, asks_on, called, ldterm_of, led, module_at, treated}
 use Rattle.strm_laws.specs.TurnOutcomes.{TurnOutcome, stayed_put}
@@ -37,6 +37,7 @@ use Rattle.strm_types.proofs.DeliveryHolds.{carried-holds, in_turn-holds}
 use Rattle.strm_types.proofs.LdtermPutStays.{puts-stay}
 use Rattle.strm_laws.proofs.LdtermStops.{GoesOn, serves-alike, serves-ends, serves-goes, serves-made}
 use Rattle.strm_laws.proofs.ModulesHold.{OnBoth, puts-good}
+use Rattle.strm_types.proofs.BySide.{get-set-same}
 
 -- one of several, and what is said of it
 module _ {P : Type 0} (d : P) where
@@ -110,39 +111,23 @@ put-stays made (suc j) to m (l ∷ ls) = ap (λ xs. under_way l ∷ xs) (put-sta
 
 -- so it does in deliveries
 pub sent-stays : (sent : List (Parcel ℕ)) (s : State ℕ) (side : Side) → map under_way (stream side (in_turn (carried (put_in plain) HOPS) sent s).state).modules ≡ map under_way (stream side s).modules
-sent-stays sent s side = of side
+sent-stays sent s = in_turn-holds (OnBoth Good) (carried (put_in plain) HOPS) (carried-holds (OnBoth Good) (put_in plain) (puts-good Good plain (λ side made i to m ps same. put-stays made i to m ps ∙ same)) HOPS) sent s (λ side. refl)
   where
     Good : Side → List (Module ℕ) → Type 0
     Good side ps = map under_way ps ≡ map under_way (stream side s).modules
 
-    both : OnBoth Good (in_turn (carried (put_in plain) HOPS) sent s).state
-    both = in_turn-holds (OnBoth Good) (carried (put_in plain) HOPS) (carried-holds (OnBoth Good) (put_in plain) (puts-good Good plain (λ side made i to m ps same. put-stays made i to m ps ∙ same)) HOPS) sent s (refl, refl)
-
-    of : (side : Side) → map under_way (stream side (in_turn (carried (put_in plain) HOPS) sent s).state).modules ≡ map under_way (stream side s).modules
-    of Master = both.0
-    of Slave = both.1
-
 -- the modules stay where cells are booked as made
-made-stays : (side : Side) (dir : Dir) (b : Book) (s : State ℕ) → (stream side (with_book dir b s)).modules ≡ (stream side s).modules
-made-stays Master MasterToSlave b s = refl
-made-stays Master SlaveToMaster b s = refl
-made-stays Slave MasterToSlave b s = refl
-made-stays Slave SlaveToMaster b s = refl
-
 booked-stays : (side : Side) (told : List (Fate ℕ)) (s : State ℕ) → (stream side (booked told s)).modules ≡ (stream side s).modules
 booked-stays side [] s = refl
 booked-stays side (Goes dir rule cells ∷ told) s = booked-stays side told s
-booked-stays side (Comes dir cells ∷ told) s =
-    let b = with_made (length cells) (book dir s) in
-    booked-stays side told (with_book dir b s) ∙ made-stays side dir b s
+booked-stays side (Comes dir cells ∷ told) s = booked-stays side told (with_book dir (with_made (length cells) (book dir s)) s)
 
-with-modules : (side : Side) (ps : List (Module ℕ)) (names : List QueueName) (s : State ℕ) → (stream side (record (with_stream side (record (stream side s) { modules = ps }) s) { enabled = names })).modules ≡ ps
-with-modules Master ps names s = refl
-with-modules Slave ps names s = refl
+with-modules : (side : Side) (ps : List (Module ℕ)) (s : State ℕ) → (stream side (with_stream side (record (stream side s) { modules = ps }) s)).modules ≡ ps
+with-modules side ps s = ap (λ (t : Stream ℕ). t.modules) (get-set-same side (record (stream side s) { modules = ps }) s.ends)
 
 module _ (here : Spot) where
   acted-modules : (t : Acted ℕ (List (Module ℕ))) (s : State ℕ) → (stream here.side (module_acted here t s).state).modules ≡ t.state
-  acted-modules t s = booked-stays here.side t.gone _ ∙ with-modules here.side t.state _ s
+  acted-modules t s = booked-stays here.side t.gone (module_acted here (record t { gone = [] }) s).state ∙ with-modules here.side t.state s
 
   module _ (again : Bool) (stop : Option ℕ) where
     -- the module behind it

@@ -45,6 +45,9 @@ use Rattle.strm_laws.proofs.PutsFall.{far-within, puts-fall}
 use Rattle.strm_laws.proofs.PutsKeep.{booked-keeps, puts-keep}
 use Rattle.strm_laws.proofs.PutParts.{booked-holds}
 use Rattle.strm_laws.proofs.QueueChanges.{changes-idle, changes-keep}
+use Rattle.strm_types.proofs.BySide.{each-side, set-all}
+use Rattle.strm_types.specs.Both.{set}
+use Rattle.strm_laws.proofs.StreamWeights.{stream-weighs}
 
 module _ {C : Type 0} where
   -- What holds of the modules of a side's stream in a turn there: on the other stream nothing of a turn is under way.
@@ -59,23 +62,23 @@ module _ {C : Type 0} where
 
   -- nothing of a turn is under way, before it and behind it
   turn-of-idle : (side : Side) (On : List (Module C) → Type 0) (s : State C) → (AllIdle (stream side s).modules → On (stream side s).modules) → AreIdle s → InTurn side On s
-  turn-of-idle Master On s on idle = (on idle.master, idle.slave)
-  turn-of-idle Slave On s on idle = (idle.master, on idle.slave)
+  turn-of-idle Master On s on idle = each-side (λ of t. OnOne Master On of t.modules) s.ends (on (idle Master)) (idle Slave)
+  turn-of-idle Slave On s on idle = each-side (λ of t. OnOne Slave On of t.modules) s.ends (idle Master) (on (idle Slave))
 
   idle-of-turn : (side : Side) (s : State C) → InTurn side AllIdle s → AreIdle s
-  idle-of-turn Master s both = record { master = both.0; slave = both.1 }
-  idle-of-turn Slave s both = record { master = both.0; slave = both.1 }
+  idle-of-turn Master s both = each-side (λ of t. AllIdle t.modules) s.ends (both Master) (both Slave)
+  idle-of-turn Slave s both = each-side (λ of t. AllIdle t.modules) s.ends (both Master) (both Slave)
 
   -- the modules of the stream of the turn
   turn-on : (side : Side) (On : List (Module C) → Type 0) (s : State C) → InTurn side On s → On (stream side s).modules
-  turn-on Master On s both = both.0
-  turn-on Slave On s both = both.1
+  turn-on Master On s both = both Master
+  turn-on Slave On s both = both Slave
 
   -- other modules stand there
   turn-with : (side : Side) (Was On : List (Module C) → Type 0) (ps : List (Module C)) (names : List QueueName) (s : State C) → InTurn side Was s → On ps
       → InTurn side On (record (with_stream side (record (stream side s) { modules = ps }) s) { enabled = names })
-  turn-with Master Was On ps names s both on = (on, both.1)
-  turn-with Slave Was On ps names s both on = (both.0, on)
+  turn-with Master Was On ps names s both on = each-side (λ of t. OnOne Master On of t.modules) (set Master (record (stream Master s) { modules = ps }) s.ends) on (both Slave)
+  turn-with Slave Was On ps names s both on = each-side (λ of t. OnOne Slave On of t.modules) (set Slave (record (stream Slave s) { modules = ps }) s.ends) (both Master) on
 
   -- what is sent is delivered
   module _ (cells : Cells C) where
@@ -111,11 +114,9 @@ module _ {C : Type 0} where
   ended-messages false q = refl
 
   ended-idle : (here : Spot) (took : Bool) (s : State C) → AreIdle s → AreIdle (with_stream here.side (queue_ended here took (stream here.side s)) s)
-  ended-idle here took s idle = at here.side
-    where
-      at : (side : Side) → AreIdle (with_stream side (queue_ended here took (stream side s)) s)
-      at Master = record { master = changes-idle (turn_ended took) here.way (here.at - 1) s.master.modules idle.master; slave = idle.slave }
-      at Slave = record { master = idle.master; slave = changes-idle (turn_ended took) here.way (here.at - 1) s.slave.modules idle.slave }
+  ended-idle here took s idle =
+      let on = queue_ended here took (stream here.side s) in
+      set-all (λ of t. AllIdle t.modules) here.side on s.ends (changes-idle (turn_ended took) here.way (here.at - 1) (stream here.side s).modules (idle here.side)) idle
 
 -- a module with a name is one of the first three
 named-low : (place : Place) (from : ℕ) (places : List (Option Place)) (at : ℕ) → named_from place from places ≡ Some at → at < from + length places
@@ -209,7 +210,7 @@ module _ {C : Type 0} (cells : Cells C) (here : Spot) where
       t = calls cells here (3 * bytes + 1) false bytes s
 
       at : (ended : Bool) → (ended ≡ true → AreIdle t.state) → Rests (cond ended (record { turn = Moved t.bytes; state = module_turn_ended name here (not (t.bytes == 0)) t.state; gone = t.gone }) (stayed_put Blocked s))
-      at true behind = let rested = ended-idle here (not (t.bytes == 0)) t.state (behind refl) in record { master = rested.master; slave = rested.slave }
+      at true behind = ended-idle here (not (t.bytes == 0)) t.state (behind refl)
       at false behind = idle
 
   asked-rests : (asks : Asks) (name : QueueName) (turn : Turn) (s : State C) → AreIdle s → Rests (asked_turn cells here asks name turn s)
@@ -240,8 +241,7 @@ module _ {C : Type 0} (p : Dir → C → Bool) where
   -- other modules stand on a side's stream
   with-keeps : (side : Side) (ps : List (Module C)) (names : List QueueName) (s : State C)
       → state_weight p (record (with_stream side (record (stream side s) { modules = ps }) s) { enabled = names }) + modules_weight p side (stream side s).modules ≡ state_weight p s + modules_weight p side ps
-  with-keeps Master ps names s = omega arith
-  with-keeps Slave ps names s = omega arith
+  with-keeps side ps names s = omega (arith, stream-weighs p side (record (stream side s) { modules = ps }) s)
 
   ended-keeps : (here : Spot) (took : Bool) (s : State C) → state_weight p (with_stream here.side (queue_ended here took (stream here.side s)) s) ≡ state_weight p s
   ended-keeps here took s =

@@ -38,7 +38,7 @@ abbrev stacked : Queue ℕ → List (Module ℕ) → Queue ℕ → Stream ℕ
 stacked above modules below = record { opened = Open; head = head_with above false; modules = modules; driver = record { queue = below } }
 
 abbrev pair : Stream ℕ → State ℕ
-pair on = record { master = record new_stream { opened = Open }; slave = on; locked = false; enabled = []; next_ioctl = 1; from_master = new_book; from_slave = new_book }
+pair on = record { ends = record { master = record new_stream { opened = Open }; slave = on }; locked = false; enabled = []; next_ioctl = 1; books = record { master = new_book; slave = new_book } }
 
 abbrev reading : QueueName
 reading = record { side = Slave; place = Ldterm; way = Up }
@@ -66,11 +66,11 @@ queues_on on = on.head.queue ∷ of_top on.modules
 abbrev seen : TurnOutcome ℕ → Seen
 seen t = record {
   turn = t.turn;
-  cells = map (λ (q : Queue ℕ). map cells_of q.messages) (queues_on t.state.slave);
-  waits = map (λ (q : Queue ℕ). map (λ (flow : Flow). flow.want_write) q.flows) (queues_on t.state.slave);
-  wants = map (λ (q : Queue ℕ). q.want_read) (queues_on t.state.slave);
+  cells = map (λ (q : Queue ℕ). map cells_of q.messages) (queues_on t.state.ends.slave);
+  waits = map (λ (q : Queue ℕ). map (λ (flow : Flow). flow.want_write) q.flows) (queues_on t.state.ends.slave);
+  wants = map (λ (q : Queue ℕ). q.want_read) (queues_on t.state.ends.slave);
   enabled = t.state.enabled;
-  made = t.state.from_slave.made;
+  made = t.state.books.slave.made;
 }
 
 -- without a module of the name nothing is done
@@ -203,7 +203,7 @@ room-past-one = refl
 pub whole-turns : map (λ way. whole_module Ldterm way two) (Up ∷ Down ∷ []) ≡ Moved 0 ∷ Moved 0 ∷ []
 whole-turns = refl
 
-pub whole-of-the-first : whole_module Ldterm Up typed.slave ≡ Moved 3
+pub whole-of-the-first : whole_module Ldterm Up typed.ends.slave ≡ Moved 3
 unfolding cells_of size_of
 whole-of-the-first = refl
 
@@ -227,7 +227,7 @@ unfolding carried cells_of band_of is_high_priority size_of rank_of data_message
 journal-turns-modules = refl
 
 -- the state behind its entry, which is a step with the answer that it stores and no other one
-pub entry-leads-behind-the-turn : map (λ bytes. map cells_of (after plain typed_on (Turned reading (Moved bytes))).slave.head.queue.messages) (2 ∷ 0 ∷ [])
+pub entry-leads-behind-the-turn : map (λ bytes. map cells_of (after plain typed_on (Turned reading (Moved bytes))).ends.slave.head.queue.messages) (2 ∷ 0 ∷ [])
     ≡ ((97 ∷ 10 ∷ []) ∷ []) ∷ [] ∷ []
 unfolding carried cells_of band_of is_high_priority size_of rank_of data_message
 entry-leads-behind-the-turn = refl

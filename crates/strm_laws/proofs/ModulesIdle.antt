@@ -34,14 +34,7 @@ module _ {C : Type 0} where
   AllOn side ps = AllIdle ps
 
   pub puts-rest : (cells : Cells C) → PutHolds {C = C} AreIdle (put_in cells)
-  puts-rest cells to m s idle =
-      let all = puts-good AllOn cells (λ side. among-idle cells) to m s (idle.master, idle.slave) in
-      record { master = all.0; slave = all.1 }
-
-  pub head-idle : (side : Side) (here : Spot) (m : Message C) (s : State C) → AreIdle s → AreIdle (put_at_head side here m s).state
-  head-idle side here m s idle =
-      let all = head-good AllOn side here m s (idle.master, idle.slave) in
-      record { master = all.0; slave = all.1 }
+  puts-rest cells = puts-good AllOn cells (λ side. among-idle cells)
 
   pub delivered-idle : (cells : Cells C) (to : Spot) (m : Message C) (s : State C) → AreIdle s → AreIdle (delivered cells to m s).state
   delivered-idle cells to m s idle = carried-holds AreIdle (put_in cells) (puts-rest cells) HOPS (record { to = to; message = m }) s idle

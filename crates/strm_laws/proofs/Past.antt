@@ -18,6 +18,8 @@ use Rattle.strm_laws.proofs.EmptiedForgets.{stream-forgets}
 use Rattle.strm_laws.proofs.Forgetting.{full-forgets}
 use Rattle.strm_laws.proofs.ModulesIdle.{AllIdle}
 use Rattle.strm_laws.proofs.QueueChanges.{changes-idle, changes-keep}
+use Rattle.strm_laws.proofs.StreamWeights.{same-weighs}
+use Rattle.strm_types.proofs.BySide.{set-all}
 
 module _ {C D : Type 0} (f : C → D) where
   abbrev images : List (Module C) → List (Module D)
@@ -93,8 +95,10 @@ module _ {C : Type 0} where
   idle-on way band (Some place) t idle = changes-idle (with_waiting band) way (place - 1) t.modules idle
 
   pub waits-idle : (side : Side) (way : Way) (at band : ℕ) (s : State C) → AreIdle s → AreIdle (writer_waits side way at band s)
-  waits-idle Master way at band s idle = record { master = idle-on way band (place_past module_queue way at s.master.modules) s.master idle.master; slave = idle.slave }
-  waits-idle Slave way at band s idle = record { master = idle.master; slave = idle-on way band (place_past module_queue way at s.slave.modules) s.slave idle.slave }
+  waits-idle side way at band s idle =
+      let t = stream side s in
+      let past = place_past module_queue way at t.modules in
+      set-all (λ of u. AllIdle u.modules) side (waits_on way band past t) s.ends (idle-on way band past t (idle side)) idle
 
   module _ (p : Dir → C → Bool) where
     weight-on : (side : Side) (way : Way) (band : ℕ) (o : Option ℕ) (t : Stream C) → stream_weight p side (waits_on way band o t) ≡ stream_weight p side t
@@ -103,5 +107,7 @@ module _ {C : Type 0} where
     weight-on side way band (Some place) t = let same = changes-keep (with_waiting band) p side (λ q. refl) way (place - 1) t.modules in omega arith
 
     pub waits-keeps : (side : Side) (way : Way) (at band : ℕ) (s : State C) → state_weight p (writer_waits side way at band s) ≡ state_weight p s
-    waits-keeps Master way at band s = let same = weight-on Master way band (place_past module_queue way at s.master.modules) s.master in omega arith
-    waits-keeps Slave way at band s = let same = weight-on Slave way band (place_past module_queue way at s.slave.modules) s.slave in omega arith
+    waits-keeps side way at band s =
+        let t = stream side s in
+        let past = place_past module_queue way at t.modules in
+        same-weighs p side (waits_on way band past t) s (weight-on side way band past t)

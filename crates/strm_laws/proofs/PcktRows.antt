@@ -14,7 +14,7 @@ use Rattle.strm_types.specs.Message.{Message, band_of, cells_of, is_high_priorit
 use Rattle.strm_types.specs.Pckts.{Pckt, is_packed, pckt_puts}
 use Rattle.strm_laws.specs.Puts.{booked, put_in}
 use Rattle.strm_laws.specs.Stacked.{OfPckt}
-use Rattle.strm_laws.specs.State.{State, new_stream, opening}
+use Rattle.strm_laws.specs.State.{State, new_stream, opening, with_book, with_stream}
 use Rattle.strm_laws.proofs.Samples.{header, ordinary, proto, urgent, without_parts}
 
 pub kinds-that-are-packed :
@@ -183,11 +183,7 @@ stop-is-one-byte = refl
 -- In a pair what is made is numbered from what was made before in the direction of what goes up, and booked there.
 
 abbrev below_pckt : ℕ → State Tagged
-below_pckt made = record opening {
-  slave = record new_stream { modules = OfPckt (record {}) ∷ [] };
-  from_master = record { written = 3; made = made };
-  from_slave = record { written = 5; made = 60 };
-}
+below_pckt made = with_book SlaveToMaster (record { written = 5; made = 60 }) (with_book MasterToSlave (record { written = 3; made = made }) (with_stream Slave (record new_stream { modules = OfPckt (record {}) ∷ [] }) opening))
 
 abbrev made_before : ℕ → ℕ → Tagged
 made_before n b = record { byte = b; origin = Made MasterToSlave n }
@@ -206,5 +202,5 @@ packet-is-booked = refl
 
 -- and what is told behind it goes on from there, in its own direction
 pub each-direction-is-booked : booked (Comes SlaveToMaster (wrote 0 1 ∷ wrote 1 2 ∷ []) ∷ Comes MasterToSlave (made_before 40 7 ∷ []) ∷ Comes SlaveToMaster (wrote 2 3 ∷ []) ∷ []) (below_pckt 40)
-    ≡ record (below_pckt 41) { from_slave = record { written = 5; made = 63 } }
+    ≡ (with_book SlaveToMaster (record { written = 5; made = 63 }) (below_pckt 41))
 each-direction-is-booked = refl

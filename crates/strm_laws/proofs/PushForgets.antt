@@ -255,8 +255,8 @@ module _ {C D : Type 0} (f : C → D) where
   slot-forgets ms (Answered number command acked error body) = refl
 
   dropped-forgets : (side : Side) (ms : List (Message C)) (s : State C) → ioctl_dropped side (map_messages f ms) (map_state f s) ≡ map_state f (ioctl_dropped side ms s)
-  dropped-forgets Master ms s = ap (λ (slot : PlainSlot). with_ioctl Master slot (map_state f s)) (slot-forgets ms s.master.head.ioctl)
-  dropped-forgets Slave ms s = ap (λ (slot : PlainSlot). with_ioctl Slave slot (map_state f s)) (slot-forgets ms s.slave.head.ioctl)
+  dropped-forgets Master ms s = ap (λ (slot : PlainSlot). with_ioctl Master slot (map_state f s)) (slot-forgets ms s.ends.master.head.ioctl)
+  dropped-forgets Slave ms s = ap (λ (slot : PlainSlot). with_ioctl Slave slot (map_state f s)) (slot-forgets ms s.ends.slave.head.ioctl)
 
   pub pop-forgets : (side : Side) (s : State C) → popped side (map_state f s) ≡ image (popped side s)
   pop-forgets side s =

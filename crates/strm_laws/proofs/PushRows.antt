@@ -26,7 +26,7 @@ use Rattle.strm_types.specs.Queue.{Flow}
 use Rattle.strm_laws.specs.Refusals.{none_waits_up, at_end}
 use Rattle.strm_laws.specs.Past.{has_room_past, writer_waits}
 use Rattle.strm_laws.specs.Stacked.{Module, OfLdterm, OfPtem, OfPckt, module_line, module_name}
-use Rattle.strm_laws.specs.State.{State, Stream}
+use Rattle.strm_laws.specs.State.{State, Stream, with_stream}
 use Rattle.strm_laws.proofs.Samples.{flow, head_with, ordinary, proto, queue, header, without_parts}
 use Rattle.strm_types.specs.Slots.{PlainSlot}
 use Rattle.strm_types.specs.declared.ioctls.TheConstants.{TCSETSW}
@@ -52,13 +52,11 @@ end above ps below = record { opened = Open; head = head_with (queue above []) f
 -- a pair of which the slave's stream has these modules, and these messages wait on the master's driver
 abbrev pair : List (Message ℕ) → List (Module ℕ) → List QueueName → State ℕ
 pair waits ps enabled = record {
-  master = end [] [] waits;
-  slave = end (one 1) ps (one 2);
+  ends = record { master = end [] [] waits; slave = end (one 1) ps (one 2) };
   locked = false;
   enabled = enabled;
   next_ioctl = 1;
-  from_master = new_book;
-  from_slave = new_book;
+  books = record { master = new_book; slave = new_book };
 }
 
 abbrev reads : QueueName
@@ -68,11 +66,11 @@ abbrev writes : QueueName
 writes = record { side = Slave; place = Ldterm; way = Down }
 
 -- the module that is pushed stands on top, and the head reads messages from now on
-pub push-stands-on-top : map module_line (pushed Slave (OfLdterm new_ldterm) (pair [] (holding [] [] [] (9 ∷ []) ∷ []) [])).state.slave.modules ≡ [] ∷ (9 ∷ []) ∷ []
+pub push-stands-on-top : map module_line (pushed Slave (OfLdterm new_ldterm) (pair [] (holding [] [] [] (9 ∷ []) ∷ []) [])).state.ends.slave.modules ≡ [] ∷ (9 ∷ []) ∷ []
 unfolding carried cells_of size_of
 push-stands-on-top = refl
 
-pub push-sets-the-mode : (pushed Slave (OfLdterm new_ldterm) (pair [] [] [])).state.slave.head.read_mode ≡ MessageKeep
+pub push-sets-the-mode : (pushed Slave (OfLdterm new_ldterm) (pair [] [] [])).state.ends.slave.head.read_mode ≡ MessageKeep
 unfolding carried cells_of size_of
 push-sets-the-mode = refl
 
@@ -94,7 +92,7 @@ pub push-above-a-module : (pushed Slave (OfLdterm new_ldterm) (pair (one 7) (hol
 unfolding carried cells_of size_of
 push-above-a-module = refl
 
-pub push-by-name : map (λ name. map module_line (pushed_named Slave (named_by name) (pair [] [] [])).state.slave.modules)
+pub push-by-name : map (λ name. map module_line (pushed_named Slave (named_by name) (pair [] [] [])).state.ends.slave.modules)
     (None ∷ Some names.Ldterm ∷ Some names.Ptem ∷ Some names.Pckt ∷ []) ≡ [] ∷ ([] ∷ []) ∷ ([] ∷ []) ∷ ([] ∷ []) ∷ []
 unfolding carried cells_of size_of
 push-by-name = refl
@@ -111,10 +109,10 @@ others-may-stand = refl
 abbrev with_ptem : Carried ℕ (State ℕ)
 with_ptem = pushed_named Slave (named_by (Some names.Ptem)) (pair (one 7) (holding (one 3) [] (one 4) (5 ∷ []) ∷ []) [])
 
-pub ptem-stands-on-top : map module_name with_ptem.state.slave.modules ≡ names.Ptem ∷ names.Ldterm ∷ []
+pub ptem-stands-on-top : map module_name with_ptem.state.ends.slave.modules ≡ names.Ptem ∷ names.Ldterm ∷ []
 ptem-stands-on-top = refl
 
-pub ptem-changes-no-more : record with_ptem.state { slave = record with_ptem.state.slave { modules = [] } } ≡ pair (one 7) [] []
+pub ptem-changes-no-more : (with_stream Slave (record with_ptem.state.ends.slave { modules = [] }) with_ptem.state) ≡ pair (one 7) [] []
 ptem-changes-no-more = refl
 
 pub ptem-is-popped : popped Slave with_ptem.state ≡ record { state = pair (one 7) (holding (one 3) [] (one 4) (5 ∷ []) ∷ []) []; gone = [] }
@@ -128,7 +126,7 @@ modes-by-number = refl
 abbrev taken_off : Carried ℕ (State ℕ)
 taken_off = popped Slave (pair [] (holding (one 3) [] (one 4) (5 ∷ 6 ∷ []) ∷ holding [] [] [] (9 ∷ []) ∷ []) (writes ∷ driver_of Master ∷ reads ∷ []))
 
-pub pop-takes-the-top : map module_line taken_off.state.slave.modules ≡ (9 ∷ []) ∷ []
+pub pop-takes-the-top : map module_line taken_off.state.ends.slave.modules ≡ (9 ∷ []) ∷ []
 unfolding carried cells_of size_of
 pop-takes-the-top = refl
 
@@ -142,7 +140,7 @@ pub popped-queues-have-no-turn : taken_off.state.enabled ≡ driver_of Master �
 unfolding carried cells_of size_of
 popped-queues-have-no-turn = refl
 
-pub pop-sets-the-mode : (popped Slave (record (pair [] (OfLdterm new_ldterm ∷ []) []) { slave = record (end [] (OfLdterm new_ldterm ∷ []) []) { head = record (head_with (queue [] []) false) { read_mode = MessageKeep } } })).state.slave.head.read_mode ≡ ByteStream
+pub pop-sets-the-mode : (popped Slave (with_stream Slave (record (end [] (OfLdterm new_ldterm ∷ []) []) { head = record (head_with (queue [] []) false) { read_mode = MessageKeep } }) (pair [] (OfLdterm new_ldterm ∷ []) []))).state.ends.slave.head.read_mode ≡ ByteStream
 unfolding carried cells_of size_of
 pop-sets-the-mode = refl
 
@@ -163,10 +161,10 @@ asked number = without_parts Ioctl (header TCSETSW number 0)
 abbrev waiting : PlainSlot → List (Message ℕ) → State ℕ
 waiting slot ms =
     let s = pair [] (holding [] [] ms [] ∷ []) [] in
-    record s { slave = record s.slave { head = record s.slave.head { ioctl = slot } } }
+    (with_stream Slave (record s.ends.slave { head = record s.ends.slave.head { ioctl = slot } }) s)
 
 abbrev slot_of : Carried ℕ (State ℕ) → PlainSlot
-slot_of t = t.state.slave.head.ioctl
+slot_of t = t.state.ends.slave.head.ioctl
 
 pub ioctl-goes-with-its-message : map (λ ms. slot_of (popped Slave (waiting (Waiting 7 TCSETSW) ms))) ((asked 7 ∷ []) ∷ (ordinary (1 ∷ []) ∷ asked 7 ∷ []) ∷ (asked 0 ∷ asked 7 ∷ asked 8 ∷ []) ∷ [])
     ≡ replicate 3 (Answered 7 TCSETSW false 1 [])
@@ -183,7 +181,7 @@ unfolding carried cells_of size_of
 other-slots-stay = refl
 
 -- what stands on the read queue, on a module below or on the other side is another matter
-pub only-below-the-top : map (λ ps. slot_of (popped Slave (let s = waiting (Waiting 7 TCSETSW) [] in record s { slave = record s.slave { modules = ps } }))) ((holding (asked 7 ∷ []) [] [] [] ∷ []) ∷ (OfPtem new_ptem ∷ holding [] [] (asked 7 ∷ []) [] ∷ []) ∷ [] ∷ []) ≡ Waiting 7 TCSETSW ∷ Waiting 7 TCSETSW ∷ Waiting 7 TCSETSW ∷ []
+pub only-below-the-top : map (λ ps. slot_of (popped Slave (let s = waiting (Waiting 7 TCSETSW) [] in (with_stream Slave (record s.ends.slave { modules = ps }) s)))) ((holding (asked 7 ∷ []) [] [] [] ∷ []) ∷ (OfPtem new_ptem ∷ holding [] [] (asked 7 ∷ []) [] ∷ []) ∷ [] ∷ []) ≡ Waiting 7 TCSETSW ∷ Waiting 7 TCSETSW ∷ Waiting 7 TCSETSW ∷ []
 unfolding carried cells_of size_of
 only-below-the-top = refl
 
@@ -205,10 +203,10 @@ pub close-takes-modules : shut.gone
 unfolding cells_of size_of
 close-takes-modules = refl
 
-pub close-leaves-none : shut.state.slave.modules ≡ []
+pub close-leaves-none : shut.state.ends.slave.modules ≡ []
 close-leaves-none = refl
 
-pub close-ends-the-stream : shut.state.slave.opened ≡ Closed
+pub close-ends-the-stream : shut.state.ends.slave.opened ≡ Closed
 close-ends-the-stream = refl
 
 pub closed-queues-have-no-turn : shut.state.enabled ≡ driver_of Slave ∷ []
@@ -218,23 +216,21 @@ closed-queues-have-no-turn = refl
 -- The next queue past the master's driver is the module's read queue; below the slave's head, its write queue. One of another way
 -- isn't asked.
 abbrev crowded : State ℕ
-crowded = record (pair [] [] []) {
-  slave = record {
-    opened = Open;
-    head = head_with (queue (one 1) (flow 2 1 false ∷ [])) false;
-    modules = OfLdterm (record new_ldterm { read_queue = queue (one 3) (flow 1 0 false ∷ []); write_queue = queue [] (flow 1 0 false ∷ []) }) ∷ [];
-    driver = record { queue = queue (one 2) (flow 2 1 false ∷ []) };
-  };
-}
+crowded = with_stream Slave (record {
+  opened = Open;
+  head = head_with (queue (one 1) (flow 2 1 false ∷ [])) false;
+  modules = OfLdterm (record new_ldterm { read_queue = queue (one 3) (flow 1 0 false ∷ []); write_queue = queue [] (flow 1 0 false ∷ []) }) ∷ [];
+  driver = record { queue = queue (one 2) (flow 2 1 false ∷ []) };
+}) (pair [] [] [])
 
 pub modules-queue-is-asked : map (λ way. map (λ at. has_room_past Slave way at 0 crowded) (0 ∷ 1 ∷ 2 ∷ [])) (Up ∷ Down ∷ []) ≡ (true ∷ true ∷ false ∷ []) ∷ (true ∷ true ∷ true ∷ []) ∷ []
 unfolding cells_of size_of band_of is_high_priority
 modules-queue-is-asked = refl
 
-pub writer-waits-at-the-module : map flows_of (writer_waits Slave Up 2 0 crowded).slave.modules ≡ (flow 1 0 true ∷ []) ∷ []
+pub writer-waits-at-the-module : map flows_of (writer_waits Slave Up 2 0 crowded).ends.slave.modules ≡ (flow 1 0 true ∷ []) ∷ []
 writer-waits-at-the-module = refl
 
-pub writer-waits-at-the-end : (writer_waits Slave Up 1 0 (record crowded { slave = record crowded.slave { head = head_with (queue [] (flow 5 1 false ∷ [])) false } })).slave.head.queue.flows ≡ flow 5 1 true ∷ []
+pub writer-waits-at-the-end : (writer_waits Slave Up 1 0 (with_stream Slave (record crowded.ends.slave { head = head_with (queue [] (flow 5 1 false ∷ [])) false }) crowded)).ends.slave.head.queue.flows ≡ flow 5 1 true ∷ []
 writer-waits-at-the-end = refl
 
 -- data that waits to go up at a module holds off the end of input; an unfinished line, and what waits to go down, don't
@@ -243,7 +239,7 @@ unfolding is_held
 what-waits-up = refl
 
 abbrev ending : List (Module ℕ) → State ℕ
-ending ps = record (pair [] [] []) { master = end [] ps []; slave = record (end [] [] []) { opened = Closed } }
+ending ps = with_stream Slave (record (end [] [] []) { opened = Closed }) (with_stream Master (end [] ps []) (pair [] [] []))
 
 pub data-at-a-module-holds-off-the-end : map (λ ps. at_end Master (ending ps)) ([] ∷ (holding (one 3) [] [] [] ∷ []) ∷ (holding [] [] (one 4) (5 ∷ []) ∷ []) ∷ []) ≡ true ∷ false ∷ true ∷ []
 unfolding is_held

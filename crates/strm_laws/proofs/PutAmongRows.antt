@@ -48,13 +48,11 @@ end head modules driver = record { opened = Open; head = head_with (queue head [
 
 abbrev pub pair : Stream ℕ → Stream ℕ → List QueueName → State ℕ
 pair master slave enabled = record {
-  master = master;
-  slave = slave;
+  ends = record { master = master; slave = slave };
   locked = false;
   enabled = enabled;
   next_ioctl = 1;
-  from_master = new_book;
-  from_slave = new_book;
+  books = record { master = new_book; slave = new_book };
 }
 
 -- the slave's stream has these modules, and the master's none

@@ -33,11 +33,11 @@ module _ {C : Type 0} where
   abbrev taken : Side → Bool → Message C → State C → Acted C (Queue C)
   taken side ended m s = taken_in side (record (across_of side s) { ended = ended }) m (stream side s).driver.queue
 
-  is-taken : (side : Side) (m : Message C) (s : State C) → has_parts m ≡ true → driver_put side (across_of side s) (record (below side) { at = driver_place side s }) m (stream side s).driver.queue ≡ taken side (is_closed s.master.opened) m s
+  is-taken : (side : Side) (m : Message C) (s : State C) → has_parts m ≡ true → driver_put side (across_of side s) (record (below side) { at = driver_place side s }) m (stream side s).driver.queue ≡ taken side (is_closed s.ends.master.opened) m s
   is-taken side m s parts =
-      ap (λ (b : Bool). cond b (taken side (is_closed s.master.opened) m s) (put_down side (across_of side s) (record (below side) { at = driver_place side s }) m.kind m (stream side s).driver.queue)) parts
+      ap (λ (b : Bool). cond b (taken side (is_closed s.ends.master.opened) m s) (put_down side (across_of side s) (record (below side) { at = driver_place side s }) m.kind m (stream side s).driver.queue)) parts
 
-  pub put-delivered : (cells : Cells C) (side : Side) (m : Message C) (s : State C) → has_parts m ≡ true → is_closed s.master.opened ≡ false → NoModules s → delivered cells (below side) m s ≡ put_effect side m s
+  pub put-delivered : (cells : Cells C) (side : Side) (m : Message C) (s : State C) → has_parts m ≡ true → is_closed s.ends.master.opened ≡ false → NoModules s → delivered cells (below side) m s ≡ put_effect side m s
   put-delivered cells side m s parts stays none =
       carries cells 15 (record { to = below side; message = m }) s
       ∙ ap (λ (count : ℕ). went_on cells 15 (cond (nat_le 1 count) (put_at_module cells (below side) m s) (put_at_driver side (below side) m s))) (none-on side s none)

@@ -23,7 +23,7 @@ use Rattle.strm_laws.specs.Places.{weight_gone, weight_made}
 use Rattle.strm_types.specs.PutMsg.{no_parts, put_message}
 use Rattle.strm_laws.specs.Puts.{delivered}
 use Rattle.strm_laws.specs.State.{State, book, with_book, map_state}
-use Rattle.strm_laws.proofs.Deliveries.{delivered-keeps, delivered-unread}
+use Rattle.strm_laws.proofs.Deliveries.{delivered-keeps}
 use Rattle.strm_types.proofs.PlainCells.{written-plain, written-bytes}
 use Rattle.strm_laws.proofs.PutsForget.{delivered-forgets}
 use Rattle.strm_types.proofs.Weights.{weight-whole}
@@ -38,10 +38,6 @@ module _ {C : Type 0} where
   booked dir n t = record { state = with_book dir (with_written n (book dir t.state)) t.state; gone = t.gone }
 
   module _ (p : Dir → C → Bool) where
-    book-weight : (dir : Dir) (b : Book) (s : State C) → state_weight p (with_book dir b s) ≡ state_weight p s
-    book-weight MasterToSlave b s = refl
-    book-weight SlaveToMaster b s = refl
-
     nothing-put : (cells : Cells C) (side : Side) (prio : Prio) (s : State C) → count_by (p (direction_from side)) (cells_of (message_put cells side prio None None s)) ≡ 0
     unfolding cells_of
     nothing-put cells side prio s = refl
@@ -52,26 +48,13 @@ module _ {C : Type 0} where
       sent-keeps side n m s =
           let dir = direction_from side in
           let led = (delivered cells (below side) m s).state in
-          omega (arith, book-weight dir (with_written n (book dir led)) led, delivered-keeps cells p (below side) m s (omega arith), weight-whole (p dir) m)
+          omega (arith, delivered-keeps cells p (below side) m s (omega arith), weight-whole (p dir) m)
 
       pub put_at-keeps : (side : Side) (prio : Prio) (control body : Option (List ℕ)) (s : State C) → let t = put_at cells side prio control body s in
           state_weight p t.state + weight_gone p t.gone ≡ state_weight p s + (count_by (p (direction_from side)) (cells_of (message_put cells side prio control body s)) + weight_made p t.gone)
       put_at-keeps side prio None None s = omega (arith, nothing-put cells side prio s)
       put_at-keeps side prio None (Some xs) s = sent-keeps side (0 + length xs) (message_put cells side prio None (Some xs) s) s
       put_at-keeps side prio (Some xs) body s = sent-keeps side (length xs + length (part body)) (message_put cells side prio (Some xs) body s) s
-
-  booked-unread : (dir : Dir) (b : Book) (s : State C) → NothingUnread s → NothingUnread (with_book dir b s)
-  booked-unread MasterToSlave b s unread = record { master = unread.master; slave = unread.slave }
-  booked-unread SlaveToMaster b s unread = record { master = unread.master; slave = unread.slave }
-
-  pub put_at-unread : (cells : Cells C) (side : Side) (prio : Prio) (control body : Option (List ℕ)) (s : State C) → NothingUnread s → NothingUnread (put_at cells side prio control body s).state
-  put_at-unread cells side prio None None s unread = unread
-  put_at-unread cells side prio None (Some xs) s unread =
-      let m = message_put cells side prio None (Some xs) s in
-      booked-unread (direction_from side) _ (delivered cells (below side) m s).state (delivered-unread cells (below side) m s unread)
-  put_at-unread cells side prio (Some xs) body s unread =
-      let m = message_put cells side prio (Some xs) body s in
-      booked-unread (direction_from side) _ (delivered cells (below side) m s).state (delivered-unread cells (below side) m s unread)
 
 put-forgets : {C D : Type 0} (f : C → D) (prio : Prio) (control body : Option (List C)) → put_message prio (option_map (map f) control) (option_map (map f) body) ≡ map_message f (put_message prio control body)
 unfolding map_message
@@ -121,5 +104,5 @@ module _ {C : Type 0} (cells : Cells C) (are : AreCells cells) where
       at false side dir b = sent-forgets side dir b
 
       over : (side : Side) → put_at plain side prio control body image ≡ map_carried cells.byte (map_state cells.byte) (put_at cells side prio control body s)
-      over Master = at (no_parts control body) Master MasterToSlave s.from_master
-      over Slave = at (no_parts control body) Slave SlaveToMaster s.from_slave
+      over Master = at (no_parts control body) Master MasterToSlave s.books.master
+      over Slave = at (no_parts control body) Slave SlaveToMaster s.books.slave

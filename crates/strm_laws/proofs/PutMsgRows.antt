@@ -87,13 +87,11 @@ end opened hung_up driver = record { opened = opened; head = head_with (queue []
 
 abbrev pair : Stream ℕ → Stream ℕ → Book → List QueueName → State ℕ
 pair master slave book enabled = record {
-  master = master;
-  slave = slave;
+  ends = record { master = master; slave = slave };
   locked = false;
   enabled = enabled;
   next_ioctl = 1;
-  from_master = book;
-  from_slave = new_book;
+  books = record { master = book; slave = new_book };
 }
 
 abbrev marks : List Flow
@@ -127,11 +125,11 @@ put-goes-to-the-driver = refl
 abbrev put_twice : State Tagged
 put_twice = (called tagged (caller Slave) (Put High (Some (97 ∷ [])) (Some (98 ∷ 99 ∷ []))) (called tagged (caller Slave) (Put (banded 0) None (Some (100 ∷ []))) opening).state).state
 
-pub control-is-written-before-data : map cells_of put_twice.slave.driver.queue.messages ≡ cells_written tagged SlaveToMaster 1 (97 ∷ 98 ∷ 99 ∷ []) ∷ cells_written tagged SlaveToMaster 0 (100 ∷ []) ∷ []
+pub control-is-written-before-data : map cells_of put_twice.ends.slave.driver.queue.messages ≡ cells_written tagged SlaveToMaster 1 (97 ∷ 98 ∷ 99 ∷ []) ∷ cells_written tagged SlaveToMaster 0 (100 ∷ []) ∷ []
 unfolding carried rank_of band_of cells_of is_high_priority
 control-is-written-before-data = refl
 
-pub puts-are-booked : put_twice.from_slave ∷ put_twice.from_master ∷ [] ≡ record { written = 4; made = 0 } ∷ new_book ∷ []
+pub puts-are-booked : put_twice.books.slave ∷ put_twice.books.master ∷ [] ≡ record { written = 4; made = 0 } ∷ new_book ∷ []
 unfolding carried rank_of band_of cells_of is_high_priority
 puts-are-booked = refl
 
@@ -140,7 +138,7 @@ pub put-of-nothing : called plain (caller Master) (Put (banded 0) None None) ful
 put-of-nothing = refl
 
 -- two empty parts: a zero-length message
-pub put-of-empty-parts : (called plain (caller Slave) (Put (banded 0) (Some []) (Some [])) full).state.slave.driver.queue.messages ≡ message Proto 0 (Some []) (Some []) ∷ []
+pub put-of-empty-parts : (called plain (caller Slave) (Put (banded 0) (Some []) (Some [])) full).state.ends.slave.driver.queue.messages ≡ message Proto 0 (Some []) (Some []) ∷ []
 unfolding carried rank_of band_of is_high_priority
 put-of-empty-parts = refl
 

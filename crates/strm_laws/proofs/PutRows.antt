@@ -133,13 +133,11 @@ others-are-freed = refl
 
 abbrev pair : Stream ℕ → Stream ℕ → List QueueName → State ℕ
 pair master slave enabled = record {
-  master = master;
-  slave = slave;
+  ends = record { master = master; slave = slave };
   locked = false;
   enabled = enabled;
   next_ioctl = 1;
-  from_master = new_book;
-  from_slave = new_book;
+  books = record { master = new_book; slave = new_book };
 }
 
 abbrev end : Openness → List (Message ℕ) → List (Message ℕ) → Stream ℕ

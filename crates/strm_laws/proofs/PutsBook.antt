@@ -17,7 +17,7 @@ use Rattle.strm_laws.specs.Earlier.{driver_place, modules_on}
 use Rattle.strm_types.specs.Kinds.{kind_number}
 use Rattle.strm_types.specs.Message.{Message}
 use Rattle.strm_types.specs.Modules.{put_among}
-use Rattle.strm_types.specs.Names.{direction_at, is_open, other}
+use Rattle.strm_types.specs.Names.{direction_at, is_open, other, side_from}
 use Rattle.strm_types.specs.Pckts.{plain_packed}
 use Rattle.strm_laws.specs.Places.{weight_made}
 use Rattle.strm_laws.specs.Puts.{across_of, booked, delivered, made_above, module_acted, passed_up, put_at_driver, put_at_head, put_at_module, put_behind, put_below, put_in}
@@ -30,38 +30,24 @@ use Rattle.strm_laws.proofs.ModulePuts.{ldterm-none}
 use Rattle.strm_types.proofs.PcktPuts.{puts-each}
 use Rattle.strm_laws.proofs.PtemPuts.{puts-gone}
 use Rattle.strm_laws.proofs.TurnOrder.{TurnOrder, all_made, order-next, order-none}
+use Rattle.strm_types.specs.declared.both.Both.{Both}
+use Rattle.strm_types.specs.declared.books.Book.{Book}
+use Rattle.strm_types.specs.Both.{get}
 
 module _ {C : Type 0} where
   -- the books of both directions stay
-  pub record SameBooks (s t : State C) : Type 0 where
-    pub from_master : t.from_master ≡ s.from_master
-    pub from_slave : t.from_slave ≡ s.from_slave
-
-  pub none-changed : (s : State C) → SameBooks s s
-  none-changed s = record { from_master = refl; from_slave = refl }
+  abbrev pub SameBooks : State C → State C → Type 0
+  SameBooks s t = t.books ≡ s.books
 
   pub books-are : (s t : State C) → SameBooks s t → (dir : Dir) → book dir t ≡ book dir s
-  books-are s t same MasterToSlave = same.from_master
-  books-are s t same SlaveToMaster = same.from_slave
-
-  pub books-on : (s t u : State C) → SameBooks s t → SameBooks t u → SameBooks s u
-  books-on s t u first second = record { from_master = second.from_master ∙ first.from_master; from_slave = second.from_slave ∙ first.from_slave }
-
-  pub stream-books : (side : Side) (t : Stream C) (s : State C) → SameBooks s (with_stream side t s)
-  stream-books Master t s = record { from_master = refl; from_slave = refl }
-  stream-books Slave t s = record { from_master = refl; from_slave = refl }
+  books-are s t same dir = ap (λ (b : Both Book). get (side_from dir) b) same
 
   either-same : (s : State C) (b : Bool) (one another : Took C (State C)) → SameBooks s one.state → SameBooks s another.state → SameBooks s (cond b one another).state
   either-same s true one another first second = first
   either-same s false one another first second = second
 
   pub head-same : (side : Side) (here : Spot) (m : Message C) (s : State C) → SameBooks s (put_at_head side here m s).state
-  head-same Master here m s = either-same s (is_open s.master.opened) _ _ (record { from_master = refl; from_slave = refl }) (none-changed s)
-  head-same Slave here m s = either-same s (is_open s.slave.opened) _ _ (record { from_master = refl; from_slave = refl }) (none-changed s)
-
-  pub driver-same : (side : Side) (here : Spot) (m : Message C) (s : State C) → SameBooks s (put_at_driver side here m s).state
-  driver-same Master here m s = record { from_master = refl; from_slave = refl }
-  driver-same Slave here m s = record { from_master = refl; from_slave = refl }
+  head-same side here m s = either-same s (is_open (stream side s).opened) _ _ refl refl
 
   either-none : (p : Dir → C → Bool) (b : Bool) (one another : Took C (State C)) → weight_made p one.gone ≡ 0 → weight_made p another.gone ≡ 0 → weight_made p (cond b one another).gone ≡ 0
   either-none p true one another first second = first
@@ -71,21 +57,28 @@ module _ {C : Type 0} where
   head-none p side here m s = either-none p (is_open (stream side s).opened) _ _ (head_put-none p here m (stream side s).head) refl
 
   -- what is told as made is what the book has more then
+  order-behind : (dir d : Dir) (xs : List C) (told : List (Fate C)) (cells : Cells C) (s : State C) (m : ℕ) → InOrder cells dir (book dir s).made (Comes d xs ∷ told) m
+      → InOrder cells dir (book dir (with_book d (with_made (length xs) (book d s)) s)).made told m
+  order-behind MasterToSlave MasterToSlave xs told cells s m is = is.1
+  order-behind MasterToSlave SlaveToMaster xs told cells s m is = is
+  order-behind SlaveToMaster MasterToSlave xs told cells s m is = is
+  order-behind SlaveToMaster SlaveToMaster xs told cells s m is = is.1
+
   booked-made : (dir : Dir) (told : List (Fate C)) (cells : Cells C) (s : State C) (m : ℕ) → InOrder cells dir (book dir s).made told m → m ≡ (book dir (booked told s)).made
   booked-made dir [] cells s m is = sym is
   booked-made dir (Goes other rule xs ∷ told) cells s m is = booked-made dir told cells s m is
-  booked-made MasterToSlave (Comes MasterToSlave xs ∷ told) cells s m is = booked-made MasterToSlave told cells (with_book MasterToSlave (with_made (length xs) s.from_master) s) m is.1
-  booked-made MasterToSlave (Comes SlaveToMaster xs ∷ told) cells s m is = booked-made MasterToSlave told cells (with_book SlaveToMaster (with_made (length xs) s.from_slave) s) m is
-  booked-made SlaveToMaster (Comes MasterToSlave xs ∷ told) cells s m is = booked-made SlaveToMaster told cells (with_book MasterToSlave (with_made (length xs) s.from_master) s) m is
-  booked-made SlaveToMaster (Comes SlaveToMaster xs ∷ told) cells s m is = booked-made SlaveToMaster told cells (with_book SlaveToMaster (with_made (length xs) s.from_slave) s) m is.1
+  booked-made dir (Comes d xs ∷ told) cells s m is = booked-made dir told cells (with_book d (with_made (length xs) (book d s)) s) m (order-behind dir d xs told cells s m is)
+
+  pub more-written : (dir d : Dir) (n : ℕ) (s : State C) → (book dir (with_book d (with_made n (book d s)) s)).written ≡ (book dir s).written
+  more-written MasterToSlave MasterToSlave n s = refl
+  more-written MasterToSlave SlaveToMaster n s = refl
+  more-written SlaveToMaster MasterToSlave n s = refl
+  more-written SlaveToMaster SlaveToMaster n s = refl
 
   booked-written : (dir : Dir) (told : List (Fate C)) (s : State C) → (book dir (booked told s)).written ≡ (book dir s).written
   booked-written dir [] s = refl
   booked-written dir (Goes other rule xs ∷ told) s = booked-written dir told s
-  booked-written MasterToSlave (Comes MasterToSlave xs ∷ told) s = booked-written MasterToSlave told (with_book MasterToSlave (with_made (length xs) s.from_master) s)
-  booked-written MasterToSlave (Comes SlaveToMaster xs ∷ told) s = booked-written MasterToSlave told (with_book SlaveToMaster (with_made (length xs) s.from_slave) s)
-  booked-written SlaveToMaster (Comes MasterToSlave xs ∷ told) s = booked-written SlaveToMaster told (with_book MasterToSlave (with_made (length xs) s.from_master) s)
-  booked-written SlaveToMaster (Comes SlaveToMaster xs ∷ told) s = booked-written SlaveToMaster told (with_book SlaveToMaster (with_made (length xs) s.from_slave) s)
+  booked-written dir (Comes d xs ∷ told) s = booked-written dir told (with_book d (with_made (length xs) (book d s)) s) ∙ more-written dir d (length xs) s
 
 module _ {C : Type 0} (cells : Cells C) where
   abbrev Books : State C → List (Fate C) → State C → Type 0
@@ -119,22 +112,14 @@ module _ {C : Type 0} (cells : Cells C) where
 
       at : (side : Side) (dir : Dir) → TurnOrder cells side (book (direction_at Down side) s).made told → InOrder cells dir (book dir s).made told (book dir (booked told s)).made
       at Master MasterToSlave order = goes MasterToSlave _ order.down
-      at Master SlaveToMaster order = goes SlaveToMaster _ (order.up s.from_slave.made)
-      at Slave MasterToSlave order = goes MasterToSlave _ (order.up s.from_master.made)
+      at Master SlaveToMaster order = goes SlaveToMaster _ (order.up s.books.slave.made)
+      at Slave MasterToSlave order = goes MasterToSlave _ (order.up s.books.master.made)
       at Slave SlaveToMaster order = goes SlaveToMaster _ order.down
 
   pub acted-books : (side : Side) (here : Spot) (t : Acted C (List (Module C))) (s : State C) → TurnOrder cells side (book (direction_at Down side) s).made t.gone → Books s t.gone (module_acted here t s).state
-  acted-books side here t s order = behind (with_stream here.side (record (stream here.side s) { modules = t.state }) s) _ (stream-books here.side (record (stream here.side s) { modules = t.state }) s)
-    where
-      behind : (stands : State C) (names : List QueueName) → SameBooks s stands → Books s t.gone (booked t.gone (record stands { enabled = names }))
-      behind stands names same =
-          let u : State C = record stands { enabled = names } in
-          let on : SameBooks s u = record { from_master = same.from_master; from_slave = same.from_slave } in
-          let made : (book (direction_at Down side) s).made ≡ (book (direction_at Down side) u).made = sym (ap (λ b. b.made) (books-are s u on (direction_at Down side))) in
-          booked-before s u (booked t.gone u) t.gone on (record {
-            written = λ dir. booked-written dir t.gone u;
-            made = ordered-made side t.gone u (subst (λ n. TurnOrder cells side n t.gone) made order);
-          })
+  acted-books side here t s order =
+      let u : State C = (module_acted here (record t { gone = [] }) s).state in
+      record { written = λ dir. booked-written dir t.gone u; made = ordered-made side t.gone u order }
 
   -- A put at a module makes the next cells of the direction in which it sends up.
   module _ (here : Spot) (m : Message C) where
@@ -170,12 +155,12 @@ module _ {C : Type 0} (cells : Cells C) where
 
   driver-books : (side : Side) → PutBooks (put_at_driver side)
   driver-books side here m s =
-      none-booked s _ _ (driver-same side here m s) (driver_put-none (λ dir c. true) side (across_of side s) (record here { at = driver_place side s }) m (stream side s).driver.queue)
+      none-booked s _ _ refl (driver_put-none (λ dir c. true) side (across_of side s) (record here { at = driver_place side s }) m (stream side s).driver.queue)
 
   behind-books : (way : Way) → PutBooks (put_behind way)
   behind-books Down here m s = driver-books here.side here m s
   behind-books Up here m s =
-      either-books s (is_bare_flush m && here.at == suc MODULES) (put_at_driver here.side here m s) (passed_up here m s) (driver-books here.side here m s) (nothing-booked s s (none-changed s))
+      either-books s (is_bare_flush m && here.at == suc MODULES) (put_at_driver here.side here m s) (passed_up here m s) (driver-books here.side here m s) (nothing-booked s s refl)
 
   pub puts-book : PutBooks (put_in cells)
   puts-book here m s =

@@ -90,8 +90,8 @@ module _ {C D : Type 0} (f : C → D) where
           ∙ head_took-forgets side opened t (cells_of m) (noted side (Some places.Head) (earlier_at side 0 s) t.notes s.enabled) s
 
       over : (side : Side) → put_at_head side here (map_message f m) (map_state f s) ≡ image (put_at_head side here m s)
-      over Master = from Master (is_open s.master.opened) s.master.head
-      over Slave = from Slave (is_open s.slave.opened) s.slave.head
+      over Master = from Master (is_open s.ends.master.opened) s.ends.master.head
+      over Slave = from Slave (is_open s.ends.slave.opened) s.ends.slave.head
 
   -- the books
   booked-same : (told : List (Fate C)) (s : State C) → booked (map (map_fate f) told) (map_state f s) ≡ map_state f (booked told s)
@@ -135,7 +135,7 @@ module _ {C D : Type 0} (f : C → D) where
   driver-forgets side here m s = over side
     where
       puts : {E : Type 0} → Side → Bool → ℕ → ℕ → Message E → Queue E → Acted E (Queue E)
-      puts side opened bottom at m q = driver_put side (record { is_open = opened; bottom = bottom; ended = is_closed s.master.opened }) (record here { at = at }) m q
+      puts side opened bottom at m q = driver_put side (record { is_open = opened; bottom = bottom; ended = is_closed s.ends.master.opened }) (record here { at = at }) m q
 
       took : Side → ℕ → Acted D (Queue D) → Took D (State D)
       took side at t = driver_took side t (noted side (Some places.Driver) (earlier_at side at (map_state f s)) t.notes s.enabled) (map_state f s)
@@ -150,13 +150,13 @@ module _ {C D : Type 0} (f : C → D) where
           let t = puts side opened bottom at m q in
           ap (λ n. took side (suc n) (puts side opened (modules_on (other side) (map_state f s)) (suc n) (map_message f m) (map_queue f q))) (modules_on-forgets f side s)
           ∙ ap (λ n. took side at (puts side opened n at (map_message f m) (map_queue f q))) (modules_on-forgets f (other side) s)
-          ∙ ap (λ u. took side at u) (driver_put-forgets f side (record { is_open = opened; bottom = bottom; ended = is_closed s.master.opened }) (record here { at = at }) m q)
+          ∙ ap (λ u. took side at u) (driver_put-forgets f side (record { is_open = opened; bottom = bottom; ended = is_closed s.ends.master.opened }) (record here { at = at }) m q)
           ∙ ap (λ enabled. driver_took side (map_acted f (map_queue f) t) enabled (map_state f s)) (notes-forget side (Some places.Driver) at t.notes s.enabled s)
           ∙ driver_took-forgets side t (noted side (Some places.Driver) (earlier_at side at s) t.notes s.enabled) s
 
       over : (side : Side) → put_at_driver side here (map_message f m) (map_state f s) ≡ image (put_at_driver side here m s)
-      over Master = from Master (is_open s.slave.opened) s.master.driver.queue
-      over Slave = from Slave (is_open s.master.opened) s.slave.driver.queue
+      over Master = from Master (is_open s.ends.slave.opened) s.ends.master.driver.queue
+      over Slave = from Slave (is_open s.ends.master.opened) s.ends.slave.driver.queue
 
   behind-forgets : (way : Way) (here : Spot) (m : Message C) (s : State C) → put_behind way here (map_message f m) (map_state f s) ≡ image (put_behind way here m s)
   behind-forgets Down here m s = driver-forgets here.side here m s

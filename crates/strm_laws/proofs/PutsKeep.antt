@@ -1,5 +1,5 @@
 -- A put in a pair loses no cell, makes none that it doesn't tell, and leaves a side that isn't open nothing to be read.
-use Rattle.std.proofs.Common.{ℕ, zero, suc, ◌≡◌, ◌<◌, ◌≤◌, ◌+◌, ◌-◌, Bool, true, false, cond, List, [], ◌∷◌, length, refl, ap, arith}
+use Rattle.std.proofs.Common.{ℕ, zero, suc, ◌≡◌, ◌<◌, ◌≤◌, ◌+◌, ◌-◌, Bool, true, false, cond, List, [], ◌∷◌, length, refl, ap, ◌∙◌, arith}
 use Rattle.std.specs.Prelude.{◌==◌, ◌&&◌, not, min, nat_le}
 use Rattle.std.proofs.lemmas.Bool.Decides.{nat_tests}
 use Rattle.strm_types.specs.declared.limits.TheConstants.{MODULES}
@@ -22,12 +22,17 @@ use Rattle.strm_laws.specs.Places.{PutKeeps, direction_to, way_to, weight_sent, 
 use Rattle.strm_laws.specs.Puts.{SameButMade, across_of, booked, made_above, module_acted, put_at_driver, put_at_head, put_at_module, put_behind, put_below, put_in}
 use Rattle.strm_types.specs.Modules.{put_among}
 use Rattle.strm_laws.specs.Stacked.{Module, module_puts, modules_weight}
-use Rattle.strm_laws.specs.State.{State, stream, with_book, with_stream}
+use Rattle.strm_laws.specs.State.{State, stream, with_book, with_stream, book, Stream, with_driver_queue}
 use Rattle.strm_laws.proofs.ModulePuts.{among-keeps}
 use Rattle.strm_laws.proofs.LdtermKeeps.{way-up}
-use Rattle.strm_laws.proofs.PutParts.{BookHolds, Stays, either-holds, waiting}
+use Rattle.strm_laws.proofs.PutParts.{BookHolds, Stays, either-holds, waiting, NamesHold}
 use Rattle.strm_laws.proofs.PutWeights.{driver_put-keeps, head_put-keeps, no-parts}
 use Rattle.strm_types.proofs.Weights.{weight-whole}
+use Rattle.strm_laws.proofs.StreamWeights.{stream-weighs}
+use Rattle.strm_types.proofs.BySide.{set-all}
+use Rattle.strm_laws.proofs.PutsBook.{more-written}
+use Rattle.strm_types.specs.Heads.{head_put}
+use Rattle.strm_types.specs.Drivers.{driver_put}
 
 -- a place below the head, and one at which a module stands
 pub not-head : (at : ℕ) → (at == 0) ≡ false → 0 < at
@@ -57,29 +62,31 @@ module _ {C : Type 0} (p : Dir → C → Bool) where
   with_message way side m s = state_weight p s + weight_of (p (direction_at way side)) m
 
   pub head-keeps : (side : Side) (here : Spot) (m : Message C) (s : State C) → Keeps (put_at_head side (on side here) m s) (with_message Up side m s)
-  head-keeps Master here m s = either-keeps _ (is_open s.master.opened) _ _ (λ _. omega (arith, head_put-keeps p (on Master here) m s.master.head)) (λ _. omega (arith, weight-whole (p (direction_at Up Master)) m))
-  head-keeps Slave here m s = either-keeps _ (is_open s.slave.opened) _ _ (λ _. omega (arith, head_put-keeps p (on Slave here) m s.slave.head)) (λ _. omega (arith, weight-whole (p (direction_at Up Slave)) m))
+  head-keeps side here m s =
+      let t = stream side s in
+      either-keeps _ (is_open t.opened) _ _
+      (λ _. omega (arith, stream-weighs p side (record t { head = (head_put (on side here) m t.head).state }) s, head_put-keeps p (on side here) m t.head))
+      (λ _. omega (arith, weight-whole (p (direction_at Up side)) m))
 
   driver-keeps : (side : Side) (here : Spot) (m : Message C) (s : State C) → Keeps (put_at_driver side here m s) (with_message Down side m s)
-  driver-keeps Master here m s = omega (arith, driver_put-keeps p Master (across_of Master s) (record here { at = driver_place Master s }) m s.master.driver.queue)
-  driver-keeps Slave here m s = omega (arith, driver_put-keeps p Slave (across_of Slave s) (record here { at = driver_place Slave s }) m s.slave.driver.queue)
+  driver-keeps side here m s =
+      let t = stream side s in
+      let to : Spot = record here { at = driver_place side s } in
+      let put = driver_put side (across_of side s) to m t.driver.queue in
+      omega (arith, stream-weighs p side (with_driver_queue put.state t) s, driver_put-keeps p side (across_of side s) to m t.driver.queue)
 
   pub booked-keeps : (told : List (Fate C)) (s : State C) → state_weight p (booked told s) ≡ state_weight p s
   booked-keeps [] s = refl
   booked-keeps (Goes dir rule xs ∷ told) s = booked-keeps told s
-  booked-keeps (Comes MasterToSlave xs ∷ told) s = booked-keeps told (with_book MasterToSlave (with_made (length xs) s.from_master) s)
-  booked-keeps (Comes SlaveToMaster xs ∷ told) s = booked-keeps told (with_book SlaveToMaster (with_made (length xs) s.from_slave) s)
+  booked-keeps (Comes dir xs ∷ told) s = booked-keeps told (with_book dir (with_made (length xs) (book dir s)) s)
 
   -- modules that have acted
   acted-keeps : (here : Spot) (t : Acted C (List (Module C))) (s : State C) (n : ℕ)
       → modules_weight p here.side t.state + (weight_sent p t.sent + weight_gone p t.gone) ≡ modules_weight p here.side (stream here.side s).modules + n + weight_made p t.gone
       → Keeps (module_acted here t s) (state_weight p s + n)
-  acted-keeps here t s n kept = at here.side kept
-    where
-      at : (side : Side) → modules_weight p side t.state + (weight_sent p t.sent + weight_gone p t.gone) ≡ modules_weight p side (stream side s).modules + n + weight_made p t.gone
-          → Keeps (module_acted (on side here) t s) (state_weight p s + n)
-      at Master kept = omega (arith, kept, booked-keeps t.gone (record (with_stream Master (record s.master { modules = t.state }) s) { enabled = (module_acted (on Master here) (record t { gone = [] }) s).state.enabled }))
-      at Slave kept = omega (arith, kept, booked-keeps t.gone (record (with_stream Slave (record s.slave { modules = t.state }) s) { enabled = (module_acted (on Slave here) (record t { gone = [] }) s).state.enabled }))
+  acted-keeps here t s n kept =
+      let on = stream here.side s in
+      omega (arith, kept, stream-weighs p here.side (record on { modules = t.state }) s, booked-keeps t.gone (module_acted here (record t { gone = [] }) s).state)
 
   -- an M_FLUSH that was sent across has no cells, in whichever direction
   bare-weighs : (t : C → Bool) (b : Bool) (m : Message C) → (is_bare_flush m && b) ≡ true → weight_of t m ≡ 0
@@ -137,63 +144,33 @@ module _ {C : Type 0} (p : Dir → C → Bool) where
     pub puts-keep : PutKeeps p (state_weight p) (put_in cells)
     puts-keep to m s = let all = in-keeps to m s in omega arith
 
--- a side that isn't open has nothing for its readers
-module _ {C : Type 0} where
-  open-holds : (Holds : State C → Type 0) (b : Bool) (one another : Took C (State C)) → (b ≡ true → Holds one.state) → Holds another.state → Holds (cond b one another).state
-  open-holds Holds true one another first second = first refl
-  open-holds Holds false one another first second = second
-
-  pub head-unread : (side : Side) (here : Spot) (m : Message C) (s : State C) → NothingUnread s → NothingUnread (put_at_head side here m s).state
-  head-unread Master here m s unread = open-holds NothingUnread (is_open s.master.opened) _ _ (λ opened. record { master = λ closed. absurd (cc); slave = unread.slave }) unread
-  head-unread Slave here m s unread = open-holds NothingUnread (is_open s.slave.opened) _ _ (λ opened. record { master = unread.master; slave = λ closed. absurd (cc) }) unread
-
-  pub unread-stays : Stays {C = C} NothingUnread
-  unread-stays = record { head = head-unread; driver = driver; modules = modules; names = λ names s unread. record { master = unread.master; slave = unread.slave }; books = books; waits = waits }
-    where
-      driver : (side : Side) (here : Spot) (m : Message C) (s : State C) → NothingUnread s → NothingUnread (put_at_driver side here m s).state
-      driver Master here m s unread = record { master = unread.master; slave = unread.slave }
-      driver Slave here m s unread = record { master = unread.master; slave = unread.slave }
-
-      modules : (side : Side) (ps : List (Module C)) (s : State C) → NothingUnread s → NothingUnread (with_stream side (record (stream side s) { modules = ps }) s)
-      modules Master ps s unread = record { master = unread.master; slave = unread.slave }
-      modules Slave ps s unread = record { master = unread.master; slave = unread.slave }
-
-      books : BookHolds {C = C} NothingUnread
-      books MasterToSlave n s unread = record { master = unread.master; slave = unread.slave }
-      books SlaveToMaster n s unread = record { master = unread.master; slave = unread.slave }
-
-      waits : (side : Side) (way : Way) (band : ℕ) (s : State C) → NothingUnread s → NothingUnread (waiting side way band s)
-      waits Master Up band s unread = record { master = unread.master; slave = unread.slave }
-      waits Master Down band s unread = record { master = unread.master; slave = unread.slave }
-      waits Slave Up band s unread = record { master = unread.master; slave = unread.slave }
-      waits Slave Down band s unread = record { master = unread.master; slave = unread.slave }
-
 -- which sides are open, the lock, the number of the next ioctl and what was written stay; cells may be made
 module _ {C : Type 0} (s : State C) where
   pub same-itself : SameButMade s s
-  same-itself = record { master = refl; slave = refl; locked = refl; next_ioctl = refl; from_master = refl; from_slave = refl }
+  same-itself = record { opened = λ side. refl; locked = refl; next_ioctl = refl; written = λ dir. refl }
+
+  -- another stream, that is open where the one before is
+  pub same-with : (side : Side) (on : Stream C) (t : State C) → on.opened ≡ (stream side t).opened → SameButMade s t → SameButMade s (with_stream side on t)
+  same-with side on t is same = record {
+    opened = set-all (λ of u. u.opened ≡ (stream of s).opened) side on t.ends (is ∙ same.opened side) same.opened;
+    locked = same.locked;
+    next_ioctl = same.next_ioctl;
+    written = same.written;
+  }
 
   pub same-stays : Stays {C = C} (SameButMade s)
-  same-stays = record { head = head; driver = driver; modules = modules; names = λ names t same. record { master = same.master; slave = same.slave; locked = same.locked; next_ioctl = same.next_ioctl; from_master = same.from_master; from_slave = same.from_slave }; books = books; waits = waits }
+  same-stays = record {
+    head = λ side here m t same. either-holds (SameButMade s) (is_open (stream side t).opened) _ _ (same-enabled _ _ (same-with side (record (stream side t) { head = (head_put here m (stream side t).head).state }) t refl same)) same;
+    driver = λ side here m t same. same-enabled _ _ (same-with side (with_driver_queue _ (stream side t)) t refl same);
+    modules = λ side ps t same. same-with side (record (stream side t) { modules = ps }) t refl same;
+    names = same-enabled;
+    books = λ dir n t same. record { opened = same.opened; locked = same.locked; next_ioctl = same.next_ioctl; written = λ d. more-written d dir n t ∙ same.written d };
+    waits = waits;
+  }
     where
-      head : (side : Side) (here : Spot) (m : Message C) (t : State C) → SameButMade s t → SameButMade s (put_at_head side here m t).state
-      head Master here m t same = either-holds (SameButMade s) (is_open t.master.opened) _ _ (record { master = same.master; slave = same.slave; locked = same.locked; next_ioctl = same.next_ioctl; from_master = same.from_master; from_slave = same.from_slave }) same
-      head Slave here m t same = either-holds (SameButMade s) (is_open t.slave.opened) _ _ (record { master = same.master; slave = same.slave; locked = same.locked; next_ioctl = same.next_ioctl; from_master = same.from_master; from_slave = same.from_slave }) same
-
-      driver : (side : Side) (here : Spot) (m : Message C) (t : State C) → SameButMade s t → SameButMade s (put_at_driver side here m t).state
-      driver Master here m t same = record { master = same.master; slave = same.slave; locked = same.locked; next_ioctl = same.next_ioctl; from_master = same.from_master; from_slave = same.from_slave }
-      driver Slave here m t same = record { master = same.master; slave = same.slave; locked = same.locked; next_ioctl = same.next_ioctl; from_master = same.from_master; from_slave = same.from_slave }
-
-      modules : (side : Side) (ps : List (Module C)) (t : State C) → SameButMade s t → SameButMade s (with_stream side (record (stream side t) { modules = ps }) t)
-      modules Master ps t same = record { master = same.master; slave = same.slave; locked = same.locked; next_ioctl = same.next_ioctl; from_master = same.from_master; from_slave = same.from_slave }
-      modules Slave ps t same = record { master = same.master; slave = same.slave; locked = same.locked; next_ioctl = same.next_ioctl; from_master = same.from_master; from_slave = same.from_slave }
-
-      books : BookHolds {C = C} (SameButMade s)
-      books MasterToSlave n t same = record { master = same.master; slave = same.slave; locked = same.locked; next_ioctl = same.next_ioctl; from_master = same.from_master; from_slave = same.from_slave }
-      books SlaveToMaster n t same = record { master = same.master; slave = same.slave; locked = same.locked; next_ioctl = same.next_ioctl; from_master = same.from_master; from_slave = same.from_slave }
+      same-enabled : NamesHold (SameButMade s)
+      same-enabled names t same = record { opened = same.opened; locked = same.locked; next_ioctl = same.next_ioctl; written = same.written }
 
       waits : (side : Side) (way : Way) (band : ℕ) (t : State C) → SameButMade s t → SameButMade s (waiting side way band t)
-      waits Master Up band t same = record { master = same.master; slave = same.slave; locked = same.locked; next_ioctl = same.next_ioctl; from_master = same.from_master; from_slave = same.from_slave }
-      waits Master Down band t same = record { master = same.master; slave = same.slave; locked = same.locked; next_ioctl = same.next_ioctl; from_master = same.from_master; from_slave = same.from_slave }
-      waits Slave Up band t same = record { master = same.master; slave = same.slave; locked = same.locked; next_ioctl = same.next_ioctl; from_master = same.from_master; from_slave = same.from_slave }
-      waits Slave Down band t same = record { master = same.master; slave = same.slave; locked = same.locked; next_ioctl = same.next_ioctl; from_master = same.from_master; from_slave = same.from_slave }
+      waits side Up band t same = same-with side _ t refl same
+      waits side Down band t same = same-with side _ t refl same

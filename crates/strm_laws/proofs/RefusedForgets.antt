@@ -90,24 +90,24 @@ module _ {C D : Type 0} (f : C → D) where
   end-same : (side : Side) (s : State C) → at_end side (map_state f s) ≡ at_end side s
   end-same Slave s = refl
   end-same Master s =
-      let hung = s.master.head.hung_up in
-      let closed = is_closed s.slave.opened in
-      ap (λ b. hung || (closed && (b && (none_waits_up (images s.master.modules) && has_no_data (map_messages f s.master.head.queue.messages))))) (no-data s.slave.driver.queue.messages)
-      ∙ ap (λ b. hung || (closed && (has_no_data s.slave.driver.queue.messages && (not b && has_no_data (map_messages f s.master.head.queue.messages))))) (waits-up s.master.modules)
-      ∙ ap (λ b. hung || (closed && (has_no_data s.slave.driver.queue.messages && (none_waits_up s.master.modules && b)))) (no-data s.master.head.queue.messages)
+      let hung = s.ends.master.head.hung_up in
+      let closed = is_closed s.ends.slave.opened in
+      ap (λ b. hung || (closed && (b && (none_waits_up (images s.ends.master.modules) && has_no_data (map_messages f s.ends.master.head.queue.messages))))) (no-data s.ends.slave.driver.queue.messages)
+      ∙ ap (λ b. hung || (closed && (has_no_data s.ends.slave.driver.queue.messages && (not b && has_no_data (map_messages f s.ends.master.head.queue.messages))))) (waits-up s.ends.master.modules)
+      ∙ ap (λ b. hung || (closed && (has_no_data s.ends.slave.driver.queue.messages && (none_waits_up s.ends.master.modules && b)))) (no-data s.ends.master.head.queue.messages)
 
   -- what the state says
   read-same : (side : Side) (n : ℕ) (s : State C) → (let h = (stream side (map_state f s)).head in read_refusal h.control_mode (at_end side (map_state f s)) n h.queue.messages) ≡ (let h = (stream side s).head in read_refusal h.control_mode (at_end side s) n h.queue.messages)
-  read-same Master n s = ap (λ b. read_refusal s.master.head.control_mode b n (map_messages f s.master.head.queue.messages)) (end-same Master s) ∙ refusal-forgets f s.master.head.control_mode (at_end Master s) n s.master.head.queue.messages
-  read-same Slave n s = refusal-forgets f s.slave.head.control_mode (at_end Slave s) n s.slave.head.queue.messages
+  read-same Master n s = ap (λ b. read_refusal s.ends.master.head.control_mode b n (map_messages f s.ends.master.head.queue.messages)) (end-same Master s) ∙ refusal-forgets f s.ends.master.head.control_mode (at_end Master s) n s.ends.master.head.queue.messages
+  read-same Slave n s = refusal-forgets f s.ends.slave.head.control_mode (at_end Slave s) n s.ends.slave.head.queue.messages
 
   get-refusal : (wanted : Wanted) (end : Bool) (ms : List (Message C)) → get_refusal wanted end (map_messages f ms) ≡ get_refusal wanted end ms
   get-refusal wanted end [] = refl
   get-refusal wanted end (m ∷ ms) = ap (λ b. cond b None (Some Eagain)) (wanted-forgets f wanted m)
 
   get-same : (side : Side) (wanted : Wanted) (s : State C) → get_refusal wanted (at_end side (map_state f s)) (stream side (map_state f s)).head.queue.messages ≡ get_refusal wanted (at_end side s) (stream side s).head.queue.messages
-  get-same Master wanted s = ap (λ b. get_refusal wanted b (map_messages f s.master.head.queue.messages)) (end-same Master s) ∙ get-refusal wanted (at_end Master s) s.master.head.queue.messages
-  get-same Slave wanted s = get-refusal wanted (at_end Slave s) s.slave.head.queue.messages
+  get-same Master wanted s = ap (λ b. get_refusal wanted b (map_messages f s.ends.master.head.queue.messages)) (end-same Master s) ∙ get-refusal wanted (at_end Master s) s.ends.master.head.queue.messages
+  get-same Slave wanted s = get-refusal wanted (at_end Slave s) s.ends.slave.head.queue.messages
 
   put-same : (prio : Prio) (control body : Option (List ℕ)) (side : Side) (s : State C) → put_waits prio control body (λ band. is_full_below band side (map_state f s)) ≡ put_waits prio control body (λ band. is_full_below band side s)
   put-same prios.High control body side s = refl
@@ -133,8 +133,8 @@ module _ {C D : Type 0} (f : C → D) where
   may-same (Some p) ps = may-push p ps
 
   push-same : (side : Side) (name : Option ModuleName) (s : State C) → may_stand (named_by name) (stream side (map_state f s)).modules ≡ may_stand (named_by name) (stream side s).modules
-  push-same Master name s = ap (λ (p : Option (Module D)). may_stand p (images s.master.modules)) (named_by-forgets f name) ∙ may-same (named_by name) s.master.modules
-  push-same Slave name s = ap (λ (p : Option (Module D)). may_stand p (images s.slave.modules)) (named_by-forgets f name) ∙ may-same (named_by name) s.slave.modules
+  push-same Master name s = ap (λ (p : Option (Module D)). may_stand p (images s.ends.master.modules)) (named_by-forgets f name) ∙ may-same (named_by name) s.ends.master.modules
+  push-same Slave name s = ap (λ (p : Option (Module D)). may_stand p (images s.ends.slave.modules)) (named_by-forgets f name) ∙ may-same (named_by name) s.ends.slave.modules
 
   slot-same : (side : Side) (s : State C) → (stream side (map_state f s)).head.ioctl ≡ (stream side s).head.ioctl
   slot-same Master s = refl

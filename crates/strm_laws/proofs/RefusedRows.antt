@@ -121,23 +121,24 @@ ordinary bytes = data_message bytes
 -- master's driver 512 bytes, its high mark
 abbrev state : Openness → Openness → Bool → State ℕ
 state master slave locked = record {
-  master = record {
-    opened = master;
-    head = new_head;
-    modules = [];
-    driver = record { queue = record (new_queue 512 128) { messages = ordinary (replicate 512 97) ∷ [] } };
-  };
-  slave = record {
-    opened = slave;
-    head = head_with (record (new_queue 5120 1024) { messages = ordinary [] ∷ [] }) false;
-    modules = [];
-    driver = new_driver;
+  ends = record {
+    master = record {
+      opened = master;
+      head = new_head;
+      modules = [];
+      driver = record { queue = record (new_queue 512 128) { messages = ordinary (replicate 512 97) ∷ [] } };
+    };
+    slave = record {
+      opened = slave;
+      head = head_with (record (new_queue 5120 1024) { messages = ordinary [] ∷ [] }) false;
+      modules = [];
+      driver = new_driver;
+    };
   };
   locked = locked;
   enabled = driver_of Master ∷ [];
   next_ioctl = 1;
-  from_master = new_book;
-  from_slave = new_book;
+  books = record { master = new_book; slave = new_book };
 }
 
 -- with a journal that has room and blocks that are free, with a journal that is full, with too few blocks, with both

@@ -149,13 +149,11 @@ end opened signals = record { opened = opened; head = head signals; modules = []
 
 abbrev pair : Stream ℕ → Stream ℕ → State ℕ
 pair master slave = record {
-  master = master;
-  slave = slave;
+  ends = record { master = master; slave = slave };
   locked = false;
   enabled = [];
   next_ioctl = 8;
-  from_master = new_book;
-  from_slave = new_book;
+  books = record { master = new_book; slave = new_book };
 }
 
 abbrev caller : Side → Caller
@@ -225,6 +223,6 @@ pub nothing-waits-at-a-slave-opened-anew : called plain (caller Master) OpenSlav
     ≡ record { answer = Done; state = record (pair (end Open two) (record (end Open two) { head = new })) { enabled = driver_of Master ∷ [] } }
 nothing-waits-at-a-slave-opened-anew = refl
 
-pub nothing-waits-at-a-closed-side : (called plain (caller Slave) Shut (pair (end Open two) (end Open two))).state.slave ≡ record (end Closed two) { head = new }
+pub nothing-waits-at-a-closed-side : (called plain (caller Slave) Shut (pair (end Open two) (end Open two))).state.ends.slave ≡ record (end Closed two) { head = new }
 unfolding cells_of size_of
 nothing-waits-at-a-closed-side = refl

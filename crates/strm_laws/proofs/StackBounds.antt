@@ -25,8 +25,7 @@ flush-few (suc (suc count)) low = absurd (omega (arith, low))
 
 module _ (all : Stands) (stand : StandOnce all) where
   one : (name : ModuleName) (side : Side) (at : ℕ) → times_there name (stands_on side all) at ≤ 1
-  one name Master at = stand.master.once name at
-  one name Slave at = stand.slave.once name at
+  one name side at = (stand side).once name at
 
   packed-few : (side : Side) (at : ℕ) (b : Bool) → cond b (packets (stands_on side all) at) 0 ≤ cond {A = ℕ} b 1 0
   packed-few side at true = one names.Pckt side at

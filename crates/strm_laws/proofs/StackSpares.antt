@@ -33,8 +33,9 @@ use Rattle.strm_laws.proofs.Balances.{range-low, still-same}
 use Rattle.strm_laws.proofs.ModulePuts.{ldterm-none}
 use Rattle.strm_types.proofs.PcktPuts.{packs-make}
 use Rattle.strm_laws.proofs.PtemPuts.{puts-gone}
-use Rattle.strm_laws.proofs.PutsBook.{SameBooks, driver-same, head-same, stream-books}
+use Rattle.strm_laws.proofs.PutsBook.{SameBooks, head-same}
 use Rattle.strm_laws.proofs.TurnOrder.{made-all}
+use Rattle.strm_types.specs.declared.both.Both.{Both}
 
 -- a packet takes one unit at most
 spare-falls : (made more : ℕ) → more ≤ packet_most → spare_behind made ≤ spare_behind (made + more) + 1
@@ -43,8 +44,8 @@ spare-falls made more few = omega (arith, few)
 
 module _ {C : Type 0} where
   pub book-falls : (dir : Dir) (n : ℕ) (s : State C) → n ≤ packet_most → spare s ≤ spare (with_book dir (with_made n (book dir s)) s) + 1
-  book-falls MasterToSlave n s few = let falls = spare-falls s.from_master.made n few in omega (arith, falls)
-  book-falls SlaveToMaster n s few = let falls = spare-falls s.from_slave.made n few in omega (arith, falls)
+  book-falls MasterToSlave n s few = let falls = spare-falls s.books.master.made n few in omega (arith, falls)
+  book-falls SlaveToMaster n s few = let falls = spare-falls s.books.slave.made n few in omega (arith, falls)
 
 -- where a unit is left, a packet fits the book
 pub spare-fits : (made more : ℕ) → 1 ≤ spare_behind made → more ≤ packet_most → made + more ≤ 18446744073709551615
@@ -56,10 +57,10 @@ module _ {C : Type 0} where
   made-most : (told : List (Fate C)) (dir : Dir) (s : State C) → (book dir (booked told s)).made ≤ (book dir s).made + made_of told
   made-most [] dir s = omega arith
   made-most (Goes d rule xs ∷ told) dir s = let rest = made-most told dir s in omega (arith, rest)
-  made-most (Comes MasterToSlave xs ∷ told) MasterToSlave s = let rest = made-most told MasterToSlave (with_book MasterToSlave (with_made (length xs) s.from_master) s) in omega (arith, rest)
-  made-most (Comes MasterToSlave xs ∷ told) SlaveToMaster s = let rest = made-most told SlaveToMaster (with_book MasterToSlave (with_made (length xs) s.from_master) s) in omega (arith, rest)
-  made-most (Comes SlaveToMaster xs ∷ told) MasterToSlave s = let rest = made-most told MasterToSlave (with_book SlaveToMaster (with_made (length xs) s.from_slave) s) in omega (arith, rest)
-  made-most (Comes SlaveToMaster xs ∷ told) SlaveToMaster s = let rest = made-most told SlaveToMaster (with_book SlaveToMaster (with_made (length xs) s.from_slave) s) in omega (arith, rest)
+  made-most (Comes MasterToSlave xs ∷ told) MasterToSlave s = let rest = made-most told MasterToSlave (with_book MasterToSlave (with_made (length xs) s.books.master) s) in omega (arith, rest)
+  made-most (Comes MasterToSlave xs ∷ told) SlaveToMaster s = let rest = made-most told SlaveToMaster (with_book MasterToSlave (with_made (length xs) s.books.master) s) in omega (arith, rest)
+  made-most (Comes SlaveToMaster xs ∷ told) MasterToSlave s = let rest = made-most told MasterToSlave (with_book SlaveToMaster (with_made (length xs) s.books.slave) s) in omega (arith, rest)
+  made-most (Comes SlaveToMaster xs ∷ told) SlaveToMaster s = let rest = made-most told SlaveToMaster (with_book SlaveToMaster (with_made (length xs) s.books.slave) s) in omega (arith, rest)
 
 -- as many units less as were made
 less-behind : (made now more units : ℕ) → now ≤ made + more → more ≤ units * packet_most → spare_behind made ≤ spare_behind now + units
@@ -83,19 +84,19 @@ behind-low made left = omega (arith, left)
 module _ {C : Type 0} where
   pub range-spare : (s : State C) → in_range s ≡ true → 824000000000 ≤ spare s
   range-spare s room =
-      let master = range-behind s.from_master.made (range-low MasterToSlave s room).1 in
-      let slave = range-behind s.from_slave.made (range-low SlaveToMaster s room).1 in
+      let master = range-behind s.books.master.made (range-low MasterToSlave s room).1 in
+      let slave = range-behind s.books.slave.made (range-low SlaveToMaster s room).1 in
       omega (arith, master, slave)
 
   pub spare-low : (s : State C) → 820000000000 ≤ spare s → (dir : Dir) → (book dir s).made < 2 ^ 63
-  spare-low s left MasterToSlave = behind-low s.from_master.made (omega (arith, left))
-  spare-low s left SlaveToMaster = behind-low s.from_slave.made (omega (arith, left))
+  spare-low s left MasterToSlave = behind-low s.books.master.made (omega (arith, left))
+  spare-low s left SlaveToMaster = behind-low s.books.slave.made (omega (arith, left))
 
 module _ {C : Type 0} where
   pub booked-falls : (told : List (Fate C)) (s : State C) (units : ℕ) → made_of told ≤ units * packet_most → spare s ≤ spare (booked told s) + units
   booked-falls told s units few =
-      let master = less-behind s.from_master.made (booked told s).from_master.made (made_of told) units (made-most told MasterToSlave s) few in
-      let slave = less-behind s.from_slave.made (booked told s).from_slave.made (made_of told) units (made-most told SlaveToMaster s) few in
+      let master = less-behind s.books.master.made (booked told s).books.master.made (made_of told) units (made-most told MasterToSlave s) few in
+      let slave = less-behind s.books.slave.made (booked told s).books.slave.made (made_of told) units (made-most told SlaveToMaster s) few in
       omega (arith, master, slave)
 
   -- a put at a module
@@ -150,16 +151,11 @@ module _ {C : Type 0} where
 
   -- with the same books as much is left
   pub same-spare : (s t : State C) → SameBooks s t → spare t ≡ spare s
-  same-spare s t same = ap (λ (b : Book). min (spare_behind b.made) (spare_behind t.from_slave.made)) same.from_master ∙ ap (λ (b : Book). min (spare_behind s.from_master.made) (spare_behind b.made)) same.from_slave
+  same-spare s t same = ap (λ (b : Both Book). min (spare_behind b.master.made) (spare_behind b.slave.made)) same
 
   -- a module that acts makes so many at most
   pub acted-falls : (here : Spot) (t : Acted C (List (Module C))) (s : State C) (units : ℕ) → made_of t.gone ≤ units * packet_most → spare s ≤ spare (module_acted here t s).state + units
-  acted-falls here t s units makes =
-      let ps = (stream here.side s).modules in
-      let on = with_stream here.side (record (stream here.side s) { modules = t.state }) s in
-      let same = same-spare s on (stream-books here.side (record (stream here.side s) { modules = t.state }) s) in
-      let falls = booked-falls t.gone (record on { enabled = noted here.side (slice_index_or (places_of ps) (here.at - 1) None) (earlier_at here.side here.at s) t.notes s.enabled }) units makes in
-      omega (arith, same, falls)
+  acted-falls here t s units makes = booked-falls t.gone (module_acted here (record t { gone = [] }) s).state units makes
 
   pub stack-falls : (cells : Cells C) (here : Spot) (m : Message C) (s : State C) → length m.plain ≤ 16777216
       → spare s ≤ spare (put_at_module cells here m s).state + at_place (module_packs here m) 0 here.at (stream here.side s).modules
@@ -172,7 +168,7 @@ module _ {C : Type 0} where
   head-spare side here m s = same-spare s (put_at_head side here m s).state (head-same side here m s)
 
   pub driver-spare : (side : Side) (here : Spot) (m : Message C) (s : State C) → spare (put_at_driver side here m s).state ≡ spare s
-  driver-spare side here m s = same-spare s (put_at_driver side here m s).state (driver-same side here m s)
+  driver-spare side here m s = same-spare s (put_at_driver side here m s).state refl
 
   pub behind-spare : (way : Way) (here : Spot) (m : Message C) (s : State C) → spare (put_behind way here m s).state ≡ spare s
   behind-spare Down here m s = driver-spare here.side here m s

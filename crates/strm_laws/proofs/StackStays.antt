@@ -19,7 +19,7 @@ use Rattle.strm_laws.specs.Puts.{made_above, put_at_driver, put_at_head, put_at_
 use Rattle.strm_types.specs.Queue.{Queue}
 use Rattle.strm_laws.specs.StackCosts.{Stands, stands_of}
 use Rattle.strm_laws.specs.Stacked.{Module, OfLdterm, OfPtem, OfPckt, module_name, module_puts, module_queue, module_serves, with_module_queue}
-use Rattle.strm_laws.specs.State.{State, Stream, book, stream, with_book, with_stream}
+use Rattle.strm_laws.specs.State.{State, Stream, book, stream, with_book, with_stream, with_driver_queue}
 use Rattle.strm_types.proofs.DeliveryHolds.{PutHolds}
 use Rattle.strm_laws.proofs.PutParts.{acted-holds, either-holds, parts-hold}
 
@@ -73,8 +73,8 @@ module _ {C : Type 0} where
 
   -- a stream with modules of the same names
   same-names : (side : Side) (on : Stream C) (s : State C) → map module_name on.modules ≡ map module_name (stream side s).modules → stands_of (with_stream side on s) ≡ stands_of s
-  same-names Master on s is = ap (λ names. record { master = names; slave = map module_name s.slave.modules }) is
-  same-names Slave on s is = ap (λ names. record { master = map module_name s.master.modules; slave = names }) is
+  same-names Master on s is = ap (λ names. record (stands_of s) { master = names }) is
+  same-names Slave on s is = ap (λ names. record (stands_of s) { slave = names }) is
 
   module _ (all : Stands) where
     abbrev pub Stand : State C → Type 0
@@ -84,16 +84,14 @@ module _ {C : Type 0} where
     names-stand names s is = is
 
     books-stand : (dir : Dir) (n : ℕ) (s : State C) → Stand s → Stand (with_book dir (with_made n (book dir s)) s)
-    books-stand dirs.MasterToSlave n s is = is
-    books-stand dirs.SlaveToMaster n s is = is
+    books-stand dir n s is = is
 
     head-stands : (side : Side) (here : Spot) (m : Message C) (s : State C) → Stand s → Stand (put_at_head side here m s).state
     head-stands side here m s is =
         either-holds Stand (is_open (stream side s).opened) _ _ (same-names side (record (stream side s) { head = _ }) s refl ∙ is) is
 
     driver-stands : (side : Side) (here : Spot) (m : Message C) (s : State C) → Stand s → Stand (put_at_driver side here m s).state
-    driver-stands Master here m s is = is
-    driver-stands Slave here m s is = is
+    driver-stands side here m s is = same-names side (with_driver_queue _ (stream side s)) s refl ∙ is
 
     stack-stands : (cells : Cells C) (here : Spot) (m : Message C) (s : State C) → Stand s → Stand (put_at_module cells here m s).state
     stack-stands cells here m s is =

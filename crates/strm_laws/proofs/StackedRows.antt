@@ -35,13 +35,11 @@ stacked = record {
 
 abbrev pair : State ℕ
 pair = record {
-  master = new_stream;
-  slave = stacked;
+  ends = record { master = new_stream; slave = stacked };
   locked = false;
   enabled = [];
   next_ioctl = 1;
-  from_master = new_book;
-  from_slave = new_book;
+  books = record { master = new_book; slave = new_book };
 }
 
 -- the queues from the top down, of each module the read queue first

@@ -40,13 +40,11 @@ end opened head driver = record { opened = opened; head = head_with head false; 
 -- a pair of these two streams, of which these queues are enabled
 abbrev pair : Stream ℕ → Stream ℕ → List QueueName → State ℕ
 pair master slave enabled = record {
-  master = master;
-  slave = slave;
+  ends = record { master = master; slave = slave };
   locked = true;
   enabled = enabled;
   next_ioctl = 1;
-  from_master = new_book;
-  from_slave = new_book;
+  books = record { master = new_book; slave = new_book };
 }
 
 abbrev idle_end : Stream ℕ
@@ -89,16 +87,16 @@ written-bytes-have-their-places = refl
 abbrev written_twice : State Tagged
 written_twice = (called tagged (caller Slave) (Write (98 ∷ 99 ∷ [])) (called tagged (caller Slave) (Write (97 ∷ [])) opening).state).state
 
-pub second-write-is-booked-behind-the-first : map cells_of written_twice.slave.driver.queue.messages ≡ cells_written tagged SlaveToMaster 0 (97 ∷ []) ∷ cells_written tagged SlaveToMaster 1 (98 ∷ 99 ∷ []) ∷ []
+pub second-write-is-booked-behind-the-first : map cells_of written_twice.ends.slave.driver.queue.messages ≡ cells_written tagged SlaveToMaster 0 (97 ∷ []) ∷ cells_written tagged SlaveToMaster 1 (98 ∷ 99 ∷ []) ∷ []
 unfolding carried chunk_count data_message rank_of band_of size_of cells_of is_high_priority
 second-write-is-booked-behind-the-first = refl
 
-pub books-after-two-writes : written_twice.from_slave.written ∷ written_twice.from_slave.made ∷ written_twice.from_master.written ∷ [] ≡ 3 ∷ 0 ∷ 0 ∷ []
+pub books-after-two-writes : written_twice.books.slave.written ∷ written_twice.books.slave.made ∷ written_twice.books.master.written ∷ [] ≡ 3 ∷ 0 ∷ 0 ∷ []
 unfolding carried chunk_count data_message rank_of band_of size_of cells_of is_high_priority
 books-after-two-writes = refl
 
 -- only what was taken is booked
-pub refused-bytes-are-not-booked : (called plain (caller Master) (Write (replicate 600 97)) opening).state.from_master ≡ record { written = 512; made = 0 }
+pub refused-bytes-are-not-booked : (called plain (caller Master) (Write (replicate 600 97)) opening).state.books.master ≡ record { written = 512; made = 0 }
 unfolding carried chunk_count data_message rank_of band_of size_of cells_of is_high_priority
 refused-bytes-are-not-booked = refl
 
@@ -172,7 +170,7 @@ pub other-band-goes-on : (serves Open (proto ∷ []) [] (flow 2 1 false ∷ flow
 unfolding carried rank_of band_of size_of cells_of is_high_priority is_held
 other-band-goes-on = refl
 
-pub full-band-blocks : (serves Open (proto ∷ []) [] (flow 2 1 false ∷ flow 2 1 false ∷ flow 0 0 false ∷ [])).state.slave.head.queue.flows ≡ flow 2 1 false ∷ flow 2 1 false ∷ flow 0 0 true ∷ []
+pub full-band-blocks : (serves Open (proto ∷ []) [] (flow 2 1 false ∷ flow 2 1 false ∷ flow 0 0 false ∷ [])).state.ends.slave.head.queue.flows ≡ flow 2 1 false ∷ flow 2 1 false ∷ flow 0 0 true ∷ []
 unfolding carried band_of size_of cells_of is_high_priority is_held
 full-band-blocks = refl
 
@@ -182,7 +180,7 @@ unfolding carried rank_of band_of size_of cells_of is_high_priority is_held
 urgent-goes-on = refl
 
 -- a turn lets writers of its own queue go at the low mark: two bytes are left, at the mark two and at one
-pub turn-relieves-its-queue : map (λ low. (serves Open three (flow 9 low true ∷ []) roomy).state.master.driver.queue.flows) (2 ∷ 1 ∷ []) ≡ (flow 9 2 false ∷ []) ∷ (flow 9 1 true ∷ []) ∷ []
+pub turn-relieves-its-queue : map (λ low. (serves Open three (flow 9 low true ∷ []) roomy).state.ends.master.driver.queue.flows) (2 ∷ 1 ∷ []) ≡ (flow 9 2 false ∷ []) ∷ (flow 9 1 true ∷ []) ∷ []
 unfolding carried rank_of band_of size_of cells_of is_high_priority is_held
 turn-relieves-its-queue = refl
 

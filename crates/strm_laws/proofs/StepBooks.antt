@@ -30,14 +30,13 @@ use Rattle.strm_laws.specs.State.{State, stream}
 use Rattle.strm_laws.specs.TurnOutcomes.{TurnOutcome, stayed_put}
 use Rattle.strm_laws.specs.Turns.{blocked_across, driver_serves, held_back, is_stopped_across, moved_across, turn_ended, turned, turned_at, up_across, with_driver}
 use Rattle.strm_laws.proofs.InOrder.{BooksMade, books-both}
-use Rattle.strm_laws.proofs.PutsBook.{SameBooks, acted-books, booked-before, booked-behind, books-on, delivered-books, nothing-booked, sent-books, stream-books}
+use Rattle.strm_laws.proofs.PutsBook.{SameBooks, acted-books, booked-before, booked-behind, delivered-books, nothing-booked, sent-books}
 use Rattle.strm_laws.proofs.TurnHolds.{any-holds}
 use Rattle.strm_laws.proofs.TurnOrder.{TurnOrder, module-order, order-none}
 
 module _ {C : Type 0} where
   pub waits-books : (side : Side) (way : Way) (at band : ℕ) (s : State C) → SameBooks s (writer_waits side way at band s)
-  waits-books Master way at band s = record { from_master = refl; from_slave = refl }
-  waits-books Slave way at band s = record { from_master = refl; from_slave = refl }
+  waits-books side way at band s = refl
 
 module _ {C : Type 0} (cells : Cells C) where
   abbrev Books : State C → List (Fate C) → State C → Type 0
@@ -56,7 +55,7 @@ module _ {C : Type 0} (cells : Cells C) where
         acted-books cells here.side here (call_at cells here made again left ps) s (acts-order made again left (here.at - 1) ps)
 
     calls-books : (n : ℕ) (again : Bool) (left : ℕ) (s : State C) → let v = calls cells here n again left s in Books s v.gone v.state
-    calls-books zero again left s = nothing-booked cells s s (record { from_master = refl; from_slave = refl })
+    calls-books zero again left s = nothing-booked cells s s refl
     calls-books (suc more) again left s =
         let ps = (stream here.side s).modules in
         let made = made_below here.side s in
@@ -80,15 +79,13 @@ module _ {C : Type 0} (cells : Cells C) where
     either-turns s false one another first second = second
 
     stays-books : (turn : Turn) (s : State C) → TurnBooks s (stayed_put turn s)
-    stays-books turn s = nothing-booked cells s s (record { from_master = refl; from_slave = refl })
+    stays-books turn s = nothing-booked cells s s refl
 
     stayed-books : (turn : Turn) (s : State C) → TurnBooks s (stayed_at turn here s)
-    stayed-books turn s = nothing-booked cells s _ (stream-books here.side (queue_ended here false (stream here.side s)) s)
+    stayed-books turn s = nothing-booked cells s _ refl
 
     pub ended-books : (name : QueueName) (took : Bool) (s : State C) → SameBooks s (module_turn_ended name here took s)
-    ended-books name took s =
-        let on = stream-books here.side (queue_ended here took (stream here.side s)) s in
-        record { from_master = on.from_master; from_slave = on.from_slave }
+    ended-books name took s = refl
 
     moved-books : (name : QueueName) (bytes : ℕ) (s : State C) → TurnBooks s (moved_on cells here name bytes s)
     moved-books name bytes s =
@@ -116,17 +113,15 @@ module _ {C : Type 0} (cells : Cells C) where
   module-books name turn s = named (place_named name.place (stream name.side s).modules)
     where
       named : (o : Option ℕ) → let t = turned_named cells name turn s o in Books s t.gone t.state
-      named None = nothing-booked cells s s (record { from_master = refl; from_slave = refl })
+      named None = nothing-booked cells s s refl
       named (Some at) = there-books (record { side = name.side; at = at; way = name.way }) name turn s
 
   -- a driver's turn
   pub driver-books : (side : Side) (q : Queue C) (s : State C) → SameBooks s (with_driver side q s)
-  driver-books Master q s = record { from_master = refl; from_slave = refl }
-  driver-books Slave q s = record { from_master = refl; from_slave = refl }
+  driver-books side q s = refl
 
   pub end-books : (side : Side) (size : ℕ) (s : State C) → SameBooks s (turn_ended side size s)
-  end-books Master size s = record { from_master = refl; from_slave = refl }
-  end-books Slave size s = record { from_master = refl; from_slave = refl }
+  end-books side size s = refl
 
   across-books : (side : Side) (m : Message C) (rest : List (Message C)) (s : State C) → let t = moved_across cells side m rest s in Books s t.gone t.state
   across-books side m rest s =
@@ -139,14 +134,13 @@ module _ {C : Type 0} (cells : Cells C) where
   serves-books side [] s = nothing-booked cells s _ (driver-books side (record (stream side s).driver.queue { want_read = true }) s)
   serves-books side (m ∷ rest) s =
       let kept = with_driver side (held_back (stream side s).driver.queue) s in
-      let waits = driver-books side (held_back (stream side s).driver.queue) s in
       any-holds (λ t. Books s t.gone t.state) (is_open (stream (other side) s).opened) (is_stopped_across side m s) _ _ _
-      (nothing-booked cells s kept waits)
-      (nothing-booked cells s (blocked_across side m kept) (books-on s kept (blocked_across side m kept) waits (waits-books (other side) Up (driver_place (other side) kept) (band_of m) kept)))
+      (nothing-booked cells s kept refl)
+      (nothing-booked cells s (blocked_across side m kept) refl)
       (across-books side m rest s)
 
   pub turn-books : (name : QueueName) (turn : Turn) (s : State C) → let t = turned cells name turn s in Books s t.gone t.state
-  turn-books name turn s = at name.place (record s { enabled = without name s.enabled }) (record { from_master = refl; from_slave = refl })
+  turn-books name turn s = at name.place (record s { enabled = without name s.enabled }) refl
     where
       at : (place : Place) (t : State C) → SameBooks s t → let u = turned_at cells place name turn t in Books s u.gone u.state
       at Driver t same = booked-before cells s t _ _ same (serves-books name.side (stream name.side t).driver.queue.messages t)

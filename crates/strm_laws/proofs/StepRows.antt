@@ -55,7 +55,7 @@ pub wrong-answer-is-no-step : IsLegal plain opening (Called (caller Master) Open
 wrong-answer-is-no-step = λ legal. let first = legal.0 in let answered = first.answered in (cc)
 
 pub wrong-state-is-no-step : Step plain opening (Called (caller Master) OpenMaster Done) opening → ⊥
-wrong-state-is-no-step = λ step. let opened = ap (λ (s : State ℕ). s.master.opened) step.leads in (cc)
+wrong-state-is-no-step = λ step. let opened = ap (λ (s : State ℕ). s.ends.master.opened) step.leads in (cc)
 
 pub turn-of-a-queue-that-rests-is-no-step : IsLegal plain opening (Called (caller Master) OpenMaster Done ∷ Turned (driver_of Master) Idle ∷ []) → ⊥
 turn-of-a-queue-that-rests-is-no-step = λ legal. let second = legal.1.0 in let enabled = second.enabled in (cc)

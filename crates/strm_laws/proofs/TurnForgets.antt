@@ -89,8 +89,8 @@ module _ {C D : Type 0} (f : C → D) where
           ∙ ended_made-forgets side (cond went (relieved r) r) (not (is_none_left r.messages)) (went && relieves r) earlier s
 
       over : (side : Side) → turn_ended side size (map_state f s) ≡ map_state f (turn_ended side size s)
-      over Master = from Master (not (size == 0)) s.master.driver.queue
-      over Slave = from Slave (not (size == 0)) s.slave.driver.queue
+      over Master = from Master (not (size == 0)) s.ends.master.driver.queue
+      over Slave = from Slave (not (size == 0)) s.ends.slave.driver.queue
 
   moved_made-forgets : (side : Side) (size : ℕ) (t : Carried C (State C)) → moved_made side size (map_carried f (map_state f) t) ≡ map_turn_outcome f (moved_made side size t)
   moved_made-forgets side size t = ap (λ (s : State D). record { turn = Moved size; state = s; gone = (map_carried f (map_state f) t).gone }) (turn_ended-forgets side size t.state)
@@ -158,5 +158,5 @@ module _ {C : Type 0} (cells : Cells C) (are : AreCells cells) where
       from Slave (m ∷ rest) = serves-some Slave m rest s
 
       over : (side : Side) → driver_turned plain side (map_state f s) ≡ map_turn_outcome f (driver_turned cells side s)
-      over Master = from Master s.master.driver.queue.messages
-      over Slave = from Slave s.slave.driver.queue.messages
+      over Master = from Master s.ends.master.driver.queue.messages
+      over Slave = from Slave s.ends.slave.driver.queue.messages

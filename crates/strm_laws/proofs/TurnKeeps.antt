@@ -16,18 +16,19 @@ use Rattle.strm_types.specs.Names.{is_open, other, without, direction_at, direct
 use Rattle.strm_laws.specs.Places.{weight_gone, weight_made, direction_to}
 use Rattle.strm_laws.specs.Puts.{SameButMade, delivered}
 use Rattle.strm_types.specs.Queue.{Queue, left_with, relieved, weight}
-use Rattle.strm_laws.specs.State.{State, stream}
+use Rattle.strm_laws.specs.State.{State, stream, with_driver_queue}
 use Rattle.strm_laws.specs.TurnOutcomes.{TurnOutcome}
 use Rattle.strm_laws.specs.Turns.{blocked_across, driver_serves, held_back, is_stopped_across, moved_across, turned, turned_at, turned_queue, turn_ended, up_across, with_driver}
 use Rattle.strm_laws.proofs.TurnHolds.{any-holds, turn-holds, turns-stay}
 use Rattle.strm_laws.proofs.Deliveries.{delivered-keeps}
-use Rattle.strm_laws.proofs.PutsKeep.{same-itself, same-stays, unread-stays}
+use Rattle.strm_laws.proofs.PutsKeep.{same-itself, same-stays, same-with}
 use Rattle.strm_laws.proofs.ModuleTurnKeeps.{module_turned-keeps}
 use Rattle.strm_laws.proofs.PutsFall.{few-stand}
 use Rattle.strm_types.proofs.Weights.{weight-take}
 use Rattle.strm_laws.specs.Earlier.{driver_place, modules_on}
 use Rattle.strm_laws.proofs.Past.{waits-keeps}
 use Rattle.strm_types.specs.declared.names.Way.TheVariants.{Up, Down}
+use Rattle.strm_laws.proofs.StreamWeights.{same-weighs, stream-weighs}
 
 module _ {C : Type 0} where
   -- the end of a turn leaves all messages on its queue
@@ -35,17 +36,9 @@ module _ {C : Type 0} where
   left-there true q = refl
   left-there false q = refl
 
-  with-unread : (side : Side) (q : Queue C) (s : State C) → NothingUnread s → NothingUnread (with_driver side q s)
-  with-unread Master q s unread = record { master = unread.master; slave = unread.slave }
-  with-unread Slave q s unread = record { master = unread.master; slave = unread.slave }
-
-  pub turn-unread : (cells : Cells C) (name : QueueName) (turn : Turn) (s : State C) → NothingUnread s → NothingUnread (turned cells name turn s).state
-  turn-unread cells name turn s unread = turn-holds NothingUnread (turns-stay NothingUnread with-unread unread-stays) cells name turn s unread
-
 module _ {C : Type 0} (s : State C) where
   with-same : (side : Side) (q : Queue C) (t : State C) → SameButMade s t → SameButMade s (with_driver side q t)
-  with-same Master q t same = record { master = same.master; slave = same.slave; locked = same.locked; next_ioctl = same.next_ioctl; from_master = same.from_master; from_slave = same.from_slave }
-  with-same Slave q t same = record { master = same.master; slave = same.slave; locked = same.locked; next_ioctl = same.next_ioctl; from_master = same.from_master; from_slave = same.from_slave }
+  with-same side q t same = same-with s side (with_driver_queue q (stream side t)) t refl same
 
   pub turn-same : (cells : Cells C) (name : QueueName) (turn : Turn) → SameButMade s (turned cells name turn s).state
   turn-same cells name turn =
@@ -61,12 +54,15 @@ module _ {C : Type 0} (p : Dir → C → Bool) where
   same-weight t xs ys is = ap (λ (q : List (Message C)). weight t q) is
 
   ended-keeps : (side : Side) (size : ℕ) (s : State C) → state_weight p (turn_ended side size s) ≡ state_weight p s
-  ended-keeps Master size s = omega (arith, same-weight (p (direction_at Down Master)) _ _ (left-there (not (size == 0)) (turned_queue s.master.driver.queue)))
-  ended-keeps Slave size s = omega (arith, same-weight (p (direction_at Down Slave)) _ _ (left-there (not (size == 0)) (turned_queue s.slave.driver.queue)))
+  ended-keeps side size s =
+      let t = stream side s in
+      let q = cond (not (size == 0)) (relieved (turned_queue t.driver.queue)) (turned_queue t.driver.queue) in
+      same-weighs p side (with_driver_queue q t) s (omega (arith, same-weight (p (direction_at Down side)) _ _ (left-there (not (size == 0)) (turned_queue t.driver.queue))))
 
   taken-keeps : (side : Side) (m : Message C) (rest : List (Message C)) (s : State C) → (stream side s).driver.queue.messages ≡ m ∷ rest → state_weight p (with_driver side (left_with rest (stream side s).driver.queue) s) + weight_of (p (direction_from side)) m ≡ state_weight p s
-  taken-keeps Master m rest s is = omega (arith, same-weight (p (direction_at Down Master)) _ _ is, weight-take (p (direction_at Down Master)) m rest)
-  taken-keeps Slave m rest s is = omega (arith, same-weight (p (direction_at Down Slave)) _ _ is, weight-take (p (direction_at Down Slave)) m rest)
+  taken-keeps side m rest s is =
+      let q = (stream side s).driver.queue in
+      omega (arith, stream-weighs p side (with_driver_queue (left_with rest q) (stream side s)) s, same-weight (p (direction_at Down side)) _ _ is, weight-take (p (direction_at Down side)) m rest)
 
   -- it goes on in its direction
   across-weighs : (side : Side) (m : Message C) (at : ℕ) → weight_of (p (direction_to (record { side = other side; at = at; way = Up }))) m ≡ weight_of (p (direction_from side)) m
@@ -82,8 +78,7 @@ module _ {C : Type 0} (p : Dir → C → Bool) where
   blocked-keeps side m s = waits-keeps p (other side) Up (driver_place (other side) s) (band_of m) s
 
   held-keeps : (side : Side) (s : State C) (want : Bool) → state_weight p (with_driver side (record (stream side s).driver.queue { want_read = want }) s) ≡ state_weight p s
-  held-keeps Master s want = refl
-  held-keeps Slave s want = refl
+  held-keeps side s want = same-weighs p side (with_driver_queue (record (stream side s).driver.queue { want_read = want }) (stream side s)) s refl
 
   serves-keeps : (cells : Cells C) (side : Side) (ms : List (Message C)) (s : State C) → (stream side s).driver.queue.messages ≡ ms → Keeps (driver_serves cells side ms s) (state_weight p s)
   serves-keeps cells side [] s is = omega (arith, held-keeps side s true)
@@ -94,7 +89,7 @@ module _ {C : Type 0} (p : Dir → C → Bool) where
       (moved-keeps cells side m rest s is)
 
   pub turn-keeps : (cells : Cells C) (name : QueueName) → tests_at cells p name.place → (turn : Turn) (s : State C) → AreIdle s → Keeps (turned cells name turn s) (state_weight p s)
-  turn-keeps cells name tests turn s idle = at name.place tests (record s { enabled = without name s.enabled }) (record { master = idle.master; slave = idle.slave })
+  turn-keeps cells name tests turn s idle = at name.place tests (record s { enabled = without name s.enabled }) idle
     where
       at : (place : Place) → tests_at cells p place → (s : State C) → AreIdle s → Keeps (turned_at cells place name turn s) (state_weight p s)
       at Driver tests s idle = serves-keeps cells name.side (stream name.side s).driver.queue.messages s refl

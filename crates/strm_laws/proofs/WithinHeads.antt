@@ -1,5 +1,5 @@
 -- What a head keeps for its caller stays bounded: signals wait once each, and answers are cut.
-use Rattle.std.proofs.Common.{ℕ, ◌≤◌, Bool, true, false, cond, List, length, arith}
+use Rattle.std.proofs.Common.{ℕ, ◌≤◌, Bool, true, false, cond, List, length, arith, []}
 use Rattle.std.specs.Prelude.{◌==◌, drop, Option, None, Some}
 use Rattle.std.proofs.lemmas.List.{length-take}
 use Rattle.strm_types.specs.declared.flushing.FlushAsked.{FlushAsked}
@@ -28,9 +28,12 @@ use Rattle.strm_laws.specs.State.{State, stream, with_stream}
 use Rattle.strm_laws.specs.Within.{AreWithin, IsWithin}
 use Rattle.strm_laws.proofs.PutParts.{BookHolds, Stays, either-holds, waiting}
 use Rattle.strm_types.proofs.SignalRoom.{named-within}
+use Rattle.strm_types.specs.Dropped.{slot_dropped, has_ioctl}
+use Rattle.strm_types.specs.Numbers.{number_of}
+use Rattle.strm_types.specs.declared.refusals.Refusal.TheVariants.{Einval}
 
 -- answers
-abbrev Fits : PlainSlot → Type 0
+abbrev pub Fits : PlainSlot → Type 0
 Fits slot = length (answer_bytes slot) ≤ IOCTL_MAX
 
 body-fits : (bytes : List ℕ) → length (answer_body bytes) ≤ IOCTL_MAX
@@ -50,6 +53,16 @@ pub behind-fits : (slot : PlainSlot) → Fits (slot_behind slot)
 behind-fits Free = omega arith
 behind-fits (Waiting number command) = omega arith
 behind-fits (Answered number command acked error body) = omega arith
+
+-- once messages have gone
+pub dropped-fits : {C : Type 0} (ms : List (Message C)) (slot : PlainSlot) → Fits slot → Fits (slot_dropped ms slot)
+dropped-fits ms Free fits = fits
+dropped-fits ms (Waiting number command) fits = at (has_ioctl number ms)
+  where
+    at : (goes : Bool) → Fits (cond goes (Answered number command false (number_of Einval) []) (Waiting number command))
+    at true = omega arith
+    at false = omega arith
+dropped-fits ms (Answered number command acked error body) fits = fits
 
 module _ {C : Type 0} where
   -- at a head
@@ -77,43 +90,3 @@ module _ {C : Type 0} where
 
   pub put-within : (here : Spot) (m : Message C) (h : Head C) → IsWithin h → IsWithin (head_put here m h).state
   put-within here m h within = either-within (has_parts m) (waits_for_readers here m h) (obeyed here m.kind m.plain h) (waits-within here m h within) (obeyed-within here m.kind m.plain h within)
-
-  -- in a pair
-  pub head-within : (side : Side) (here : Spot) (m : Message C) (s : State C) → AreWithin s → AreWithin (put_at_head side here m s).state
-  head-within Master here m s within = either-holds AreWithin (is_open s.master.opened) _ _ (record { master = put-within here m s.master.head within.master; slave = within.slave }) within
-  head-within Slave here m s within = either-holds AreWithin (is_open s.slave.opened) _ _ (record { master = within.master; slave = put-within here m s.slave.head within.slave }) within
-
-  pub within-stays : Stays {C = C} AreWithin
-  within-stays = record { head = head-within; driver = driver; modules = modules; names = λ names s within. record { master = within.master; slave = within.slave }; books = books; waits = waits }
-    where
-      driver : (side : Side) (here : Spot) (m : Message C) (s : State C) → AreWithin s → AreWithin (put_at_driver side here m s).state
-      driver Master here m s within = record { master = within.master; slave = within.slave }
-      driver Slave here m s within = record { master = within.master; slave = within.slave }
-
-      modules : (side : Side) (ps : List (Module C)) (s : State C) → AreWithin s → AreWithin (with_stream side (record (stream side s) { modules = ps }) s)
-      modules Master ps s within = record { master = within.master; slave = within.slave }
-      modules Slave ps s within = record { master = within.master; slave = within.slave }
-
-      books : BookHolds {C = C} AreWithin
-      books MasterToSlave n s within = record { master = within.master; slave = within.slave }
-      books SlaveToMaster n s within = record { master = within.master; slave = within.slave }
-
-      waits : (side : Side) (way : Way) (band : ℕ) (s : State C) → AreWithin s → AreWithin (waiting side way band s)
-      waits Master Up band s within = record { master = record { signals = within.master.signals; answer = within.master.answer }; slave = within.slave }
-      waits Master Down band s within = record { master = within.master; slave = within.slave }
-      waits Slave Up band s within = record { master = within.master; slave = record { signals = within.slave.signals; answer = within.slave.answer } }
-      waits Slave Down band s within = record { master = within.master; slave = within.slave }
-
-  -- at a side
-  pub side-within : (side : Side) (s : State C) → AreWithin s → IsWithin (stream side s).head
-  side-within Master s within = within.master
-  side-within Slave s within = within.slave
-
-  pub with-head-within : (side : Side) (h : Head C) (s : State C) → IsWithin h → AreWithin s → AreWithin (with_stream side (record (stream side s) { head = h }) s)
-  with-head-within Master h s new within = record { master = new; slave = within.slave }
-  with-head-within Slave h s new within = record { master = within.master; slave = new }
-
-  -- where an ioctl begins
-  pub begun-within : (side : Side) (command : ℕ) (s : State C) → AreWithin s → AreWithin (ioctl_begun side command s)
-  begun-within Master command s within = record { master = record { signals = within.master.signals; answer = omega arith }; slave = within.slave }
-  begun-within Slave command s within = record { master = within.master; slave = record { signals = within.slave.signals; answer = omega arith } }

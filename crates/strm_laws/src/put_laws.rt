@@ -62,7 +62,7 @@ pub fn deliveries_leave_the_ends<C>()
 /// driver's queue, which is enabled as putq(9F) has it. Nothing else changes and nothing goes. Its premise is that the master
 /// isn't closed, as then nothing crosses any more.
 pub fn puts_stand_at_the_driver<C>()
-    ensures { (cells : Cells C) (side : Side) (m : Message C) (s : State C) → has_parts m ≡ true → is_closed s.master.opened ≡ false → NoModules s →
+    ensures { (cells : Cells C) (side : Side) (m : Message C) (s : State C) → has_parts m ≡ true → is_closed s.ends.master.opened ≡ false → NoModules s →
         delivered cells (record { side = side; at = 1; way = Down }) m s ≡ put_effect side m s }
 {}
 

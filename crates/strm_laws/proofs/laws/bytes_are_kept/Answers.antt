@@ -1,6 +1,7 @@
 use Rattle.std.proofs.Common.{sym, subst}
 use Rattle.strm_laws.specs.Kept.{AreIdle, NothingUnread}
-use Rattle.strm_laws.proofs.Kept.{step-keeps, step-unread, opening-unread}
+use Rattle.strm_laws.proofs.Kept.{step-keeps}
+use Rattle.strm_laws.proofs.Unread.{step-unread, opening-unread}
 use Rattle.strm_laws.proofs.StepsIdle.{opening-idle, step-idle}
 use Rattle.strm_types.proofs.Weights.{weight-put, weight-put_back}
 use Rattle.strm_laws.proofs.FirstTaken.{taken-weight}
@@ -22,7 +23,7 @@ pub returns-clause-unread : goal.returns-clause-unread
 returns-clause-unread g c = λ cells old new entry unread step. step-unread cells old new entry unread step
 
 pub returns-clause-opening : goal.returns-clause-opening
-returns-clause-opening g c = λ s is. (subst (λ t. NothingUnread t) (sym is) opening-unread, subst (λ t. AreIdle t) (sym is) opening-idle)
+returns-clause-opening g c = λ s is. (subst (λ t. NothingUnread t) (sym is) opening-unread, subst (λ t. AreIdle t) (sym is) (opening-idle _))
 
 pub returns-clause-idle : goal.returns-clause-idle
 returns-clause-idle g c = λ cells old new entry idle step. step-idle cells old new entry idle step

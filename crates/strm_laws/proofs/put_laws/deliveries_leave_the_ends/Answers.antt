@@ -1,4 +1,5 @@
-use Rattle.strm_laws.proofs.Deliveries.{delivered-same, delivered-unread}
+use Rattle.strm_laws.proofs.Deliveries.{delivered-same}
+use Rattle.strm_laws.proofs.Unread.{delivered-unread}
 use Rattle.strm_laws.proofs.put_laws.deliveries_leave_the_ends.Goals as goal
 
 pub returns-clause-same : goal.returns-clause-same

@@ -1,0 +1,55 @@
+-- A side that isn't open has nothing for its readers, from the opening on.
+use Rattle.std.proofs.Common.{◌≡◌, Bool, false, List, [], refl}
+use Rattle.strm_types.specs.declared.answers.Turn.{Turn}
+use Rattle.strm_types.specs.declared.names.QueueName.{QueueName}
+use Rattle.strm_types.specs.declared.names.Side.{Side}
+use Rattle.strm_types.specs.declared.spots.Spot.{Spot}
+use Rattle.strm_types.specs.Cells.{Cells}
+use Rattle.strm_types.specs.Journal.{PlainEntry}
+use Rattle.strm_types.specs.Message.{Message}
+use Rattle.strm_types.specs.Names.{is_open}
+use Rattle.strm_laws.specs.Kept.{NothingUnread}
+use Rattle.strm_laws.specs.Puts.{delivered}
+use Rattle.strm_laws.specs.Stacked.{Module}
+use Rattle.strm_laws.specs.State.{State, Stream, opening}
+use Rattle.strm_laws.specs.Step.{Step}
+use Rattle.strm_laws.specs.Turns.{turned}
+use Rattle.strm_types.proofs.BySide.{each-side}
+use Rattle.strm_laws.proofs.EachStream.{Changes, each-stays, each-turns, step-each}
+use Rattle.strm_laws.proofs.PutParts.{delivered-holds}
+use Rattle.strm_laws.proofs.TurnHolds.{turn-holds}
+
+module _ {C : Type 0} where
+  abbrev Unread : Side → Stream C → Type 0
+  Unread side t = is_open t.opened ≡ false → t.head.queue.messages ≡ []
+
+  abbrev Any : List (Module C) → Type 0
+  Any ps = Unit {0}
+
+  changes : Changes Unread Any
+  changes = record {
+    put = λ side here m t is none closed. absurd (cc);
+    queue = λ side q t so none closed. so closed (none closed);
+    settings = λ side read control hung_up t none. none;
+    slot = λ side slot t fits none. none;
+    handed = λ side t none. none;
+    opened = λ side t none closed. absurd (cc);
+    anew = λ side opened t none closed. refl;
+    driver = λ side q t none. none;
+    modules = λ side ps t good none. none;
+    good = λ side t none. tt;
+    below = λ p ps good. tt;
+    above = λ name ps good. tt;
+  }
+
+  pub opening-unread : NothingUnread {C = C} opening
+  opening-unread = each-side Unread opening.ends (λ closed. refl) (λ closed. refl)
+
+  pub delivered-unread : (cells : Cells C) (to : Spot) (m : Message C) (s : State C) → NothingUnread s → NothingUnread (delivered cells to m s).state
+  delivered-unread cells to m s unread = delivered-holds NothingUnread (each-stays Unread Any changes (λ ps. tt)) cells to m s unread
+
+  pub turn-unread : (cells : Cells C) (name : QueueName) (turn : Turn) (s : State C) → NothingUnread s → NothingUnread (turned cells name turn s).state
+  turn-unread cells name turn s unread = turn-holds NothingUnread (each-turns Unread Any changes (λ ps. tt)) cells name turn s unread
+
+  pub step-unread : (cells : Cells C) (old new : State C) (entry : PlainEntry) → NothingUnread old → Step cells old entry new → NothingUnread new
+  step-unread cells old new entry unread step = step-each Unread Any changes cells (delivered-unread cells) (turn-unread cells) old new entry unread step
