@@ -9,7 +9,7 @@ use Rattle.strm_types.specs.declared.entries.Entry.TheVariants.{Called, Turned}
 use Rattle.strm_types.specs.declared.events.Caller.{Caller}
 use Rattle.strm_types.specs.declared.events.FlushQueues.{FlushQueues}
 use Rattle.strm_types.specs.declared.kinds.Band.{Band}
-use Rattle.strm_types.specs.declared.events.Event.TheVariants.{OpenMaster, Unlock, OpenSlave, Shut, Push, Pop, Look, Flush, Write, Read, Put, Get, Mode, Nread, Ioctl, IoctlResult, Signals}
+use Rattle.strm_types.specs.declared.events.Event.TheVariants.{Shut, Push, Pop, Flush, Write, Read, Put, Get, Ioctl}
 use Rattle.strm_types.specs.declared.limits.TheConstants.{CONTROL_MAX, DATA_MAX, READ_MAX}
 use Rattle.strm_types.specs.declared.modes.Prio.{Prio}
 use Rattle.strm_types.specs.declared.names.Dir.{Dir}
@@ -23,7 +23,7 @@ use Rattle.strm_types.specs.declared.spots.Spot.{Spot}
 use Rattle.strm_types.specs.Books as books
 use Rattle.strm_types.specs.Books.{with_written}
 use Rattle.strm_types.specs.Events.{Reply, Request}
-use Rattle.strm_laws.specs.Calls.{called, delivers, get_at, ioctl_begun, ioctl_sent, ioctl_told, message_put, mode_set, put_at, read_at, signals_told, write_sent}
+use Rattle.strm_laws.specs.Calls.{called, delivers, ioctl_begun, ioctl_sent, ioctl_told, message_put, put_at, write_sent}
 use Rattle.strm_types.specs.Cells.{Cells, cells_written}
 use Rattle.strm_laws.specs.Closes.{closed_at, driver_emptied, ended, head_emptied, hung_up_at, stream_emptied}
 use Rattle.strm_types.specs.Deliver.{Fate, Goes, Comes}
@@ -37,7 +37,7 @@ use Rattle.strm_types.specs.Message.{Message, cells_of, data_message, part}
 use Rattle.strm_types.specs.Names.{direction_from, direction_of, head_of, is_open}
 use Rattle.strm_laws.specs.Places.{weight_made}
 use Rattle.strm_types.specs.PutMsg.{is_no_prio, is_too_long, put_refusal}
-use Rattle.strm_laws.specs.Pushes.{head_above, ioctl_dropped, named_by, with_modules}
+use Rattle.strm_laws.specs.Pushes.{head_above, named_by}
 use Rattle.strm_laws.specs.Puts.{delivered, flushed_on}
 use Rattle.strm_laws.specs.Refusals.{blocks_asked, in_range, refused_at_once, refused_by_state}
 use Rattle.strm_types.specs.Refused.{or_else}

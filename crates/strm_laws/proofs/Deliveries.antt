@@ -11,7 +11,7 @@ use Rattle.strm_types.specs.declared.names.Dir.{Dir}
 use Rattle.strm_types.specs.Cells.{Cells}
 use Rattle.strm_types.specs.Names.{direction_from}
 use Rattle.strm_types.specs.Flushing.{asked_of, flush_bytes, flush_message}
-use Rattle.strm_laws.specs.Kept.{NothingUnread, state_weight}
+use Rattle.strm_laws.specs.Kept.{state_weight}
 use Rattle.strm_types.specs.Message.{Message, weight_of}
 use Rattle.strm_laws.specs.Places.{weight_gone, weight_made, direction_to}
 use Rattle.strm_laws.specs.Puts.{SameButMade, delivered, flushed_on, put_in}

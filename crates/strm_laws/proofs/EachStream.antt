@@ -1,10 +1,10 @@
 -- What holds of each stream of a pair holds behind each step, where it holds of a stream that changes as steps change it.
-use Rattle.std.proofs.Common.{ℕ, ◌≡◌, ◌≤◌, Bool, true, false, cond, List, [], ◌∷◌, length, refl, subst, arith}
+use Rattle.std.proofs.Common.{ℕ, ◌≡◌, Bool, true, false, cond, List, [], ◌∷◌, refl, subst, arith}
 use Rattle.std.specs.Prelude.{Option, None, Some, min}
 use Rattle.strm_types.specs.declared.answers.Turn.{Turn}
 use Rattle.strm_types.specs.declared.entries.Entry.TheVariants.{Called, Turned}
 use Rattle.strm_types.specs.declared.events.Caller.{Caller}
-use Rattle.strm_types.specs.declared.events.Event.TheVariants.{OpenMaster, Unlock, OpenSlave, Shut, Push, Pop, Flush, Write, Read, Put, Get, Mode, Ioctl, IoctlResult, Signals}
+use Rattle.strm_types.specs.declared.events.Event.TheVariants.{OpenMaster, OpenSlave, Shut, Push, Pop, Flush, Write, Read, Put, Get, Mode, Ioctl, IoctlResult, Signals}
 use Rattle.strm_types.specs.declared.limits.TheConstants.{READ_MAX}
 use Rattle.strm_types.specs.declared.modes.ControlMode.{ControlMode}
 use Rattle.strm_types.specs.declared.modes.Mode as modes
@@ -29,7 +29,7 @@ use Rattle.strm_types.specs.Emptied.{of_all, queue_behind}
 use Rattle.strm_types.specs.Events.{Request}
 use Rattle.strm_types.specs.Flushing.{asked_of, flush_bytes, flush_message}
 use Rattle.strm_types.specs.GetQueues.{get_queue}
-use Rattle.strm_types.specs.Heads.{Head, head_put, new_head}
+use Rattle.strm_types.specs.Heads.{head_put, new_head}
 use Rattle.strm_types.specs.Ioctls.{asking, ioctl_message}
 use Rattle.strm_types.specs.Journal.{PlainEntry}
 use Rattle.strm_types.specs.Message.{Message}
@@ -56,7 +56,6 @@ use Rattle.strm_laws.proofs.Replay.{allowed-met}
 use Rattle.strm_laws.proofs.TurnHolds.{Turns, turns-stay}
 use Rattle.strm_laws.proofs.WithinHeads.{Fits, behind-fits, dropped-fits}
 use Rattle.strm_laws.proofs.WriteSteps.{cells_sent-holds}
-use Rattle.strm_types.specs.Dropped.{slot_dropped}
 
 -- the place below a side's head
 abbrev below : Side → Spot

@@ -2,7 +2,6 @@
 use Rattle.std.proofs.Common.{ℕ, ◌≡◌, ◌+◌, Bool, true, false, cond, List, [], ◌∷◌, ◌++◌, refl, ap, ◌∙◌, arith}
 use Rattle.std.specs.Prelude.{not, count_by}
 use Rattle.strm_types.specs.declared.names.Side.{Side}
-use Rattle.strm_types.specs.declared.names.Side.TheVariants.{Master, Slave}
 use Rattle.strm_types.specs.declared.rules.Rule.{Rule}
 use Rattle.strm_types.specs.declared.names.Dir.{Dir}
 use Rattle.strm_types.specs.declared.names.Way.TheVariants.{Up, Down}
@@ -10,7 +9,7 @@ use Rattle.strm_types.specs.Names.{direction_at}
 use Rattle.strm_types.specs.Deliver.{Carried}
 use Rattle.strm_laws.specs.Closes.{head_emptied, driver_emptied, and_then}
 use Rattle.strm_types.specs.Emptied.{Choice, of_all, stayed, cells_gone, emptied, none_goes, queue_behind}
-use Rattle.strm_laws.specs.Kept.{state_weight, NothingUnread}
+use Rattle.strm_laws.specs.Kept.{state_weight}
 use Rattle.strm_types.specs.Message.{Message, cells_of}
 use Rattle.strm_laws.specs.Places.{weight_gone, weight_made}
 use Rattle.strm_types.specs.Queue.{Queue, weight, relieved}

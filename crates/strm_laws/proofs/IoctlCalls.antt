@@ -11,7 +11,7 @@ use Rattle.strm_types.specs.Cells.{AreCells, Cells, plain}
 use Rattle.strm_types.specs.Names.{direction_from}
 use Rattle.strm_laws.specs.Calls.{ioctl_begun, ioctl_sent, ioctl_told, signals_told, map_outcome}
 use Rattle.strm_types.specs.Ioctls.{asking, ioctl_message}
-use Rattle.strm_laws.specs.Kept.{NothingUnread, state_weight}
+use Rattle.strm_laws.specs.Kept.{state_weight}
 use Rattle.strm_types.specs.Message.{Message, cells_of, map_message, weight_of}
 use Rattle.strm_types.specs.Origins.{map_carried}
 use Rattle.strm_laws.specs.Places.{weight_gone, weight_made}

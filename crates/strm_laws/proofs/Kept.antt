@@ -1,36 +1,29 @@
 -- No step of a pair loses a byte, or makes one that it doesn't tell.
-use Rattle.std.proofs.Common.{ℕ, ◌≡◌, ◌+◌, Bool, true, false, cond, List, [], refl, sym, ap, subst, ◌∙◌, arith}
+use Rattle.std.proofs.Common.{ℕ, ◌≡◌, ◌+◌, Bool, true, false, cond, List, [], refl, sym, ap, ◌∙◌, arith}
 use Rattle.std.specs.Prelude.{min, not, None, count_by}
-use Rattle.std.specs.List.{AllByRecursion}
 use Rattle.strm_types.specs.declared.limits.TheConstants.{READ_MAX}
-use Rattle.strm_types.specs.declared.answers.Answer.TheVariants.{Bytes}
 use Rattle.strm_types.specs.declared.entries.Entry.TheVariants.{Called, Turned}
 use Rattle.strm_types.specs.declared.events.Caller.{Caller}
-use Rattle.strm_types.specs.declared.events.Event.TheVariants.{OpenMaster, Unlock, OpenSlave, Shut, Push, Pop, Flush, Write, Read, Put, Get, Mode, Ioctl, IoctlResult, Signals}
+use Rattle.strm_types.specs.declared.events.Event.TheVariants.{OpenSlave, Shut, Push, Pop, Flush, Write, Read, Put, Get, Mode, Ioctl, IoctlResult, Signals}
 use Rattle.strm_types.specs.declared.modes.Mode as modes
 use Rattle.strm_types.specs.declared.modes.Mode.TheVariants as chosen
 use Rattle.strm_types.specs.declared.modes.Wanted.{Wanted}
 use Rattle.strm_types.specs.declared.modes.ControlMode.{ControlMode}
 use Rattle.strm_types.specs.declared.modes.ReadMode.{ReadMode}
-use Rattle.strm_types.specs.declared.books.Book.{Book}
 use Rattle.strm_types.specs.declared.names.Dir.{Dir}
-use Rattle.strm_types.specs.declared.names.Dir.TheVariants.{MasterToSlave, SlaveToMaster}
 use Rattle.strm_types.specs.declared.names.Side.{Side}
-use Rattle.strm_types.specs.declared.names.Side.TheVariants.{Master, Slave}
+use Rattle.strm_types.specs.declared.names.Side.TheVariants.{Slave}
 use Rattle.strm_types.specs.declared.refusals.Refusal.TheVariants.{Einval}
 use Rattle.strm_types.specs.declared.names.Way.TheVariants.{Up}
-use Rattle.strm_types.specs.Cells.{Cells, cells_written, bytes_of}
+use Rattle.strm_types.specs.Cells.{Cells, cells_written}
 use Rattle.strm_types.specs.Names.{direction_from, direction_of, head_of, is_open, direction_at}
 use Rattle.strm_types.specs.Message.{Message}
-use Rattle.strm_laws.specs.Pushes.{named_by}
 use Rattle.strm_types.specs.Queue.{Queue, weight, left_with, relieved}
-use Rattle.strm_types.specs.Books.{with_written}
-use Rattle.strm_laws.specs.Stacked.{IsAtRest}
-use Rattle.strm_laws.specs.State.{State, stream, book, opening, with_book, with_head_queue}
-use Rattle.strm_types.specs.Reads.{Drawn, head_draw, none_went, queue_drawn, read_fates, read_gone, read_lets_go, read_queue, takes_none}
+use Rattle.strm_laws.specs.State.{State, stream, book, with_head_queue}
+use Rattle.strm_types.specs.Reads.{Drawn, head_draw, none_went, queue_drawn, read_fates, read_gone, read_queue, takes_none}
 use Rattle.strm_types.specs.Events.{Request, Reply}
-use Rattle.strm_laws.specs.Calls.{read_at, write_sent, wrote, get_at, mode_set, ioctl_sent, called}
-use Rattle.strm_types.specs.GetQueues.{get_queue, get_lets_go, get_gone}
+use Rattle.strm_laws.specs.Calls.{read_at, write_sent, wrote, get_at, mode_set, called}
+use Rattle.strm_types.specs.GetQueues.{get_queue, get_gone}
 use Rattle.strm_types.specs.Journal.{PlainEntry}
 use Rattle.strm_types.specs.Refused.{or_else}
 use Rattle.strm_laws.specs.Refusals.{refused_at_once, refused_by_state}
@@ -41,14 +34,13 @@ use Rattle.strm_laws.specs.Kept.{state_weight, NothingUnread, AreIdle, MayTest, 
 use Rattle.strm_laws.proofs.ClosesKeep.{closed_at-keeps}
 use Rattle.strm_laws.proofs.PushKeeps.{pop-keeps, push-keeps}
 use Rattle.strm_laws.proofs.Deliveries.{flushed_on-keeps}
-use Rattle.strm_laws.proofs.WriteSteps.{cells_sent-holds, cells_sent-keeps}
+use Rattle.strm_laws.proofs.WriteSteps.{cells_sent-keeps}
 use Rattle.strm_laws.proofs.GotQueues.{get_queue-keeps}
 use Rattle.strm_laws.proofs.IoctlCalls.{sent-keeps, signals-keep, told-keeps}
 use Rattle.strm_laws.proofs.PutMessages.{put_at-keeps}
 use Rattle.strm_types.proofs.ReadKeeps.{head_draw-keeps}
 use Rattle.strm_laws.proofs.TurnKeeps.{turn-keeps}
-use Rattle.strm_laws.proofs.Replay.{allowed-met, unless-none, or_else-none}
-use Rattle.strm_laws.proofs.ForgettingSteps.{taken_from}
+use Rattle.strm_laws.proofs.Replay.{unless-none, or_else-none}
 use Rattle.strm_laws.proofs.StreamWeights.{same-weighs, stream-weighs}
 
 closed-of : (b : Bool) → not b ≡ true → b ≡ false

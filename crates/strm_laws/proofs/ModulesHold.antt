@@ -1,8 +1,6 @@
 -- What each put at a module keeps of the modules of both streams, a delivery keeps.
 use Rattle.std.proofs.Common.{ℕ, ◌-◌, List}
-use Rattle.strm_types.specs.declared.names.Dir.TheVariants.{MasterToSlave, SlaveToMaster}
 use Rattle.strm_types.specs.declared.names.Side.{Side}
-use Rattle.strm_types.specs.declared.names.Side.TheVariants.{Master, Slave}
 use Rattle.strm_types.specs.declared.spots.Spot.{Spot}
 use Rattle.strm_types.specs.Cells.{Cells}
 use Rattle.strm_types.specs.Message.{Message}

@@ -9,12 +9,12 @@ use Rattle.strm_laws.specs.Kept.{AreIdle}
 use Rattle.strm_types.specs.LdtermPuts.{ldterm_puts}
 use Rattle.strm_types.specs.Message.{Message}
 use Rattle.strm_types.specs.Modules.{put_among}
-use Rattle.strm_laws.specs.Puts.{delivered, put_at_head, put_in}
+use Rattle.strm_laws.specs.Puts.{delivered, put_in}
 use Rattle.strm_laws.specs.Stacked.{Module, OfLdterm, OfPtem, OfPckt, IsAtRest, module_puts}
 use Rattle.strm_laws.specs.State.{State}
 use Rattle.strm_types.proofs.DeliveryHolds.{PutHolds, carried-holds}
 use Rattle.strm_types.proofs.LdtermPutStays.{idle-stays, puts-stay}
-use Rattle.strm_laws.proofs.ModulesHold.{head-good, puts-good}
+use Rattle.strm_laws.proofs.ModulesHold.{puts-good}
 
 module _ {C : Type 0} where
   pub puts-idle : (cells : Cells C) (made : ℕ) (here : Spot) (m : Message C) (q : Module C) → IsAtRest q → IsAtRest (module_puts cells made here m q).state

@@ -15,7 +15,7 @@ use Rattle.strm_types.specs.Books.{with_written}
 use Rattle.strm_laws.specs.Calls.{message_put, put_at}
 use Rattle.strm_types.specs.Cells.{Cells, AreCells, plain, cells_written}
 use Rattle.strm_types.specs.Deliver.{Carried}
-use Rattle.strm_laws.specs.Kept.{NothingUnread, state_weight}
+use Rattle.strm_laws.specs.Kept.{state_weight}
 use Rattle.strm_types.specs.Message.{Message, part, cells_of, map_message}
 use Rattle.strm_types.specs.Names.{direction_from}
 use Rattle.strm_types.specs.Origins.{map_carried}

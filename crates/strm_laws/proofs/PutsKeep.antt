@@ -4,18 +4,16 @@ use Rattle.std.specs.Prelude.{◌==◌, ◌&&◌, not, min, nat_le}
 use Rattle.std.proofs.lemmas.Bool.Decides.{nat_tests}
 use Rattle.strm_types.specs.declared.limits.TheConstants.{MODULES}
 use Rattle.strm_types.specs.declared.names.Side.{Side}
-use Rattle.strm_types.specs.declared.names.Side.TheVariants.{Master, Slave}
 use Rattle.strm_types.specs.declared.names.Way.{Way}
 use Rattle.strm_types.specs.declared.names.Way.TheVariants.{Up, Down}
 use Rattle.strm_types.specs.declared.spots.Spot.{Spot}
 use Rattle.strm_types.specs.declared.names.Dir.{Dir}
-use Rattle.strm_types.specs.declared.names.Dir.TheVariants.{MasterToSlave, SlaveToMaster}
 use Rattle.strm_types.specs.Books.{with_made}
 use Rattle.strm_types.specs.Cells.{Cells}
 use Rattle.strm_types.specs.Deliver.{Acted, Comes, Fate, Goes, Took}
 use Rattle.strm_laws.specs.Earlier.{driver_place, modules_on}
 use Rattle.strm_types.specs.Flushing.{is_flush, is_bare_flush}
-use Rattle.strm_laws.specs.Kept.{NothingUnread, state_weight}
+use Rattle.strm_laws.specs.Kept.{state_weight}
 use Rattle.strm_types.specs.Message.{Message, has_parts, weight_of}
 use Rattle.strm_types.specs.Names.{direction_at, is_open}
 use Rattle.strm_laws.specs.Places.{PutKeeps, direction_to, way_to, weight_sent, weight_gone, weight_made}
@@ -25,7 +23,7 @@ use Rattle.strm_laws.specs.Stacked.{Module, module_puts, modules_weight}
 use Rattle.strm_laws.specs.State.{State, stream, with_book, with_stream, book, Stream, with_driver_queue}
 use Rattle.strm_laws.proofs.ModulePuts.{among-keeps}
 use Rattle.strm_laws.proofs.LdtermKeeps.{way-up}
-use Rattle.strm_laws.proofs.PutParts.{BookHolds, Stays, either-holds, waiting, NamesHold}
+use Rattle.strm_laws.proofs.PutParts.{Stays, either-holds, waiting, NamesHold}
 use Rattle.strm_laws.proofs.PutWeights.{driver_put-keeps, head_put-keeps, no-parts}
 use Rattle.strm_types.proofs.Weights.{weight-whole}
 use Rattle.strm_laws.proofs.StreamWeights.{stream-weighs}

@@ -1,6 +1,6 @@
 -- A put makes no more than what it takes of blocks says, so that the books have room for what it gives rise to.
-use Rattle.std.proofs.Common.{ℕ, zero, suc, ◌≡◌, ◌<◌, ◌≤◌, ◌+◌, ◌-◌, Bool, true, false, cond, List, [], ◌∷◌, length, map, refl, ap, ◌∙◌, arith}
-use Rattle.std.specs.Prelude.{min, ◌*◌, ◌^◌, ◌==◌, ◌&&◌, None, slice_index_or}
+use Rattle.std.proofs.Common.{ℕ, zero, suc, ◌≡◌, ◌<◌, ◌≤◌, ◌+◌, ◌-◌, Bool, true, false, cond, List, [], ◌∷◌, length, map, refl, ap, arith}
+use Rattle.std.specs.Prelude.{min, ◌*◌, ◌^◌, ◌==◌, ◌&&◌, slice_index_or}
 use Rattle.std.specs.Bool.{OnTrue}
 use Rattle.strm_types.specs.declared.books.Book.{Book}
 use Rattle.strm_types.specs.declared.events.Caller.{Caller}
@@ -16,19 +16,18 @@ use Rattle.strm_types.specs.Events.{Request}
 use Rattle.strm_laws.specs.Calls.{called, delivers}
 use Rattle.strm_types.specs.Cells.{Cells}
 use Rattle.strm_types.specs.Deliver.{Acted, Comes, Fate, Goes}
-use Rattle.strm_laws.specs.Earlier.{places_of}
 use Rattle.strm_types.specs.Input.{made_of}
 use Rattle.strm_types.specs.LdtermPuts.{ldterm_puts}
 use Rattle.strm_types.specs.Message.{Message}
 use Rattle.strm_types.specs.Pckts.{is_bare_packet, is_packed, pckt_on_way, pckt_packs, pckt_passes, plain_packed}
 use Rattle.strm_types.specs.ModuleQueues.{at_place}
 use Rattle.strm_types.specs.Modules.{put_among}
-use Rattle.strm_laws.specs.Puts.{booked, earlier_at, made_above, module_acted, noted, passed_up, put_at_driver, put_at_head, put_at_module, put_behind}
+use Rattle.strm_laws.specs.Puts.{booked, made_above, module_acted, passed_up, put_at_driver, put_at_head, put_at_module, put_behind}
 use Rattle.strm_types.specs.Flushing.{is_bare_flush}
 use Rattle.strm_laws.specs.Refusals.{in_range}
 use Rattle.strm_laws.specs.Spares.{module_packs, packet_most, packs_on_way, spare, spare_behind}
 use Rattle.strm_laws.specs.Stacked.{Module, OfLdterm, OfPtem, OfPckt, module_puts}
-use Rattle.strm_laws.specs.State.{State, book, stream, with_book, with_stream}
+use Rattle.strm_laws.specs.State.{State, book, stream, with_book}
 use Rattle.strm_laws.proofs.Balances.{range-low, still-same}
 use Rattle.strm_laws.proofs.ModulePuts.{ldterm-none}
 use Rattle.strm_types.proofs.PcktPuts.{packs-make}

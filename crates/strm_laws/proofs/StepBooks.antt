@@ -8,18 +8,15 @@ use Rattle.strm_types.specs.declared.names.Place.{Place}
 use Rattle.strm_types.specs.declared.names.Place.TheVariants.{Head, Ldterm, Driver}
 use Rattle.strm_types.specs.declared.names.QueueName.{QueueName}
 use Rattle.strm_types.specs.declared.names.Side.{Side}
-use Rattle.strm_types.specs.declared.names.Side.TheVariants.{Master, Slave}
 use Rattle.strm_types.specs.declared.names.Way.{Way}
-use Rattle.strm_types.specs.declared.names.Way.TheVariants.{Up}
 use Rattle.strm_types.specs.declared.spots.Asks.{Asks}
 use Rattle.strm_types.specs.declared.spots.Asks.TheVariants as asked
 use Rattle.strm_types.specs.declared.spots.Spot.{Spot}
 use Rattle.strm_types.specs.Cells.{Cells}
 use Rattle.strm_types.specs.Deliver.{Fate, carried, in_turn}
-use Rattle.strm_laws.specs.Earlier.{driver_place}
-use Rattle.strm_types.specs.Message.{Message, band_of, size_of}
+use Rattle.strm_types.specs.Message.{Message, size_of}
 use Rattle.strm_types.specs.ModuleQueues.{at_place}
-use Rattle.strm_laws.specs.ModuleTurns.{Calls, again_at, asked_turn, bytes_at, call_at, calls, made_below, module_called, module_turn_ended, module_turned, moved_on, moved_within, place_named, queue_ended, stayed_at, turned_named, turned_there, waits_there}
+use Rattle.strm_laws.specs.ModuleTurns.{Calls, again_at, asked_turn, bytes_at, call_at, calls, made_below, module_called, module_turn_ended, module_turned, moved_on, moved_within, place_named, stayed_at, turned_named, turned_there, waits_there}
 use Rattle.strm_types.specs.Modules.{act_among}
 use Rattle.strm_types.specs.Names.{is_open, other, without}
 use Rattle.strm_laws.specs.Past.{has_room_past, writer_waits}

@@ -1,5 +1,5 @@
 -- What a pair weighs where another stream stands on a side.
-use Rattle.std.proofs.Common.{ℕ, ◌≡◌, ◌+◌, Bool, arith}
+use Rattle.std.proofs.Common.{◌≡◌, ◌+◌, Bool, arith}
 use Rattle.strm_types.specs.declared.names.Dir.{Dir}
 use Rattle.strm_types.specs.declared.names.Side.{Side}
 use Rattle.strm_types.specs.declared.names.Side.TheVariants.{Master, Slave}

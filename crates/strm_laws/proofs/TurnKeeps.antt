@@ -10,7 +10,7 @@ use Rattle.strm_types.specs.declared.names.QueueName.{QueueName}
 use Rattle.strm_types.specs.declared.names.Dir.{Dir}
 use Rattle.strm_laws.proofs.LdtermKeeps.{way-up}
 use Rattle.strm_types.specs.Cells.{Cells}
-use Rattle.strm_laws.specs.Kept.{AreIdle, NothingUnread, state_weight, tests_at}
+use Rattle.strm_laws.specs.Kept.{AreIdle, state_weight, tests_at}
 use Rattle.strm_types.specs.Message.{Message, size_of, band_of, weight_of}
 use Rattle.strm_types.specs.Names.{is_open, other, without, direction_at, direction_from}
 use Rattle.strm_laws.specs.Places.{weight_gone, weight_made, direction_to}

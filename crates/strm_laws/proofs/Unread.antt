@@ -1,5 +1,5 @@
 -- A side that isn't open has nothing for its readers, from the opening on.
-use Rattle.std.proofs.Common.{◌≡◌, Bool, false, List, [], refl}
+use Rattle.std.proofs.Common.{◌≡◌, false, List, [], refl}
 use Rattle.strm_types.specs.declared.answers.Turn.{Turn}
 use Rattle.strm_types.specs.declared.names.QueueName.{QueueName}
 use Rattle.strm_types.specs.declared.names.Side.{Side}

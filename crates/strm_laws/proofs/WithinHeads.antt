@@ -7,26 +7,15 @@ use Rattle.strm_types.specs.declared.ioctls.Ioc.{Ioc}
 use Rattle.strm_types.specs.declared.kinds.MsgKind.{MsgKind}
 use Rattle.strm_types.specs.declared.kinds.MsgKind.TheVariants.{Flush, Sig, Pcsig, Iocack, Iocnak}
 use Rattle.strm_types.specs.declared.limits.TheConstants.{IOCTL_MAX}
-use Rattle.strm_types.specs.declared.names.Dir.TheVariants.{MasterToSlave, SlaveToMaster}
-use Rattle.strm_types.specs.declared.names.Side.{Side}
-use Rattle.strm_types.specs.declared.names.Side.TheVariants.{Master, Slave}
-use Rattle.strm_types.specs.declared.names.Way.{Way}
-use Rattle.strm_types.specs.declared.names.Way.TheVariants.{Up, Down}
 use Rattle.strm_types.specs.declared.slots.Slot.TheVariants.{Free, Waiting, Answered}
 use Rattle.strm_types.specs.declared.spots.Spot.{Spot}
-use Rattle.strm_laws.specs.Calls.{ioctl_begun}
 use Rattle.strm_types.specs.Deliver.{Acted}
 use Rattle.strm_types.specs.Flushing.{asked_by}
 use Rattle.strm_types.specs.Heads.{flush_up, head_flushed, head_put, is_doubled, obeyed, passed_by, turned_round, waits_for_readers, Head}
 use Rattle.strm_types.specs.Ioctls.{read_ioc}
 use Rattle.strm_types.specs.Message.{Message, has_parts}
-use Rattle.strm_types.specs.Names.{is_open}
-use Rattle.strm_laws.specs.Puts.{put_at_driver, put_at_head}
 use Rattle.strm_types.specs.Slots.{PlainSlot, answer_body, answer_bytes, slot_behind, slot_told, with_answer}
-use Rattle.strm_laws.specs.Stacked.{Module}
-use Rattle.strm_laws.specs.State.{State, stream, with_stream}
-use Rattle.strm_laws.specs.Within.{AreWithin, IsWithin}
-use Rattle.strm_laws.proofs.PutParts.{BookHolds, Stays, either-holds, waiting}
+use Rattle.strm_laws.specs.Within.{IsWithin}
 use Rattle.strm_types.proofs.SignalRoom.{named-within}
 use Rattle.strm_types.specs.Dropped.{slot_dropped, has_ioctl}
 use Rattle.strm_types.specs.Numbers.{number_of}

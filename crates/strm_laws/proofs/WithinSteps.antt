@@ -1,53 +1,20 @@
 -- What a head keeps for its caller stays bounded behind each step of a pair, and is so in a new one.
-use Rattle.std.proofs.Common.{ℕ, Bool, true, false, cond, List, [], subst, arith, length, ◌≤◌}
-use Rattle.std.specs.Prelude.{Option, None, Some}
-use Rattle.strm_types.specs.declared.answers.Turn.{Turn}
-use Rattle.strm_types.specs.declared.books.Book.{Book}
-use Rattle.strm_types.specs.declared.entries.Entry.TheVariants.{Called, Turned}
-use Rattle.strm_types.specs.declared.events.Caller.{Caller}
-use Rattle.strm_types.specs.declared.events.Event.TheVariants.{OpenMaster, Unlock, OpenSlave, Shut, Push, Pop, Flush, Write, Read, Put, Get, Mode, Ioctl, IoctlResult, Signals}
-use Rattle.strm_types.specs.declared.modes.Mode as modes
-use Rattle.strm_types.specs.declared.modes.Mode.TheVariants as chosen
-use Rattle.strm_types.specs.declared.modes.Prio.{Prio}
-use Rattle.strm_types.specs.declared.names.Dir.{Dir}
-use Rattle.strm_types.specs.declared.names.Dir.TheVariants.{MasterToSlave, SlaveToMaster}
-use Rattle.strm_types.specs.declared.names.QueueName.{QueueName}
+use Rattle.std.proofs.Common.{ℕ, List, arith}
 use Rattle.strm_types.specs.declared.names.Side.{Side}
-use Rattle.strm_types.specs.declared.names.Side.TheVariants.{Master, Slave}
-use Rattle.strm_types.specs.declared.names.Way.TheVariants.{Down}
-use Rattle.strm_types.specs.declared.rules.Rule.TheVariants.{EndClosed}
 use Rattle.strm_types.specs.declared.spots.Spot.{Spot}
-use Rattle.strm_types.specs.Events.{Request}
-use Rattle.strm_laws.specs.Calls.{called, get_at, ioctl_begun, ioctl_sent, ioctl_told, message_put, mode_set, put_at, read_at, signals_told, wrote}
-use Rattle.strm_types.specs.Cells.{Cells, cells_written}
-use Rattle.strm_laws.specs.Closes.{head_emptied, driver_emptied, ended, hung_up_at, closed_at, stream_emptied}
-use Rattle.strm_types.specs.Emptied.{of_all}
-use Rattle.strm_types.specs.Flushing.{asked_of, flush_bytes, flush_message}
-use Rattle.strm_types.specs.Ioctls.{asking, ioctl_message}
+use Rattle.strm_laws.specs.Calls.{ioctl_begun}
+use Rattle.strm_types.specs.Cells.{Cells}
 use Rattle.strm_types.specs.Journal.{PlainEntry}
 use Rattle.strm_types.specs.Message.{Message}
-use Rattle.strm_types.specs.Names.{is_open, direction_from}
-use Rattle.strm_laws.specs.Pushes.{head_above, ioctl_dropped, named_by, popped, pushed_named, with_modules}
 use Rattle.strm_laws.specs.Puts.{delivered}
-use Rattle.strm_types.specs.Numbers.{number_of}
-use Rattle.strm_types.specs.Queue.{Queue}
-use Rattle.strm_types.specs.Slots.{PlainSlot, answer_bytes, slot_behind}
 use Rattle.strm_laws.specs.Stacked.{Module}
 use Rattle.strm_laws.specs.State.{State, Stream, opening}
 use Rattle.strm_types.specs.Heads.{new_head}
 use Rattle.strm_laws.specs.Step.{Step}
-use Rattle.strm_laws.specs.Turns.{turned, with_driver}
-use Rattle.strm_types.specs.declared.modes.Wanted.{Wanted}
 use Rattle.strm_laws.specs.Within.{AreWithin, IsWithin}
-use Rattle.strm_types.specs.Dropped.{has_ioctl, slot_dropped}
-use Rattle.strm_types.specs.declared.slots.Slot.TheVariants.{Free, Waiting, Answered}
-use Rattle.strm_types.specs.declared.refusals.Refusal.TheVariants.{Einval}
-use Rattle.strm_laws.proofs.TurnHolds.{turn-holds, turns-stay}
-use Rattle.strm_laws.proofs.PushHolds.{Survives, modules_emptied-holds, pop-holds, push-holds}
-use Rattle.strm_laws.proofs.WriteSteps.{cells_sent-holds}
+use Rattle.strm_laws.proofs.TurnHolds.{turn-holds}
 use Rattle.strm_laws.proofs.PutParts.{delivered-holds}
 use Rattle.strm_laws.proofs.WithinHeads.{put-within}
-use Rattle.strm_types.specs.declared.limits.TheConstants.{IOCTL_MAX}
 use Rattle.strm_laws.proofs.EachStream.{Changes, begun-each, each-stays, each-turns, step-each}
 use Rattle.strm_types.proofs.BySide.{each-side}
 
