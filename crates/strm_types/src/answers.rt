@@ -1,11 +1,11 @@
 //! What calls and turns answer.
 
 ghost use Rattle.std.specs.Fn.{FnReturnsAt};
-ghost use Rattle.std.specs.Prelude.{◌≡◌, ◌≤◌, ◌<◌, ◌^◌, length, take};
+ghost use Rattle.std.specs.Prelude.{◌≡◌, ◌≤◌, length, take};
 ghost use Rattle.strm_types.specs.Events.{AnswersAlike, map_answer};
 ghost use Rattle.strm_types.specs.Journal.{answer_len, reply_in};
 
-use crate::events::{map_part, short};
+use crate::events::map_part;
 use crate::limits::{CONTENT_MAX, READ_MAX};
 use crate::modes::Prio;
 use crate::names::ModuleName;
@@ -19,7 +19,7 @@ pub type ReadBytes = ArrayVec<u8, READ_MAX>;
 pub type Content = ArrayVec<u8, CONTENT_MAX>;
 
 /// What a call answers that isn't refused, over what stands for its bytes: the bytes themselves, or how many they are
-/// (`Answer<usize>`), where they stand apart.
+/// (`Answer<u32>`), where they stand apart.
 #[derive(Clone, Copy, Drop, PartialEq)]
 pub enum Answer<T> {
     /// The call is done, and there is nothing to tell.
@@ -27,7 +27,7 @@ pub enum Answer<T> {
     /// The name of a module.
     Name(ModuleName),
     /// How many bytes a write took.
-    Count(usize),
+    Count(u32),
     /// The bytes that a read gives.
     Bytes(T),
     /// The message that a getmsg(2) gives, or the front of it: its control part and its data part, and whether there is more
@@ -41,8 +41,8 @@ pub enum Answer<T> {
     },
     /// How many bytes of data the first message has, and how many messages there are.
     Sizes {
-        first: usize,
-        messages: usize,
+        first: u32,
+        messages: u32,
     },
     /// An ioctl is under way, and has this number.
     Pending(u32),
@@ -53,10 +53,10 @@ pub enum Answer<T> {
 }
 
 // So many bytes of the front.
-fn front(len: usize, bytes: &[u8]) -> &[u8]
+fn front(len: u32, bytes: &[u8]) -> &[u8]
     ensures { result.now ≡ take len bytes.now }
 {
-    &bytes[..len.min(bytes.len())]
+    &bytes[..(len as usize).min(bytes.len())]
 }
 
 impl<T> Answer<T> {
@@ -95,7 +95,7 @@ impl<T> Answer<T> {
     }
 }
 
-impl Answer<usize> {
+impl Answer<u32> {
     /// The answer over its bytes, which stand in front of others, those of a control part first.
     pub fn over<'a>(&self, bytes: &'a [u8]) -> Answer<&'a [u8]>
         requires { answer_len self.now ≤ length bytes.now }
@@ -109,7 +109,7 @@ impl Answer<usize> {
                 more_control,
                 more_data,
             } => {
-                let behind = &bytes[control.unwrap_or(0)..];
+                let behind = &bytes[control.unwrap_or(0) as usize..];
                 Answer::Msg {
                     prio,
                     control: control.map(|len| front(len, bytes)),
@@ -121,21 +121,13 @@ impl Answer<usize> {
             _ => self.map(|len| front(*len, bytes)),
         }
     }
-
-    /// The answer as a journal keeps it: its lengths in 32 bits.
-    #[inline(always)]
-    pub fn shortened(&self) -> Answer<u32>
-        ensures { answer_len self.now < 2 ^ 32 → result ≡ self.now }
-    {
-        self.map(|len| short(*len))
-    }
 }
 
 /// What a turn of a queue's service procedure answers.
 #[derive(Clone, Copy, PartialEq)]
 pub enum Turn {
     /// So many bytes of the first message were treated.
-    Moved(usize),
+    Moved(u32),
     /// The first message may not go on yet.
     Blocked,
     /// The queue is empty.

@@ -5,7 +5,7 @@ use crate::events::{Caller, Event};
 use crate::names::QueueName;
 
 /// An entry of a journal, over what stands for its bytes: a call with its answer, or a turn of a queue. A journal keeps
-/// `Entry<usize>`, and the bytes apart in one buffer, in the order of the entries: of each first the bytes of its call,
+/// `Entry<u32>`, and the bytes apart in one buffer, in the order of the entries: of each first the bytes of its call,
 /// and then those of its answer.
 #[derive(Clone, Copy, PartialEq)]
 pub enum Entry<T> {
