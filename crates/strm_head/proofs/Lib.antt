@@ -18,3 +18,4 @@ pub mod Commands
 pub mod Copied
 pub mod Left
 pub mod Lone
+pub mod FewWaiting

@@ -30,9 +30,9 @@ use strm_types::{BANDS, Band, Content, Dir, Fates, Prio, Rule, Wanted};
 #[derive(Clone, Copy, Debug, PartialEq)]
 pub struct Gotten {
     /// How many bytes of the control part it gave; none where the message has no control part, or there is no message.
-    pub control: Option<usize>,
+    pub control: Option<u32>,
     /// How many bytes of the data part it gave; none where the message has no data part, or there is no message.
-    pub body: Option<usize>,
+    pub body: Option<u32>,
     /// The priority of the message, band 0 where there is none.
     pub prio: Prio,
     /// MORECTL: bytes of the control part are left.
@@ -56,18 +56,19 @@ const NOTHING: Gotten = Gotten {
 // How many bytes of a part are given, nothing where it is absent, and whether it has more.
 #[derive(Clone, Copy)]
 struct Piece {
-    given: Option<usize>,
+    given: Option<u32>,
     more: bool,
 }
 
 // Up to `most` bytes of a part of that length.
 fn piece_of(len: Option<usize>, most: usize) -> Piece
+    requires { most ≤ 4096 }
     ensures given { result.given ≡ option_map (λ n. min most n) len }
     ensures more { result.more ≡ nat_lt most (unwrap_or len 0) }
 {
     match len {
         Some(len) => Piece {
-            given: Some(most.min(len)),
+            given: Some(most.min(len) as u32),
             more: most < len,
         },
         None => Piece {
@@ -200,8 +201,8 @@ fn take_first<B: Blocks>(
     take_parts(
         store,
         &message,
-        first.given.unwrap_or(0),
-        second.given.unwrap_or(0),
+        first.given.unwrap_or(0) as usize,
+        second.given.unwrap_or(0) as usize,
         out,
     );
     put_rest(store, queue, message, has_more(first, second));

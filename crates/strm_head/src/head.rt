@@ -35,8 +35,8 @@ pub struct Head {
 /// messages there are.
 #[derive(Clone, Copy, Debug, PartialEq)]
 pub struct Waiting {
-    pub first: usize,
-    pub messages: usize,
+    pub first: u32,
+    pub messages: u32,
 }
 
 impl Head {
@@ -137,9 +137,10 @@ impl Head {
         ensures first { result.first ≡ first_data (messages_on (B.value store.now) self.now.queue.list) }
         ensures messages { result.messages ≡ length (messages_on (B.value store.now) self.now.queue.list) }
     {
+        store.audit();
         Waiting {
-            first: first_data(store, &self.queue).unwrap_or(0),
-            messages: sizes(store, &self.queue).0,
+            first: first_data(store, &self.queue).unwrap_or(0) as u32,
+            messages: sizes(store, &self.queue).0 as u32,
         }
     }
 

@@ -84,7 +84,7 @@ fn gives_nothing(command: u32) -> bool
 }
 
 // The answer of an ioctl that was acknowledged.
-fn give(command: u32, body: &[u8], out: &mut Content) -> Answer<usize>
+fn give(command: u32, body: &[u8], out: &mut Content) -> Answer<u32>
     requires fresh { out.old.items ≡ [] }
     requires few { length body.now ≤ IOCTL_MAX }
     ensures told { reply_in result out.new.items ≡ (if slots.gives_nothing command then Done else Bytes body.now) }
@@ -95,11 +95,11 @@ fn give(command: u32, body: &[u8], out: &mut Content) -> Answer<usize>
         return Answer::Done;
     }
     out.try_extend_from_slice(body).unwrap();
-    Answer::Bytes(body.len())
+    Answer::Bytes(body.len() as u32)
 }
 
 // What the caller is told of a slot, with its bytes in `out`.
-fn tell(slot: &Slot<IoctlBytes>, out: &mut Content) -> Answer<usize>
+fn tell(slot: &Slot<IoctlBytes>, out: &mut Content) -> Answer<u32>
     requires { out.old.items ≡ [] }
     ensures told { reply_in result out.new.items ≡ told_of (plain_slot slot.now) }
     ensures len { answer_len result ≡ length out.new.items }
@@ -210,7 +210,7 @@ impl Head {
 
     /// Tells what became of the ioctl under way, once: that it is done or the bytes of its answer, why it was refused, or its
     /// number while it waits. The bytes are in `out`, which is empty before.
-    pub fn tell_ioctl(&mut self, out: &mut Content) -> Answer<usize>
+    pub fn tell_ioctl(&mut self, out: &mut Content) -> Answer<u32>
         requires { out.old.items ≡ [] }
         ensures told { reply_in result out.new.items ≡ told_of (plain_slot self.old.ioctl) }
         ensures len { answer_len result ≡ length out.new.items }

@@ -1,0 +1,30 @@
+-- What waits at a head is few enough for numbers of 32 bits.
+use Rattle.std.proofs.Common.{ℕ, ◌≤◌, List, [], ◌∷◌, arith, length-append}
+use Rattle.std.proofs.lemmas.List.{length-map}
+use Rattle.std.proofs.lemmas.List.Sums.{sum_by-cons}
+use Rattle.std.specs.Prelude.{length}
+use Rattle.strm_types.specs.Gets.{first_data}
+use Rattle.strm_types.specs.Message.{Message, part, cells_of, size_of}
+use Rattle.strm_types.specs.Queue.{bytes_of}
+use Rattle.strm_blocks.specs.Blocks.{StoreValue, IsStore, list_at}
+use Rattle.strm_msg.specs.Messages.{message_of}
+use Rattle.strm_queue.specs.declared.queue.Queue.{Queue}
+use Rattle.strm_queue.specs.Stored.{messages_on, IsReady}
+use Rattle.strm_queue.proofs.Bounds.{few-bytes}
+use Rattle.strm_queue.proofs.Sizes.{bytes-same, list-enough}
+
+-- the first message's data part has no more bytes than all messages
+data-within : (ms : List (Message ℕ)) → first_data ms ≤ bytes_of ms
+unfolding size_of cells_of
+data-within [] = omega arith
+data-within (m ∷ ms) = omega (arith, sum_by-cons size_of m ms, length-append (part m.control) (part m.body))
+
+pub data-few : (s : StoreValue) (q : Queue) → IsStore s → IsReady s q → first_data (messages_on s q.list) ≤ 16777216
+data-few s q is ready =
+    let few = few-bytes s is q.list 0 in
+    let same = bytes-same (list_at s q.list) ready.messages.chains in
+    omega (arith, few, same, data-within (messages_on s q.list))
+
+-- each message has a block
+pub messages-few : (s : StoreValue) (k : ℕ) → IsStore s → length (messages_on s k) ≤ 65536
+messages-few s k is = omega (arith, length-map (list_at s k) message_of, list-enough s k is, is.enough, is.few_mblks)
