@@ -10,7 +10,7 @@ use Rattle.strm_types.specs.declared.modes.ReadMode.{ReadMode}
 use Rattle.strm_types.specs.declared.options.Marks.{Marks}
 use Rattle.strm_types.specs.declared.options.Options.{Options}
 use Rattle.strm_types.specs.declared.slots.Slot.TheVariants as slots
-use Rattle.strm_types.specs.Options.{are_marks, marks_in, mode_numbered, nothing_set, options_in}
+use Rattle.strm_types.specs.Options.{are_marks, marks_in, mode_numbered, nothing_set, options_in, tostop_in, with_tostop}
 use Rattle.strm_types.specs.Slots.{PlainSlot, answer_body, slot_answered, slot_told, with_answer}
 use Rattle.strm_msg.specs.Taken.{filled}
 use Rattle.strm_msg.proofs.Gathering.{filled-first}
@@ -68,14 +68,19 @@ marks-same h h' l l' he le = rw (he, le) refl
 marks-first : (rest : List ℕ) → marks_in (take 9 rest) ≡ marks_in rest
 marks-first rest = marks-same _ _ _ _ (word-first 9 0 9 rest (omega arith) (omega arith)) (word-first 9 4 5 rest (omega arith) (omega arith))
 
-options-same : (mode : Option ReadMode) (n n' : ℕ) (marks marks' : Option Marks) → n ≡ min 9 n' → marks ≡ marks' →
-    cond {A = Options} (n == 0) (record { mode = mode; marks = None }) (cond (n == 8) (record { mode = mode; marks = marks }) nothing_set)
-    ≡ cond (n' == 0) (record { mode = mode; marks = None }) (cond (n' == 8) (record { mode = mode; marks = marks' }) nothing_set)
-options-same mode n n' marks marks' few same =
+tostop-first : (rest : List ℕ) → tostop_in (take 9 rest) ≡ tostop_in rest
+tostop-first [] = refl
+tostop-first (number ∷ rest) = refl
+
+options-same : (mode : Option ReadMode) (n n' : ℕ) (tostop tostop' : Option Bool) (marks marks' : Option Marks) → n ≡ min 9 n' → tostop ≡ tostop' → marks ≡ marks' →
+    cond {A = Options} (n == 0) (record { mode = mode; tostop = None; marks = None }) (cond (n == 1) (with_tostop mode tostop) (cond (n == 8) (record { mode = mode; tostop = None; marks = marks }) nothing_set))
+    ≡ cond (n' == 0) (record { mode = mode; tostop = None; marks = None }) (cond (n' == 1) (with_tostop mode tostop') (cond (n' == 8) (record { mode = mode; tostop = None; marks = marks' }) nothing_set))
+options-same mode n n' tostop tostop' marks marks' few stops same =
     let none : (n == 0) ≡ (n' == 0) = grind (arith, nat_tests) in
+    let one : (n == 1) ≡ (n' == 1) = grind (arith, nat_tests) in
     let eight : (n == 8) ≡ (n' == 8) = grind (arith, nat_tests) in
-    rw (none, eight, same) refl
+    rw (none, one, eight, stops, same) refl
 
 pub options-first : (bytes : List ℕ) → options_in (take 10 bytes) ≡ options_in bytes
 options-first [] = refl
-options-first (mode ∷ rest) = options-same (mode_numbered mode) _ _ _ _ (length-take 9 rest) (marks-first rest)
+options-first (mode ∷ rest) = options-same (mode_numbered mode) _ _ _ _ _ _ (length-take 9 rest) (tostop-first rest) (marks-first rest)

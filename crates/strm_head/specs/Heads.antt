@@ -28,6 +28,7 @@ head_in s h = record {
   queue = queue_in s h.queue;
   read_mode = h.read_mode;
   control_mode = h.control_mode;
+  tostop = h.tostop;
   hung_up = h.hung_up;
   signals = h.signals;
   ioctl = plain_slot h.ioctl;

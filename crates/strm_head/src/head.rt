@@ -23,6 +23,8 @@ pub struct Head {
     pub queue: Queue,
     pub read_mode: ReadMode,
     pub control_mode: ControlMode,
+    /// Whether a write of a caller in the background is stopped: TOSTOP of `termio(7I)`, told by an M_SETOPTS.
+    pub tostop: bool,
     /// Whether an M_HANGUP came up, as the other end is gone.
     pub hung_up: bool,
     /// The signals that came up and that nobody took yet.
@@ -45,11 +47,12 @@ impl Head {
     ghost use Rattle.strm_head.specs.Leaving.{Frees};
     ghost use Rattle.strm_head.specs.Heads.{head_in};
 
-    /// A head on an empty queue: RNORM and RPROTNORM. No signal waits, and no ioctl is under way.
+    /// A head on an empty queue: RNORM and RPROTNORM, without TOSTOP. No signal waits, and no ioctl is under way.
     pub fn new(queue: Queue) -> Head
         ensures queue { result.queue ≡ queue }
         ensures read_mode { result.read_mode ≡ ByteStream }
         ensures control_mode { result.control_mode ≡ Refuse }
+        ensures tostop { result.tostop ≡ false }
         ensures hung_up { result.hung_up ≡ false }
         ensures signals { result.signals ≡ [] }
         ensures ioctl { result.ioctl ≡ Free }
@@ -58,6 +61,7 @@ impl Head {
             queue,
             read_mode: ReadMode::ByteStream,
             control_mode: ControlMode::Refuse,
+            tostop: false,
             hung_up: false,
             signals: Signals::new(),
             ioctl: Slot::Free,

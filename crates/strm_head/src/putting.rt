@@ -244,7 +244,7 @@ impl Head {
         }
     }
 
-    // M_SETOPTS: the read mode and the marks, each where it is given. The longer form has nine bytes, and a tenth one says that it
+    // M_SETOPTS: the read mode, TOSTOP and the marks, each where it is given. The longer form has nine bytes, and a tenth one says that it
     // isn't that.
     fn set_options<B: Blocks>(&mut self, store: &B, message: &InHand)
         requires { IsInHand (B.value store.now) (token message.now) }
@@ -257,6 +257,7 @@ impl Head {
         let count = first_bytes(store, message, &mut bytes);
         let options = Options::read(&bytes[..count]);
         self.read_mode = options.mode.unwrap_or(self.read_mode);
+        self.tostop = options.tostop.unwrap_or(self.tostop);
         self.set_marks(options.marks);
     }
 

@@ -39,7 +39,7 @@ module _ {C : Type 0} (p : Dir → C → Bool) where
   -- a push, a pop and a close
   mode-none : (side : Side) (mode : Option ReadMode) (s : State C) → None-made (mode_put side mode s).gone
   mode-none side None s = refl
-  mode-none side (Some mode) s = head-none p side (head_above side) (mode_message mode) s
+  mode-none side (Some mode) s = head-none p side (head_above side) (mode_message mode false) s
 
   pub push-none : (side : Side) (q : Option (Module C)) (s : State C) → None-made (pushed_named side q s).gone
   push-none side None s = refl

@@ -50,7 +50,7 @@ abbrev of_band : ℕ → Wanted
 of_band n = Band (record { 0 = n })
 
 abbrev head : Queue ℕ → ReadMode → ControlMode → Bool → Head ℕ
-head q read control hung_up = record { queue = q; read_mode = read; control_mode = control; hung_up = hung_up; signals = []; ioctl = Free }
+head q read control hung_up = record { queue = q; read_mode = read; control_mode = control; tostop = false; hung_up = hung_up; signals = []; ioctl = Free }
 
 abbrev end : Head ℕ → Stream ℕ
 end h = record { opened = Open; head = h; modules = []; driver = record { queue = queue [] [] } }

@@ -32,7 +32,7 @@ use Rattle.strm_laws.specs.Places.{direction_to, way_to, weight_sent, weight_gon
 use Rattle.strm_types.specs.Queue.{is_full, is_none_left, weight}
 use Rattle.strm_types.specs.Service.{line_gone}
 use Rattle.strm_types.specs.TakenUp.{ends_lines, input_flushed, line_up, read_mode_of, taken_up, termios_taken}
-use Rattle.strm_types.specs.Termios.{icanon, imaxbel, noflsh}
+use Rattle.strm_types.specs.Termios.{icanon, imaxbel, noflsh, tostop}
 use Rattle.strm_types.specs.Typing.{added, bare, both_ways, dropped, echo_grows, echo_lost, echo_stands, gathered_up, goes_up, grown, is_blank_cell, lost, sigint, signals, sigquit, sigtstp, stops, strikes, up_alone}
 use Rattle.strm_laws.proofs.DeliveryKeeps.{gone-append, made-append}
 use Rattle.strm_laws.proofs.EmptiedKeeps.{behind-keeps}
@@ -133,11 +133,11 @@ module _ {C : Type 0} (p : Dir → C → Bool) where
   termios-holds here t m l = at (ends_lines l.termios t)
     where
       rest : List (Parcel C)
-      rest = onward Up here (mode_message (read_mode_of t)) ∷ onward Up here m ∷ []
+      rest = onward Up here (mode_message (read_mode_of t) (tostop t)) ∷ onward Up here m ∷ []
 
       at : (ends : Bool) → Holds here.side (sends (cond ends (line_up here l.line) [] ++ rest) (record l { termios = t; line = cond ends [] l.line })) (ldterm_weight p here.side l + weight_of (p (direction_at Up here.side)) m)
-      at true = omega (arith, weight-both p (line_up here l.line) rest, line-holds-up here l.line, weight-mode (p (direction_to (toward Up here))) (read_mode_of t), onward-weighs p Up here m)
-      at false = omega (arith, weight-mode (p (direction_to (toward Up here))) (read_mode_of t), onward-weighs p Up here m)
+      at true = omega (arith, weight-both p (line_up here l.line) rest, line-holds-up here l.line, weight-mode (p (direction_to (toward Up here))) (read_mode_of t) (tostop t), onward-weighs p Up here m)
+      at false = omega (arith, weight-mode (p (direction_to (toward Up here))) (read_mode_of t) (tostop t), onward-weighs p Up here m)
 
   taken-holds : (here : Spot) (command : ℕ) (t : Termios) (m : Message C) (l : Ldterm C) → Holds here.side (taken_up here command t m l) (ldterm_weight p here.side l + weight_of (p (direction_at Up here.side)) m)
   taken-holds here command t m l =

@@ -30,7 +30,7 @@ use Rattle.strm_types.specs.Origins.{map_acted, map_fate, map_parcel}
 use Rattle.strm_types.specs.Queue.{Queue, map_queue, put_on, put_enables}
 use Rattle.strm_types.specs.Service.{line_gone}
 use Rattle.strm_types.specs.TakenUp.{ends_lines, input_flushed, line_up, read_mode_of, taken_up, termios_taken}
-use Rattle.strm_types.specs.Termios.{read_termios}
+use Rattle.strm_types.specs.Termios.{read_termios, tostop}
 use Rattle.strm_types.specs.Typing.{up_alone}
 use Rattle.strm_laws.proofs.EmptiedForgets.{gone-forgets, queue_behind-forgets, writer_goes-forgets}
 use Rattle.strm_laws.proofs.Forgetting.{data-forgets, kind-forgets, put_enables-forgets, put_on-forgets}
@@ -151,13 +151,13 @@ module _ {C D : Type 0} (f : C → D) where
   termios-forgets here t m l = at (ends_lines l.termios t)
     where
       rest : List (Parcel C)
-      rest = onward Up here (mode_message (read_mode_of t)) ∷ onward Up here m ∷ []
+      rest = onward Up here (mode_message (read_mode_of t) (tostop t)) ∷ onward Up here m ∷ []
 
       rest' : List (Parcel D)
-      rest' = onward Up here (mode_message (read_mode_of t)) ∷ onward Up here (map_message f m) ∷ []
+      rest' = onward Up here (mode_message (read_mode_of t) (tostop t)) ∷ onward Up here (map_message f m) ∷ []
 
       rest-forgets : rest' ≡ map (map_parcel f) rest
-      rest-forgets = ap (λ n. onward Up here n ∷ onward Up here (map_message f m) ∷ []) (sym (mode-forgets f (read_mode_of t)))
+      rest-forgets = ap (λ n. onward Up here n ∷ onward Up here (map_message f m) ∷ []) (sym (mode-forgets f (read_mode_of t) (tostop t)))
 
       at : (ends : Bool) → sends (cond ends (line_up here (map f l.line)) [] ++ rest') (record (map_ldterm f l) { termios = t; line = cond ends [] (map f l.line) })
           ≡ image (sends (cond ends (line_up here l.line) [] ++ rest) (record l { termios = t; line = cond ends [] l.line }))

@@ -145,8 +145,8 @@ module _ {C D : Type 0} (f : C → D) where
   mode_put-forgets : (side : Side) (mode : Option ReadMode) (s : State C) → mode_put side mode (map_state f s) ≡ image (mode_put side mode s)
   mode_put-forgets side None s = refl
   mode_put-forgets side (Some mode) s =
-      ap (λ (m : Message D). carried_of (put_at_head side (head_above side) m (map_state f s))) (sym (mode-forgets f mode))
-      ∙ ap (λ (t : Took D (State D)). carried_of t) (head-forgets f side (head_above side) (mode_message mode) s)
+      ap (λ (m : Message D). carried_of (put_at_head side (head_above side) m (map_state f s))) (sym (mode-forgets f mode false))
+      ∙ ap (λ (t : Took D (State D)). carried_of t) (head-forgets f side (head_above side) (mode_message mode false) s)
     where
       carried_of : {E : Type 0} → Took E (State E) → Carried E (State E)
       carried_of t = record { state = t.state; gone = t.gone }

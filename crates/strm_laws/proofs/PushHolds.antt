@@ -33,7 +33,7 @@ pub record Survives {C : Type 0} (side : Side) (Holds : State C → Type 0) (Goo
 module _ {C : Type 0} (side : Side) (Holds : State C → Type 0) (Good : List (Module C) → Type 0) (survives : Survives side Holds Good) where
   mode_put-holds : (mode : Option ReadMode) (s : State C) → Holds s → Holds (mode_put side mode s).state
   mode_put-holds None s holds = holds
-  mode_put-holds (Some mode) s holds = survives.given (mode_message mode) s holds
+  mode_put-holds (Some mode) s holds = survives.given (mode_message mode false) s holds
 
   let_come-holds : (reads : Bool) (s : State C) → Holds s → Holds (let_come reads side s)
   let_come-holds false s holds = holds

@@ -114,14 +114,14 @@ module _ {C : Type 0} (p : Dir → C → Bool) where
   -- the head's read mode
   mode_put-keeps : (side : Side) (mode : Option ReadMode) (s : State C) → Keeps (mode_put side mode s) (state_weight p s)
   mode_put-keeps side None s = refl
-  mode_put-keeps side (Some mode) s = omega (arith, head-keeps p side (head_above side) (mode_message mode) s, quiet, weight-mode (p (direction_at Up side)) mode)
+  mode_put-keeps side (Some mode) s = omega (arith, head-keeps p side (head_above side) (mode_message mode false) s, quiet, weight-mode (p (direction_at Up side)) mode false)
     where
       none-sent : (b : Bool) (one another : Took C (State C)) → one.sent ≡ [] → another.sent ≡ [] → weight_sent p (cond b one another).sent ≡ 0
       none-sent true one another first second = ap (λ ps. weight_sent p ps) first
       none-sent false one another first second = ap (λ ps. weight_sent p ps) second
 
       -- a head sends nothing of it
-      quiet : weight_sent p (put_at_head side (head_above side) (mode_message mode) s).sent ≡ 0
+      quiet : weight_sent p (put_at_head side (head_above side) (mode_message mode false) s).sent ≡ 0
       quiet = none-sent (is_open (stream side s).opened) _ _ refl refl
 
   -- a push

@@ -15,6 +15,7 @@ use Rattle.strm_types.specs.Books.{new_book}
 use Rattle.strm_laws.specs.Calls.{name_told}
 use Rattle.strm_laws.specs.Closes.{closed_at}
 use Rattle.strm_types.specs.Deliver.{Carried, Goes, carried}
+use Rattle.strm_types.specs.Heads as heads
 use Rattle.strm_types.specs.Ldterms.{new_ldterm}
 use Rattle.strm_types.specs.Message.{Message, cells_of, size_of, is_held, band_of, is_high_priority}
 use Rattle.strm_types.specs.Names.{driver_of}
@@ -140,7 +141,10 @@ pub popped-queues-have-no-turn : taken_off.state.enabled ≡ driver_of Master �
 unfolding carried cells_of size_of
 popped-queues-have-no-turn = refl
 
-pub pop-sets-the-mode : (popped Slave (with_stream Slave (record (end [] (OfLdterm new_ldterm ∷ []) []) { head = record (head_with (queue [] []) false) { read_mode = MessageKeep } }) (pair [] (OfLdterm new_ldterm ∷ []) []))).state.ends.slave.head.read_mode ≡ ByteStream
+abbrev head_popped : heads.Head ℕ
+head_popped = (popped Slave (with_stream Slave (record (end [] (OfLdterm new_ldterm ∷ []) []) { head = record (head_with (queue [] []) false) { read_mode = MessageKeep; tostop = true } }) (pair [] (OfLdterm new_ldterm ∷ []) []))).state.ends.slave.head
+
+pub pop-sets-the-mode : head_popped ≡ head_with (queue [] []) false
 unfolding carried cells_of size_of
 pop-sets-the-mode = refl
 

@@ -80,9 +80,9 @@ module _ {C D : Type 0} (f : C → D) where
   unfolding map_message
   flush-forgets bytes = refl
 
-  pub mode-forgets : (mode : ReadMode) → map_message f (mode_message mode) ≡ mode_message mode
+  pub mode-forgets : (mode : ReadMode) (tostop : Bool) → map_message f (mode_message mode tostop) ≡ mode_message mode tostop
   unfolding map_message
-  mode-forgets mode = refl
+  mode-forgets mode tostop = refl
 
   nak-forgets : (ioc : Ioc) → map_message f (nak_message ioc) ≡ nak_message ioc
   unfolding map_message
@@ -243,7 +243,7 @@ module _ {C D : Type 0} (f : C → D) where
   obeyed-forgets here Flush bytes h = up-forgets here (asked_by bytes) h
   obeyed-forgets here Setopts bytes h =
       let options = options_in bytes in
-      ap (λ q. passed_by (record (map_head f h) { read_mode = unwrap_or options.mode h.read_mode; queue = q })) (marks-forget options.marks h.queue)
+      ap (λ q. passed_by (record (map_head f h) { read_mode = unwrap_or options.mode h.read_mode; tostop = unwrap_or options.tostop h.tostop; queue = q })) (marks-forget options.marks h.queue)
   obeyed-forgets here Ioctl bytes h = ap (λ xs. sends xs (passed_by (map_head f h))) (nak_down-forgets here (read_ioc bytes))
   obeyed-forgets here kind bytes h = refl
 

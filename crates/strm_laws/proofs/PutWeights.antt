@@ -40,9 +40,9 @@ unfolding weight_of cells_of
 weight-flush p bytes = refl
 
 -- nor an M_SETOPTS
-pub weight-mode : {C : Type 0} (p : C → Bool) (mode : ReadMode) → weight_of p (mode_message mode) ≡ 0
+pub weight-mode : {C : Type 0} (p : C → Bool) (mode : ReadMode) (tostop : Bool) → weight_of p (mode_message mode tostop) ≡ 0
 unfolding weight_of cells_of
-weight-mode p mode = refl
+weight-mode p mode tostop = refl
 
 -- a message without parts has no cells
 pub no-parts : {C : Type 0} (p : C → Bool) (m : Message C) → has_parts m ≡ false → weight_of p m ≡ 0

@@ -1,6 +1,6 @@
 -- What signals and options do at a stream head, and how they are handed out, as worked out by hand from streamio(7I) and the
 -- STREAMS Programming Guide ("Stream Head": M_SIG, M_PCSIG, M_SETOPTS).
-use Rattle.std.proofs.Common.{ℕ, ◌≡◌, true, false, List, [], ◌∷◌, map, refl, replicate}
+use Rattle.std.proofs.Common.{ℕ, ◌≡◌, Bool, true, false, List, [], ◌∷◌, map, refl, replicate}
 use Rattle.std.specs.Prelude.{Option, None, Some}
 use Rattle.strm_types.specs.declared.answers.Answer.TheVariants.{Done}
 use Rattle.strm_types.specs.declared.answers.Answer.TheVariants as answers
@@ -72,6 +72,7 @@ head signals = record {
   queue = queue (proto ∷ []) (flow 9 1 true ∷ flow 8 3 false ∷ []);
   read_mode = MessageDiscard;
   control_mode = Discard;
+  tostop = true;
   hung_up = false;
   signals = signals;
   ioctl = Waiting 7 5;
@@ -100,10 +101,13 @@ hangups-leave-what-waits = refl
 pub other-kinds-change-nothing : map (λ kind. signalled kind (3 ∷ [])) (Ctl ∷ Stop ∷ Start ∷ []) ≡ replicate 3 (leaves (head two))
 other-kinds-change-nothing = refl
 
--- M_SETOPTS: a read mode, and the marks behind it
+-- M_SETOPTS: a read mode, and TOSTOP or the marks behind it
 
 abbrev options : Option ReadMode → Option Marks → Options
-options mode marks = record { mode = mode; marks = marks }
+options mode marks = record { mode = mode; tostop = None; marks = marks }
+
+abbrev stopping : Option ReadMode → Bool → Options
+stopping mode tostop = record { mode = mode; tostop = Some tostop; marks = None }
 
 abbrev marks : ℕ → ℕ → Option Marks
 marks high low = Some (record { high = high; low = low })
@@ -111,6 +115,11 @@ marks high low = Some (record { high = high; low = low })
 -- RNORM, RMSGD and RMSGN
 pub modes-that-are-set : map options_in ((0 ∷ []) ∷ (1 ∷ []) ∷ (2 ∷ []) ∷ (3 ∷ []) ∷ []) ≡ options (Some ByteStream) None ∷ options (Some MessageDiscard) None ∷ options (Some MessageKeep) None ∷ options None None ∷ []
 modes-that-are-set = refl
+
+-- a mode and TOSTOP; a mode that isn't known leaves TOSTOP, and another number than its two sets nothing
+pub tostop-is-set : map options_in ((0 ∷ 1 ∷ []) ∷ (2 ∷ 0 ∷ []) ∷ (3 ∷ 1 ∷ []) ∷ (2 ∷ 2 ∷ []) ∷ (0 ∷ 255 ∷ []) ∷ [])
+    ≡ stopping (Some ByteStream) true ∷ stopping (Some MessageKeep) false ∷ stopping None true ∷ options None None ∷ options None None ∷ []
+tostop-is-set = refl
 
 -- a mode and two marks of 32 bits, the high one first; a mode that isn't known leaves the marks, and marks that are none the mode
 abbrev nine : ℕ → ℕ → ℕ → List ℕ
@@ -124,22 +133,26 @@ marks-that-are-set = refl
 pub marks-that-are-none : map options_in (nine 2 9 10 ∷ nine 2 0 0 ∷ nine 3 0 0 ∷ []) ≡ options (Some MessageKeep) None ∷ options (Some MessageKeep) None ∷ options None None ∷ []
 marks-that-are-none = refl
 
--- no byte, two, eight, and ten
-pub other-lengths-set-nothing : map options_in ([] ∷ (2 ∷ 2 ∷ []) ∷ (2 ∷ 0 ∷ 0 ∷ 0 ∷ 9 ∷ 0 ∷ 0 ∷ 4 ∷ []) ∷ (2 ∷ 0 ∷ 0 ∷ 0 ∷ 9 ∷ 0 ∷ 0 ∷ 0 ∷ 4 ∷ 0 ∷ []) ∷ []) ≡ replicate 4 (options None None)
+-- no byte, three, eight, and ten
+pub other-lengths-set-nothing : map options_in ([] ∷ (2 ∷ 1 ∷ 0 ∷ []) ∷ (2 ∷ 0 ∷ 0 ∷ 0 ∷ 9 ∷ 0 ∷ 0 ∷ 4 ∷ []) ∷ (2 ∷ 0 ∷ 0 ∷ 0 ∷ 9 ∷ 0 ∷ 0 ∷ 0 ∷ 4 ∷ 0 ∷ []) ∷ []) ≡ replicate 4 (options None None)
 other-lengths-set-nothing = refl
 
--- the head with another mode, and with other marks in each of its bands, whose writer waits on
+-- the head with another mode, without TOSTOP, and with other marks in each of its bands, whose writer waits on
 abbrev moded : Head ℕ
 moded = record (head two) { read_mode = MessageKeep }
+
+abbrev unstopped : Head ℕ
+unstopped = record moded { tostop = false }
 
 abbrev remarked : Head ℕ → Head ℕ
 remarked h = record h { queue = queue (proto ∷ []) (flow 20 6 true ∷ flow 20 6 false ∷ []) }
 
-pub options-of-a-head : map (λ set. with_options set (head two)) (options (Some MessageKeep) None ∷ options None (marks 20 6) ∷ options (Some MessageKeep) (marks 20 6) ∷ options None None ∷ [])
-    ≡ moded ∷ remarked (head two) ∷ remarked moded ∷ head two ∷ []
+pub options-of-a-head : map (λ set. with_options set (head two)) (options (Some MessageKeep) None ∷ options None (marks 20 6) ∷ options (Some MessageKeep) (marks 20 6) ∷ options None None ∷ stopping (Some MessageKeep) false ∷ stopping None true ∷ [])
+    ≡ moded ∷ remarked (head two) ∷ remarked moded ∷ head two ∷ unstopped ∷ head two ∷ []
 options-of-a-head = refl
 
-pub options-come-up : map (λ bytes. signalled Setopts bytes) ((2 ∷ []) ∷ nine 2 20 6 ∷ nine 9 20 6 ∷ nine 2 6 20 ∷ (2 ∷ 20 ∷ []) ∷ []) ≡ leaves moded ∷ leaves (remarked moded) ∷ leaves (remarked (head two)) ∷ leaves moded ∷ leaves (head two) ∷ []
+pub options-come-up : map (λ bytes. signalled Setopts bytes) ((2 ∷ []) ∷ nine 2 20 6 ∷ nine 9 20 6 ∷ nine 2 6 20 ∷ (2 ∷ 20 ∷ []) ∷ (2 ∷ 0 ∷ []) ∷ (2 ∷ 1 ∷ []) ∷ [])
+    ≡ leaves moded ∷ leaves (remarked moded) ∷ leaves (remarked (head two)) ∷ leaves moded ∷ leaves (head two) ∷ leaves unstopped ∷ leaves moded ∷ []
 options-come-up = refl
 
 -- In a pair, both of whose heads have signals.
@@ -217,7 +230,7 @@ stored-signals = refl
 -- a side that is closed, and a slave that is opened anew, have a new head: no signal, no ioctl, and the modes and marks of a new one
 
 abbrev new : Head ℕ
-new = record { queue = queue [] (replicate 8 (flow 5120 1024 false)); read_mode = ByteStream; control_mode = Refuse; hung_up = false; signals = []; ioctl = Free }
+new = record { queue = queue [] (replicate 8 (flow 5120 1024 false)); read_mode = ByteStream; control_mode = Refuse; tostop = false; hung_up = false; signals = []; ioctl = Free }
 
 pub nothing-waits-at-a-slave-opened-anew : called plain (caller Master) OpenSlave (pair (end Open two) (end Closed two))
     ≡ record { answer = Done; state = record (pair (end Open two) (record (end Open two) { head = new })) { enabled = driver_of Master ∷ [] } }

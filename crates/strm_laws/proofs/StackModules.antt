@@ -35,6 +35,7 @@ use Rattle.strm_laws.specs.Stacked.{Module, OfLdterm, OfPtem, OfPckt, module_nam
 use Rattle.strm_types.specs.TakenUp.{ends_lines, input_flushed, line_up, read_mode_of, taken_up, termios_taken}
 use Rattle.strm_types.specs.Typing.{up_alone}
 use Rattle.strm_types.specs.Winsizes.{same_winsize}
+use Rattle.strm_types.specs.Termios.{tostop}
 use Rattle.strm_types.proofs.CostSums.{both-few, cost-more, more-few, none-few, one-few}
 use Rattle.strm_types.proofs.CostsBounded.{cost-low, next-cost}
 use Rattle.strm_types.proofs.LdtermPuts.{acked-kind, puts-each}
@@ -135,12 +136,12 @@ module _ (C : Type 0) (all : Stands) (here : Spot) (some : 0 < here.at) (few : h
     data-up cells = refl
 
     abbrev rest : Termios → List (Parcel C)
-    rest t = onward Up here (mode_message (read_mode_of t)) ∷ onward Up here m ∷ []
+    rest t = onward Up here (mode_message (read_mode_of t) (tostop t)) ∷ onward Up here m ∷ []
 
     rest-few : (t : Termios) → Makes C all (line_packets on before) (rest t)
     rest-few t =
         let last = one-few (packs all) (line_packets on before) (toward Up here) m (omega (arith, next-ack)) in
-        more-few (packs all) (line_packets on before) (toward Up here) (mode_message (read_mode_of t)) (onward Up here m ∷ []) (omega (arith, last))
+        more-few (packs all) (line_packets on before) (toward Up here) (mode_message (read_mode_of t) (tostop t)) (onward Up here m ∷ []) (omega (arith, last))
 
     line-few : (line : List C) → Makes C all (packets on before) (line_up here line)
     line-few [] = none-few (packs all) (packets on before)

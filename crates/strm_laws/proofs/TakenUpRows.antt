@@ -22,8 +22,11 @@ use Rattle.strm_laws.proofs.Samples.{header, ordinary, without_parts}
 
 -- The 35 bytes of a termios as the first one, but with other control bytes and the lowest byte of its local modes: 0x3b with ICANON, and 0x39
 -- without it.
+abbrev given_in : ℕ → ℕ → List ℕ
+given_in high modes = 0 ∷ 0 ∷ 0x25 ∷ 0 ∷ 0 ∷ 0 ∷ 0 ∷ 5 ∷ 0 ∷ 0 ∷ 0 ∷ 0 ∷ 0 ∷ 0 ∷ high ∷ modes ∷ replicate 19 7
+
 abbrev given : ℕ → List ℕ
-given modes = 0 ∷ 0 ∷ 0x25 ∷ 0 ∷ 0 ∷ 0 ∷ 0 ∷ 5 ∷ 0 ∷ 0 ∷ 0 ∷ 0 ∷ 0 ∷ 0 ∷ 0x8a ∷ modes ∷ replicate 19 7
+given modes = given_in 0x8a modes
 
 abbrev lines : ℕ
 lines = 0x3b
@@ -34,12 +37,12 @@ raw = 0x39
 abbrev set_so : ℕ → Termios
 set_so modes = record first_termios { lflag = record { 0 = 0x8a00 + modes }; control = replicate 19 7 }
 
--- the answer that a command was obeyed, and an M_SETOPTS with a read mode: RNORM is 0, RMSGN is 2
+-- the answer that a command was obeyed, and an M_SETOPTS with a read mode, RNORM is 0 and RMSGN is 2, and without TOSTOP
 abbrev answer : ℕ → List ℕ → Message ℕ
 answer command bytes = without_parts Iocack (header command 7 0 ++ bytes)
 
 abbrev mode : ℕ → Message ℕ
-mode n = without_parts Setopts (n ∷ [])
+mode n = without_parts Setopts (n ∷ 0 ∷ [])
 
 abbrev comes : ℕ → List ℕ → Ldterm ℕ → Acted ℕ (Ldterm ℕ)
 comes command bytes p = ldterm_puts (at Slave Up) (answer command bytes) p
@@ -75,6 +78,17 @@ raw-goes-on = refl
 
 pub lines-begin : comes 2 (given lines) in_raw ≡ sent_of (record in_raw { termios = set_so lines }) (mode 2 ∷ answer 2 (given lines) ∷ [])
 lines-begin = refl
+
+-- TOSTOP goes with the read mode
+abbrev in_stopping : ℕ → Termios
+in_stopping modes = record (set_so modes) { lflag = record { 0 = 0x8b00 + modes } }
+
+abbrev told_in : ℕ → ℕ → Acted ℕ (Ldterm ℕ)
+told_in modes number = sent_of (record in_raw { termios = in_stopping modes }) (without_parts Setopts (number ∷ 1 ∷ []) ∷ answer 2 (given_in 0x8b modes) ∷ [])
+
+pub tostop-is-told : map (λ modes. comes 2 (given_in 0x8b modes) in_raw) (lines ∷ raw ∷ [])
+    ≡ told_in lines 2 ∷ told_in raw 0 ∷ []
+tostop-is-told = refl
 
 -- TCSETSF
 

@@ -72,11 +72,11 @@ module _ {C : Type 0} where
   may_stand None ps = false
   may_stand (Some p) ps = may_push module_name p ps
 
-  -- a side's head is told its read mode, where there is one to tell
+  -- a side's head is told its read mode, and that TOSTOP isn't set, where there is a mode to tell
   abbrev pub mode_put : Side → Option ReadMode → State C → Carried C (State C)
   mode_put side None s = record { state = s; gone = [] }
   mode_put side (Some mode) s =
-      let t = put_at_head side (head_above side) (mode_message mode) s in
+      let t = put_at_head side (head_above side) (mode_message mode false) s in
       record { state = t.state; gone = t.gone }
 
   abbrev pub with_modules : Side → List (Module C) → State C → State C

@@ -21,6 +21,7 @@ use Rattle.strm_types.specs.Options.{mode_message}
 use Rattle.strm_types.specs.Far.{turns_round}
 use Rattle.strm_types.specs.TakenUp.{ends_lines, line_up, read_mode_of, taken_up, termios_taken}
 use Rattle.strm_types.specs.Typing.{up_alone}
+use Rattle.strm_types.specs.Termios.{tostop}
 use Rattle.strm_types.proofs.LdtermPuts.{acked-bare, acked-kind}
 use Rattle.strm_ldterm.proofs.Passing.{read-sends}
 use Rattle.strm_ldterm.proofs.Spending.{one-cost}
@@ -40,7 +41,7 @@ module _ (here : Spot) (inside : 0 < here.at) (small : here.at ≤ MODULES) wher
       let no : across_at true next ≡ false = grind (arith, nat_tests) in
       ap (λ across. cond {A = ℕ} (next == 0) 0 (below_cost Up false across false) + cond (next == 0 || false) 0 0) no ∙ quiet-free (next == 0) false
 
-  mode-free : (t : Termios) → cost (toward Up here) (mode_message {C = ℕ} (read_mode_of t)) ≡ 0
+  mode-free : (t : Termios) → cost (toward Up here) (mode_message {C = ℕ} (read_mode_of t) (tostop t)) ≡ 0
   mode-free t = quiet-free (next == 0) false
 
   line-free : (cells : List ℕ) → cost (toward Up here) (data_message cells) ≡ 0
@@ -70,19 +71,19 @@ module _ (here : Spot) (m : Message ℕ) (acked : is_acked m ≡ true) (way : he
   unfolding cost_of
   more-of to n ps = refl
 
-  rest-cost : (t : Termios) → cost_of cost (onward Up here (mode_message (read_mode_of t)) ∷ onward Up here m ∷ []) ≡ 2 * (here.at - 1)
+  rest-cost : (t : Termios) → cost_of cost (onward Up here (mode_message (read_mode_of t) (tostop t)) ∷ onward Up here m ∷ []) ≡ 2 * (here.at - 1)
   rest-cost t =
       let free = mode-free here inside small t in
       let last = one-cost (toward Up here) m in
       let ack = ack-cost (toward Up here) m acked refl (omega (arith, small)) in
-      let more = more-of (toward Up here) (mode_message (read_mode_of t)) (onward Up here m ∷ []) in
+      let more = more-of (toward Up here) (mode_message (read_mode_of t) (tostop t)) (onward Up here m ∷ []) in
       omega arith
 
   termios-cost : (t : Termios) (p : Ldterm ℕ) → cost_of cost (termios_taken here t m p).sent ≡ 2 * (here.at - 1)
   termios-cost t p = at (ends_lines p.termios t) p.line
     where
       rest : List (Parcel ℕ)
-      rest = onward Up here (mode_message (read_mode_of t)) ∷ onward Up here m ∷ []
+      rest = onward Up here (mode_message (read_mode_of t) (tostop t)) ∷ onward Up here m ∷ []
 
       at : (ends : Bool) (line : List ℕ) → cost_of cost (cond ends (line_up here line) [] ++ rest) ≡ 2 * (here.at - 1)
       at false line = rest-cost t

@@ -19,6 +19,7 @@ use Rattle.strm_types.specs.Message.{data_message}
 use Rattle.strm_types.specs.Options.{mode_message}
 use Rattle.strm_types.specs.TakenUp.{ends_lines, input_flushed, line_up, read_mode_of, taken_up}
 use Rattle.strm_types.specs.Typing.{up_alone}
+use Rattle.strm_types.specs.Termios.{tostop}
 use Rattle.strm_blocks.specs.Blocks.{StoreValue, IsStore, in_hand, token}
 use Rattle.strm_msg.specs.Messages.{message_of, IsChain}
 use Rattle.strm_frame.specs.declared.modules.Acts.{Acts}
@@ -166,14 +167,14 @@ pub takes-up : (s t u v : StoreValue) (x y z : Ldterm) (here : Spot) (command mo
     → IsStore s → IsStore t → IsStore u → CanPut s (token last.message) (keeps x) → IsChain (in_hand s (token last.message)) → last.to ≡ toward Up here
     → Proceeds s t x y (flush_takes command) notes a f f1 (input_flushed here command (ldterm_in s x))
     → Proceeds t u y z (line_takes y.line) [] b f1 f1 (termios_set here termios (ldterm_in t y))
-    → Proceeds u v z z 1 [] (mode ∷ []) f1 f1 (sends (onward Up here (mode_message (read_mode_of termios)) ∷ []) (ldterm_in u z))
+    → Proceeds u v z z 1 [] (mode ∷ []) f1 f1 (sends (onward Up here (mode_message (read_mode_of termios) (tostop termios)) ∷ []) (ldterm_in u z))
     → acts.notes.items ≡ notes → sent_of acts.sent ≡ a ++ (b ++ mode ∷ last ∷ []) → 2 + cost_of cost (taken_up here command termios (message_in s (token last.message)) (ldterm_in s x)).sent ≤ most
     → Puts s v x z (token last.message) most acts f f1 (taken_up here command termios (message_in s (token last.message)) (ldterm_in s x))
 takes-up s t u v x y z here command most termios notes a b mode last acts f f1 st st_t st_u can chain place flush set told noted sent_is few =
     let p = ldterm_in s x in
     let kept = can-kept s x (token last.message) can in
     let kept_t = noted-kept s t x y (flush_takes command) notes a f f1 (input_flushed here command p) kept flush in
-    let modes : ldterms.Ldterm ℕ → Acted ℕ (ldterms.Ldterm ℕ) = λ r. sends (onward Up here (mode_message (read_mode_of termios)) ∷ []) r in
+    let modes : ldterms.Ldterm ℕ → Acted ℕ (ldterms.Ldterm ℕ) = λ r. sends (onward Up here (mode_message (read_mode_of termios) (tostop termios)) ∷ []) r in
     let inner = proceeds-both t u v y z z (line_takes y.line) 1 b (mode ∷ []) f1 f1 f1 (termios_set here termios (ldterm_in t y)) modes st_u kept_t set told in
     let next : ldterms.Ldterm ℕ → Acted ℕ (ldterms.Ldterm ℕ) = λ q. both (termios_set here termios q) modes in
     let whole = noted-both s t v x y z (flush_takes command) (line_takes y.line + 1) notes a (b ++ mode ∷ []) f f1 f1 (input_flushed here command p) next st_t kept refl flush inner in
@@ -182,8 +183,8 @@ takes-up s t u v x y z here command most termios notes a b mode last acts f f1 s
     let up : List (Parcel ℕ) = cond (ends_lines q.termios termios) (line_up here q.line) [] in
     puts-behind s v x z last here (flush_takes command + (line_takes y.line + 1)) most notes (a ++ (b ++ mode ∷ [])) acts f f1 (both (input_flushed here command p) next) _ st can chain place whole noted
     (sent_is ∙ ap (λ l. a ++ l) (sym (append_assoc b (mode ∷ []) (last ∷ []))) ∙ sym (append_assoc a (b ++ mode ∷ []) (last ∷ [])))
-    (append_assoc (input_flushed here command p).sent (up ++ onward Up here (mode_message (read_mode_of termios)) ∷ []) (onward Up here (message_in s (token last.message)) ∷ [])
-    ∙ ap (λ l. (input_flushed here command p).sent ++ l) (append_assoc up (onward Up here (mode_message (read_mode_of termios)) ∷ []) (onward Up here (message_in s (token last.message)) ∷ [])))
+    (append_assoc (input_flushed here command p).sent (up ++ onward Up here (mode_message (read_mode_of termios) (tostop termios)) ∷ []) (onward Up here (message_in s (token last.message)) ∷ [])
+    ∙ ap (λ l. (input_flushed here command p).sent ++ l) (append_assoc up (onward Up here (mode_message (read_mode_of termios) (tostop termios)) ∷ []) (onward Up here (message_in s (token last.message)) ∷ [])))
     (omega (arith, two, few))
 
 -- the termios and the line are beside what it holds

@@ -10,8 +10,9 @@ ghost use Rattle.strm_types.specs.declared.spots.Note.TheVariants.{Room};
 ghost use Rattle.strm_types.specs.Commands.{is_acked, is_iocack};
 ghost use Rattle.strm_types.specs.Costs.{cost};
 ghost use Rattle.strm_types.specs.LdtermPuts.{goes_on, passes_on_way, told_by_header};
-ghost use Rattle.strm_types.specs.Options.{mode_number};
+ghost use Rattle.strm_types.specs.Options.{mode_number, tostop_number};
 ghost use Rattle.strm_types.specs.TakenUp.{ends_lines, input_flushed, read_mode_of, taken_up};
+ghost use Rattle.strm_types.specs.Termios.{tostop};
 ghost use Rattle.strm_blocks.specs.Blocks.{in_hand, block_at, token};
 ghost use Rattle.strm_msg.specs.Messages.{IsChain};
 ghost use Rattle.strm_frame.specs.Hands.{AreIn, CanPut, HasRoom};
@@ -67,6 +68,13 @@ fn mode_of(termios: &Termios) -> u8
     } else {
         RNORM
     }
+}
+
+// TOSTOP of a termios, as an M_SETOPTS has it.
+fn tostop_of(termios: &Termios) -> u8
+    ensures { result ≡ tostop_number (tostop termios.now) }
+{
+    u8::from(termios.lflag.contains(LocalModes::TOSTOP))
 }
 
 // A message goes on at once.
@@ -145,8 +153,8 @@ fn set_termios<B: Blocks>(
     })
 }
 
-// The answer to a command that set a termios: with TCSETSF input is flushed, the termios is set, the head is told its read mode, and the
-// answer goes on.
+// The answer to a command that set a termios: with TCSETSF input is flushed, the termios is set, the head is told its read mode and
+// TOSTOP, and the answer goes on.
 fn take_up<B: Blocks>(
     ldterm: &mut Ldterm,
     store: &mut B,
@@ -172,7 +180,13 @@ fn take_up<B: Blocks>(
     store.audit();
     let line = set_termios(ldterm, store, here, set.1);
     store.audit();
-    let mode = send_up(ldterm, store, here, MsgKind::Setopts, &[mode_of(&set.1)]);
+    let mode = send_up(
+        ldterm,
+        store,
+        here,
+        MsgKind::Setopts,
+        &[mode_of(&set.1), tostop_of(&set.1)],
+    );
     Acts {
         notes: note_if(room, Note::Room(Way::Up)),
         sent: Outbox {

@@ -247,7 +247,7 @@ module _ {C : Type 0} (dir : Dir) (cells : Cells C) where
 module _ {C : Type 0} (dir : Dir) (cells : Cells C) where
   mode-unread : (side : Side) (mode : Option ReadMode) (s : State C) → reads dir (mode_put side mode s).gone ≡ 0
   mode-unread side None s = refl
-  mode-unread side (Some mode) s = at-head dir cells side (head_above side) (mode_message mode) s
+  mode-unread side (Some mode) s = at-head dir cells side (head_above side) (mode_message mode false) s
 
   pub push-unread : (side : Side) (q : Option (Module C)) (s : State C) → reads dir (pushed_named side q s).gone ≡ 0
   push-unread side None s = refl

@@ -19,6 +19,7 @@ use Rattle.strm_types.specs.Far.{far, far_at, is_turned, turns_round}
 use Rattle.strm_types.specs.Service.{line_gone}
 use Rattle.strm_types.specs.TakenUp.{ends_lines, input_flushed, line_up, read_mode_of, taken_up, termios_taken}
 use Rattle.strm_types.specs.Typing.{up_alone}
+use Rattle.strm_types.specs.Termios.{tostop}
 use Rattle.strm_types.proofs.LdtermPuts.{either, acked-kind, puts-each}
 use Rattle.strm_types.proofs.Onward.{onward-lower}
 
@@ -83,10 +84,10 @@ module _ {C : Type 0} (here : Spot) (m : Message C) (some : 0 < here.at) (few : 
   termios-lower t l way acked = at (ends_lines l.termios t)
     where
       rest : List (Parcel C)
-      rest = onward Up here (mode_message (read_mode_of t)) ∷ onward Up here m ∷ []
+      rest = onward Up here (mode_message (read_mode_of t) (tostop t)) ∷ onward Up here m ∷ []
 
       rest-lower : Lower rest
-      rest-lower = (answer-lower (mode_message (read_mode_of t)) refl way acked, (answer-lower m (ap (λ kind. turns_round kind m.plain) (acked-kind m acked)) way acked, tt))
+      rest-lower = (answer-lower (mode_message (read_mode_of t) (tostop t)) refl way acked, (answer-lower m (ap (λ kind. turns_round kind m.plain) (acked-kind m acked)) way acked, tt))
 
       at : (ends : Bool) → Lower (cond ends (line_up here l.line) [] ++ rest)
       at true = lower-append (line_up here l.line) rest (line-lower l.line way acked) rest-lower

@@ -30,12 +30,13 @@ use Rattle.strm_types.specs.Queue.{Queue, marked, put_on, new_queue, map_queue}
 use Rattle.strm_types.specs.Signals.{signal_in, with_signal}
 use Rattle.strm_types.specs.Slots.{slot_answered, PlainSlot}
 
--- a stream head: what it has for its readers, how they read it, whether an M_HANGUP came up, as the other end is gone, the
+-- a stream head: what it has for its readers, how they read it, TOSTOP, whether an M_HANGUP came up, as the other end is gone, the
 -- signals that came up, and the ioctl that is under way
 pub record Head (C : Type 0) : Type 0 where
   pub queue : Queue C
   pub read_mode : ReadMode
   pub control_mode : ControlMode
+  pub tostop : Bool
   pub hung_up : Bool
   pub signals : List ℕ
   pub ioctl : PlainSlot
@@ -45,9 +46,9 @@ is_pcproto Pcproto = true
 is_pcproto _ = false
 
 module _ {C : Type 0} where
-  -- a head as it is made: marks 5120 and 1024, RNORM and RPROTNORM
+  -- a head as it is made: marks 5120 and 1024, RNORM and RPROTNORM, without TOSTOP
   abbrev pub new_head : Head C
-  new_head = record { queue = new_queue 5120 1024; read_mode = ByteStream; control_mode = Refuse; hung_up = false; signals = []; ioctl = Free }
+  new_head = record { queue = new_queue 5120 1024; read_mode = ByteStream; control_mode = Refuse; tostop = false; hung_up = false; signals = []; ioctl = Free }
 
   -- the head with one mode set, and the other one as it was
   abbrev pub with_mode : Mode → Head C → Head C
@@ -96,7 +97,7 @@ module _ {C : Type 0} where
 
   -- the head with the options that are given
   abbrev pub with_options : Options → Head C → Head C
-  with_options options h = record h { read_mode = unwrap_or options.mode h.read_mode; queue = with_marks_given options.marks h.queue }
+  with_options options h = record h { read_mode = unwrap_or options.mode h.read_mode; tostop = unwrap_or options.tostop h.tostop; queue = with_marks_given options.marks h.queue }
 
   -- An M_IOCTL that comes up wants an answer unless its number is 0. Nobody above knows its command, so an M_IOCNAK goes down.
   abbrev pub nak_down : Spot → Option Ioc → List (Parcel C)
@@ -126,6 +127,7 @@ map_head f h = record {
   queue = map_queue f h.queue;
   read_mode = h.read_mode;
   control_mode = h.control_mode;
+  tostop = h.tostop;
   hung_up = h.hung_up;
   signals = h.signals;
   ioctl = h.ioctl;

@@ -1,5 +1,5 @@
 -- What an M_SETOPTS sets at a stream head (STREAMS Programming Guide, "Stream Head": struct stroptions; streamio(7I): I_SRDOPT).
-use Rattle.std.specs.Prelude.{ℕ, Bool, ◌&&◌, ◌==◌, nat_le, if◌then◌else◌, List, [], ◌∷◌, length, Option, None, Some}
+use Rattle.std.specs.Prelude.{ℕ, Bool, true, false, ◌&&◌, ◌==◌, nat_le, if◌then◌else◌, List, [], ◌∷◌, length, Option, None, Some}
 use Rattle.strm_types.specs.declared.kinds.MsgKind.TheVariants.{Setopts}
 use Rattle.strm_types.specs.declared.modes.ReadMode.{ReadMode}
 use Rattle.strm_types.specs.declared.modes.ReadMode.TheVariants.{ByteStream, MessageKeep, MessageDiscard}
@@ -21,9 +21,21 @@ mode_number ByteStream = 0
 mode_number MessageDiscard = 1
 mode_number MessageKeep = 2
 
--- an M_SETOPTS that sets a read mode
-abbrev pub mode_message : {C : Type 0} → ReadMode → Message C
-mode_message mode = record { kind = Setopts; band = 0; control = None; body = None; plain = mode_number mode ∷ [] }
+-- TOSTOP by its number, where there is one: 0 and 1 alone say it
+abbrev pub tostop_numbered : ℕ → Option Bool
+tostop_numbered n = if n == 0 then Some false else (if n == 1 then Some true else None)
+
+abbrev pub tostop_in : List ℕ → Option Bool
+tostop_in [] = None
+tostop_in (number ∷ _) = tostop_numbered number
+
+-- and back
+abbrev pub tostop_number : Bool → ℕ
+tostop_number tostop = if tostop then 1 else 0
+
+-- an M_SETOPTS that sets a read mode and TOSTOP
+abbrev pub mode_message : {C : Type 0} → ReadMode → Bool → Message C
+mode_message mode tostop = record { kind = Setopts; band = 0; control = None; body = None; plain = mode_number mode ∷ tostop_number tostop ∷ [] }
 
 -- whether two numbers may be a high-water and a low-water mark
 abbrev pub are_marks : ℕ → ℕ → Bool
@@ -37,11 +49,17 @@ marks_in bytes =
     if are_marks high low then Some (record { high = high; low = low }) else None
 
 abbrev pub nothing_set : Options
-nothing_set = record { mode = None; marks = None }
+nothing_set = record { mode = None; tostop = None; marks = None }
 
--- One byte is a read mode; eight more are the marks. With another number of bytes nothing is set.
+-- a read mode and TOSTOP; where the number of that says neither nothing is set
+abbrev pub with_tostop : Option ReadMode → Option Bool → Options
+with_tostop mode None = nothing_set
+with_tostop mode (Some tostop) = record { mode = mode; tostop = Some tostop; marks = None }
+
+-- One byte is a read mode; one more is TOSTOP (termio(7I)), and eight more are the marks. With another number of bytes nothing is set.
 abbrev pub options_in : List ℕ → Options
 options_in [] = nothing_set
 options_in (mode ∷ rest) =
-    if length rest == 0 then record { mode = mode_numbered mode; marks = None }
-    else (if length rest == 8 then record { mode = mode_numbered mode; marks = marks_in rest } else nothing_set)
+    if length rest == 0 then record { mode = mode_numbered mode; tostop = None; marks = None }
+    else (if length rest == 1 then with_tostop (mode_numbered mode) (tostop_in rest)
+    else (if length rest == 8 then record { mode = mode_numbered mode; tostop = None; marks = marks_in rest } else nothing_set))

@@ -12,7 +12,7 @@ use Rattle.strm_types.specs.Flushing.{flush_message, read_flush}
 use Rattle.strm_types.specs.Ldterms.{Ldterm, both, onward, read_flushed, sends}
 use Rattle.strm_types.specs.Message.{Message, data_message}
 use Rattle.strm_types.specs.Options.{mode_message}
-use Rattle.strm_types.specs.Termios.{icanon}
+use Rattle.strm_types.specs.Termios.{icanon, tostop}
 use Rattle.strm_types.specs.Typing.{up_alone}
 
 -- the read mode that goes with a termios: where lines are made a read gives one of them
@@ -35,11 +35,11 @@ module _ {C : Type 0} where
   line_up here [] = []
   line_up here (c ∷ more) = onward Up here (data_message (c ∷ more)) ∷ []
 
-  -- The termios is set. Where lines are made no longer the unfinished one goes up. Then the head is told its read mode, and the answer goes on.
+  -- The termios is set. Where lines are made no longer the unfinished one goes up. Then the head is told its read mode and TOSTOP, and the answer goes on.
   abbrev pub termios_taken : Spot → Termios → Message C → Ldterm C → Acted C (Ldterm C)
   termios_taken here t m p =
       let ends = ends_lines p.termios t in
-      sends ((if ends then line_up here p.line else []) ++ onward Up here (mode_message (read_mode_of t)) ∷ onward Up here m ∷ [])
+      sends ((if ends then line_up here p.line else []) ++ onward Up here (mode_message (read_mode_of t) (tostop t)) ∷ onward Up here m ∷ [])
       (record p { termios = t; line = if ends then [] else p.line })
 
   -- The answer to a command that set a termios: input is flushed where the command says so, and the termios is taken up.

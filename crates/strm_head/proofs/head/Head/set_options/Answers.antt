@@ -18,5 +18,6 @@ returns-clause-state g c = λ s ready.
     ∙ options-first bytes in
     let h = head_in s c.args.self.now in
     c.set_marks.ensures.state s ready
-    ∙ ap (λ mode. record (with_options c.read-options.result h) { read_mode = mode }) c.unwrap_or-self.ensures
+    ∙ ap (λ mode. record (with_options c.read-options.result h) { read_mode = mode; tostop = c.unwrap_or-self-2.result }) c.unwrap_or-self.ensures
+    ∙ ap (λ tostop. record (with_options c.read-options.result h) { tostop = tostop }) c.unwrap_or-self-2.ensures
     ∙ ap (λ o. with_options o h) options
