@@ -6,7 +6,7 @@ use crate::asked::FlushWhat;
 use strm_types::MsgKind;
 
 /// Whether a flush takes a message of this kind and band.
-pub(crate) fn is_flushed(what: FlushWhat, kind: MsgKind, band: u8) -> bool
+pub fn is_flushed(what: FlushWhat, kind: MsgKind, band: u8) -> bool
     ensures { result ≡ flush.is_flushed what.all (option_map (λ b. b.0) what.band) kind band }
 {
     let counted = if kind.is_high_priority() { 0 } else { band };

@@ -16,5 +16,6 @@ mod visitor;
 pub use asked::{FlushWhat, NoBlocks, Peek, Summary};
 pub use blocks::Blocks;
 pub use in_hand::InHand;
+pub use kinds::is_flushed;
 pub use table::TableStore;
 pub use visitor::Visitor;

@@ -1,112 +1,258 @@
--- What a flush leaves of a list.
-use Rattle.std.proofs.Common.{ℕ, ◌≡◌, ◌<◌, ◌+◌, zero, suc, true, false, cond, List, [], ◌∷◌, ◌++◌, length, get_or, map, refl, sym, ap, ◌∙◌, subst, arith}
-use Rattle.std.specs.Prelude.{Option, None, Some, option_map, not, MatchOption}
-use Rattle.std.specs.List.{AllByRecursion}
-use Rattle.std.proofs.lemmas.List.{append-nil, length-append, get_or-set_same, set-set, set-get_or}
+-- The walk of a flush along a list: what it has taken, and what it leaves.
+use Rattle.std.proofs.Common.{ℕ, ◌≡◌, ◌≢◌, ◌≤◌, ◌<◌, ◌+◌, ◌-◌, Bool, true, false, cond, eqb, List, [], ◌∷◌, ◌++◌, length, map, refl, sym, ap, ◌∙◌, subst, arith, inl, inr}
+use Rattle.std.proofs.Math.ListN.{set}
+use Rattle.std.specs.Prelude.{◌⊎◌, Option, None, Some, option_map, not, MatchOption}
+use Rattle.std.proofs.lemmas.Bool.Decides.{nat_tests}
+use Rattle.std.proofs.lemmas.List.{append-nil, append_assoc, map-append, set-set, set-get_or}
+use Rattle.std.proofs.lemmas.List.Sums.{sum_by-cons}
+use denote.RawPtr.{Ptr}
+use Rattle.strm_types.specs.Flush.{is_flushed}
 use Rattle.strm_blocks.specs.declared.asked.FlushWhat.{FlushWhat}
-use Rattle.strm_blocks.specs.Blocks.{Block, StoreValue, IsInHand, list_at, placed, dropped}
+use Rattle.strm_blocks.specs.declared.in_hand.InHand.{InHand}
+use Rattle.strm_blocks.specs.Blocks.{Block, Held, StoreValue, IsInHand, IsFreshName, times_in, in_hand, list_at, placed, held, dropped, changed, token}
 use Rattle.strm_blocks.specs.Outcomes.{flushes, flushed}
-use Rattle.strm_blocks.proofs.Laws as laws
-use Rattle.strm_raw.specs.Numbered.{Nodes, msg_number}
+use Rattle.strm_raw.specs.Numbered.{Nodes, Row, row_at, msg_number, IsMsgOrNone}
 use Rattle.strm_raw.specs.Roster.{Msg, Roster}
 use Rattle.strm_raw.specs.Raw.{chain_of, value_of, IsRaw}
-use Rattle.strm_raw.specs.Lists.{AreListed, Unseats, queue_at}
-use Rattle.strm_raw.specs.Flushing.{FlushesFirst, FlushesNone, TakesFlushed, flushes_at}
+use Rattle.strm_raw.specs.Lists.{AreListed, IsList, Unseats, begin_of, ends_at, queue_at}
+use Rattle.strm_raw.specs.Flushing.{Gathers}
+use Rattle.strm_raw.specs.Tails.{Hangs}
 use Rattle.strm_raw.specs.declared.neighbours.Ends.{Ends}
 use Rattle.strm_raw.specs.declared.msg_nodes.MsgLink.{MsgLink}
 use Rattle.strm_raw.specs.declared.data_nodes.DataLink.{DataLink}
-use Rattle.strm_raw.proofs.Freeing.{in-hand-held}
+use Rattle.strm_raw.proofs.Giving.{empty}
+use Rattle.strm_raw.proofs.Hanging.{Hung, hung}
 use Rattle.strm_raw.proofs.Moved.{queue-value}
+use Rattle.strm_raw.proofs.Placing.{queue-few}
 use Rattle.strm_raw.proofs.Seating.{TakenOff, taken-off}
-use Rattle.strm_raw.proofs.Tied.{a-first, no-first}
+use Rattle.strm_raw.proofs.Tied.{a-first, no-first, list-begin, list-ahead}
 
--- messages that a flush leaves, as values
-kept-value : (v : Nodes) (what : FlushWhat) (q : List Msg) → AllByRecursion (λ m. flushes_at v.rows what m.head ≡ false) q → AllByRecursion (λ message. flushes what message ≡ false) (map (chain_of v) q)
-kept-value v what [] all = tt
-kept-value v what (m ∷ q) all = (all.0, kept-value v what q all.1)
+-- what has been taken, if anything, is a message in hand beside what is left
+abbrev pub Taken : Option InHand → StoreValue → StoreValue → StoreValue → Type 0
+Taken taken old left new = MatchOption taken (new ≡ left) (λ m. Gathers old left new (token m))
 
-module _ (v : Nodes) (b : Roster) (k : ℕ) (what : FlushWhat) (o : Option MsgLink) (found : FlushesFirst v.rows what (queue_at k b.lists) (option_map (msg_number v.mat) o)) where
-  pub none-taken : o ≡ None → AllByRecursion (λ message. flushes what message ≡ false) (list_at (value_of v b) k)
-  none-taken eq =
-      let rear = no-first found.rear (sym found.place ∙ ap (λ o. option_map (msg_number v.mat) o) eq) in
-      let all = found.joined ∙ ap (λ ys. found.front ++ ys) rear ∙ append-nil found.front in
-      subst (λ (q : List (List Block)). AllByRecursion (λ message. flushes what message ≡ false) q) (sym (queue-value v b.lists k ∙ ap (λ q. map (chain_of v) q) all)) (kept-value v what found.front found.passed)
+-- whether a flush takes the message that begins with a block
+abbrev pub takes_row : FlushWhat → Row → Bool
+takes_row what r = is_flushed what.all (option_map (λ b. b.0) what.band) r.kind r.band
 
-  module _ {v' : Nodes} {ends ends' : List Ends} {b' : Roster} {first_m : Option MsgLink} {first_d : Option DataLink} {spare_m spare_d : ℕ} (is : IsRaw v first_m first_d spare_m spare_d b) (listed : AreListed v ends b) (within : k < 8)
-      (l : MsgLink) (eq : o ≡ Some l) (u : Unseats v v' ends ends' b b' k l) where
-    pub first-taken : (m : Msg) × ((ys : List Msg) × ((found.rear ≡ m ∷ ys) × (m.head ≡ msg_number v.mat l)))
-    first-taken = a-first found.rear (msg_number v.mat l) (sym found.place ∙ ap (λ o. option_map (msg_number v.mat) o) eq)
+module _ (s0 : StoreValue) (k : ℕ) (what : FlushWhat) where
+  -- the walk stands before the rear of a list
+  pub record Walk (v : Nodes) (ends : List Ends) (b : Roster) (first_m : Option MsgLink) (first_d : Option DataLink) (spare_m spare_d : ℕ) (at : Option MsgLink) (left : ℕ) : Type 0 where
+    pub raw : IsRaw v first_m first_d spare_m spare_d b
+    pub listed : AreListed v ends b
+    pub there : IsMsgOrNone v.mat (length v.rows) at
+    pub front : List Msg
+    pub rear : List Msg
+    pub joined : queue_at k b.lists ≡ front ++ rear
+    pub place : option_map (msg_number v.mat) at ≡ begin_of rear
+    pub short : length rear ≤ left
+    pub sifted : map (chain_of v) front ++ flushed what (map (chain_of v) rear) ≡ flushed what (list_at s0 k)
 
-    pub taken-left : TakenOff v v' ends' b b' first_m first_d spare_m spare_d k (msg_number v.mat l) found.front first-taken.0 first-taken.1.0
-    taken-left = taken-off is listed k within l found.front first-taken.0 first-taken.1.0 (found.joined ∙ ap (λ ys. found.front ++ ys) first-taken.1.1.0) first-taken.1.1.1 u
+  pub record Sifting (v : Nodes) (ends : List Ends) (b : Roster) (first_m : Option MsgLink) (first_d : Option DataLink) (spare_m spare_d : ℕ) (at : Option MsgLink) (left : ℕ) (taken : Option InHand) : Type 0 where
+    pub walk : Walk v ends b first_m first_d spare_m spare_d at left
+    pub gathered : Taken taken s0 (placed s0 k []) (placed (value_of v b) k [])
 
-    pub takes : TakesFlushed (value_of v b) (value_of v' b') k what (msg_number v.mat l)
-    takes =
-        let stopped = subst (λ (o : Option MsgLink). MatchOption (option_map (msg_number v.mat) o) (Unit {0}) (λ i. flushes_at v.rows what i ≡ true)) eq found.stopped in
-        record {
-          fresh_name = taken-left.fresh;
-          front = map (chain_of v) found.front;
-          message = chain_of v first-taken.0;
-          rear = map (chain_of v) first-taken.1.0;
-          joined = taken-left.shape;
-          kept = kept-value v what found.front found.passed;
-          taken = subst (λ i. flushes_at v.rows what i ≡ true) (sym first-taken.1.1.1) stopped;
-          after = taken-left.value;
-        }
+  -- one message is in hand beside what was taken before
+  pub record Loose (v : Nodes) (ends : List Ends) (b : Roster) (first_m : Option MsgLink) (first_d : Option DataLink) (spare_m spare_d : ℕ) (at : Option MsgLink) (left : ℕ) (taken : Option InHand) (i : ℕ) : Type 0 where
+    pub walk : Walk v ends b first_m first_d spare_m spare_d at left
+    pub rest : StoreValue
+    pub chain : List Block
+    pub fresh : IsFreshName rest i
+    pub value : placed (value_of v b) k [] ≡ held rest i chain
+    pub gathered : Taken taken s0 (placed s0 k []) rest
 
--- a list that has something is one of the store's
-within-by : (lists : List (List (List Block))) (k : ℕ) → 0 < length (get_or lists k []) → k < length lists
-within-by [] k some = absurd (omega arith)
-within-by (q ∷ lists) zero some = omega arith
-within-by (q ∷ lists) (suc k) some = let ih = within-by lists k some in omega arith
+  -- the same, once the list is what is left of it
+  all-taken : (s : StoreValue) (taken : Option InHand) (q : List (List Block)) → s ≡ placed (placed s k []) k q → placed (placed s0 k []) k q ≡ placed s0 k q
+      → Taken taken s0 (placed s0 k []) (placed s k []) → Taken taken s0 (placed s0 k q) s
+  all-taken s None q whole again t = whole ∙ ap (λ (s : StoreValue). placed s k q) t ∙ again
+  all-taken s (Some m) q whole again t = record {
+    fresh_name = t.fresh_name;
+    chain = t.chain;
+    after = whole ∙ ap (λ (s : StoreValue). placed s k q) t.after ∙ ap (λ (s : StoreValue). held s (token m) t.chain) again;
+  }
 
-module _ (what : FlushWhat) where
-  -- a flush leaves the same of a list, whether a message that it takes stands there or not
-  flushed-same : (message : List Block) (rear : List (List Block)) → flushes what message ≡ true → (front : List (List Block)) → flushed what (front ++ rear) ≡ flushed what (front ++ message ∷ rear)
-  flushed-same message rear taken [] = sym (ap (λ b. cond (not b) (message ∷ flushed what rear) (flushed what rear)) taken)
-  flushed-same message rear taken (x ∷ front) = ap (λ (r : List (List Block)). cond (not (flushes what x)) (x ∷ r) r) (flushed-same message rear taken front)
+  pub sift-begins : {v : Nodes} {ends : List Ends} {b : Roster} {first_m : Option MsgLink} {first_d : Option DataLink} {spare_m spare_d : ℕ} → IsRaw v first_m first_d spare_m spare_d b → AreListed v ends b → value_of v b ≡ s0
+      → (e : Ends) → e ≡ ends_at k ends → (n : ℕ) → n ≡ length v.rows → Sifting v ends b first_m first_d spare_m spare_d e.first n None
+  sift-begins {v = v} {ends = ends} {b = b} is listed view e e_is n all = record {
+    walk = record {
+      raw = is;
+      listed = listed;
+      there = subst (λ (e : Ends). IsMsgOrNone v.mat (length v.rows) e.first) (sym e_is) (listed.first k);
+      front = [];
+      rear = queue_at k b.lists;
+      joined = refl;
+      place = ap (λ (e : Ends). option_map (msg_number v.mat) e.first) e_is ∙ list-begin v (ends_at k ends) (queue_at k b.lists) (listed.tied k);
+      short = let f = queue-few is k in omega arith;
+      sifted = ap (λ q. flushed what q) (sym (queue-value v b.lists k) ∙ ap (λ (s : StoreValue). list_at s k) view);
+    };
+    gathered = ap (λ (s : StoreValue). placed s k []) view;
+  }
 
-  flushed-none : (q : List (List Block)) → AllByRecursion (λ message. flushes what message ≡ false) q → flushed what q ≡ q
-  flushed-none [] all = refl
-  flushed-none (x ∷ q) all = ap (λ b. cond (not b) (x ∷ flushed what q) (flushed what q)) all.0 ∙ ap (λ r. x ∷ r) (flushed-none q all.1)
+  module _ {v : Nodes} {ends : List Ends} {b : Roster} {first_m : Option MsgLink} {first_d : Option DataLink} {spare_m spare_d : ℕ} {at : Option MsgLink} {left : ℕ} where
+    -- a step past a message
+    module _ (w : Walk v ends b first_m first_d spare_m spare_d at left) (more : 0 < left) (l : MsgLink) (eq : at ≡ Some l)
+        (next : Option MsgLink) (step : option_map (msg_number v.mat) next ≡ (row_at (msg_number v.mat l) v.rows).ahead) (next_there : IsMsgOrNone v.mat (length v.rows) next) where
+      first : (m : Msg) × ((ys : List Msg) × ((w.rear ≡ m ∷ ys) × (m.head ≡ msg_number v.mat l)))
+      first = a-first w.rear (msg_number v.mat l) (sym w.place ∙ ap (λ o. option_map (msg_number v.mat) o) eq)
 
-  -- what is left of a flush: the same of the list, and the rest of the store
-  pub record Flushing (s0 : StoreValue) (k : ℕ) (s : StoreValue) : Type 0 where
-    pub rest : placed s k [] ≡ placed s0 k []
-    pub left : flushed what (list_at s k) ≡ flushed what (list_at s0 k)
+      abbrev m : Msg
+      m = first.0
 
-  pub flush-begins : (s0 : StoreValue) (k : ℕ) → Flushing s0 k s0
-  flush-begins s0 k = record { rest = refl; left = refl }
+      abbrev ys : List Msg
+      ys = first.1.0
 
-  module _ (s0 s s1 : StoreValue) (k name : ℕ) (f : Flushing s0 k s) (t : TakesFlushed s s1 k what name) where
-    pub flush-held : IsInHand s1 name
-    flush-held = subst (λ (x : StoreValue). IsInHand x name) (sym t.after) (in-hand-held (placed s k (t.front ++ t.rear)) name t.message t.fresh_name)
+      shape : queue_at k b.lists ≡ w.front ++ m ∷ ys
+      shape = w.joined ∙ ap (λ q. w.front ++ q) first.1.1.0
 
-    module _ (s2 : StoreValue) (freed : s2 ≡ dropped s1 name) where
-      s2-is : s2 ≡ placed s k (t.front ++ t.rear)
-      s2-is = freed ∙ ap (λ (x : StoreValue). dropped x name) t.after ∙ laws.dropped-held (placed s k (t.front ++ t.rear)) name t.message
+      behind : option_map (msg_number v.mat) next ≡ begin_of ys
+      behind = step ∙ ap (λ i. (row_at i v.rows).ahead) (sym first.1.1.1) ∙ list-ahead v (ends_at k ends) w.front m ys (subst (λ (q : List Msg). IsList v (ends_at k ends) q) shape (w.listed.tied k))
 
-      long : length (list_at s k) ≡ length t.front + length (t.message ∷ t.rear)
-      long = ap length t.joined ∙ length-append t.front (t.message ∷ t.rear)
+      fewer : length ys ≤ left - 1
+      fewer = let s = w.short in let e = ap length first.1.1.0 in omega arith
 
-      list-is : list_at s2 k ≡ t.front ++ t.rear
-      list-is = ap (λ (x : StoreValue). list_at x k) s2-is ∙ get_or-set_same s.lists k (t.front ++ t.rear) [] (within-by s.lists k (omega (arith, long)))
+      test-is : {t : Bool} → takes_row what (row_at (msg_number v.mat l) v.rows) ≡ t → flushes what (chain_of v m) ≡ t
+      test-is test = ap (λ i. takes_row what (row_at i v.rows)) first.1.1.1 ∙ test
 
-      pub flush-steps : Flushing s0 k s2
-      flush-steps = record {
-        rest = ap (λ (x : StoreValue). placed x k []) s2-is ∙ (λ j. record s { lists = set-set s.lists k (t.front ++ t.rear) [] j }) ∙ f.rest;
-        left = ap (λ q. flushed what q) list-is ∙ flushed-same t.message t.rear t.taken t.front ∙ ap (λ q. flushed what q) (sym t.joined) ∙ f.left;
+      -- one that stays
+      pub walk-passes : takes_row what (row_at (msg_number v.mat l) v.rows) ≡ false → Walk v ends b first_m first_d spare_m spare_d next (left - 1)
+      walk-passes stays = record {
+        raw = w.raw;
+        listed = w.listed;
+        there = next_there;
+        front = w.front ++ m ∷ [];
+        rear = ys;
+        joined = shape ∙ sym (append_assoc w.front (m ∷ []) ys);
+        place = behind;
+        short = fewer;
+        sifted =
+            (λ j. map-append (chain_of v) w.front (m ∷ []) j ++ flushed what (map (chain_of v) ys))
+            ∙ append_assoc (map (chain_of v) w.front) (chain_of v m ∷ []) (flushed what (map (chain_of v) ys))
+            ∙ ap (λ t. map (chain_of v) w.front ++ cond (not t) (chain_of v m ∷ flushed what (map (chain_of v) ys)) (flushed what (map (chain_of v) ys))) (sym (test-is stays))
+            ∙ ap (λ q. map (chain_of v) w.front ++ flushed what (map (chain_of v) q)) (sym first.1.1.0)
+            ∙ w.sifted;
       }
 
-      pub flush-smaller : length (list_at s2 k) < length (list_at s k)
-      flush-smaller = let a = ap length list-is ∙ length-append t.front t.rear in let b = long in omega arith
+      -- one that a flush takes
+      pub walk-takes : {v' : Nodes} {ends' : List Ends} {b' : Roster} → k < 8 → takes_row what (row_at (msg_number v.mat l) v.rows) ≡ true → Unseats v v' ends ends' b b' k l
+          → (taken : Option InHand) → Taken taken s0 (placed s0 k []) (placed (value_of v b) k []) → Loose v' ends' b' first_m first_d spare_m spare_d next (left - 1) taken (msg_number v.mat l)
+      walk-takes {v' = v'} {ends' = ends'} {b' = b'} within goes u taken t =
+          let done = taken-off w.raw w.listed k within l w.front m ys shape first.1.1.1 u in
+          let mat = ap (λ (w : Nodes). w.mat) u.nodes in
+          record {
+            walk = record {
+              raw = done.raw;
+              listed = done.listed;
+              there = subst (λ (x : Ptr × ℕ). IsMsgOrNone x.0 x.1 next) (λ q. (sym mat q, sym u.tied.len q)) next_there;
+              front = w.front;
+              rear = ys;
+              joined = done.queue;
+              place = ap (λ mat. option_map (msg_number mat) next) mat ∙ behind;
+              short = fewer;
+              sifted =
+                  (λ j. map (done.chains j) w.front ++ flushed what (map (done.chains j) ys))
+                  ∙ ap (λ t. map (chain_of v) w.front ++ cond (not t) (chain_of v m ∷ flushed what (map (chain_of v) ys)) (flushed what (map (chain_of v) ys))) (sym (test-is goes))
+                  ∙ ap (λ q. map (chain_of v) w.front ++ flushed what (map (chain_of v) q)) (sym first.1.1.0)
+                  ∙ w.sifted;
+            };
+            rest = placed (value_of v b) k [];
+            chain = chain_of v m;
+            fresh = done.fresh;
+            value = ap (λ (s : StoreValue). placed s k []) done.value ∙ (λ j. held (record (value_of v b) { lists = set-set (value_of v b).lists k (map (chain_of v) w.front ++ map (chain_of v) ys) [] j }) (msg_number v.mat l) (chain_of v m));
+            gathered = t;
+          }
 
-  pub flush-ends : (s0 s s1 : StoreValue) (k : ℕ) → Flushing s0 k s → FlushesNone s s1 k what → s1 ≡ placed s0 k (flushed what (list_at s0 k))
-  flush-ends s0 s s1 k f n =
-      let list : list_at s k ≡ flushed what (list_at s0 k) = sym (flushed-none (list_at s k) n.kept) ∙ f.left in
-      n.same
-      ∙ (λ j. record s { lists = sym (set-get_or s.lists k []) j })
-      ∙ (λ j. record s { lists = sym (set-set s.lists k [] (list_at s k)) j })
-      ∙ ap (λ (x : StoreValue). placed x k (list_at s k)) f.rest
-      ∙ (λ j. record s0 { lists = set-set s0.lists k [] (list_at s k) j })
-      ∙ ap (λ q. placed s0 k q) list
+    -- the message that was taken first, and one that was taken behind others
+    pub loose-first : {i : ℕ} → Loose v ends b first_m first_d spare_m spare_d at left None i → (m : InHand) → token m ≡ i → Sifting v ends b first_m first_d spare_m spare_d at left (Some m)
+    loose-first lo m name = record {
+      walk = lo.walk;
+      gathered = record {
+        fresh_name = subst (λ (x : StoreValue × ℕ). IsFreshName x.0 x.1) (λ j. (lo.gathered j, sym name j)) lo.fresh;
+        chain = lo.chain;
+        after = lo.value ∙ (λ j. held (lo.gathered j) (sym name j) lo.chain);
+      };
+    }
+
+    module _ {i : ℕ} (others : InHand) (lo : Loose v ends b first_m first_d spare_m spare_d at left (Some others) i) where
+      abbrev j : ℕ
+      j = token others
+
+      abbrev old : Held
+      old = record { name = j; chain = lo.gathered.chain }
+
+      counted : (n : ℕ) → times_in n lo.rest.hand ≡ cond (eqb j n) 1 0 + times_in n s0.hand
+      counted n = ap (λ (s : StoreValue). times_in n s.hand) lo.gathered.after ∙ sum_by-cons (λ (h : Held). cond (eqb h.name n) 1 0) old s0.hand
+
+      counted-all : (n : ℕ) → times_in n (value_of v b).hand ≡ cond (eqb i n) 1 0 + times_in n lo.rest.hand
+      counted-all n = ap (λ (s : StoreValue). times_in n s.hand) lo.value ∙ sum_by-cons (λ (h : Held). cond (eqb h.name n) 1 0) (record { name = i; chain = lo.chain }) lo.rest.hand
+
+      pub loose-apart : i ≢ j
+      loose-apart e = let c = counted i in let f = lo.fresh in grind (arith, nat_tests)
+
+      loose-fresh : IsFreshName s0 i
+      loose-fresh = let c = counted i in let f = lo.fresh in omega arith
+
+      pub loose-here : IsInHand (value_of v b) i
+      loose-here = let c = counted-all i in let f = lo.fresh in grind (arith, nat_tests)
+
+      pub loose-others : IsInHand (value_of v b) j
+      loose-others = let c = counted-all j in let d = counted j in let f = lo.gathered.fresh_name in let a = loose-apart in grind (arith, nat_tests)
+
+      hand-is : (value_of v b).hand ≡ record { name = i; chain = lo.chain } ∷ old ∷ s0.hand
+      hand-is = ap (λ (s : StoreValue). s.hand) lo.value ∙ ap (λ (s : StoreValue). record { name = i; chain = lo.chain } ∷ s.hand) lo.gathered.after
+
+      all-is : placed (value_of v b) k [] ≡ held (held (placed s0 k []) j lo.gathered.chain) i lo.chain
+      all-is = lo.value ∙ ap (λ (s : StoreValue). held s i lo.chain) lo.gathered.after
+
+      -- the two as one
+      joined-is : (X : List Block) → changed (dropped (held (held (placed s0 k []) j lo.gathered.chain) i lo.chain) j) i X ≡ held (placed s0 k []) i X
+      joined-is X =
+          let no : eqb i j ≡ false = (let a = loose-apart in grind (arith, nat_tests)) in
+          let yes : eqb j j ≡ true = grind (arith, nat_tests) in
+          let same : eqb i i ≡ true = grind (arith, nat_tests) in
+          rw (no, yes) (rw same refl)
+
+      pub loose-joins : {v' : Nodes} {b' : Roster} → Hangs v v' b b' i j → (m : InHand) → token m ≡ i → Sifting v' ends b' first_m first_d spare_m spare_d at left (Some m)
+      loose-joins {v' = v'} {b' = b'} h m name =
+          let w = lo.walk in
+          let done = hung w.raw w.listed refl i j loose-here loose-others loose-apart h in
+          record {
+            walk = record {
+              raw = done.raw;
+              listed = done.listed;
+              there = subst (λ (x : Ptr × ℕ). IsMsgOrNone x.0 x.1 at) (λ q. (sym done.mat q, sym done.len q)) w.there;
+              front = w.front;
+              rear = w.rear;
+              joined = ap (λ lists. queue_at k lists) done.lists ∙ w.joined;
+              place = ap (λ mat. option_map (msg_number mat) at) done.mat ∙ w.place;
+              short = w.short;
+              sifted = (λ j. map (done.chains j) w.front ++ flushed what (map (done.chains j) w.rear)) ∙ w.sifted;
+            };
+            gathered = record {
+              fresh_name = subst (λ n. IsFreshName s0 n) (sym name) loose-fresh;
+              chain = in_hand (value_of v b) i ++ in_hand (value_of v b) j;
+              after =
+                  ap (λ (s : StoreValue). placed s k []) done.value
+                  ∙ ap (λ (s : StoreValue). changed (dropped s j) i (in_hand (value_of v b) i ++ in_hand (value_of v b) j)) all-is
+                  ∙ joined-is (in_hand (value_of v b) i ++ in_hand (value_of v b) j)
+                  ∙ ap (λ n. held (placed s0 k []) n (in_hand (value_of v b) i ++ in_hand (value_of v b) j)) (sym name);
+            };
+          }
+
+    -- where the walk has come to the end
+    pub sift-ends : (taken : Option InHand) → Sifting v ends b first_m first_d spare_m spare_d at left taken → (at ≡ None) ⊎ (left ≤ 0) → Taken taken s0 (placed s0 k (flushed what (list_at s0 k))) (value_of v b)
+    sift-ends taken s end =
+        let w = s.walk in
+        let rear : w.rear ≡ [] = elim end [
+          | inl none ↦ no-first w.rear (sym w.place ∙ ap (λ o. option_map (msg_number v.mat) o) none)
+          | inr zero ↦ empty w.rear (let f = w.short in omega arith)
+        ] in
+        let list : list_at (value_of v b) k ≡ flushed what (list_at s0 k) =
+        queue-value v b.lists k ∙ ap (λ q. map (chain_of v) q) (w.joined ∙ ap (λ q. w.front ++ q) rear ∙ append-nil w.front)
+        ∙ sym (append-nil (map (chain_of v) w.front)) ∙ ap (λ q. map (chain_of v) w.front ++ flushed what (map (chain_of v) q)) (sym rear) ∙ w.sifted in
+        let whole : value_of v b ≡ placed (placed (value_of v b) k []) k (flushed what (list_at s0 k)) =
+        (λ j. record (value_of v b) { lists = sym (set-get_or (value_of v b).lists k []) j })
+        ∙ (λ j. record (value_of v b) { lists = sym (set-set (value_of v b).lists k [] (list_at (value_of v b) k)) j })
+        ∙ ap (λ q. placed (placed (value_of v b) k []) k q) list in
+        let again : placed (placed s0 k []) k (flushed what (list_at s0 k)) ≡ placed s0 k (flushed what (list_at s0 k)) =
+        (λ j. record s0 { lists = set-set s0.lists k [] (flushed what (list_at s0 k)) j }) in
+        all-taken (value_of v b) taken (flushed what (list_at s0 k)) whole again s.gathered

@@ -183,7 +183,7 @@ module _ {v : Nodes} {b : Roster} {first_m : Option MsgLink} {first_d : Option D
         there_d = is.there_d;
       }
 
-  chain-same : (x : Msg) → chain_of joined_nodes x ≡ chain_of v x
+  pub chain-same : (x : Msg) → chain_of joined_nodes x ≡ chain_of v x
   chain-same x = map-ext (block_no joined_nodes) (block_no v) (row-keeps (shown v.datas) v.rows t r within refl) (ids x)
 
   held-same : (x : Msg) → held_of joined_nodes x ≡ held_of v x

@@ -23,6 +23,7 @@ pub mod Fresh
 pub mod Freeing
 pub mod Ends
 pub mod Joining
+pub mod Hanging
 pub mod Writing
 pub mod Edited
 pub mod Appended

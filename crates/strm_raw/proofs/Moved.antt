@@ -109,13 +109,13 @@ module _ {v : Nodes} {ends : List Ends} {b : Roster} {first_m : Option MsgLink} 
     there_d = is.there_d;
   }
 
-  chains : chain_of moved_nodes ≡ chain_of v
-  chains = λ j m. map-ext (block_no moved_nodes) (block_no v) (λ i. ap (λ (r : Row). shown v.datas r) (same i)) (ids m) j
+  pub moved-chains : chain_of moved_nodes ≡ chain_of v
+  moved-chains = λ j m. map-ext (block_no moved_nodes) (block_no v) (λ i. ap (λ (r : Row). shown v.datas r) (same i)) (ids m) j
 
   pub moved-value : value_of moved_nodes moved_roster ≡ record (value_of v b) { lists = set (value_of v b).lists k (map (chain_of v) q); hand = map (held_of v) hand }
   moved-value = λ j. record {
-    lists = (ap (λ (f : Msg → List Block). map (λ q. map f q) (set b.lists k q)) chains ∙ map-set (λ q. map (chain_of v) q) b.lists k q) j;
-    hand = map (λ (m : Msg). record { name = m.head; chain = chains j m }) hand;
+    lists = (ap (λ (f : Msg → List Block). map (λ q. map f q) (set b.lists k q)) moved-chains ∙ map-set (λ q. map (chain_of v) q) b.lists k q) j;
+    hand = map (λ (m : Msg). record { name = m.head; chain = moved-chains j m }) hand;
     mblks = len j;
     dblks = length v.datas;
   }
@@ -141,6 +141,6 @@ module _ {v : Nodes} {ends : List Ends} {b : Roster} {first_m : Option MsgLink} 
       first = each (λ _ x _. IsMsgOrNone v.mat (length rows) x.first) (there e.first first) (λ j _. there (ends_at j ends).first (listed.first j));
       last = each (λ _ x _. IsMsgOrNone v.mat (length rows) x.last) (there e.last last) (λ j _. there (ends_at j ends).last (listed.last j));
       tied = each (λ _ x y. IsList moved_nodes x y) tied (λ j other. tied-same (on v.mat (ahead_of v.rows) (ends_at j ends)) (back v.mat (behind_of v.rows) (ends_at j ends)) (on v.mat (ahead_of rows) (ends_at j ends)) (back v.mat (behind_of rows) (ends_at j ends)) None (queue_at j b.lists) refl refl (λ i s. ahead i j other s) (λ i s. behind i j other s) (listed.tied j));
-      ordered = λ j. subst (λ (x : List (List Block)). ranked.IsOrdered rank_of x) (sym (queue-value moved_nodes (set b.lists k q) j ∙ ap (λ (f : Msg → List Block). map f (queue_at j (set b.lists k q))) chains))
+      ordered = λ j. subst (λ (x : List (List Block)). ranked.IsOrdered rank_of x) (sym (queue-value moved_nodes (set b.lists k q) j ∙ ap (λ (f : Msg → List Block). map f (queue_at j (set b.lists k q))) moved-chains))
           (each (λ _ _ y. ranked.IsOrdered rank_of (map (chain_of v) y)) order (λ j _. subst (λ (x : List (List Block)). ranked.IsOrdered rank_of x) (queue-value v b.lists j) (listed.ordered j)) j);
     }

@@ -4,7 +4,7 @@ use Rattle.std.proofs.Math.ListN.{set}
 use Rattle.std.specs.Prelude.{sum_by, Option, None, Some, option_map, unwrap_or}
 use Rattle.std.specs.List.{AllByRecursion}
 use Rattle.std.proofs.lemmas.Bool.Decides.{nat_tests}
-use Rattle.std.proofs.lemmas.List.{append_assoc, map-append}
+use Rattle.std.proofs.lemmas.List.{append_assoc, map-append, get_or-set_same}
 use Rattle.std.proofs.lemmas.List.Sums.{sum_by-cons, sum_by-append}
 use Rattle.strm_types.specs.Ranked as ranked
 use Rattle.strm_blocks.specs.Blocks.{Block, rank_of, list_at, held, dropped, placed, IsFreshName}
@@ -17,7 +17,7 @@ use Rattle.strm_raw.specs.declared.msg_nodes.MsgLink.{MsgLink}
 use Rattle.strm_raw.specs.declared.data_nodes.DataLink.{DataLink}
 use Rattle.strm_raw.proofs.Finding.{found-head, found-some, sum-without, times-heads, without-value}
 use Rattle.strm_raw.proofs.Tied.{heads-cons, heads-append, list-behind, list-ahead, tied-in, tied-out, off-end, off-begin, some-none}
-use Rattle.strm_raw.proofs.Moved.{once-queue, apart-queues, apart-hand, apart-lists, queue-value, moved-raw, moved-value, moved-listed}
+use Rattle.strm_raw.proofs.Moved.{once-queue, apart-queues, apart-hand, apart-lists, queue-value, moved-raw, moved-value, moved-chains, moved-listed}
 
 -- members that are left are in order
 module _ {A : Type 0} (rank : A → ℕ) (m : A) (ys : List A) where
@@ -138,6 +138,12 @@ module _ {v : Nodes} {ends : List Ends} {b : Roster} {first_m : Option MsgLink} 
       pub unseated-value : value_of v' b' ≡ held (placed (value_of v b) k (map (chain_of v) xs ++ map (chain_of v) ys)) (msg_number v.mat l) (chain_of v m)
       unseated-value = (λ j. value_of (nodes j) (roster j)) ∙ off-value ∙ ap (λ n. held (placed (value_of v b) k (map (chain_of v) xs ++ map (chain_of v) ys)) n (chain_of v m)) name
 
+      pub unseated-queue : queue_at k b'.lists ≡ xs ++ ys
+      unseated-queue = ap (λ (x : Roster). queue_at k x.lists) roster ∙ get_or-set_same b.lists k (xs ++ ys) [] (let e = is.eight in omega arith)
+
+      pub unseated-chains : chain_of v' ≡ chain_of v
+      unseated-chains = ap (λ (w : Nodes). chain_of w) nodes ∙ moved-chains is listed k within rows tied.len tied.plain (xs ++ ys) (m ∷ b.hand) all
+
       pub unseated-fresh : IsFreshName (value_of v b) (msg_number v.mat l)
       unseated-fresh = subst (λ n. IsFreshName (value_of v b) n) name off-fresh
 
@@ -232,6 +238,8 @@ pub record TakenOff (v v' : Nodes) (ends' : List Ends) (b b' : Roster) (first_m 
   pub value : value_of v' b' ≡ held (placed (value_of v b) k (map (chain_of v) xs ++ map (chain_of v) ys)) i (chain_of v m)
   pub fresh : IsFreshName (value_of v b) i
   pub shape : list_at (value_of v b) k ≡ map (chain_of v) xs ++ chain_of v m ∷ map (chain_of v) ys
+  pub queue : queue_at k b'.lists ≡ xs ++ ys
+  pub chains : chain_of v' ≡ chain_of v
 
 pub taken-off : {v v' : Nodes} {ends ends' : List Ends} {b b' : Roster} {first_m : Option MsgLink} {first_d : Option DataLink} {spare_m spare_d : ℕ} (is : IsRaw v first_m first_d spare_m spare_d b) (listed : AreListed v ends b)
     (k : ℕ) (within : k < 8) (l : MsgLink) (xs : List Msg) (m : Msg) (ys : List Msg) → queue_at k b.lists ≡ xs ++ m ∷ ys → m.head ≡ msg_number v.mat l → Unseats v v' ends ends' b b' k l
@@ -244,6 +252,8 @@ taken-off {v = v} {v' = v'} {ends = ends} is listed k within l xs m ys shape nam
       value = unseated-value is listed k within xs m ys shape v'.rows u.after ties u.first u.last l name u.nodes u.ends_are u.roster_is;
       fresh = unseated-fresh is listed k within xs m ys shape v'.rows u.after ties u.first u.last l name u.nodes u.ends_are u.roster_is;
       shape = off-shape is listed k within xs m ys shape v'.rows u.after ties u.first u.last;
+      queue = unseated-queue is listed k within xs m ys shape v'.rows u.after ties u.first u.last l name u.nodes u.ends_are u.roster_is;
+      chains = unseated-chains is listed k within xs m ys shape v'.rows u.after ties u.first u.last l name u.nodes u.ends_are u.roster_is;
     }
 
 -- a list with nothing on it

@@ -8,4 +8,5 @@ pub mod Raw
 pub mod Lists
 pub mod Places
 pub mod Flushing
+pub mod Tails
 pub mod RawStore

@@ -1,76 +1,47 @@
-//! Which messages of a list a flush takes.
-ghost use Rattle.std.specs.Prelude.{◌≡◌, ◌≤◌, ◌<◌, List, length, option_map, MatchOption};
-ghost use Rattle.strm_types.specs.Flush.{is_flushed};
-ghost use Rattle.strm_blocks.specs.Blocks.{token};
-ghost use Rattle.strm_raw.specs.Flushing.{FlushesFirst, FlushesNone, TakesFlushed};
-ghost use Rattle.strm_raw.specs.Lists.{IsList};
-ghost use Rattle.strm_raw.specs.Numbered.{IsMsgOrNone, msg_number};
-ghost use Rattle.strm_raw.specs.Roster.{Msg};
+//! The messages of a list that a flush takes.
+ghost use Rattle.std.specs.Prelude.{◌≡◌, ◌<◌, MatchOption};
+ghost use Rattle.strm_blocks.specs.Blocks.{list_at, placed, token};
+ghost use Rattle.strm_blocks.specs.Outcomes.{flushed};
+ghost use Rattle.strm_raw.specs.Flushing.{Gathers};
 
 use crate::lists::unseat;
-use crate::memory::Memory;
-use crate::msg_nodes::{MsgLink, MsgNode};
-use crate::neighbours::Ends;
 use crate::raw::RawStore;
-use strm_blocks::{FlushWhat, InHand};
+use crate::tails::hang;
+use strm_blocks::{FlushWhat, InHand, is_flushed};
 
 impl RawStore {
-    /// Takes the first message of a list that a flush takes.
+    /// Takes the messages of a list that a flush takes off it, as one message. It takes a step for each message of the list,
+    /// and one for each block that goes.
     pub(crate) fn take_flushed(&mut self, list: usize, what: FlushWhat) -> Option<InHand>
         requires { list < 8 }
-        ensures { MatchOption result
-            (FlushesNone self.old self.new list what)
-            (λ m. TakesFlushed self.old self.new list what (token m)) }
+        ensures { let s = self.old in let left = placed s list (flushed what (list_at s list)) in
+            MatchOption result (self.new ≡ left) (λ m. Gathers s left self.new (token m)) }
     {
-        let found = first_flushed(&self.memory, self.ends[list], what);
-        let Some(first) = found else {
-            return None;
-        };
-        let message = unseat(
-            &mut self.memory,
-            &mut self.ends,
-            &mut self.ledger,
-            list,
-            first,
-        );
-        Some(message)
-    }
-}
-
-// Whether a flush takes the message that begins with a block.
-fn flushes(what: FlushWhat, block: MsgNode) -> bool
-    ensures { result ≡ is_flushed what.all (option_map (λ b. b.0) what.band) block.kind block.band }
-{
-    let counted = if block.kind.is_high_priority() {
-        0
-    } else {
-        block.band
-    };
-    match what.band {
-        None => what.all || block.kind.is_data_kind(),
-        Some(named) => block.kind.is_data_kind() && counted == named.0,
-    }
-}
-
-// The first message of a list that a flush takes. It takes a step for each message in front of it.
-fn first_flushed(memory: &Memory, ends: Ends, what: FlushWhat) -> Option<MsgLink>
-    requires { IsMsgOrNone memory.now.mat (length memory.now.rows) ends.first }
-    ensures there { IsMsgOrNone memory.now.mat (length memory.now.rows) result }
-    ensures place { (q : List Msg) → IsList memory.now ends q → length q ≤ length memory.now.rows
-        → FlushesFirst memory.now.rows what q (option_map (msg_number memory.now.mat) result) }
-{
-    let mut at = ends.first;
-    let mut left = memory.messages();
-    while left > 0 {
-        let Some(link) = at else {
-            return None;
-        };
-        let node = memory.message(link);
-        if flushes(what, node) {
-            return at;
+        let mut taken = None;
+        let mut at = self.ends[list].first;
+        let mut left = self.memory.messages();
+        while left > 0 {
+            let Some(link) = at else {
+                return taken;
+            };
+            let node = self.memory.message(link);
+            at = node.ahead;
+            left -= 1;
+            if !is_flushed(what, node.kind, node.band) {
+                continue;
+            }
+            let message = unseat(
+                &mut self.memory,
+                &mut self.ends,
+                &mut self.ledger,
+                list,
+                link,
+            );
+            taken = Some(match taken {
+                None => message,
+                Some(rest) => hang(&mut self.memory, &mut self.ledger, message, rest),
+            });
         }
-        at = node.ahead;
-        left -= 1;
+        taken
     }
-    at
 }

@@ -15,6 +15,7 @@ mod ranks;
 mod raw;
 mod sending;
 mod store;
+mod tails;
 #[cfg(test)]
 mod tests;
 mod threading;

@@ -7,6 +7,7 @@ use crate::msg_nodes::MsgNode;
 use crate::neighbours::{NO_ENDS, ahead, behind, seat};
 use crate::ranks::{first_ranked, last_ranked, rank_of};
 use crate::raw::RawStore;
+use crate::tails::hang;
 use crate::threading::{thread_data, thread_messages};
 use crate::visiting::{tell_list, tell_message};
 use std::ptr::null_mut;
@@ -113,20 +114,7 @@ impl Blocks for RawStore {
 
     /// It takes a step for each block of the first.
     fn link(&mut self, first: InHand, second: InHand) -> InHand {
-        let head = self.memory.message_link(first.name() as usize);
-        let behind = second.name() as usize;
-        let next = self.memory.message_link(behind);
-        let last = last_link(&self.memory, head, self.memory.messages());
-        let node = self.memory.message(last);
-        self.memory.set_message(
-            last,
-            MsgNode {
-                next: Some(next),
-                ..node
-            },
-        );
-        self.ledger.note(head.at, null_mut(), behind, 0);
-        first
+        hang(&mut self.memory, &mut self.ledger, first, second)
     }
 
     /// The cost is the same whatever the message's length.
@@ -335,10 +323,10 @@ impl Blocks for RawStore {
         let _ = tell_message(&self.memory, first, visitor);
     }
 
-    /// For each message that goes it takes a step for each block, and one for each message in front of it that stays.
+    /// It takes a step for each message of the list, and two for each block that goes.
     fn drop_where(&mut self, list: usize, what: FlushWhat) {
-        while let Some(message) = self.take_flushed(list, what) {
-            self.free(message);
+        if let Some(taken) = self.take_flushed(list, what) {
+            self.free(taken);
         }
     }
 

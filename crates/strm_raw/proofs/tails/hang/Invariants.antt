@@ -1,5 +1,5 @@
 use Rattle.strm_raw.specs.Raw.{linked}
-use Rattle.strm_raw.proofs.store.RawStoreBlocks.link.Given as goal
+use Rattle.strm_raw.proofs.tails.hang.Given as goal
 
 abbrev pub ghost-note : goal.ghost-note
 ghost-note a = linked (record { at = a._message }) a._first
