@@ -1,4 +1,5 @@
-//! Message blocks and data blocks: the trait [`Blocks`] of stores of them, and the plain store [`TableStore`].
+//! Message blocks and data blocks: the trait [`Blocks`] of stores of them, [`Reserve`] of those that are made of two numbers, and the
+//! plain store [`TableStore`].
 #![tactic(auto)]
 
 mod asked;
@@ -9,6 +10,7 @@ mod kinds;
 mod message;
 mod parts;
 mod release;
+mod reserve;
 mod table;
 mod visiting;
 mod visitor;
@@ -17,5 +19,6 @@ pub use asked::{FlushWhat, NoBlocks, Peek, Summary};
 pub use blocks::Blocks;
 pub use in_hand::InHand;
 pub use kinds::is_flushed;
+pub use reserve::Reserve;
 pub use table::TableStore;
 pub use visitor::Visitor;

@@ -10,8 +10,9 @@ use crate::raw::RawStore;
 use crate::tails::hang;
 use crate::threading::{thread_data, thread_messages};
 use crate::visiting::{tell_list, tell_message};
+use std::alloc::{AllocError, Global};
 use std::ptr::null_mut;
-use strm_blocks::{Blocks, FlushWhat, InHand, NoBlocks, Peek, Summary, Visitor};
+use strm_blocks::{Blocks, FlushWhat, InHand, NoBlocks, Peek, Reserve, Summary, Visitor};
 use strm_types::{Band, MsgKind};
 
 impl Blocks for RawStore {
@@ -348,5 +349,11 @@ impl Blocks for RawStore {
         self.free_data = free_data;
         self.spare_m = mblks;
         self.spare_d = dblks;
+    }
+}
+
+impl Reserve for RawStore {
+    fn reserve(alloc: Global, mblks: usize, dblks: usize) -> Result<RawStore, AllocError> {
+        RawStore::new(alloc, mblks, dblks)
     }
 }
