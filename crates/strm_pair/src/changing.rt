@@ -207,7 +207,7 @@ impl Streams {
     /// Pops the module that is on top of a side's stream: what it has goes, and the head is told its read mode. The ioctl under way ends as
     /// refused where its M_IOCTL went with the module, as nobody will answer it any more. Nothing where no module stands (streamio(7I): I_POP).
     #[inline(never)]
-    pub fn pop<B: Blocks>(&mut self, store: &mut B, side: Side, told: &mut Fates) -> Answer<usize>
+    pub fn pop<B: Blocks>(&mut self, store: &mut B, side: Side, told: &mut Fates) -> Answer<u32>
         requires held { AreHeld (B.value store.old) self.old }
         requires idle { AreIdle (state_in (B.value store.old) self.old) }
         requires room { HasRoom (B.value store.old) 1 }
@@ -232,7 +232,7 @@ impl Streams {
     }
 
     /// Tells the name of the module on top of a side's stream (streamio(7I): I_LOOK).
-    pub fn look(&self, side: Side) -> Answer<usize>
+    pub fn look(&self, side: Side) -> Answer<u32>
         ensures answer { (s : StoreValue) (bytes : List ℕ) → reply_in result bytes ≡ (looked side (state_in s self.now)).answer }
         ensures empty { answer_len result ≡ 0 }
         ensures no_part { longest_part result ≡ 0 }
@@ -278,7 +278,7 @@ impl Streams {
         side: Side,
         name: Option<ModuleName>,
         told: &mut Fates,
-    ) -> Answer<usize>
+    ) -> Answer<u32>
         requires held { AreHeld (B.value store.old) self.old }
         requires idle { AreIdle (state_in (B.value store.old) self.old) }
         requires may_stand { may_stand (named_by name) (stream side (state_in (B.value store.old) self.old)).modules ≡ true }

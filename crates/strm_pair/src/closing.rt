@@ -33,7 +33,7 @@ impl Streams {
         what: FlushQueues,
         band: Option<Band>,
         told: &mut Fates,
-    ) -> Answer<usize>
+    ) -> Answer<u32>
         requires held { AreHeld (B.value store.old) self.old }
         requires idle { AreIdle (state_in (B.value store.old) self.old) }
         requires room { HasRoom (B.value store.old) 6 }
@@ -146,7 +146,7 @@ impl Streams {
     /// Closes a side. What stands for its readers goes, then its modules from the top with all that they have, and with the
     /// master what both drivers have; the slave's driver keeps what it has for the master. The slave is hung up where the master goes.
     #[inline(never)]
-    pub fn shut<B: Blocks>(&mut self, store: &mut B, side: Side, told: &mut Fates) -> Answer<usize>
+    pub fn shut<B: Blocks>(&mut self, store: &mut B, side: Side, told: &mut Fates) -> Answer<u32>
         requires held { AreHeld (B.value store.old) self.old }
         requires idle { AreIdle (state_in (B.value store.old) self.old) }
         ensures answer { result ≡ Done }

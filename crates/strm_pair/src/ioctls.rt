@@ -86,7 +86,7 @@ impl Streams {
     /// Tells what became of the ioctl under way on a side's stream, once: its answer, with its bytes in `out`, or its number
     /// while it waits.
     #[inline(never)]
-    pub fn tell_ioctl(&mut self, side: Side, out: &mut Content) -> Answer<usize>
+    pub fn tell_ioctl(&mut self, side: Side, out: &mut Content) -> Answer<u32>
         requires fresh { out.old.items ≡ [] }
         ensures answer { (s : StoreValue) → reply_in result out.new.items ≡ (ioctl_told side (state_in s self.old)).answer }
         ensures filled { answer_len result ≡ length out.new.items }
@@ -111,7 +111,7 @@ impl Streams {
         body: &[u8],
         out: &mut Content,
         told: &mut Fates,
-    ) -> Answer<usize>
+    ) -> Answer<u32>
         requires held { AreHeld (B.value store.old) self.old }
         requires idle { AreIdle (state_in (B.value store.old) self.old) }
         requires small { length body.now ≤ IOCTL_MAX }
@@ -136,7 +136,7 @@ impl Streams {
 
     /// Hands out the signals that wait at a side's head, in `out`.
     #[inline(never)]
-    pub fn take_signals(&mut self, side: Side, out: &mut Content) -> Answer<usize>
+    pub fn take_signals(&mut self, side: Side, out: &mut Content) -> Answer<u32>
         requires fresh { out.old.items ≡ [] }
         ensures answer { (s : StoreValue) → reply_in result out.new.items ≡ (signals_told side (state_in s self.old)).answer }
         ensures filled { answer_len result ≡ length out.new.items }
@@ -148,6 +148,6 @@ impl Streams {
             Side::Master => self.master.head.take_signals(out),
             Side::Slave => self.slave.head.take_signals(out),
         }
-        Answer::Signals(out.len())
+        Answer::Signals(out.len() as u32)
     }
 }

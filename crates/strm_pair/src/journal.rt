@@ -92,12 +92,11 @@ impl Journal {
         &mut self,
         caller: Caller,
         event: &Event<&[u8]>,
-        answer: Answer<usize>,
+        answer: Answer<u32>,
         content: &[u8],
     )
         requires filled { answer_len answer ≡ length content.now }
         requires small { length (payload_of (request event.now)) < 2 ^ 32 }
-        requires few { length content.now < 2 ^ 32 }
         requires room { has_room_for (journal_of self.old) self.old.most_entries self.old.most_bytes
             (length (payload_of (request event.now)) + length content.now) ≡ true }
         ensures added { journal_of self.new
@@ -108,7 +107,7 @@ impl Journal {
         let entry = Entry::Called {
             caller,
             event: event.shape(),
-            answer: answer.shortened(),
+            answer,
         };
         let (first, second) = event.payload();
         self.add(entry, first, second, content);

@@ -61,7 +61,7 @@ impl Streams {
         control: Option<&[u8]>,
         body: Option<&[u8]>,
         told: &mut Fates,
-    ) -> Answer<usize>
+    ) -> Answer<u32>
         requires held { AreHeld (B.value store.old) self.old }
         requires idle { AreIdle (state_in (B.value store.old) self.old) }
         requires allowed { put_refusal prio (option_map (λ bytes. bytes.now) control) (option_map (λ bytes. bytes.now) body) ≡ None }
@@ -103,7 +103,7 @@ impl Streams {
         dmax: u32,
         out: &mut Content,
         told: &mut Fates,
-    ) -> Answer<usize>
+    ) -> Answer<u32>
         requires held { AreHeld (B.value store.old) self.old }
         requires fresh { out.old.items ≡ [] }
         ensures answer { reply_in result out.new.items ≡ (get_at plain side wanted cmax dmax (state_in (B.value store.old) self.old)).answer }
@@ -154,7 +154,7 @@ impl Streams {
 
     /// How many bytes of data the first message at a side's head has, and how many messages stand there.
     #[inline(never)]
-    pub fn nread<B: Blocks>(&self, store: &B, side: Side) -> Answer<usize>
+    pub fn nread<B: Blocks>(&self, store: &B, side: Side) -> Answer<u32>
         requires { AreHeld (B.value store.now) self.now }
         ensures answer { (out : List ℕ) → reply_in result out ≡ (sizes_at side (state_in (B.value store.now) self.now)).answer }
         ensures filled { answer_len result ≡ 0 }

@@ -291,7 +291,7 @@ impl<B: Blocks + Drop> Pair<B> {
         caller: Caller,
         event: &Event<&[u8]>,
         out: &mut Content,
-    ) -> Result<Answer<usize>, Refusal>
+    ) -> Result<Answer<u32>, Refusal>
         ensures refused { MatchOption (call_refused self.old caller (request event.now)) (IsOk result)
             (λ r. (result ≡ Err r) × ((self.new ≡ self.old) × (out.new ≡ out.old))) }
         ensures adds { IfOk result (λ answer.
@@ -323,7 +323,7 @@ impl<B: Blocks + Drop> Pair<B> {
         caller: Caller,
         event: &Event<&[u8]>,
         out: &mut Content,
-    ) -> Result<Answer<usize>, Refusal>
+    ) -> Result<Answer<u32>, Refusal>
         ensures refused { MatchOption (call_refused self.old caller (request event.now)) (IsOk result)
             (λ r. (result ≡ Err r) × ((self.new ≡ self.old) × (out.new ≡ out.old))) }
         ensures adds { IfOk result (λ answer.

@@ -155,7 +155,7 @@ impl Streams {
             Begun::Serves(here) => {
                 let bytes = self.call_on(store, here, told);
                 self.end_module_turn(store, name, here, bytes > 0);
-                Turn::Moved(bytes)
+                Turn::Moved(bytes as u32)
             }
         }
     }

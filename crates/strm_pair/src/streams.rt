@@ -81,7 +81,7 @@ impl Streams {
     }
 
     // Opens the master.
-    fn open_master(&mut self) -> Answer<usize>
+    fn open_master(&mut self) -> Answer<u32>
         ensures answer { result ≡ Done }
         ensures streams { self.new ≡ record self.old { master = record self.old.master { opened = Open } } }
     {
@@ -90,7 +90,7 @@ impl Streams {
     }
 
     // Lets the slave be opened.
-    fn unlock(&mut self) -> Answer<usize>
+    fn unlock(&mut self) -> Answer<u32>
         ensures answer { result ≡ Done }
         ensures streams { self.new ≡ record self.old { locked = false } }
     {
@@ -100,7 +100,7 @@ impl Streams {
 
     /// Opens the slave: its head is as new, and what waits for it may come.
     #[inline(never)]
-    pub fn open_slave<B: Blocks>(&mut self, store: &mut B) -> Answer<usize>
+    pub fn open_slave<B: Blocks>(&mut self, store: &mut B) -> Answer<u32>
         requires { AreHeld (B.value store.old) self.old }
         ensures answer { result ≡ Done }
         ensures state { state_in (B.value store.new) self.new ≡ opened_slave (state_in (B.value store.old) self.old) }
@@ -164,7 +164,7 @@ impl Streams {
         event: &Event<&[u8]>,
         out: &mut Content,
         told: &mut Fates,
-    ) -> Answer<usize>
+    ) -> Answer<u32>
         requires held { AreHeld (B.value store.old) self.old }
         requires allowed { refused_at_once (state_in (B.value store.old) self.old) caller (request event.now) ≡ None }
         requires allowed_by_state { refused_by_state (state_in (B.value store.old) self.old) caller (request event.now) ≡ None }
@@ -199,7 +199,7 @@ impl Streams {
             Event::Write { bytes } => Answer::Count(self.write(store, side, bytes, told)),
             Event::Read { n } => {
                 self.read(store, side, *n, out, told);
-                Answer::Bytes(out.len())
+                Answer::Bytes(out.len() as u32)
             }
             Event::Put {
                 prio,

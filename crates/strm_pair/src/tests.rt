@@ -40,7 +40,7 @@ const SIZES: Config = Config {
 };
 
 // What a call answers, where a read has how many bytes it gives.
-type Came = Result<Answer<usize>, Refusal>;
+type Came = Result<Answer<u32>, Refusal>;
 
 const DONE: Came = Ok(Answer::Done);
 

@@ -108,7 +108,7 @@ impl Streams {
         };
         self.deliver_alone(store, up, message, told);
         self.end_turn(store, side, size);
-        Turn::Moved(size)
+        Turn::Moved(size as u32)
     }
 
     // A driver's queue keeps what it has, and wants to be read or not.

@@ -118,7 +118,7 @@ impl Streams {
         side: Side,
         bytes: &[u8],
         told: &mut Fates,
-    ) -> usize
+    ) -> u32
         requires held { AreHeld (B.value store.old) self.old }
         requires in_range { in_range (state_in (B.value store.old) self.old) ≡ true }
         requires idle { AreIdle (state_in (B.value store.old) self.old) }
@@ -132,10 +132,11 @@ impl Streams {
         ensures pool { SamePool (B.value store.old) (B.value store.new) }
         ensures left { spare (state_in (B.value store.old) self.old) ≤ spare (state_in (B.value store.new) self.new) }
     {
+        store.audit();
         let chunks = chunk_count(bytes.len());
         let taken = self.send_chunks(store, side, bytes, chunks, told);
         let book = with_written(self.book_of(side), taken);
         self.keep_book(side, book);
-        taken
+        taken as u32
     }
 }

@@ -132,10 +132,10 @@ impl<B: Blocks + Drop> Walk<B> {
     }
 
     // Counts what a call brought and was given.
-    fn note(&mut self, side: Side, event: &Event<&[u8]>, answer: Answer<usize>) {
+    fn note(&mut self, side: Side, event: &Event<&[u8]>, answer: Answer<u32>) {
         match answer {
             Answer::Count(bytes) if matches!(event, Event::Write { .. }) => {
-                self.recount(side).wrote(bytes);
+                self.recount(side).wrote(bytes as usize);
             }
             Answer::Done => {
                 if let Event::Put { control, body, .. } = event {
@@ -145,12 +145,12 @@ impl<B: Blocks + Drop> Walk<B> {
                 }
             }
             Answer::Bytes(bytes) if matches!(event, Event::Read { .. }) => {
-                self.recount(side.other()).gave(bytes);
+                self.recount(side.other()).gave(bytes as usize);
             }
             Answer::Msg { control, body, .. } => {
                 let given = self.recount(side.other());
-                given.gave(control.unwrap_or(0));
-                given.gave(body.unwrap_or(0));
+                given.gave(control.unwrap_or(0) as usize);
+                given.gave(body.unwrap_or(0) as usize);
             }
             _ => (),
         }

@@ -198,6 +198,11 @@ fn takes_zero(band: Option<Band>) -> bool {
     }
 }
 
+// A length in 32 bits, as answers have it.
+fn short(len: usize) -> u32 {
+    u32::try_from(len).unwrap_or(u32::MAX)
+}
+
 // How many messages a write makes.
 fn messages_of(bytes: &[u8]) -> usize {
     bytes.len().div_ceil(256).max(1)
@@ -242,7 +247,7 @@ fn serve(from: &mut PlainQueue, to: &mut PlainEnd) -> Result<Turn, AllocError> {
     if size > 0 {
         let _ = from.relieve();
     }
-    Ok(Turn::Moved(size))
+    Ok(Turn::Moved(short(size)))
 }
 
 /// A pair, as far as a journal has led it.
@@ -330,7 +335,7 @@ impl PlainPair {
         bytes: &[u8],
     ) -> Result<bool, AllocError> {
         match event {
-            Event::Write { .. } => Ok(answer == Answer::Count(self.write(side, bytes)?)),
+            Event::Write { .. } => Ok(answer == Answer::Count(short(self.write(side, bytes)?))),
             Event::Read { n } => self.reads(side, n as usize, answer, bytes),
             Event::Look => Ok(answer == Answer::Name(ModuleName::Ptem)),
             _ => {
@@ -441,7 +446,7 @@ impl PlainPair {
         answer: Answer<u32>,
         bytes: &[u8],
     ) -> Result<bool, AllocError> {
-        let told = answer == Answer::Bytes(bytes.len()).shortened();
+        let told = answer == Answer::Bytes(short(bytes.len()));
         let head = &mut self.end_mut(side).head;
         if n == 0 || head.sizes.is_empty() {
             return Ok(told && bytes.is_empty());

@@ -221,7 +221,7 @@ impl<B: Blocks + Drop> Walk<B> {
                 let told = Entry::Called {
                     caller,
                     event: event.shape(),
-                    answer: answer.shortened(),
+                    answer,
                 };
                 self.gains(wanted, &told, event.payload().0)
             }

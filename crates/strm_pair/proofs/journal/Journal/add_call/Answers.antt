@@ -1,8 +1,8 @@
 -- The room that is asked for is room in the buffers, and the stored entry reads back as the call and its answer.
-use Rattle.std.proofs.Common.{◌≡◌, ◌++◌, ◌∷◌, [], ap, ◌∙◌, arith, length, length-append}
+use Rattle.std.proofs.Common.{◌++◌, ◌∷◌, [], ap, ◌∙◌, arith, length, length-append}
 use Rattle.strm_types.specs.declared.entries.Entry.TheVariants.{Called}
 use Rattle.strm_types.specs.Events.{map_event, request}
-use Rattle.strm_types.specs.Journal.{answer_len, entry_in, event_len}
+use Rattle.strm_types.specs.Journal.{entry_in, event_len}
 use Rattle.strm_laws.proofs.StoredCalls.{entry-back, request-size}
 use Rattle.strm_pair.specs.Pairs.{journal_of}
 use Rattle.strm_pair.proofs.JournalLemmas.{room-means}
@@ -24,17 +24,14 @@ add-requires-clause-room_bytes c =
 pub add-requires-clause-lengths : goal.add-requires-clause-lengths
 add-requires-clause-lengths c =
     let len = ap event_len (c.shape.ensures c.requires.small) ∙ request-size (request c.args.event.now) in
-    let answer : c.shortened.result ≡ c.args.answer = c.shortened.ensures (omega (arith, c.requires.filled, c.requires.few)) in
-    omega (arith, len, ap answer_len answer, c.requires.filled, ap length c.payload.ensures, length-append c.payload.result.0.now c.payload.result.1.now)
+    omega (arith, len, c.requires.filled, ap length c.payload.ensures, length-append c.payload.result.0.now c.payload.result.1.now)
 
 pub returns-clause-added : goal.returns-clause-added
 returns-clause-added c =
     let asked = request c.args.event.now in
     let content = c.args.content.now in
-    let answer : c.shortened.result ≡ c.args.answer = c.shortened.ensures (omega (arith, c.requires.filled, c.requires.few)) in
     let old = journal_of c.args.self.now in
     c.add.ensures.added
-    ∙ ap (λ e. old ++ entry_in (Called c.args.caller e c.shortened.result) ((c.payload.result.0.now ++ c.payload.result.1.now) ++ content) ∷ []) (c.shape.ensures c.requires.small)
-    ∙ ap (λ a. old ++ entry_in (Called c.args.caller (map_event (λ bytes. length bytes) asked) a) ((c.payload.result.0.now ++ c.payload.result.1.now) ++ content) ∷ []) answer
+    ∙ ap (λ e. old ++ entry_in (Called c.args.caller e c.args.answer) ((c.payload.result.0.now ++ c.payload.result.1.now) ++ content) ∷ []) (c.shape.ensures c.requires.small)
     ∙ ap (λ b. old ++ entry_in (Called c.args.caller (map_event (λ bytes. length bytes) asked) c.args.answer) (b ++ content) ∷ []) c.payload.ensures
     ∙ ap (λ e. old ++ e ∷ []) (entry-back c.args.caller asked c.args.answer content)

@@ -13,7 +13,6 @@ use Rattle.strm_laws.specs.Ledgers.{FewBooked}
 use Rattle.strm_laws.specs.Step.{IsCall, after}
 use Rattle.strm_laws.specs.Refusals.{enough, blocks_asked, refused_at_once, refused_by_state}
 use Rattle.strm_laws.specs.Pair.{PairState, AddsEntry, call_refused}
-use Rattle.strm_laws.proofs.AnswersFit.{content-bounded}
 use Rattle.strm_laws.proofs.Balances.{both-true, call-few, written-by-blocks}
 use Rattle.strm_laws.proofs.StackSpares.{call-low}
 use Rattle.strm_laws.proofs.Replay.{call-allowed, or_else-none}
@@ -151,12 +150,6 @@ add_call-requires-clause-small g c =
     let at_once = (or_else-none (refused_at_once old c.args.caller asked) (refused_by_state old c.args.caller asked) parts.0).0 in
     let blocks : blocks_asked asked ≤ free_m s = (asked-free (blocks_asked asked) s parts.2).0 in
     few-kept old c.args.caller asked at_once (omega (arith, blocks, c.audit.ensures.few_mblks, free_m-is s))
-
-pub add_call-requires-clause-few : goal.add_call-requires-clause-few
-add_call-requires-clause-few g c =
-    let long = ap length c.as_slice.ensures.value in
-    let most = c.carry_out-answer.ensures.content in
-    omega (arith, long, most, content-bounded (request c.args.event.now))
 
 pub add_call-requires-clause-room : goal.add_call-requires-clause-room
 add_call-requires-clause-room g c =

@@ -18,6 +18,8 @@ use Rattle.strm_laws.specs.State.{stream}
 use Rattle.strm_laws.specs.Turns.{turn_ended}
 use Rattle.strm_laws.proofs.StackSpares.{range-spare}
 use Rattle.strm_msg.specs.Messages.{message_of}
+use Rattle.strm_msg.proofs.Bounds.{bytes-few}
+use Rattle.strm_msg.proofs.Chains.{size-shown}
 use Rattle.strm_pair.specs.Pairs.{state_in}
 use Rattle.strm_pair.proofs.TurnSteps.{ended-spare, taken-idle, taken-spare, up-few, up-near}
 use Rattle.strm_blocks.specs.Blocks.{in_hand, token}
@@ -51,6 +53,14 @@ deliver_alone-requires-clause-room g c =
       room = record { mblks = omega (arith, few, e.mblks, room.mblks); dblks = omega (arith, few, e.dblks, room.dblks) };
       spare = omega (arith, few, range-spare old c.requires.range, ap spare c.in-Some.ensures.state, taken-spare c.args.side (left_with c.in-Some.ensures.rest (stream c.args.side old).driver.queue) old);
     }
+
+-- No message has more bytes than all blocks of a store.
+pub overflow_cast-result : goal.overflow_cast-result
+overflow_cast-result g c =
+    let got = g.B.Blocks.value c.take_first.new.store in
+    let i = token c.in-Some.message in
+    let chain = c.in-Some.ensures.chain in
+    omega (arith, c.message_size-size.ensures.message chain, size-shown (in_hand got i) chain, bytes-few got i c.audit.ensures)
 
 pub returns-clause-left : goal.returns-clause-left
 returns-clause-left g c =

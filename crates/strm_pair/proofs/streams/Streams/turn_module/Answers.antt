@@ -25,6 +25,13 @@ use Rattle.strm_pair.proofs.streams.Streams.turn_module.Goals as goal
 pub end_module_turn-requires-clause-within : goal.end_module_turn-requires-clause-within
 end_module_turn-requires-clause-within g c = let stands = c.call_on-bytes.ensures.treats.stands in let inside = c.in-Serves.ensures.begins.inside in omega arith
 
+-- No more is treated than the first message has.
+pub overflow_cast-result : goal.overflow_cast-result
+overflow_cast-result g c =
+    let begins = c.in-Serves.ensures.begins in
+    let left = ap (λ v. bytes_left c.in-Serves.here.way false (ldterm_of (module_at c.in-Serves.here v))) begins.stays in
+    omega (arith, c.call_on-bytes.ensures.treats.within, begins.few, left)
+
 pub returns-in-Over-clause-turn : goal.returns-in-Over-clause-turn
 returns-in-Over-clause-turn g c = sym (ap (λ (t : TurnOutcome ℕ). t.turn) (c.in-Over.ensures.begins c.in-Over.turn))
 

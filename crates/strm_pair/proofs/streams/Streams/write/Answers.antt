@@ -9,9 +9,10 @@ use Rattle.strm_types.specs.Deliver.{tallied}
 use Rattle.strm_types.specs.Names.{direction_from}
 use Rattle.strm_laws.specs.Spares.{spare}
 use Rattle.strm_laws.specs.State.{State, book, with_book}
-use Rattle.strm_types.specs.Write.{chunks_of}
+use Rattle.strm_types.specs.Write.{chunk_count, chunks_of}
 use Rattle.strm_laws.specs.Writes.{Wrote}
 use Rattle.strm_laws.proofs.Balances.{chunks-book}
+use Rattle.strm_blocks.proofs.Laws.{free_m-is}
 use Rattle.strm_pair.specs.Pairs.{state_in}
 use Rattle.strm_pair.proofs.ChunkSteps.{chunks-are, chunks-written, wrote-chunks}
 use Rattle.strm_pair.proofs.PutBooks.{book-low, written-spare}
@@ -27,6 +28,13 @@ with_written-book-requires g c =
     let sent = ap (λ (v : State ℕ). (book dir v).written) c.send_chunks-taken.ensures.state in
     let stays = (chunks-book plain c.args.side (chunks_of c.chunk_count-chunks.result c.args.bytes.now) old).written dir in
     omega (arith, book-low c.args.side old c.requires.in_range, is, sent, stays, c.send_chunks-taken.ensures.fits)
+
+-- No more is taken than a store has blocks for.
+pub overflow_cast-result : goal.overflow_cast-result
+unfolding chunk_count
+overflow_cast-result g c =
+    let s = g.B.Blocks.value c.args.store.now in
+    omega (arith, c.requires.room_m, c.send_chunks-taken.ensures.fits, c.audit.ensures.few_mblks, free_m-is s)
 
 pub returns-clause-answer : goal.returns-clause-answer
 returns-clause-answer g c =
