@@ -16,7 +16,7 @@ use Rattle.strm_raw.specs.declared.data_nodes.DataLink.{DataLink}
 use Rattle.strm_raw.proofs.Finding.{found}
 use Rattle.strm_raw.proofs.Standing.{stored}
 use Rattle.strm_raw.proofs.Edited.{row-raw, block, block-there, one-changed, inside, link-is, block-is}
-use Rattle.strm_raw.proofs.Listed.{kept-listed}
+use Rattle.strm_raw.proofs.Becoming.{Becomes, row-becomes}
 use Rattle.strm_raw.proofs.Writing as writing
 
 module _ {v : Nodes} {b : Roster} {first_m : Option MsgLink} {first_d : Option DataLink} {spare_m spare_d : ℕ} (is : IsRaw v first_m first_d spare_m spare_d b)
@@ -72,9 +72,6 @@ module _ {v : Nodes} {b : Roster} {first_m : Option MsgLink} {first_d : Option D
     straight : askew r ≡ 0
     straight = ap (λ (y : Row). askew y) row ∙ is.straight (msg_number v.mat link)
 
-    pub appended-raw : IsRaw v' first_m first_d spare_m spare_d b
-    appended-raw = rw v2-is (row-raw (writing.written-raw is d there bytes) t t-there x (ap (λ (y : Row). y.next) row-is) (ap (λ (y : Row). y.number) row-is) (let o = straight in omega arith))
-
     block-other : (j : ℕ) → cond {A = ℕ} (eqb (row_at j v.rows).number d) 1 0 ≡ 0 → block_no v2 j ≡ block_no v j
     block-other j z =
         let apart : j ≢ t = λ e. writing.unnamed is d there bytes j z (ap (λ i. (row_at i v.rows).number) e ∙ ap (λ (y : Row). y.number) (sym row-is)) in
@@ -90,14 +87,12 @@ module _ {v : Nodes} {b : Roster} {first_m : Option MsgLink} {first_d : Option D
         ap (λ (y : Row). shown v1.datas y) (get_or-set_same v.rows t x no_row t-there)
         ∙ (λ j. record (shown v.datas r) { bytes = front j; room = left j })
 
-    pub appended-value : value_of v' b ≡ changed s n (with_block at (written new (block_at at (in_hand s n))) (in_hand s n))
-    appended-value =
+    pub appended : {ends : List Ends} → AreListed v ends b → Becomes v' ends b first_m first_d spare_m spare_d (changed s n (with_block at (written new (block_at at (in_hand s n))) (in_hand s n)))
+    appended listed =
         let c = is.referenced d in
         let hits : 0 < cond {A = ℕ} (eqb (row_at t v.rows).number d) 1 0 = (let e = ap (λ (y : Row). y.number) row-is in grind (arith, nat_tests)) in
-        ap (λ (w : Nodes). value_of w b) v2-is
-        ∙ one-changed is l here at (inside is view l here name at within link number) (λ j. cond (eqb (row_at j v.rows).number d) 1 0) hits (omega arith) v2 (length-set v.rows t x) (length-set v.datas d _) block-other
-        ∙ (λ j. changed (view j) (name j) (with_block at ((block-new ∙ ap (λ (y : Block). written new y) (sym shows)) j) (in_hand (view j) (name j))))
-
-    pub appended-listed : {ends : List Ends} → AreListed v ends b → AreListed v' ends b
-    appended-listed listed =
-        kept-listed listed v' b (ap (λ (w : Nodes). w.mat) v2-is) t t-there x (ap (λ (y : Row). y.ahead) row-is) (ap (λ (y : Row). y.behind) row-is) (ap (λ (w : Nodes). w.rows) v2-is) refl _ appended-value (sym (ap (λ (z : StoreValue). z.lists) view))
+        let raw = row-raw (writing.written-raw is d there bytes) t t-there x (ap (λ (y : Row). y.next) row-is) (ap (λ (y : Row). y.number) row-is) (let o = straight in omega arith) in
+        row-becomes listed _ _ _ _ v2-is refl raw refl t t-there x (ap (λ (y : Row). y.ahead) row-is) (ap (λ (y : Row). y.behind) row-is) refl refl _
+        (one-changed is l here at (inside is view l here name at within link number) (λ j. cond (eqb (row_at j v.rows).number d) 1 0) hits (omega arith) v2 (length-set v.rows t x) (length-set v.datas d _) block-other
+        ∙ (λ j. changed (view j) (name j) (with_block at ((block-new ∙ ap (λ (y : Block). written new y) (sym shows)) j) (in_hand (view j) (name j)))))
+        (sym (ap (λ (z : StoreValue). z.lists) view))

@@ -18,7 +18,11 @@ use Rattle.strm_raw.specs.declared.data_nodes.DataLink.{DataLink}
 use Rattle.strm_raw.proofs.Apart.{hand-apart, lists-apart, map-none, map-one}
 use Rattle.strm_raw.proofs.Finding.{sum-without, found, found-some, found-chain, found-len, found-block}
 use Rattle.strm_raw.proofs.Parting.{row-keeps}
-use Rattle.strm_raw.proofs.Listed.{kept-listed}
+use Rattle.strm_raw.proofs.Becoming.{Becomes, row-becomes}
+
+-- what leads on from a message block: to the next one, to its data block and to its neighbours on a list
+abbrev pub links : Row → Option ℕ × ℕ × Option ℕ × Option ℕ
+links r = (r.next, r.number, r.ahead, r.behind)
 
 -- how many bytes a block shows
 pub shown-len : (datas : List DataRow) (r : Row) → askew r ≡ 0 → length (data_at r.number datas).bytes ≡ 256 → length (shown datas r).bytes ≡ r.end - r.start
@@ -158,24 +162,12 @@ module _ {v : Nodes} {b : Roster} {first_m : Option MsgLink} {first_d : Option D
       ∙ found-block is l here at (omega (arith, found-len is l here, inside))
       ∙ ap (λ k. block_no v k) (sym link-is)
 
-  -- where another row is written there, which shows another block
-  module _ (v' : Nodes) (r : Row) (written : v' ≡ with_row (msg_number v.mat link) r v) where
-    memory-is : v' ≡ with_row (block is l here at inside) r v
-    memory-is = written ∙ ap (λ k. with_row k r v) link-is
-
-    pub edited-raw : r.next ≡ (row_at (msg_number v.mat link) v.rows).next → r.number ≡ (row_at (msg_number v.mat link) v.rows).number → askew r ≡ 0 → IsRaw v' first_m first_d spare_m spare_d b
-    edited-raw next number straight =
-        subst (λ (w : Nodes). IsRaw w first_m first_d spare_m spare_d b) (sym memory-is)
-        (row-raw is (block is l here at inside) (block-there is l here at inside) r (next ∙ ap (λ k. (row_at k v.rows).next) link-is) (number ∙ ap (λ k. (row_at k v.rows).number) link-is) straight)
-
-    pub edited-value : (B : Block) → shown v.datas r ≡ B → value_of v' b ≡ changed s n (with_block at B (in_hand s n))
-    edited-value B shows =
-        ap (λ (w : Nodes). value_of w b) memory-is
-        ∙ row-changed is l here at inside r
-        ∙ (λ j. changed (view j) (name j) (with_block at (shows j) (in_hand (view j) (name j))))
-
-    -- the lists stay where the row keeps its neighbours
-    pub edited-listed : {ends : List Ends} → AreListed v ends b → r.ahead ≡ (row_at (msg_number v.mat link) v.rows).ahead → r.behind ≡ (row_at (msg_number v.mat link) v.rows).behind → AreListed v' ends b
-    edited-listed listed ahead behind =
-        let there = subst (λ k. k < length v.rows) (sym link-is) (block-there is l here at inside) in
-        kept-listed listed v' b (ap (λ (w : Nodes). w.mat) written) (msg_number v.mat link) there r ahead behind (ap (λ (w : Nodes). w.rows) written) refl _ (edited-value _ refl) (sym (ap (λ (x : StoreValue). x.lists) view))
+  -- where another row with the same links is written there, which shows another block
+  pub edited : {ends : List Ends} → AreListed v ends b → (v' : Nodes) (old r : Row) → old ≡ row_at (msg_number v.mat link) v.rows → links r ≡ links old → askew r ≡ 0
+      → v' ≡ with_row (msg_number v.mat link) r v → (f : Block → Block) → shown v.datas r ≡ f (shown v.datas old) → Becomes v' ends b first_m first_d spare_m spare_d (changed s n (with_block at (f (block_at at (in_hand s n))) (in_hand s n)))
+  edited listed v' old r row same straight written f shows =
+      let t = block is l here at inside in let there = block-there is l here at inside in
+      let kept = same ∙ ap links (row ∙ ap (λ k. row_at k v.rows) link-is) in
+      let becomes = ap f (ap (λ (x : Row). shown v.datas x) row ∙ sym block-is) in
+      row-becomes listed _ _ _ _ (written ∙ ap (λ k. with_row k r v) link-is) refl (row-raw is t there r (λ j. (kept j).0) (λ j. (kept j).1) straight) refl t there r (λ j. (kept j).2) (λ j. (kept j).3) refl refl _
+      (row-changed is l here at inside r ∙ (λ j. changed (view j) (name j) (with_block at ((shows ∙ becomes) j) (in_hand (view j) (name j))))) (sym (ap (λ (x : StoreValue). x.lists) view))

@@ -1,6 +1,5 @@
 -- The walk of a flush along a list: what it has taken, and what it leaves.
 use Rattle.std.proofs.Common.{ℕ, ◌≡◌, ◌≢◌, ◌≤◌, ◌<◌, ◌+◌, ◌-◌, Bool, true, false, cond, eqb, List, [], ◌∷◌, ◌++◌, length, map, refl, sym, ap, ◌∙◌, subst, arith, inl, inr}
-use Rattle.std.proofs.Math.ListN.{set}
 use Rattle.std.specs.Prelude.{◌⊎◌, Option, None, Some, option_map, not, MatchOption}
 use Rattle.std.proofs.lemmas.Bool.Decides.{nat_tests}
 use Rattle.std.proofs.lemmas.List.{append-nil, append_assoc, map-append, set-set, set-get_or}
@@ -21,10 +20,10 @@ use Rattle.strm_raw.specs.declared.neighbours.Ends.{Ends}
 use Rattle.strm_raw.specs.declared.msg_nodes.MsgLink.{MsgLink}
 use Rattle.strm_raw.specs.declared.data_nodes.DataLink.{DataLink}
 use Rattle.strm_raw.proofs.Giving.{empty}
-use Rattle.strm_raw.proofs.Hanging.{Hung, hung}
+use Rattle.strm_raw.proofs.Hanging.{hung}
 use Rattle.strm_raw.proofs.Moved.{queue-value}
 use Rattle.strm_raw.proofs.Placing.{queue-few}
-use Rattle.strm_raw.proofs.Seating.{TakenOff, taken-off}
+use Rattle.strm_raw.proofs.Seating.{taken-off}
 use Rattle.strm_raw.proofs.Tied.{a-first, no-first, list-begin, list-ahead}
 
 -- what has been taken, if anything, is a message in hand beside what is left
@@ -140,8 +139,8 @@ module _ (s0 : StoreValue) (k : ℕ) (what : FlushWhat) where
           let mat = ap (λ (w : Nodes). w.mat) u.nodes in
           record {
             walk = record {
-              raw = done.raw;
-              listed = done.listed;
+              raw = done.becomes.raw;
+              listed = done.becomes.listed;
               there = subst (λ (x : Ptr × ℕ). IsMsgOrNone x.0 x.1 next) (λ q. (sym mat q, sym u.tied.len q)) next_there;
               front = w.front;
               rear = ys;
@@ -157,7 +156,7 @@ module _ (s0 : StoreValue) (k : ℕ) (what : FlushWhat) where
             rest = placed (value_of v b) k [];
             chain = chain_of v m;
             fresh = done.fresh;
-            value = ap (λ (s : StoreValue). placed s k []) done.value ∙ (λ j. held (record (value_of v b) { lists = set-set (value_of v b).lists k (map (chain_of v) w.front ++ map (chain_of v) ys) [] j }) (msg_number v.mat l) (chain_of v m));
+            value = ap (λ (s : StoreValue). placed s k []) done.becomes.value ∙ (λ j. held (record (value_of v b) { lists = set-set (value_of v b).lists k (map (chain_of v) w.front ++ map (chain_of v) ys) [] j }) (msg_number v.mat l) (chain_of v m));
             gathered = t;
           }
 
@@ -197,9 +196,6 @@ module _ (s0 : StoreValue) (k : ℕ) (what : FlushWhat) where
       pub loose-others : IsInHand (value_of v b) j
       loose-others = let c = counted-all j in let d = counted j in let f = lo.gathered.fresh_name in let a = loose-apart in grind (arith, nat_tests)
 
-      hand-is : (value_of v b).hand ≡ record { name = i; chain = lo.chain } ∷ old ∷ s0.hand
-      hand-is = ap (λ (s : StoreValue). s.hand) lo.value ∙ ap (λ (s : StoreValue). record { name = i; chain = lo.chain } ∷ s.hand) lo.gathered.after
-
       all-is : placed (value_of v b) k [] ≡ held (held (placed s0 k []) j lo.gathered.chain) i lo.chain
       all-is = lo.value ∙ ap (λ (s : StoreValue). held s i lo.chain) lo.gathered.after
 
@@ -217,8 +213,8 @@ module _ (s0 : StoreValue) (k : ℕ) (what : FlushWhat) where
           let done = hung w.raw w.listed refl i j loose-here loose-others loose-apart h in
           record {
             walk = record {
-              raw = done.raw;
-              listed = done.listed;
+              raw = done.becomes.raw;
+              listed = done.becomes.listed;
               there = subst (λ (x : Ptr × ℕ). IsMsgOrNone x.0 x.1 at) (λ q. (sym done.mat q, sym done.len q)) w.there;
               front = w.front;
               rear = w.rear;
@@ -231,7 +227,7 @@ module _ (s0 : StoreValue) (k : ℕ) (what : FlushWhat) where
               fresh_name = subst (λ n. IsFreshName s0 n) (sym name) loose-fresh;
               chain = in_hand (value_of v b) i ++ in_hand (value_of v b) j;
               after =
-                  ap (λ (s : StoreValue). placed s k []) done.value
+                  ap (λ (s : StoreValue). placed s k []) done.becomes.value
                   ∙ ap (λ (s : StoreValue). changed (dropped s j) i (in_hand (value_of v b) i ++ in_hand (value_of v b) j)) all-is
                   ∙ joined-is (in_hand (value_of v b) i ++ in_hand (value_of v b) j)
                   ∙ ap (λ n. held (placed s0 k []) n (in_hand (value_of v b) i ++ in_hand (value_of v b) j)) (sym name);

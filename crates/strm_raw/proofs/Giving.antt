@@ -1,32 +1,26 @@
 -- What a message block that is given back leaves of a store, and a reference that is given up.
 use Rattle.std.proofs.Common.{ℕ, ◌≡◌, ◌≢◌, ◌<◌, ◌+◌, ◌-◌, cond, eqb, List, [], ◌∷◌, length, refl, sym, ap, ◌∙◌, subst, arith, inl, inr}
 use Rattle.std.proofs.Math.ListN.{set, length-set}
-use Rattle.std.specs.Prelude.{◌⊎◌, sum_by, count_by, Option, Some, option_map}
+use Rattle.std.specs.Prelude.{◌⊎◌, sum_by, Option, Some, option_map}
 use Rattle.std.proofs.lemmas.Bool.Decides.{nat_tests}
 use Rattle.std.proofs.lemmas.Bool.{cases_eq}
 use Rattle.std.proofs.lemmas.List.{get_or-set_same, get_or-set_other}
-use Rattle.std.proofs.lemmas.List.Sums.{sum_by-cons, sum_by-set}
+use Rattle.std.proofs.lemmas.List.Sums.{sum_by-cons}
 use Rattle.strm_blocks.specs.Blocks.{Block, in_hand, dropped}
-use Rattle.strm_raw.specs.Numbered.{Nodes, Row, DataRow, row_at, data_at, no_row, no_data, msg_number, data_number, IsData, IsDataOrNone}
+use Rattle.strm_raw.specs.Numbered.{Nodes, Row, DataRow, row_at, data_at, no_row, msg_number, data_number, IsData}
 use Rattle.strm_raw.specs.Roster.{Msg, Roster}
-use Rattle.strm_raw.specs.Raw.{ids, times, chain_of, held_of, block_no, shown, value_of, naming, breaks, broken, IsRaw, next_of, free_after, is_there, is_named, askew, IsHere, without_in, GivesLast, GivesOne}
+use Rattle.strm_raw.specs.Raw.{ids, times, chain_of, held_of, block_no, shown, value_of, naming, breaks, broken, IsRaw, next_of, free_after, is_there, askew, IsHere, without_in, GivesLast, GivesOne}
 use Rattle.strm_raw.specs.declared.msg_nodes.MsgLink.{MsgLink}
 use Rattle.strm_raw.specs.declared.data_nodes.DataLink.{DataLink}
 use Rattle.strm_raw.proofs.Apart.{times-cons, breaks-apart, weigh-apart, apart-head, apart-tail, map-same, maps-same, gap-self, weigh-same}
-use Rattle.strm_raw.proofs.Taking.{bytes-kept, shown-kept}
+use Rattle.strm_raw.proofs.Stocking.{Stocked, stocked, references-at, free-kept, datum-new, shown-kept}
 use Rattle.strm_raw.proofs.Finding.{found, found-head, found-len, without-value}
 use Rattle.strm_raw.proofs.Parting.{row-keeps, map-ext, split, out-tail, out-free, out-others}
 
 -- the data blocks of a store, where one reference to one of them is given up
 pub record Drops (v : Nodes) (number : ℕ) (datas : List DataRow) (first_d : Option DataLink) (spare_d : ℕ) (free_d : List ℕ) : Type 0 where
-  pub len : length datas ≡ length v.datas
-  pub bytes : (e : ℕ) → (data_at e datas).bytes ≡ (data_at e v.datas).bytes
+  pub stock : Stocked v datas first_d spare_d free_d
   pub fewer : (e : ℕ) → (data_at e v.datas).references ≡ (data_at e datas).references + cond (eqb number e) 1 0
-  pub counted : length free_d ≡ count_by (λ (r : DataRow). eqb r.references 0) datas
-  pub owned : (e : ℕ) → times e free_d + is_named e datas ≡ is_there e (length datas)
-  pub linked : breaks (free_after datas) (option_map (data_number v.dat) first_d) free_d ≡ 0
-  pub count : spare_d ≡ length free_d
-  pub there : IsDataOrNone v.dat (length datas) first_d
 
 module _ {v : Nodes} {b : Roster} {first_m : Option MsgLink} {first_d : Option DataLink} {spare_m spare_d : ℕ} (is : IsRaw v first_m first_d spare_m spare_d b)
     (k : DataLink) (there : IsData v.dat (length v.datas) k) where
@@ -36,79 +30,39 @@ module _ {v : Nodes} {b : Roster} {first_m : Option MsgLink} {first_d : Option D
   within : d < length v.datas
   within = there.0
 
-  module _ (x : DataRow) where
-    new-is : data_at d (set v.datas d x) ≡ x
-    new-is = get_or-set_same v.datas d x no_data within
+  module _ (x : DataRow) (same : x.bytes ≡ (data_at d v.datas).bytes) (less : x.references + 1 ≡ (data_at d v.datas).references) where
+    fewer : (e : ℕ) → (data_at e v.datas).references ≡ (data_at e (set v.datas d x)).references + cond (eqb d e) 1 0
+    fewer e = let r = references-at is d within x same e in elim (cases_eq e d) [
+      | inl i ↦ (let o = ap (λ j. (data_at j v.datas).references) i in grind (arith, nat_tests))
+      | inr n ↦ grind (arith, nat_tests)
+    ]
 
-    old-is : (e : ℕ) → e ≢ d → data_at e (set v.datas d x) ≡ data_at e v.datas
-    old-is e other = get_or-set_other v.datas d e x no_data other
+    out : times d b.free_d ≡ 0
+    out = let o = is.owned_d d in grind (arith, nat_tests)
 
-  first-linked : (x : DataRow) → x.next ≡ option_map (data_number v.dat) first_d → times d b.free_d ≡ 0 → breaks (free_after (set v.datas d x)) (Some d) (d ∷ b.free_d) ≡ 0
-  unfolding breaks
-  first-linked x same out =
-      let g = gap-self (Some d) in
-      let e = ap (λ o. breaks (free_after (set v.datas d x)) o b.free_d) (ap (λ (r : DataRow). r.next) (new-is x) ∙ same) in
-      let a = breaks-apart d (free_after v.datas) (free_after (set v.datas d x)) (λ e n. ap (λ (r : DataRow). r.next) (old-is x e n)) (option_map (data_number v.dat) first_d) b.free_d out in
-      let l = is.linked_d in omega arith
+    first-linked : x.next ≡ option_map (data_number v.dat) first_d → breaks (free_after (set v.datas d x)) (Some d) (d ∷ b.free_d) ≡ 0
+    unfolding breaks
+    first-linked next =
+        let g = gap-self (Some d) in
+        let e = ap (λ o. breaks (free_after (set v.datas d x)) o b.free_d) (ap (λ (r : DataRow). r.next) (datum-new is d within x same) ∙ next) in
+        let a = free-kept is d within x same (option_map (data_number v.dat) first_d) b.free_d out in
+        let l = is.linked_d in omega arith
 
-  pub drops-last : (data_at d v.datas).references ≡ 1
-      → Drops v d (set v.datas d (record { next = option_map (data_number v.dat) first_d; references = 0; bytes = (data_at d v.datas).bytes })) (Some k) (spare_d + 1) (d ∷ b.free_d)
-  drops-last one =
-      let x : DataRow = record { next = option_map (data_number v.dat) first_d; references = 0; bytes = (data_at d v.datas).bytes } in
-      let len = length-set v.datas d x in
-      let new = ap (λ (r : DataRow). r.references) (new-is x) in
-      let out : times d b.free_d ≡ 0 = let o = is.owned_d d in grind (arith, nat_tests) in
-      record {
-        len = len;
-        bytes = bytes-kept v.datas d x refl;
-        fewer = λ e. elim (cases_eq e d) [
-          | inl i ↦ (let a = ap (λ j. (data_at j (set v.datas d x)).references) i ∙ new in let o = ap (λ j. (data_at j v.datas).references) i in grind (arith, nat_tests))
-          | inr n ↦ (let a = ap (λ (r : DataRow). r.references) (old-is x e n) in grind (arith, nat_tests))
-        ];
-        counted =
-            let s = sum_by-set (λ (r : DataRow). cond (eqb r.references 0) 1 0) v.datas d x no_data within in
-            let was : cond {A = ℕ} (eqb (data_at d v.datas).references 0) 1 0 ≡ 0 = grind (arith, nat_tests) in
-            let c = is.counted_d in omega arith;
-        owned = λ e. (
-            let o = is.owned_d e in let i = ap (λ j. is_there e j) len in let t = times-cons e d b.free_d in
-            elim (cases_eq e d) [
-              | inl h ↦ (let a = ap (λ j. (data_at j (set v.datas d x)).references) h ∙ new in let w = ap (λ j. (data_at j v.datas).references) h in grind (arith, nat_tests))
-              | inr n ↦ (let a = ap (λ (r : DataRow). cond {A = ℕ} (eqb r.references 0) 0 1) (old-is x e n) in let c : cond {A = ℕ} (eqb d e) 1 0 ≡ 0 = grind (arith, nat_tests) in omega arith)
-            ]);
-        linked = first-linked x refl out;
-        count = let c = is.count_d in omega arith;
-        there = (subst (λ n. d < n) (sym len) within, there.1);
-      }
+    drops-last : x.next ≡ option_map (data_number v.dat) first_d → x.references ≡ 0 → Drops v d (set v.datas d x) (Some k) (spare_d + 1) (d ∷ b.free_d)
+    drops-last next none =
+        let t = times-cons d d b.free_d in let self : cond {A = ℕ} (eqb d d) 1 0 ≡ 1 = grind (arith, nat_tests) in
+        record {
+          stock = stocked is d within x same 0 1 (grind (arith, nat_tests)) (grind (arith, nat_tests)) (Some k) (spare_d + 1) (d ∷ b.free_d) (omega arith) (λ e other. (let t = times-cons e d b.free_d in grind (arith, nat_tests))) (omega arith)
+              (first-linked next) (let c = is.count_d in omega arith) there;
+          fewer = fewer;
+        }
 
-  pub drops-one : 0 < (data_at d v.datas).references → (data_at d v.datas).references ≢ 1
-      → Drops v d (set v.datas d (record { next = (data_at d v.datas).next; references = (data_at d v.datas).references - 1; bytes = (data_at d v.datas).bytes })) first_d spare_d b.free_d
-  drops-one some more =
-      let x : DataRow = record { next = (data_at d v.datas).next; references = (data_at d v.datas).references - 1; bytes = (data_at d v.datas).bytes } in
-      let len = length-set v.datas d x in
-      let new = ap (λ (r : DataRow). r.references) (new-is x) in
-      let out : times d b.free_d ≡ 0 = let o = is.owned_d d in grind (arith, nat_tests) in
-      record {
-        len = len;
-        bytes = bytes-kept v.datas d x refl;
-        fewer = λ e. elim (cases_eq e d) [
-          | inl i ↦ (let a = ap (λ j. (data_at j (set v.datas d x)).references) i ∙ new in let o = ap (λ j. (data_at j v.datas).references) i in grind (arith, nat_tests))
-          | inr n ↦ (let a = ap (λ (r : DataRow). r.references) (old-is x e n) in grind (arith, nat_tests))
-        ];
-        counted =
-            let s = sum_by-set (λ (r : DataRow). cond (eqb r.references 0) 1 0) v.datas d x no_data within in
-            let was : cond {A = ℕ} (eqb (data_at d v.datas).references 0) 1 0 ≡ 0 = grind (arith, nat_tests) in
-            let now : cond {A = ℕ} (eqb x.references 0) 1 0 ≡ 0 = grind (arith, nat_tests) in
-            let c = is.counted_d in omega arith;
-        owned = λ e. (
-            let o = is.owned_d e in let i = ap (λ j. is_there e j) len in
-            elim (cases_eq e d) [
-              | inl h ↦ (let a = ap (λ j. (data_at j (set v.datas d x)).references) h ∙ new in let w = ap (λ j. (data_at j v.datas).references) h in grind (arith, nat_tests))
-              | inr n ↦ (let a = ap (λ (r : DataRow). cond {A = ℕ} (eqb r.references 0) 0 1) (old-is x e n) in omega arith)
-            ]);
-        linked = breaks-apart d (free_after v.datas) (free_after (set v.datas d x)) (λ e n. ap (λ (r : DataRow). r.next) (old-is x e n)) (option_map (data_number v.dat) first_d) b.free_d out ∙ is.linked_d;
-        count = is.count_d;
-        there = rw len is.there_d;
-      }
+    drops-one : 0 < x.references → Drops v d (set v.datas d x) first_d spare_d b.free_d
+    drops-one some = record {
+      stock = stocked is d within x same 1 1 (grind (arith, nat_tests)) (grind (arith, nat_tests)) first_d spare_d b.free_d refl (λ e other. refl) refl
+          (free-kept is d within x same (option_map (data_number v.dat) first_d) b.free_d out ∙ is.linked_d) is.count_d is.there_d;
+      fewer = fewer;
+    }
 
 pub empty : {A : Type 0} (xs : List A) → length xs ≡ 0 → xs ≡ []
 empty [] z = refl
@@ -175,27 +129,27 @@ module _ {v : Nodes} {b : Roster} {first_m : Option MsgLink} {first_d : Option D
         same_d = is.same_d;
         eight = is.eight;
         few_m = rw len is.few_m;
-        few_d = rw drops.len is.few_d;
+        few_d = rw drops.stock.len is.few_d;
         counted_m = let c = is.counted_m in let s = split is l here (λ m. length (ids m)) in let n = ap length no-tail in omega arith;
-        counted_d = drops.counted;
+        counted_d = drops.stock.counted;
         owned_m = λ k. (let o = is.owned_m k in let s = split is l here (λ m. times k (ids m)) in let t = times-cons k i b.free_m in let p = sum-m (λ x. cond (eqb x k) 1 0) in let n = ap (λ n. is_there k n) len in omega arith);
-        owned_d = drops.owned;
+        owned_d = drops.stock.owned;
         referenced = λ e. (
             let o = is.referenced e in let f = drops.fewer e in let s = split is l here (naming v.rows e) in let p = sum-m (λ x. cond (eqb (row_at x v.rows).number e) 1 0) in
             let w = weigh-same (naming (set v.rows i r) e) (naming v.rows e) (naming-same e) b.lists others in omega arith);
         bounded = λ e. (let o = is.bounded e in let f = drops.fewer e in omega arith);
         linked_m = linked-first;
-        linked_d = drops.linked;
+        linked_d = drops.stock.linked;
         chained = let c = is.chained in let s = split is l here (broken v.rows) in let a = weigh-apart i (broken (set v.rows i r)) (broken v.rows) broken-old b.lists others (out-others is l here) in omega arith;
         straight = λ k. row-keeps askew v.rows i r inside refl k ∙ is.straight k;
         count_m = let c = is.count_m in omega arith;
-        count_d = drops.count;
+        count_d = drops.stock.count;
         there_m = (subst (λ n. i < n) (sym len) inside, (here.0).1);
-        there_d = drops.there;
+        there_d = drops.stock.there;
       }
 
   chain-same : (x : Msg) → chain_of given_nodes x ≡ chain_of v x
-  chain-same x = map-ext (block_no given_nodes) (block_no v) (λ j. shown-kept v.datas datas drops.bytes (row_at j (set v.rows i r)) ∙ row-keeps (shown v.datas) v.rows i r inside refl j) (ids x)
+  chain-same x = map-ext (block_no given_nodes) (block_no v) (λ j. shown-kept v.datas datas drops.stock.bytes (row_at j (set v.rows i r)) ∙ row-keeps (shown v.datas) v.rows i r inside refl j) (ids x)
 
   held-same : (x : Msg) → held_of given_nodes x ≡ held_of v x
   held-same x = ap (λ (c : List Block). record { name = x.head; chain = c }) (chain-same x)
@@ -205,7 +159,7 @@ module _ {v : Nodes} {b : Roster} {first_m : Option MsgLink} {first_d : Option D
     lists = maps-same (chain_of given_nodes) (chain_of v) chain-same b.lists k;
     hand = (map-same (held_of given_nodes) (held_of v) held-same others ∙ sym (without-value v i b.hand)) k;
     mblks = length-set v.rows i r k;
-    dblks = drops.len k;
+    dblks = drops.stock.len k;
   }
 
 -- what giving up a reference leaves
@@ -222,14 +176,14 @@ pub released : {v : Nodes} {b : Roster} {first_m : Option MsgLink} {first_d : Op
 released {v = v} {b = b} {first_d = first_d} {spare_d = spare_d} is k there some v1 b1 first' spare' (inl g) = record {
   datas = set v.datas (data_number v.dat k) (record { next = option_map (data_number v.dat) first_d; references = 0; bytes = (data_at (data_number v.dat k) v.datas).bytes });
   free_d = data_number v.dat k ∷ b.free_d;
-  drops = subst (λ (x : Option DataLink × ℕ). Drops v (data_number v.dat k) (set v.datas (data_number v.dat k) (record { next = option_map (data_number v.dat) first_d; references = 0; bytes = (data_at (data_number v.dat k) v.datas).bytes })) x.0 x.1 (data_number v.dat k ∷ b.free_d)) (λ j. (sym g.first_is j, sym g.spare_is j)) (drops-last is k there g.last);
+  drops = subst (λ (x : Option DataLink × ℕ). Drops v (data_number v.dat k) (set v.datas (data_number v.dat k) (record { next = option_map (data_number v.dat) first_d; references = 0; bytes = (data_at (data_number v.dat k) v.datas).bytes })) x.0 x.1 (data_number v.dat k ∷ b.free_d)) (λ j. (sym g.first_is j, sym g.spare_is j)) (drops-last is k there (record { next = option_map (data_number v.dat) first_d; references = 0; bytes = (data_at (data_number v.dat k) v.datas).bytes }) refl (sym g.last) refl refl);
   memory = g.memory;
   roster = g.roster ∙ ap (λ dat. record b { free_d = data_number dat k ∷ b.free_d }) is.same_d;
 }
 released {v = v} {b = b} {first_d = first_d} {spare_d = spare_d} is k there some v1 b1 first' spare' (inr g) = record {
   datas = set v.datas (data_number v.dat k) (record { next = (data_at (data_number v.dat k) v.datas).next; references = (data_at (data_number v.dat k) v.datas).references - 1; bytes = (data_at (data_number v.dat k) v.datas).bytes });
   free_d = b.free_d;
-  drops = subst (λ (x : Option DataLink × ℕ). Drops v (data_number v.dat k) (set v.datas (data_number v.dat k) (record { next = (data_at (data_number v.dat k) v.datas).next; references = (data_at (data_number v.dat k) v.datas).references - 1; bytes = (data_at (data_number v.dat k) v.datas).bytes })) x.0 x.1 b.free_d) (λ j. (sym g.first_is j, sym g.spare_is j)) (drops-one is k there some g.more);
+  drops = subst (λ (x : Option DataLink × ℕ). Drops v (data_number v.dat k) (set v.datas (data_number v.dat k) (record { next = (data_at (data_number v.dat k) v.datas).next; references = (data_at (data_number v.dat k) v.datas).references - 1; bytes = (data_at (data_number v.dat k) v.datas).bytes })) x.0 x.1 b.free_d) (λ j. (sym g.first_is j, sym g.spare_is j)) (let m = g.more in drops-one is k there (record { next = (data_at (data_number v.dat k) v.datas).next; references = (data_at (data_number v.dat k) v.datas).references - 1; bytes = (data_at (data_number v.dat k) v.datas).bytes }) refl (omega arith) (omega arith));
   memory = g.memory;
   roster = g.roster;
 }

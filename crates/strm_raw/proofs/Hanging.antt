@@ -2,23 +2,21 @@
 use Rattle.std.proofs.Common.{ℕ, ◌≡◌, ◌≢◌, ◌++◌, length, List, refl, sym, ap, ◌∙◌, subst}
 use Rattle.std.proofs.Math.ListN.{length-set}
 use Rattle.std.specs.Prelude.{Option, Some}
-use Rattle.strm_blocks.specs.Blocks.{Block, StoreValue, IsInHand, in_hand, dropped, changed}
+use Rattle.strm_blocks.specs.Blocks.{StoreValue, IsInHand, in_hand, dropped, changed}
 use Rattle.strm_raw.specs.Numbered.{Nodes, row_at, msg_number, with_row}
-use Rattle.strm_raw.specs.Roster.{Msg, Roster}
+use Rattle.strm_raw.specs.Roster.{Roster}
 use Rattle.strm_raw.specs.Raw.{ids, chain_of, value_of, IsRaw, IsHere, IsChain, msg_in, with_in, without_in, joined}
 use Rattle.strm_raw.specs.Lists.{AreListed}
 use Rattle.strm_raw.specs.Tails.{Hangs}
 use Rattle.strm_raw.specs.declared.neighbours.Ends.{Ends}
 use Rattle.strm_raw.specs.declared.msg_nodes.MsgLink.{MsgLink}
 use Rattle.strm_raw.specs.declared.data_nodes.DataLink.{DataLink}
+use Rattle.strm_raw.proofs.Becoming.{Becomes, becomes-as, row-becomes}
 use Rattle.strm_raw.proofs.Finding.{found, found-linked, here-by}
 use Rattle.strm_raw.proofs.Joining as joining
-use Rattle.strm_raw.proofs.Listed.{kept-listed}
 
 pub record Hung (v v' : Nodes) (b b' : Roster) (ends : List Ends) (first_m : Option MsgLink) (first_d : Option DataLink) (spare_m spare_d : ℕ) (s : StoreValue) (i j : ℕ) : Type 0 where
-  pub raw : IsRaw v' first_m first_d spare_m spare_d b'
-  pub listed : AreListed v' ends b'
-  pub value : value_of v' b' ≡ changed (dropped s j) i (in_hand s i ++ in_hand s j)
+  pub becomes : Becomes v' ends b' first_m first_d spare_m spare_d (changed (dropped s j) i (in_hand s i ++ in_hand s j))
   pub lists : b'.lists ≡ b.lists
   pub mat : v'.mat ≡ v.mat
   pub len : length v'.rows ≡ length v.rows
@@ -46,17 +44,15 @@ module _ {v v' : Nodes} {b b' : Roster} {ends : List Ends} {first_m : Option Msg
   roster : b' ≡ joining.joined_roster is h.head here h.next here2 apart-links
   roster = h.roster_is ∙ (λ q. let i = msg_number (is.same q) h.head in let j = sym h.number_next q in record b { hand = with_in i (joined (msg_in i b.hand) (msg_in j b.hand)) (without_in j b.hand) })
 
-  value : value_of v' b' ≡ changed (dropped (value_of v b) (msg_number v.mat h.next)) (msg_number v.mat h.head) (in_hand (value_of v b) (msg_number v.mat h.head) ++ in_hand (value_of v b) (msg_number v.mat h.next))
-  value = (λ q. value_of (nodes q) (roster q)) ∙ joining.joined-value is h.head here h.next here2 apart-links
-
   chains : chain_of v' ≡ chain_of v
   chains = ap (λ (w : Nodes). chain_of w) nodes ∙ (λ q x. joining.chain-same is h.head here h.next here2 apart-links x q)
 
   pub hung : Hung v v' b b' ends first_m first_d spare_m spare_d s i j
   hung = record {
-    raw = subst (λ (w : Nodes × Roster). IsRaw w.0 first_m first_d spare_m spare_d w.1) (λ q. (sym nodes q, sym roster q)) (joining.joined-raw is h.head here h.next here2 apart-links);
-    listed = kept-listed listed _ _ (ap (λ (w : Nodes). w.mat) nodes) (joining.t is h.head here h.next here2 apart-links) (joining.within is h.head here h.next here2 apart-links) _ refl refl (ap (λ (w : Nodes). w.rows) nodes) (ap (λ (x : Roster). x.lists) roster) _ value refl;
-    value = value ∙ (λ q. changed (dropped (view q) (h.number_next q)) (h.number q) (in_hand (view q) (h.number q) ++ in_hand (view q) (h.number_next q)));
+    becomes = becomes-as
+        (row-becomes listed _ _ _ _ nodes roster (joining.joined-raw is h.head here h.next here2 apart-links) refl (joining.t is h.head here h.next here2 apart-links) (joining.within is h.head here h.next here2 apart-links) _ refl refl refl refl _
+        (joining.joined-value is h.head here h.next here2 apart-links) refl)
+        (λ q. changed (dropped (view q) (h.number_next q)) (h.number q) (in_hand (view q) (h.number q) ++ in_hand (view q) (h.number_next q)));
     lists = ap (λ (x : Roster). x.lists) roster;
     mat = ap (λ (w : Nodes). w.mat) nodes;
     len = ap (λ (w : Nodes). length w.rows) nodes ∙ length-set v.rows _ _;

@@ -3,7 +3,7 @@ use Rattle.std.proofs.Common.{ℕ, ◌≡◌, ◌≤◌, ◌<◌, List, length, 
 use Rattle.std.proofs.Math.ListN.{set}
 use Rattle.std.specs.Prelude.{Option, option_map, unwrap_or}
 use Rattle.strm_types.specs.Ranked as ranked
-use Rattle.strm_blocks.specs.Blocks.{Block, rank_of, list_at, in_hand, put, put_back}
+use Rattle.strm_blocks.specs.Blocks.{Block, rank_of, list_at, in_hand, dropped, placed, put, put_back}
 use Rattle.strm_raw.specs.Numbered.{Nodes, msg_number, IsMsgOrNone}
 use Rattle.strm_raw.specs.Roster.{Msg, Roster}
 use Rattle.strm_raw.specs.Raw.{chain_of, value_of, IsRaw, IsHere, msg_in}
@@ -12,10 +12,11 @@ use Rattle.strm_raw.specs.Places.{rank_at, RanksBehind, RanksBefore}
 use Rattle.strm_raw.specs.declared.neighbours.Ends.{Ends}
 use Rattle.strm_raw.specs.declared.msg_nodes.MsgLink.{MsgLink}
 use Rattle.strm_raw.specs.declared.data_nodes.DataLink.{DataLink}
+use Rattle.strm_raw.proofs.Becoming.{Becomes}
 use Rattle.strm_raw.proofs.Finding.{found-head, found-chain}
 use Rattle.strm_raw.proofs.Tied.{list-on, list-back}
 use Rattle.strm_raw.proofs.Moved.{queue-value}
-use Rattle.strm_raw.proofs.Seating.{PutOn, put-on}
+use Rattle.strm_raw.proofs.Seating.{put-on}
 use Rattle.strm_raw.proofs.Placing.{queue-few, puts-behind, puts-before, behind-order, before-order}
 
 module _ {v v' : Nodes} {ends ends' : List Ends} {b b' : Roster} {first_m : Option MsgLink} {first_d : Option DataLink} {spare_m spare_d : ℕ} (is : IsRaw v first_m first_d spare_m spare_d b) (listed : AreListed v ends b)
@@ -40,7 +41,7 @@ module _ {v v' : Nodes} {ends ends' : List Ends} {b b' : Roster} {first_m : Opti
 
   pub inserted-back : ((q : List Msg) → IsList v (ends_at k ends) q → length q ≤ length v.rows → RanksBehind v.rows r q (option_map (msg_number v.mat) before))
       → option_map (msg_number v.mat) after ≡ on v.mat (ahead_of v.rows) (ends_at k ends) (option_map (msg_number v.mat) before)
-      → PutOn v v' ends' b b' first_m first_d spare_m spare_d k i (put (in_hand (value_of v b) i) (list_at (value_of v b) k))
+      → Becomes v' ends' b' first_m first_d spare_m spare_d (placed (dropped (value_of v b) i) k (put (in_hand (value_of v b) i) (list_at (value_of v b) k)))
   inserted-back place step =
       let w = subst (λ r. RanksBehind v.rows r q (option_map (msg_number v.mat) before)) rank-here (place q (listed.tied k) (queue-few is k)) in
       let tied = subst (λ (q : List Msg). IsList v (ends_at k ends) q) w.joined (listed.tied k) in
@@ -51,7 +52,7 @@ module _ {v v' : Nodes} {ends ends' : List Ends} {b b' : Roster} {first_m : Opti
 
   pub inserted-front : ((q : List Msg) → IsList v (ends_at k ends) q → length q ≤ length v.rows → RanksBefore v.rows r q (option_map (msg_number v.mat) after))
       → option_map (msg_number v.mat) before ≡ back v.mat (behind_of v.rows) (ends_at k ends) (option_map (msg_number v.mat) after)
-      → PutOn v v' ends' b b' first_m first_d spare_m spare_d k i (put_back (in_hand (value_of v b) i) (list_at (value_of v b) k))
+      → Becomes v' ends' b' first_m first_d spare_m spare_d (placed (dropped (value_of v b) i) k (put_back (in_hand (value_of v b) i) (list_at (value_of v b) k)))
   inserted-front place step =
       let w = subst (λ r. RanksBefore v.rows r q (option_map (msg_number v.mat) after)) rank-here (place q (listed.tied k) (queue-few is k)) in
       let tied = subst (λ (q : List Msg). IsList v (ends_at k ends) q) w.joined (listed.tied k) in

@@ -6,6 +6,7 @@ pub mod Apart
 pub mod Standing
 pub mod Finding
 pub mod Listed
+pub mod Becoming
 pub mod Tied
 pub mod Leading
 pub mod Moved
@@ -14,6 +15,7 @@ pub mod Placing
 pub mod Inserting
 pub mod Flushed
 pub mod Sound
+pub mod Stocking
 pub mod Taking
 pub mod Parting
 pub mod Giving

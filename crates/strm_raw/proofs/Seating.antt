@@ -15,6 +15,7 @@ use Rattle.strm_raw.specs.Lists.{AreListed, end_of, begin_of, IsList, IsTied, Ti
 use Rattle.strm_raw.specs.declared.neighbours.Ends.{Ends}
 use Rattle.strm_raw.specs.declared.msg_nodes.MsgLink.{MsgLink}
 use Rattle.strm_raw.specs.declared.data_nodes.DataLink.{DataLink}
+use Rattle.strm_raw.proofs.Becoming.{Becomes}
 use Rattle.strm_raw.proofs.Finding.{found-head, found-some, sum-without, times-heads, without-value}
 use Rattle.strm_raw.proofs.Tied.{heads-cons, heads-append, list-behind, list-ahead, tied-in, tied-out, off-end, off-begin, some-none}
 use Rattle.strm_raw.proofs.Moved.{once-queue, apart-queues, apart-hand, apart-lists, queue-value, moved-raw, moved-value, moved-chains, moved-listed}
@@ -129,14 +130,12 @@ module _ {v : Nodes} {ends : List Ends} {b : Roster} {first_m : Option MsgLink} 
           ∙ (λ j. record b { lists = set b.lists k (without_in (i j) (shape j)); hand = msg_in (i j) (shape j) ∷ b.hand })
           ∙ (λ j. record b { lists = set b.lists k (without-between m ys xs front j); hand = msg-between m ys xs front j ∷ b.hand })
 
-      pub unseated-raw : IsRaw v' first_m first_d spare_m spare_d b'
-      unseated-raw = subst (λ (x : Nodes × Roster). IsRaw x.0 first_m first_d spare_m spare_d x.1) (λ j. (sym nodes j, sym roster j)) off-raw
-
-      pub unseated-listed : AreListed v' ends' b'
-      unseated-listed = subst (λ (x : Nodes × List Ends × Roster). AreListed x.0 x.1 x.2) (λ j. (sym nodes j, sym ends_are j, sym roster j)) off-listed
-
-      pub unseated-value : value_of v' b' ≡ held (placed (value_of v b) k (map (chain_of v) xs ++ map (chain_of v) ys)) (msg_number v.mat l) (chain_of v m)
-      unseated-value = (λ j. value_of (nodes j) (roster j)) ∙ off-value ∙ ap (λ n. held (placed (value_of v b) k (map (chain_of v) xs ++ map (chain_of v) ys)) n (chain_of v m)) name
+      pub unseated-becomes : Becomes v' ends' b' first_m first_d spare_m spare_d (held (placed (value_of v b) k (map (chain_of v) xs ++ map (chain_of v) ys)) (msg_number v.mat l) (chain_of v m))
+      unseated-becomes = record {
+        raw = subst (λ (x : Nodes × Roster). IsRaw x.0 first_m first_d spare_m spare_d x.1) (λ j. (sym nodes j, sym roster j)) off-raw;
+        listed = subst (λ (x : Nodes × List Ends × Roster). AreListed x.0 x.1 x.2) (λ j. (sym nodes j, sym ends_are j, sym roster j)) off-listed;
+        value = (λ j. value_of (nodes j) (roster j)) ∙ off-value ∙ ap (λ n. held (placed (value_of v b) k (map (chain_of v) xs ++ map (chain_of v) ys)) n (chain_of v m)) name;
+      }
 
       pub unseated-queue : queue_at k b'.lists ≡ xs ++ ys
       unseated-queue = ap (λ (x : Roster). queue_at k x.lists) roster ∙ get_or-set_same b.lists k (xs ++ ys) [] (let e = is.eight in omega arith)
@@ -233,9 +232,7 @@ module _ {v : Nodes} {ends : List Ends} {b : Roster} {first_m : Option MsgLink} 
 
 -- what a call leaves that takes a message off a list
 pub record TakenOff (v v' : Nodes) (ends' : List Ends) (b b' : Roster) (first_m : Option MsgLink) (first_d : Option DataLink) (spare_m spare_d k i : ℕ) (xs : List Msg) (m : Msg) (ys : List Msg) : Type 0 where
-  pub raw : IsRaw v' first_m first_d spare_m spare_d b'
-  pub listed : AreListed v' ends' b'
-  pub value : value_of v' b' ≡ held (placed (value_of v b) k (map (chain_of v) xs ++ map (chain_of v) ys)) i (chain_of v m)
+  pub becomes : Becomes v' ends' b' first_m first_d spare_m spare_d (held (placed (value_of v b) k (map (chain_of v) xs ++ map (chain_of v) ys)) i (chain_of v m))
   pub fresh : IsFreshName (value_of v b) i
   pub shape : list_at (value_of v b) k ≡ map (chain_of v) xs ++ chain_of v m ∷ map (chain_of v) ys
   pub queue : queue_at k b'.lists ≡ xs ++ ys
@@ -247,9 +244,7 @@ pub taken-off : {v v' : Nodes} {ends ends' : List Ends} {b b' : Roster} {first_m
 taken-off {v = v} {v' = v'} {ends = ends} is listed k within l xs m ys shape name u =
     let ties = subst (λ n. Ties v.mat v.rows v'.rows (ends_at k ends) u.after (behind_of v.rows n) (ahead_of v.rows n)) (sym name) u.tied in
     record {
-      raw = unseated-raw is listed k within xs m ys shape v'.rows u.after ties u.first u.last l name u.nodes u.ends_are u.roster_is;
-      listed = unseated-listed is listed k within xs m ys shape v'.rows u.after ties u.first u.last l name u.nodes u.ends_are u.roster_is;
-      value = unseated-value is listed k within xs m ys shape v'.rows u.after ties u.first u.last l name u.nodes u.ends_are u.roster_is;
+      becomes = unseated-becomes is listed k within xs m ys shape v'.rows u.after ties u.first u.last l name u.nodes u.ends_are u.roster_is;
       fresh = unseated-fresh is listed k within xs m ys shape v'.rows u.after ties u.first u.last l name u.nodes u.ends_are u.roster_is;
       shape = off-shape is listed k within xs m ys shape v'.rows u.after ties u.first u.last;
       queue = unseated-queue is listed k within xs m ys shape v'.rows u.after ties u.first u.last l name u.nodes u.ends_are u.roster_is;
@@ -272,18 +267,13 @@ seat-is i x xs (y ∷ ys) once off =
     seat-before x y xs ys (grind (arith, nat_tests))
 
 -- what a call leaves that puts a message on a list
-pub record PutOn (v v' : Nodes) (ends' : List Ends) (b b' : Roster) (first_m : Option MsgLink) (first_d : Option DataLink) (spare_m spare_d k i : ℕ) (q : List (List Block)) : Type 0 where
-  pub raw : IsRaw v' first_m first_d spare_m spare_d b'
-  pub listed : AreListed v' ends' b'
-  pub value : value_of v' b' ≡ placed (dropped (value_of v b) i) k q
-
 module _ {v v' : Nodes} {ends ends' : List Ends} {b b' : Roster} {first_m : Option MsgLink} {first_d : Option DataLink} {spare_m spare_d : ℕ} (is : IsRaw v first_m first_d spare_m spare_d b) (listed : AreListed v ends b)
     (k : ℕ) (within : k < 8) (l : MsgLink) (here : IsHere v b l) (xs ys : List Msg) (shape : queue_at k b.lists ≡ xs ++ ys) where
   pub put-on : (e : Ends) (before after : Option ℕ) → before ≡ end_of None xs → after ≡ begin_of ys → Seats v.mat v.rows v'.rows (ends_at k ends) e before (msg_number v.mat l) after
       → IsMsgOrNone v.mat (length v.rows) e.first → IsMsgOrNone v.mat (length v.rows) e.last → v' ≡ record v { rows = v'.rows } → ends' ≡ set ends k e
       → (o : Option MsgLink) → option_map (msg_number v.mat) o ≡ after → (n : ℕ) → n ≡ msg_number v.mat l → b' ≡ seated k n (unwrap_or o l) b
       → (q : List (List Block)) → map (chain_of v) (xs ++ msg_in (msg_number v.mat l) b.hand ∷ ys) ≡ q → ranked.IsOrdered rank_of q
-      → PutOn v v' ends' b b' first_m first_d spare_m spare_d k (msg_number v.mat l) q
+      → Becomes v' ends' b' first_m first_d spare_m spare_d (placed (dropped (value_of v b) (msg_number v.mat l)) k q)
   put-on e before after before_is after_is seats first last nodes ends_are o o_is n n_is roster_is q q_is order =
       let i = msg_number v.mat l in
       let x = msg_in i b.hand in

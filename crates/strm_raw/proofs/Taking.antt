@@ -1,20 +1,24 @@
 -- What a message block and a data block that are taken leave of a store.
-use Rattle.std.proofs.Common.{ℕ, zero, suc, ◌≡◌, ◌≢◌, ◌≤◌, ◌<◌, ◌+◌, ◌-◌, cond, eqb, List, [], ◌∷◌, length, drop, get_or, map, refl, sym, ap, ◌∙◌, subst, arith, inl, inr}
+use Rattle.std.proofs.Common.{ℕ, ◌≡◌, ◌≢◌, ◌≤◌, ◌<◌, ◌+◌, ◌-◌, cond, eqb, List, [], ◌∷◌, length, drop, get_or, map, refl, sym, ap, ◌∙◌, subst, arith, inl, inr}
 use Rattle.std.proofs.Math.ListN.{set, length-set}
-use Rattle.std.specs.Prelude.{sum_by, count_by, Option, None, Some, option_map, slice_range}
+use Rattle.std.specs.Prelude.{sum_by, Option, None, Some, option_map}
 use Rattle.std.proofs.lemmas.Bool.Decides.{nat_tests}
 use Rattle.std.proofs.lemmas.Bool.{cases_eq}
 use Rattle.std.proofs.lemmas.List.{get_or-set_same, get_or-set_other}
-use Rattle.std.proofs.lemmas.List.Sums.{sum_by-cons, sum_by-set}
+use Rattle.std.proofs.lemmas.List.Sums.{sum_by-cons}
 use Rattle.strm_raw.specs.Links.{place}
 use Rattle.strm_raw.specs.MsgNodes as messages
 use Rattle.strm_blocks.specs.Blocks.{Block, Held, times_in, references, held, IsFreshName, free_m, free_d}
-use Rattle.strm_raw.specs.Numbered.{Nodes, Row, DataRow, row_at, data_at, no_row, no_data, msg_number, data_number, IsMsgOrNone, IsDataOrNone}
+use Rattle.strm_raw.specs.Numbered.{Nodes, Row, DataRow, row_at, data_at, no_row, msg_number, data_number, IsMsgOrNone, IsDataOrNone}
 use Rattle.strm_raw.specs.Roster.{Msg, Roster}
-use Rattle.strm_raw.specs.Raw.{weigh, ids, times, chain_of, held_of, block_no, shown, value_of, naming, breaks, broken, gap, IsRaw, next_of, free_after, is_there, is_named, askew}
+use Rattle.strm_raw.specs.Raw.{weigh, ids, times, chain_of, held_of, block_no, shown, value_of, naming, breaks, broken, gap, IsRaw, next_of, free_after, is_there, askew}
 use Rattle.strm_raw.specs.declared.msg_nodes.MsgLink.{MsgLink}
 use Rattle.strm_raw.specs.declared.data_nodes.DataLink.{DataLink}
+use Rattle.strm_raw.specs.Lists.{AreListed}
+use Rattle.strm_raw.specs.declared.neighbours.Ends.{Ends}
+use Rattle.strm_raw.proofs.Becoming.{Becomes, row-becomes}
 use Rattle.strm_raw.proofs.Apart.{apart-head, times-cons, times-self, sum-apart, map-apart, breaks-apart, hand-apart, lists-apart, weigh-apart}
+use Rattle.strm_raw.proofs.Stocking.{Stocked, stocked, references-at, free-kept, shown-kept}
 use Rattle.strm_raw.proofs.Standing.{begun, free_m-value, free_d-value, stored}
 
 -- a name that no message in hand has, as its node belongs to none
@@ -27,17 +31,6 @@ fresh-name v i (m ∷ hand) z =
     let n : cond {A = ℕ} (eqb m.head i) 1 0 ≡ 0 = grind (arith, nat_tests) in
     let ih = fresh-name v i hand (omega arith) in
     omega arith
-
--- another data row with the same bytes
-pub bytes-kept : (datas : List DataRow) (d : ℕ) (x : DataRow) → x.bytes ≡ (data_at d datas).bytes → (e : ℕ) → (data_at e (set datas d x)).bytes ≡ (data_at e datas).bytes
-bytes-kept [] d x same e = refl
-bytes-kept (y ∷ datas) zero x same zero = same
-bytes-kept (y ∷ datas) zero x same (suc e) = refl
-bytes-kept (y ∷ datas) (suc d) x same zero = refl
-bytes-kept (y ∷ datas) (suc d) x same (suc e) = bytes-kept datas d x same e
-
-pub shown-kept : (datas datas' : List DataRow) → ((e : ℕ) → (data_at e datas').bytes ≡ (data_at e datas).bytes) → (r : Row) → shown datas' r ≡ shown datas r
-shown-kept datas datas' same r = ap (λ (bytes : List ℕ). record { kind = r.kind; band = r.band; number = r.number; bytes = slice_range bytes r.start r.end; room = 256 - r.end }) (same r.number)
 
 module _ {v : Nodes} {b : Roster} {first_m : Option MsgLink} {first_d : Option DataLink} {spare_m spare_d : ℕ} (is : IsRaw v first_m first_d spare_m spare_d b) where
   -- a free message block stands in no chain, and once among the free ones
@@ -74,15 +67,9 @@ module _ {v : Nodes} {b : Roster} {first_m : Option MsgLink} {first_d : Option D
 -- A free message block gets a row, and stands in hand as a message of its own, where its data block has one reference
 -- more and the data blocks are otherwise in order.
 pub record Refers (v : Nodes) (number : ℕ) (datas : List DataRow) (first_d : Option DataLink) (spare_d : ℕ) (free_d : List ℕ) : Type 0 where
-  pub len : length datas ≡ length v.datas
-  pub bytes : (e : ℕ) → (data_at e datas).bytes ≡ (data_at e v.datas).bytes
+  pub stock : Stocked v datas first_d spare_d free_d
   pub more : (e : ℕ) → (data_at e datas).references ≡ (data_at e v.datas).references + cond (eqb number e) 1 0
   pub bounded : (e : ℕ) → (data_at e datas).references ≤ 255
-  pub counted : length free_d ≡ count_by (λ (r : DataRow). eqb r.references 0) datas
-  pub owned : (e : ℕ) → times e free_d + is_named e datas ≡ is_there e (length datas)
-  pub linked : breaks (free_after datas) (option_map (data_number v.dat) first_d) free_d ≡ 0
-  pub count : spare_d ≡ length free_d
-  pub there : IsDataOrNone v.dat (length datas) first_d
 
 module _ {v : Nodes} {b : Roster} {first_m : Option MsgLink} {first_d : Option DataLink} {spare_m spare_d : ℕ} (is : IsRaw v first_m first_d spare_m spare_d b)
     (l : MsgLink) (eq : first_m ≡ Some l) (r : Row) (ends : r.next ≡ None) (straight : askew r ≡ 0)
@@ -110,7 +97,7 @@ module _ {v : Nodes} {b : Roster} {first_m : Option MsgLink} {first_d : Option D
   row-old j other = get_or-set_other v.rows n j r no_row other
 
   block-old : (j : ℕ) → j ≢ n → block_no with_new j ≡ block_no v j
-  block-old j other = ap (λ (x : Row). shown datas x) (row-old j other) ∙ shown-kept v.datas datas refers.bytes (row_at j v.rows)
+  block-old j other = ap (λ (x : Row). shown datas x) (row-old j other) ∙ shown-kept v.datas datas refers.stock.bytes (row_at j v.rows)
 
   next-old : (j : ℕ) → j ≢ n → next_of (set v.rows n r) j ≡ next_of v.rows j
   next-old j other = ap (λ (x : Row). x.next) (row-old j other)
@@ -160,7 +147,7 @@ module _ {v : Nodes} {b : Roster} {first_m : Option MsgLink} {first_d : Option D
     | inr other ↦ ap (λ (x : Row). askew x) (row-old j other) ∙ is.straight j
   ]
 
-  pub added : IsRaw with_new next_m first_d' (spare_m - 1) spare_d' roster_new
+  added : IsRaw with_new next_m first_d' (spare_m - 1) spare_d' roster_new
   added =
       let rest = (first-m is l eq).0 in
       let free = (first-m is l eq).1.0 in
@@ -170,9 +157,9 @@ module _ {v : Nodes} {b : Roster} {first_m : Option MsgLink} {first_d : Option D
         same_d = is.same_d;
         eight = is.eight;
         few_m = rw len is.few_m;
-        few_d = rw refers.len is.few_d;
+        few_d = rw refers.stock.len is.few_d;
         counted_m = let c = is.counted_m in let w = weigh-more (λ m. length (ids m)) in let a = ap length free in let o = ap length others-are in omega arith;
-        counted_d = refers.counted;
+        counted_d = refers.stock.counted;
         owned_m = λ j. (
             let o = is.owned_m j in let w = weigh-more (λ m. times j (ids m)) in
             let a = ap (λ xs. times j xs) free ∙ times-cons j n rest in
@@ -181,7 +168,7 @@ module _ {v : Nodes} {b : Roster} {first_m : Option MsgLink} {first_d : Option D
             let s : cond {A = ℕ} (eqb (get_or b.free_m 0 0) j) 1 0 ≡ cond (eqb n j) 1 0 = ap (λ k. cond {A = ℕ} (eqb k j) 1 0) first-is in
             let i = ap (λ k. is_there j k) len in
             omega arith);
-        owned_d = refers.owned;
+        owned_d = refers.stock.owned;
         referenced = λ e. (
             let o = is.referenced e in let m = refers.more e in let w = weigh-more (naming (set v.rows n r) e) in let x = naming-new e in
             let s = weigh-apart n (naming (set v.rows n r) e) (naming v.rows e) (naming-old e) b.lists b.hand (alone-m is l eq).1 in
@@ -191,16 +178,16 @@ module _ {v : Nodes} {b : Roster} {first_m : Option MsgLink} {first_d : Option D
             (λ j. breaks (next_of (set v.rows n r)) (next_is j) (others-are j))
             ∙ breaks-apart n (next_of v.rows) (next_of (set v.rows n r)) next-old (next_of v.rows n) rest (alone-m is l eq).0
             ∙ (first-m is l eq).1.1;
-        linked_d = refers.linked;
+        linked_d = refers.stock.linked;
         chained = let c = is.chained in let w = weigh-more (broken (set v.rows n r)) in let x = broken-new in let s = weigh-apart n (broken (set v.rows n r)) (broken v.rows) broken-old b.lists b.hand (alone-m is l eq).1 in omega arith;
         straight = straight-all;
         count_m = let c = is.count_m in let a = ap length free in let o = ap length others-are in omega arith;
-        count_d = refers.count;
+        count_d = refers.stock.count;
         there_m = rw len next_there;
-        there_d = refers.there;
+        there_d = refers.stock.there;
       }
 
-  pub added-value : value_of with_new roster_new ≡ held (value_of v b) (msg_number v.mat l) (shown datas r ∷ [])
+  added-value : value_of with_new roster_new ≡ held (value_of v b) (msg_number v.mat l) (shown datas r ∷ [])
   added-value =
       let name = first-is in
       let block : block_no with_new (get_or b.free_m 0 0) ≡ shown datas r = ap (λ j. block_no with_new j) first-is ∙ ap (λ (x : Row). shown datas x) row-new in
@@ -208,8 +195,12 @@ module _ {v : Nodes} {b : Roster} {first_m : Option MsgLink} {first_d : Option D
         lists = lists-apart (λ m. times n (ids m)) (chain_of with_new) (chain_of v) chain-old b.lists zero-lists j;
         hand = record { name = name j; chain = block j ∷ [] } ∷ hand-apart (λ m. times n (ids m)) (held_of with_new) (held_of v) held-old b.hand zero-hand j;
         mblks = length-set v.rows n r j;
-        dblks = refers.len j;
+        dblks = refers.stock.len j;
       }
+
+  pub added-becomes : {ends : List Ends} (old : List DataRow) → AreListed (record v { datas = old }) ends b → (value_of v b).lists ≡ (value_of (record v { datas = old }) b).lists → (v' : Nodes) (b' : Roster) → v' ≡ with_new → b' ≡ roster_new → r.ahead ≡ (row_at n v.rows).ahead → r.behind ≡ (row_at n v.rows).behind
+      → Becomes v' ends b' next_m first_d' (spare_m - 1) spare_d' (held (value_of v b) n (shown datas r ∷ []))
+  added-becomes old listed same v' b' nodes roster ahead behind = row-becomes listed v' with_new b' roster_new nodes roster added refl n (place-m is l eq).0 r ahead behind refl refl _ added-value same
 
   pub added-fresh : IsFreshName (value_of v b) (msg_number v.mat l)
   added-fresh = fresh-name v n b.hand zero-hand
@@ -224,52 +215,25 @@ module _ {v : Nodes} {b : Roster} {first_m : Option MsgLink} {first_d : Option D
   abbrev dn : ℕ
   dn = data_number v.dat k
 
-  datum-new : data_at dn (set v.datas dn x) ≡ x
-  datum-new = get_or-set_same v.datas dn x no_data (place-d is k eq)
-
-  datum-old : (e : ℕ) → e ≢ dn → data_at e (set v.datas dn x) ≡ data_at e v.datas
-  datum-old e other = get_or-set_other v.datas dn e x no_data other
-
   pub refers-first : Refers v dn (set v.datas dn x) next_d (spare_d - 1) (drop 1 b.free_d)
   refers-first =
-      let len = length-set v.datas dn x in
+      let within = place-d is k eq in
       let none = (alone-d is k eq).1 in
       let rest = (first-d is k eq).0 in
       let free = (first-d is k eq).1.0 in
       let others : drop 1 b.free_d ≡ rest = ap (λ xs. drop 1 xs) free in
-      let new = ap (λ (r : DataRow). r.references) datum-new ∙ one in
-      let more : (e : ℕ) → (data_at e (set v.datas dn x)).references ≡ (data_at e v.datas).references + cond (eqb dn e) 1 0 = λ e.
-      elim (cases_eq e dn) [
-        | inl i ↦ (let a = ap (λ j. (data_at j (set v.datas dn x)).references) i ∙ new in let o = ap (λ j. (data_at j v.datas).references) i ∙ none in grind (arith, nat_tests))
-        | inr n ↦ (let a = ap (λ (r : DataRow). r.references) (datum-old e n) in grind (arith, nat_tests))
-      ] in
+      let long = ap length free in let less = ap length others in
+      let counts : (e : ℕ) → times e b.free_d ≡ cond (eqb dn e) 1 0 + times e (drop 1 b.free_d) = λ e. (let c = ap (λ xs. times e xs) free ∙ times-cons e dn rest in let o = ap (λ xs. times e xs) others in omega arith) in
+      let self : cond {A = ℕ} (eqb dn dn) 1 0 ≡ 1 = grind (arith, nat_tests) in
       record {
-        len = len;
-        bytes = bytes-kept v.datas dn x same;
-        more = more;
-        bounded = λ e. elim (cases_eq e dn) [
-          | inl i ↦ (let a = ap (λ j. (data_at j (set v.datas dn x)).references) i ∙ new in omega arith)
-          | inr n ↦ (let a = ap (λ (r : DataRow). r.references) (datum-old e n) in let o = is.bounded e in omega arith)
-        ];
-        counted =
-            let s = sum_by-set (λ (r : DataRow). cond (eqb r.references 0) 1 0) v.datas dn x no_data (place-d is k eq) in
-            let was : cond {A = ℕ} (eqb (data_at dn v.datas).references 0) 1 0 ≡ 1 = ap (λ r. cond {A = ℕ} (eqb r 0) 1 0) none in
-            let now : cond {A = ℕ} (eqb x.references 0) 1 0 ≡ 0 = ap (λ r. cond {A = ℕ} (eqb r 0) 1 0) one in
-            let c = is.counted_d in let a = ap length free in let o = ap length others in omega arith;
-        owned = λ e. (
-            let o = is.owned_d e in let a = ap (λ xs. times e xs) free ∙ times-cons e dn rest in let d = ap (λ xs. times e xs) others in let i = ap (λ j. is_there e j) len in
-            elim (cases_eq e dn) [
-              | inl h ↦ (let z = (alone-d is k eq).0 in let z' = ap (λ j. times j rest) h in let t = ap (λ j. (data_at j (set v.datas dn x)).references) h ∙ new in
-                  let w = ap (λ j. (data_at j v.datas).references) h ∙ none in grind (arith, nat_tests))
-              | inr n ↦ (let t = ap (λ (r : DataRow). cond {A = ℕ} (eqb r.references 0) 0 1) (datum-old e n) in
-                  let c : cond {A = ℕ} (eqb dn e) 1 0 ≡ 0 = grind (arith, nat_tests) in omega arith)
-            ]);
-        linked =
-            (λ j. breaks (free_after (set v.datas dn x)) (next_is j) (others j))
-            ∙ breaks-apart dn (free_after v.datas) (free_after (set v.datas dn x)) (λ e n. ap (λ (r : DataRow). r.next) (datum-old e n)) (free_after v.datas dn) rest (alone-d is k eq).0
-            ∙ (first-d is k eq).1.1;
-        count = let c = is.count_d in let a = ap length free in let o = ap length others in omega arith;
-        there = rw len next_there;
+        stock = stocked is dn within x same 1 0 (grind (arith, nat_tests)) (grind (arith, nat_tests)) next_d (spare_d - 1) (drop 1 b.free_d) (let c = counts dn in omega arith) (λ e other. (let c = counts e in grind (arith, nat_tests))) (omega arith)
+            ((λ j. breaks (free_after (set v.datas dn x)) (next_is j) (others j)) ∙ free-kept is dn within x same (free_after v.datas dn) rest (alone-d is k eq).0 ∙ (first-d is k eq).1.1)
+            (let c = is.count_d in omega arith) next_there;
+        more = λ e. (let r = references-at is dn within x same e in elim (cases_eq e dn) [
+          | inl i ↦ (let o = ap (λ j. (data_at j v.datas).references) i ∙ none in grind (arith, nat_tests))
+          | inr n ↦ grind (arith, nat_tests)
+        ]);
+        bounded = λ e. (let r = references-at is dn within x same e in let o = is.bounded e in grind (arith, nat_tests));
       }
 
   pub fresh-number : references (value_of v b) dn ≡ 0
@@ -282,44 +246,14 @@ module _ {v : Nodes} {b : Roster} {first_m : Option MsgLink} {first_d : Option D
 module _ {v : Nodes} {b : Roster} {first_m : Option MsgLink} {first_d : Option DataLink} {spare_m spare_d : ℕ} (is : IsRaw v first_m first_d spare_m spare_d b)
     (dn : ℕ) (within : dn < length v.datas) (some : 0 < (data_at dn v.datas).references) (few : (data_at dn v.datas).references < 255)
     (x : DataRow) (more : x.references ≡ (data_at dn v.datas).references + 1) (same : x.bytes ≡ (data_at dn v.datas).bytes) where
-  datum-new-2 : data_at dn (set v.datas dn x) ≡ x
-  datum-new-2 = get_or-set_same v.datas dn x no_data within
-
-  datum-old-2 : (e : ℕ) → e ≢ dn → data_at e (set v.datas dn x) ≡ data_at e v.datas
-  datum-old-2 e other = get_or-set_other v.datas dn e x no_data other
-
   pub refers-more : Refers v dn (set v.datas dn x) first_d spare_d b.free_d
   refers-more =
-      let len = length-set v.datas dn x in
-      let new = ap (λ (r : DataRow). r.references) datum-new-2 ∙ more in
+      let out : times dn b.free_d ≡ 0 = (let o = is.owned_d dn in grind (arith, nat_tests)) in
       record {
-        len = len;
-        bytes = bytes-kept v.datas dn x same;
-        more = λ e. elim (cases_eq e dn) [
-          | inl i ↦ (let a = ap (λ j. (data_at j (set v.datas dn x)).references) i ∙ new in let o = ap (λ j. (data_at j v.datas).references) i in grind (arith, nat_tests))
-          | inr n ↦ (let a = ap (λ (r : DataRow). r.references) (datum-old-2 e n) in grind (arith, nat_tests))
-        ];
-        bounded = λ e. elim (cases_eq e dn) [
-          | inl i ↦ (let a = ap (λ j. (data_at j (set v.datas dn x)).references) i ∙ new in omega arith)
-          | inr n ↦ (let a = ap (λ (r : DataRow). r.references) (datum-old-2 e n) in let o = is.bounded e in omega arith)
-        ];
-        counted =
-            let s = sum_by-set (λ (r : DataRow). cond (eqb r.references 0) 1 0) v.datas dn x no_data within in
-            let was : cond {A = ℕ} (eqb (data_at dn v.datas).references 0) 1 0 ≡ 0 = grind (arith, nat_tests) in
-            let now : cond {A = ℕ} (eqb x.references 0) 1 0 ≡ 0 = grind (arith, nat_tests) in
-            let c = is.counted_d in omega arith;
-        owned = λ e. (
-            let o = is.owned_d e in let i = ap (λ j. is_there e j) len in
-            elim (cases_eq e dn) [
-              | inl h ↦ (let t = ap (λ j. (data_at j (set v.datas dn x)).references) h ∙ new in
-                  let w = ap (λ j. (data_at j v.datas).references) h in grind (arith, nat_tests))
-              | inr n ↦ (let t = ap (λ (r : DataRow). cond {A = ℕ} (eqb r.references 0) 0 1) (datum-old-2 e n) in omega arith)
-            ]);
-        linked =
-            let o = is.owned_d dn in
-            let out : times dn b.free_d ≡ 0 = grind (arith, nat_tests) in
-            breaks-apart dn (free_after v.datas) (free_after (set v.datas dn x)) (λ e n. ap (λ (r : DataRow). r.next) (datum-old-2 e n)) (option_map (data_number v.dat) first_d) b.free_d out
-            ∙ is.linked_d;
-        count = is.count_d;
-        there = rw len is.there_d;
+        stock = stocked is dn within x same 1 1 (grind (arith, nat_tests)) (grind (arith, nat_tests)) first_d spare_d b.free_d refl (λ e other. refl) refl (free-kept is dn within x same (option_map (data_number v.dat) first_d) b.free_d out ∙ is.linked_d) is.count_d is.there_d;
+        more = λ e. (let r = references-at is dn within x same e in elim (cases_eq e dn) [
+          | inl i ↦ (let o = ap (λ j. (data_at j v.datas).references) i in grind (arith, nat_tests))
+          | inr n ↦ grind (arith, nat_tests)
+        ]);
+        bounded = λ e. (let r = references-at is dn within x same e in let o = is.bounded e in grind (arith, nat_tests));
       }

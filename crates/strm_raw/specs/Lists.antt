@@ -18,8 +18,8 @@ ends_at k ends = slice_index_or ends k no_ends
 abbrev pub queue_at : ℕ → List (List Msg) → List Msg
 queue_at k lists = slice_index_or lists k []
 
--- Where a list leads from a place. A place is the first block of a message, or None: the list's outside, from which it
--- leads on to its first message and back to its last one.
+-- Where a list leads from a place: by an end of the list or by a link. A place is the first block of a message, or None:
+-- the list's outside, from which it leads on to its first message and back to its last one.
 abbrev pub Step : Type 0
 Step = Option ℕ → Option ℕ
 
@@ -29,13 +29,15 @@ ahead_of rows i = (row_at i rows).ahead
 abbrev pub behind_of : List Row → ℕ → Option ℕ
 behind_of rows i = (row_at i rows).behind
 
+abbrev pub lead : Ptr → Option MsgLink → (ℕ → Option ℕ) → Step
+lead mat end link None = option_map (msg_number mat) end
+lead mat end link (Some i) = link i
+
 abbrev pub on : Ptr → (ℕ → Option ℕ) → Ends → Step
-on mat ahead ends None = option_map (msg_number mat) ends.first
-on mat ahead ends (Some i) = ahead i
+on mat ahead ends = lead mat ends.first ahead
 
 abbrev pub back : Ptr → (ℕ → Option ℕ) → Ends → Step
-back mat behind ends None = option_map (msg_number mat) ends.last
-back mat behind ends (Some i) = behind i
+back mat behind ends = lead mat ends.last behind
 
 -- from a place on, the steps on lead through the messages in order and to the outside, and each step back undoes one on
 abbrev pub IsTied : Step → Step → Option ℕ → List Msg → Type 0

@@ -15,7 +15,7 @@ done : (c : After-hang) → let t = c.self.inside in Hung t.memory c.hang.new.me
 done c = hung c.self.invariant.raw c.self.invariant.listed c.self.view_is _ _ c.requires.first_in_hand c.requires.second_in_hand c.requires.apart c.hang.ensures.hangs
 
 pub invariant_of-self : goal.invariant_of-self
-invariant_of-self c = let d = done (goal.at.invariant_of-self c).After-hang in record { raw = d.raw; listed = d.listed }
+invariant_of-self c = let d = (done (goal.at.invariant_of-self c).After-hang).becomes in record { raw = d.raw; listed = d.listed }
 
 pub returns-clause-linked : goal.returns-clause-linked
-returns-clause-linked c = (done (goal.at.returns-clause-linked c).After-hang).value
+returns-clause-linked c = (done (goal.at.returns-clause-linked c).After-hang).becomes.value

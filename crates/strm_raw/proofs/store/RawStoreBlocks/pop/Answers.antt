@@ -22,7 +22,7 @@ invariant_of-self c =
     let first = sym (list-begin v (ends_at k t.ends) (queue_at k b.lists) (c.self.invariant.listed.tied k)) ∙ ap (λ (o : Option MsgLink). option_map (msg_number v.mat) o) c.in-Some.is in
     let at = a-first (queue_at k b.lists) (msg_number v.mat c.in-Some.first) first in
     let done = taken-off c.self.invariant.raw c.self.invariant.listed k c.requires c.in-Some.first [] at.0 at.1.0 at.1.1.0 at.1.1.1 c.unseat-message.ensures.unseats in
-    record { raw = done.raw; listed = done.listed }
+    record { raw = done.becomes.raw; listed = done.becomes.listed }
 
 pub returns : goal.returns
 returns c =
@@ -30,7 +30,7 @@ returns c =
     let first = sym (list-begin v (ends_at k t.ends) (queue_at k b.lists) (c.self.invariant.listed.tied k)) ∙ ap (λ (o : Option MsgLink). option_map (msg_number v.mat) o) c.in-Some.is in
     let at = a-first (queue_at k b.lists) (msg_number v.mat c.in-Some.first) first in
     let done = taken-off c.self.invariant.raw c.self.invariant.listed k c.requires c.in-Some.first [] at.0 at.1.0 at.1.1.0 at.1.1.1 c.unseat-message.ensures.unseats in
-    subst (λ (x : StoreValue × StoreValue × ℕ). Popped x.0 x.1 k x.2) (λ j. (c.self.view_is j, sym done.value j, sym c.unseat-message.ensures.name j)) (record {
+    subst (λ (x : StoreValue × StoreValue × ℕ). Popped x.0 x.1 k x.2) (λ j. (c.self.view_is j, sym done.becomes.value j, sym c.unseat-message.ensures.name j)) (record {
       fresh_name = done.fresh;
       message = chain_of v at.0;
       rest = map (chain_of v) at.1.0;

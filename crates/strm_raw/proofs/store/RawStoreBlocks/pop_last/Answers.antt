@@ -23,7 +23,7 @@ invariant_of-self c =
     let last = sym (list-end v (ends_at k t.ends) (queue_at k b.lists) (c.self.invariant.listed.tied k)) ∙ ap (λ (o : Option MsgLink). option_map (msg_number v.mat) o) c.in-Some.is in
     let at = a-last (queue_at k b.lists) (msg_number v.mat c.in-Some.last) last in
     let done = taken-off c.self.invariant.raw c.self.invariant.listed k c.requires c.in-Some.last at.0 at.1.0 [] at.1.1.0 at.1.1.1 c.unseat-message.ensures.unseats in
-    record { raw = done.raw; listed = done.listed }
+    record { raw = done.becomes.raw; listed = done.becomes.listed }
 
 pub returns : goal.returns
 returns c =
@@ -31,7 +31,7 @@ returns c =
     let last = sym (list-end v (ends_at k t.ends) (queue_at k b.lists) (c.self.invariant.listed.tied k)) ∙ ap (λ (o : Option MsgLink). option_map (msg_number v.mat) o) c.in-Some.is in
     let at = a-last (queue_at k b.lists) (msg_number v.mat c.in-Some.last) last in
     let done = taken-off c.self.invariant.raw c.self.invariant.listed k c.requires c.in-Some.last at.0 at.1.0 [] at.1.1.0 at.1.1.1 c.unseat-message.ensures.unseats in
-    subst (λ (x : StoreValue × StoreValue × ℕ). PoppedLast x.0 x.1 k x.2) (λ j. (c.self.view_is j, sym done.value j, sym c.unseat-message.ensures.name j)) (record {
+    subst (λ (x : StoreValue × StoreValue × ℕ). PoppedLast x.0 x.1 k x.2) (λ j. (c.self.view_is j, sym done.becomes.value j, sym c.unseat-message.ensures.name j)) (record {
       fresh_name = done.fresh;
       message = chain_of v at.1.0;
       rest = map (chain_of v) at.0;
