@@ -48,16 +48,6 @@ abbrev pub first_of : {A : Type 0} → A → List (ℕ × A) → A
 first_of d [] = d
 first_of d (x ∷ xs) = x.1
 
--- a book that is as it was may be given back
-pub gives_same : (v : View) (b c : Book) → c ≡ b → Fits b.totals → MayGive (holding v b) c
-gives_same v b c same fits = record {
-  below = λ i. let t : pick i c.totals ≡ pick i b.totals = ap (λ (x : Book). pick i x.totals) same in omega arith;
-  fits = λ i. let t : pick i c.totals ≡ pick i b.totals = ap (λ (x : Book). pick i x.totals) same in let s = fits i in omega arith;
-  history = ([], ap (λ (x : Book). x.history) same ∙ sym (append-nil b.history));
-  left = let p : c.left ≡ b.left = ap (λ (x : Book). x.left) same in omega arith;
-  some_part = inr (ap (λ (x : Book). x.totals) same, ap (λ (x : Book). x.history) same);
-}
-
 module _ (a : Kept) (caller : Caller) (asked : Request) (before bytes : List ℕ) (b : Kept) where
   abbrev WasDone : Outcome → Type 0
   WasDone x = Did a caller asked before bytes x b
@@ -70,7 +60,7 @@ module _ (a : Kept) (caller : Caller) (asked : Request) (before bytes : List ℕ
   same_left (Ok y) d = d.left
   same_left (Err z) d = ap (λ (k : Kept). k.book.left) d.0
 
-  pub gives_applied : (v : View) (r : Outcome × Told) → 0 < v.parts → Applied a caller asked before bytes r b → MayGive (holding v a.book) b.book
+  pub gives_applied : (v : View) (r : Outcome × Told) → 0 < v.parts → Applied a caller asked before bytes r b → MayGive (holding v a) b.book
   gives_applied v r some_part applied = let p = same_left r.0 applied.answer in record {
     below = applied.grew.below;
     fits = applied.grew.fits;
@@ -177,7 +167,7 @@ module _ (a : Kept) (bytes : List ℕ) (b : Kept) where
     inr (ap (λ (y : Book). y.totals) same, ap (λ (y : Book). y.history) same),
   )
 
-  pub opens_gives : (r : Outcome × Told) → Opened a bytes r b → MayGive (holding fresh a.book) b.book
+  pub opens_gives : (r : Outcome × Told) → Opened a bytes r b → MayGive (holding fresh a) b.book
   opens_gives r opened = let t = opens_by r.0 opened.answer in record {
     below = opened.grew.below;
     fits = opened.grew.fits;

@@ -13,7 +13,7 @@ use Rattle.strm_types.specs.Journal.{PlainEntry}
 use Rattle.strm_locks.specs.declared.end.TheConstants.{ALL_PARTS}
 use Rattle.strm_locks.specs.declared.view.View.{View}
 use Rattle.strm_locks.specs.Books.{pick, nothing, plus, weigh, Fits, Book, Kept, closed_book}
-use Rattle.strm_locks.specs.Rules.{fresh, total, AddsUp, Knows, Mine, holding, grown, taken, given, emptied, looked, sat, kept_half, split_half, joined}
+use Rattle.strm_locks.specs.Rules.{fresh, total, AddsUp, Knows, Mine, holding, grown, leaving, taken, given, emptied, passed, looked, sat, kept_half, split_half, joined}
 use Rattle.strm_locks.specs.Shares.{MayGive}
 use Rattle.strm_locks.proofs.Sums.{total-set, total-append, total-at, total-two, total-none, total-alone, total-split, total-join, each_set, each_snoc, pick-plus, pick-minus, pick-nothing, same_told, weigh-append}
 
@@ -139,7 +139,7 @@ sits slots s r deep small = let vs : List View = s.views ++ fresh ∷ [] in (
 
 pub takes_lock : (slots id : ℕ) (me : Mine) → me.0.holds ≡ 0 → Allows AddsUp slots id me 0 (λ x. either (eqb x 0) 1 x) (taken (step slots 0 0 1 none) me)
 takes_lock slots id me free s r deep at small = dite (ℕ_discrete (word s) 0)
-    (λ hit. let k : Kept = (r.at_home hit).0 in let same : k.book ≡ r.book = (r.at_home hit).2 in let w : View = holding me.0 k.book in (
+    (λ hit. let k : Kept = (r.at_home hit).0 in let same : k.book ≡ r.book = (r.at_home hit).2 in let w : View = holding me.0 k in (
       w,
       takes 0 k,
       (r.at_home hit).1,
@@ -204,9 +204,25 @@ module _ (slots id : ℕ) (v : View) (k : Kept) (one : slots ≡ 1) (holds : v.h
         refl,
       )
 
+  passes_at : k.book ≡ v.found → Gives slots id (v, (0, k) ∷ []) (passed (step slots 0 0 0 none))
+  passes_at still s r deep at small =
+      let w : View = leaving v k.pair in let same : v.found ≡ r.book = r.found id v at (omega arith) in
+      let held : word s ≡ 1 = (let a = total-at (λ x. x.holds) s.views id v at in let o = r.holders in let t = r.bit in omega arith) in (
+        w,
+        gives,
+        tt,
+        moved s r id 0 (set s.homes 0 (some k)) v w r.book at (omega arith) (λ _. (k, set_here s.homes 0 (some k) (omega arith), still ∙ same)) (omega arith) (λ z. absurd (omega arith))
+            (λ j u apart e o. let t = others_wait s r id v at holds j u apart e in absurd (omega arith))
+            (λ i. refl) (λ h. refl) refl r.fits (r.idle id v at),
+        (λ k' e. ap (λ (l : List (ℕ × Kept)). let m : Mine = (leaving v (get_or l 0 (0, k)).1.pair, []) in m) e),
+      )
+
 module _ (slots id : ℕ) (me : Mine) (k : Kept) (one : slots ≡ 1) (holds : me.0.holds ≡ 1) (has : me.1 ≡ (0, k) ∷ []) where
   pub gives_lock : MayGive me.0 k.book → Gives slots id me (given (step slots 0 0 0 none))
   gives_lock g = subst (λ (l : List (ℕ × Kept)). Gives slots id (me.0, l) (given (step slots 0 0 0 none))) (sym has) (gives_at slots id me.0 k one holds g)
+
+  pub passes : k.book ≡ me.0.found → Gives slots id me (passed (step slots 0 0 0 none))
+  passes still = subst (λ (l : List (ℕ × Kept)). Gives slots id (me.0, l) (passed (step slots 0 0 0 none))) (sym has) (passes_at slots id me.0 k one holds still)
 
   pub empties : me.0.parts ≡ ALL_PARTS → k.book ≡ closed_book → Gives slots id me (emptied (step slots 0 0 0 none))
   empties all shut = subst (λ (l : List (ℕ × Kept)). Gives slots id (me.0, l) (emptied (step slots 0 0 0 none))) (sym has) (empties_at slots id me.0 k one holds all shut)

@@ -1,5 +1,6 @@
 pub mod Booking
 pub mod Calling
 pub mod Keeps
+pub mod Refusing
 pub mod Reports
 pub mod Sums

@@ -1,12 +1,12 @@
 -- An end, as contracts see it, and what calls do to it.
-use Rattle.std.specs.Prelude.{◌≡◌, ℕ, ◌+◌, ◌-◌, ◌/◌, ◌⊎◌, List, [], ◌∷◌, ◌++◌, Some, MatchResult}
+use Rattle.std.specs.Prelude.{◌≡◌, ◌≢◌, ℕ, ◌+◌, ◌-◌, ◌/◌, ◌⊎◌, List, [], ◌∷◌, ◌++◌, Some, MatchResult}
 use Rattle.atomic_table.specs.Seated.{TableId}
 use Rattle.strm_types.specs.declared.answers.Answer.{Answer}
 use Rattle.strm_types.specs.declared.events.Caller.{Caller}
 use Rattle.strm_types.specs.declared.events.Event.TheVariants.{OpenMaster, OpenSlave}
 use Rattle.strm_types.specs.declared.names.Side.TheVariants.{Slave}
 use Rattle.strm_types.specs.declared.refusals.Refusal.{Refusal}
-use Rattle.strm_types.specs.declared.refusals.Refusal.TheVariants.{Einval}
+use Rattle.strm_types.specs.declared.refusals.Refusal.TheVariants.{Einval, Erange}
 use Rattle.strm_types.specs.Events.{Request}
 use Rattle.strm_types.specs.Journal.{PlainEntry}
 use Rattle.strm_laws.specs.Pair.{PairState, call_refused}
@@ -54,6 +54,10 @@ joined_end a b = record a { told = plus a.told b.told; made = a.made ++ b.made; 
 -- some pair refuses the call for this
 abbrev pub IsRefused : Caller → Request → Refusal → Type 0
 IsRefused caller asked z = (p : PairState) × (call_refused p caller asked ≡ Some z)
+
+-- why an end opens no slave: it has one part, which is told by ERANGE; or some pair refuses its call for this, which is never ERANGE
+abbrev pub OpensNoSlave : Share → Refusal → Type 0
+OpensNoSlave e z = ((e.parts ≡ 1) × (z ≡ Erange)) ⊎ ((e.parts ≢ 1) × (z ≢ Erange) × IsRefused e.caller OpenSlave z)
 
 -- the end that opened the pair: it has all parts, and was told of that call alone
 pub record IsOpened (lock : TableId) (e : Share) : Type 0 where

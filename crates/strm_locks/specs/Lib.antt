@@ -6,4 +6,5 @@ pub mod Settles
 pub mod Shares
 pub mod Systems
 pub mod Tallies
+pub mod Turns
 pub mod Unopened

@@ -4,13 +4,14 @@ use mathlib.Core.Option.{some}
 use lib.ListN.{get_elem?}
 use Rattle.atomic_table.specs.Table.{State, Me, Step}
 use Rattle.strm_types.specs.Journal.{PlainEntry}
+use Rattle.strm_laws.specs.Pair.{PairState}
 use Rattle.strm_locks.specs.declared.end.TheConstants.{ALL_PARTS}
 use Rattle.strm_locks.specs.declared.told.Told.{Told}
 use Rattle.strm_locks.specs.declared.view.View.{View}
 use Rattle.strm_locks.specs.Books.{pick, nothing, plus, minus, weigh, IsReordered, IsBelow, Fits, Book, Kept, closed_book}
 
 abbrev pub view : Told → List PlainEntry → ℕ → ℕ → Book → View
-view told made parts holds found = record { told = told; made = made; parts = parts; holds = holds; found = found }
+view told made parts holds found = record { told = told; made = made; parts = parts; holds = holds; found = found; met = [] }
 
 -- a view without the lock
 abbrev pub share : Told → List PlainEntry → ℕ → View
@@ -20,9 +21,17 @@ share told made parts = view told made parts 0 closed_book
 abbrev pub fresh : View
 fresh = share nothing [] 0
 
--- the view v with the lock, which found the book b
-abbrev pub holding : View → Book → View
-holding v b = view v.told v.made v.parts 1 b
+-- the view v with the lock, which found this pair with its book
+abbrev pub holding : View → Kept → View
+holding v k = record (view v.told v.made v.parts 1 k.book) { met = v.met ++ k.pair ∷ [] }
+
+-- the view of a seat that was told nothing and met this pair, and what it left of it
+abbrev pub visited : PairState → PairState → View
+visited p q = record fresh { met = p ∷ q ∷ [] }
+
+-- the view v without the lock, which has left this pair
+abbrev pub leaving : View → PairState → View
+leaving v p = record v { holds = 0; found = closed_book; met = v.met ++ p ∷ [] }
 
 -- f of each view, added up
 abbrev pub total : (View → ℕ) → List View → ℕ
@@ -62,7 +71,7 @@ grown v b c = share (minus (plus v.told c.totals) b.totals) (v.made ++ drop (len
 
 -- the lock is tried: where it was free the seat has it, with the pair and its book
 abbrev pub taken : Step Kept → Mine → ℕ → Mine → Type 0
-taken st m n m' = (n ≡ 0 → (k : Kept) × (m' ≡ (holding m.0 k.book, (0, k) ∷ m.1)) × Knows m.0 k.book) × (n ≢ 0 → m' ≡ m)
+taken st m n m' = (n ≡ 0 → (k : Kept) × (m' ≡ (holding m.0 k, (0, k) ∷ m.1)) × Knows m.0 k.book) × (n ≢ 0 → m' ≡ m)
 
 -- the lock is given back with a pair whose book may have grown
 abbrev pub given : Step Kept → Mine → ℕ → Mine → Type 0
@@ -71,6 +80,10 @@ given st m n m' = (k : Kept) → m.1 ≡ (0, k) ∷ [] → m' ≡ (grown m.0 m.0
 -- the lock is given back with a pair whose book was closed
 abbrev pub emptied : Step Kept → Mine → ℕ → Mine → Type 0
 emptied st m n m' = m' ≡ (fresh, [])
+
+-- the lock is given back at the end of a visit, with a pair whose book stayed: the pair that is left is met
+abbrev pub passed : Step Kept → Mine → ℕ → Mine → Type 0
+passed st m n m' = (k : Kept) → m.1 ≡ (0, k) ∷ [] → m' ≡ (leaving m.0 k.pair, [])
 
 -- a look: the numbers of a seat fit
 abbrev pub looked : Step Kept → Mine → ℕ → Mine → Type 0

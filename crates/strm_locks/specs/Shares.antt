@@ -32,7 +32,7 @@ IsSame s t = (t.table_id ≡ s.table_id) × (t.id ≡ s.id)
 
 -- the seat whose view was v has the lock, and found this pair with its book
 pub record HasLock (v : View) (k : Kept) (s : Seat Kept View) : Type 0 where
-  pub seen : s.me ≡ (holding v k.book, (0, k) ∷ [])
+  pub seen : s.me ≡ (holding v k, (0, k) ∷ [])
   pub knows : Knows v k.book
 
 -- what the lock's holder may give back: a book that has grown from the one that it found, and whose numbers fit

@@ -5,19 +5,22 @@ ghost use Rattle.strm_types.specs.declared.events.Event.TheVariants.{OpenMaster,
 ghost use Rattle.strm_types.specs.declared.refusals.Refusal.TheVariants.{Einval, Erange};
 ghost use Rattle.strm_types.specs.Events.{request};
 ghost use Rattle.strm_locks.specs.Books.{closed_book, Kept};
-ghost use Rattle.strm_locks.specs.Ends.{IsOf, IsOpened, IsRefused, Gains, OpenedAs, OpensSlave, joined_end, kept_end, slave_end, split_end};
+ghost use Rattle.strm_locks.specs.Ends.{IsOf, IsOpened, IsRefused, Gains, OpenedAs, OpensNoSlave, OpensSlave, joined_end, kept_end, slave_end, split_end};
 ghost use Rattle.strm_locks.specs.Rules.{fresh};
 ghost use Rattle.strm_locks.specs.Settles.{IsClosed, IsSettled};
 ghost use Rattle.strm_locks.specs.Shares.{IsSame, IsSeated, Applied, Opened, entry_of, opener};
+ghost use Rattle.strm_locks.specs.Turns.{IsVisit, Visits};
 
 use crate::end::{ALL_PARTS, End, StillShared};
-use crate::held::Settled;
+use crate::gate::{Gate, NoGate};
+use crate::held::{Made, Settled};
 use crate::lock::Lock;
 use crate::object::Object;
 use crate::rule::Place;
 use crate::told::Told;
+use crate::visit::Visit;
 use std::sync::Wait;
-use strm_types::{Answer, Caller, Content, Event, Refusal, Side, Turn};
+use strm_types::{Answer, Caller, Content, Event, Refusal, Side};
 
 impl<P: Object> Lock<P> {
     // What the holder of the lock does is done on the pair in its slot, which is lent in place.
@@ -54,12 +57,12 @@ impl<P: Object> Lock<P> {
         held.open(out)
     }
 
-    fn turn_held(&self, seat: &mut Place<P>) -> Option<Result<Turn, Refusal>>
+    fn turn_held(&self, seat: &mut Place<P>) -> Option<Made>
         requires own { seat.old.table_id ≡ self.now }
         requires lock { (k : Kept) × (seat.old.me.1 ≡ (0, k) ∷ []) }
         ensures same { IsSame seat.old seat.new × (seat.new.me.0 ≡ seat.old.me.0) }
         ensures did { (k : Kept) → seat.old.me.1 ≡ (0, k) ∷ []
-            → (k' : Kept) × (seat.new.me.1 ≡ (0, k') ∷ []) × (k'.book ≡ k.book) }
+            → (k' : Kept) × (seat.new.me.1 ≡ (0, k') ∷ []) × (k'.book ≡ k.book) × Visits k.pair result k'.pair }
     {
         let held = seat.slot_mut(&self.table.shared, 0);
         held.turn_first()
@@ -133,13 +136,14 @@ impl<P: Object> Lock<P> {
     }
 
     /// Opens the slave by a call of an end: `open(2)` of the slave device. The end was told of that call; the new one calls as the slave, was
-    /// told nothing, and has half of the end's parts, rounded down. An end of one part is refused by ERANGE, without a call.
+    /// told nothing, and has half of the end's parts, rounded down. An end of one part is refused, without a call, and it alone by ERANGE; each
+    /// other refusal is the pair's. The end stays where it is refused.
+    #[tactic(auto, using(crate::proofs::Refusing::not_erange))]
     pub fn open_slave<R: Wait>(&self, rt: &R, end: &mut End<P>) -> Result<End<P>, Refusal>
         requires { IsOf self.now end.old }
-        ensures one { end.old.parts ≡ 1 → result ≡ Err Erange }
-        ensures opened { MatchResult result
-            (λ e. OpensSlave end.old end.new × (e ≡ slave_end end.old))
-            (λ z. (end.new ≡ end.old) × ((end.old.parts ≡ 1) ⊎ IsRefused end.old.caller OpenSlave z)) }
+        ensures { MatchResult result
+            (λ e. (end.old.parts ≢ 1) × OpensSlave end.old end.new × (e ≡ slave_end end.old))
+            (λ z. (end.new ≡ end.old) × OpensNoSlave end.old z) }
     {
         if end.parts == 1 {
             return Err(Refusal::Erange);
@@ -253,21 +257,30 @@ impl<P: Object> Lock<P> {
         settled
     }
 
-    /// Makes one turn of the queue that was enabled first, if any, and tells what it did. No end is told of it: a turn writes and reads nothing.
-    pub fn turn<R: Wait>(&self, rt: &R) -> Option<Result<Turn, Refusal>> {
-        let mut seat = self.sit();
-        self.turn_by(rt, &mut seat)
+    /// Makes one turn of the queue that was enabled first, if any. The visit tells which queue it was and what the pair answered: so the pair
+    /// answers for the turn, from what was found under the lock, and the turn stands in the journal. No end is told of it.
+    pub fn turn<R: Wait>(&self, rt: &R) -> Visit<P>
+        ensures { IsVisit self.now result }
+    {
+        self.visit(rt, &NoGate, 0, 0)
     }
 
-    // The same by a seat that was told nothing, and is told nothing.
-    fn turn_by<R: Wait>(&self, rt: &R, seat: &mut Place<P>) -> Option<Result<Turn, Refusal>>
-        requires own { seat.old.table_id ≡ self.now }
-        requires fresh { seat.old.me ≡ (fresh, []) }
-        ensures { seat.new.me ≡ (fresh, []) }
+    // The same within a gate, for a worker at a pair of these numbers.
+    pub(crate) fn visit<R: Wait, G: Gate>(
+        &self,
+        rt: &R,
+        gate: &G,
+        worker: u32,
+        pair: u32,
+    ) -> Visit<P>
+        ensures { IsVisit self.now result }
     {
-        self.take(rt, seat);
-        let turn = self.turn_held(seat);
-        self.give(seat);
-        turn
+        let mut seat = self.sit();
+        self.take(rt, &mut seat);
+        gate.before(worker, pair);
+        let made = self.turn_held(&mut seat);
+        gate.after(worker, pair);
+        self.pass(&mut seat);
+        Visit { seat, made }
     }
 }

@@ -32,6 +32,13 @@ pub struct Settled {
     pub sm: Ledger,
 }
 
+/// A turn that was made under a lock: of which queue, and what the pair answered.
+#[derive(Clone, Copy)]
+pub struct Made {
+    pub queue: QueueName,
+    pub answer: Result<Turn, Refusal>,
+}
+
 impl<P: Object> Model for Held<P> {
     ghost use Rattle.strm_locks.specs.Books.{IsCounted, Kept, kept};
     ghost use Rattle.strm_locks.specs.Tallies.{calls_in};
@@ -47,6 +54,7 @@ impl<P: Object> Held<P> {
     ghost use Rattle.strm_locks.specs.Books.{closed_book, Adds, IsBelow, IsNew, Fits, minus};
     ghost use Rattle.strm_locks.specs.Settles.{IsClosed};
     ghost use Rattle.strm_locks.specs.Shares.{entry_of, Did, Opens};
+    ghost use Rattle.strm_locks.specs.Turns.{Visits};
 
     /// A pair that nobody opened, with a closed book.
     pub fn new(pair: P) -> Held<P>
@@ -112,11 +120,13 @@ impl<P: Object> Held<P> {
     }
 
     // A turn of the queue that was enabled first, if any.
-    pub(crate) fn turn_first(&mut self) -> Option<Result<Turn, Refusal>>
-        ensures { self.new.book ≡ self.old.book }
+    pub(crate) fn turn_first(&mut self) -> Option<Made>
+        ensures book { self.new.book ≡ self.old.book }
+        ensures made { Visits self.old.pair result self.new.pair }
     {
-        let name = self.pair.first_enabled()?;
-        Some(self.turn(name))
+        let queue = self.pair.first_enabled()?;
+        let answer = self.turn(queue);
+        Some(Made { queue, answer })
     }
 
     // A call, and what it told.

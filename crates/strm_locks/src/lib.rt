@@ -4,6 +4,7 @@
 
 mod calls;
 mod end;
+mod gate;
 mod held;
 mod lock;
 mod object;
@@ -13,12 +14,15 @@ mod system;
 mod tests;
 mod told;
 mod view;
+mod visit;
 mod workers;
 
 pub use end::{ALL_PARTS, End, StillShared};
-pub use held::{Held, Settled};
+pub use gate::{Gate, NoGate};
+pub use held::{Held, Made, Settled};
 pub use lock::Lock;
 pub use object::Object;
 pub use system::{PairEnd, System};
 pub use told::{Each, Told};
+pub use visit::Visit;
 pub use workers::Report;

@@ -3,13 +3,13 @@
 
 ghost use Rattle.std.specs.Prelude.{◌≡◌, ◌≤◌, [], ◌∷◌};
 ghost use Rattle.strm_locks.specs.Books.{closed_book, Kept, Fits};
-ghost use Rattle.strm_locks.specs.Rules.{fresh, kept_half, split_half, joined, grown};
+ghost use Rattle.strm_locks.specs.Rules.{fresh, kept_half, split_half, joined, grown, leaving};
 ghost use Rattle.strm_locks.specs.Shares.{IsFree, IsSame, HasLock, MayGive};
 
 use crate::end::ALL_PARTS;
 use crate::held::Held;
 use crate::object::Object;
-use crate::rule::{Board, Empty, Give, Halves, Look, Place, Sit, Take};
+use crate::rule::{Board, Empty, Give, Halves, Look, Pass, Place, Sit, Take};
 use atomic_table::{Refused, Table};
 use std::alloc::{AllocError, Global};
 use std::marker::Model;
@@ -94,6 +94,18 @@ impl<P: Object> Lock<P> {
         ensures { IsSame seat.old seat.new × (seat.new.me ≡ (fresh, [])) }
     {
         self.table.shared.store::<Empty>(seat, 0, 0);
+        self.table.shared.wake_one(0);
+    }
+
+    // The same at the end of a visit, where the book stayed: the seat was told nothing, and has met the pair that it leaves.
+    pub(crate) fn pass(&self, seat: &mut Place<P>)
+        requires own { seat.old.table_id ≡ self.now }
+        requires held { seat.old.me.0.holds ≡ 1 }
+        requires lock { (k : Kept) × (seat.old.me.1 ≡ (0, k) ∷ []) × (k.book ≡ seat.old.me.0.found) }
+        ensures same { IsSame seat.old seat.new }
+        ensures met { (k : Kept) → seat.old.me.1 ≡ (0, k) ∷ [] → seat.new.me ≡ (leaving seat.old.me.0 k.pair, []) }
+    {
+        self.table.shared.store::<Pass>(seat, 0, 0);
         self.table.shared.wake_one(0);
     }
 

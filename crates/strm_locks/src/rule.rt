@@ -1,6 +1,6 @@
 //! The rule of a lock's table, and the kinds of step on it.
 
-ghost use Rattle.strm_locks.specs.Rules.{AddsUp, fresh, taken, given, emptied, looked, sat, kept_half, split_half, joined};
+ghost use Rattle.strm_locks.specs.Rules.{AddsUp, fresh, taken, given, emptied, passed, looked, sat, kept_half, split_half, joined};
 
 use crate::held::Held;
 use crate::object::Object;
@@ -47,6 +47,13 @@ pub(crate) struct Empty;
 
 impl<P: Object> Play<Held<P>, View> for Empty {
     ghost then = { emptied };
+}
+
+// The lock and the slot are given back at the end of a visit: a store of 0.
+pub(crate) struct Pass;
+
+impl<P: Object> Play<Held<P>, View> for Pass {
+    ghost then = { passed };
 }
 
 // A load behind a join, which shows that the joined numbers fit.

@@ -6,20 +6,23 @@ ghost use Rattle.strm_types.specs.declared.refusals.Refusal.TheVariants.{Einval}
 ghost use Rattle.strm_types.specs.Events.{request};
 ghost use Rattle.strm_minors.specs.Openers.{opening};
 ghost use Rattle.strm_locks.specs.Books.{IsNew};
-ghost use Rattle.strm_locks.specs.Ends.{Gains, IsOpened, IsRefused, OpensSlave, joined_end, kept_end, slave_end, split_end};
+ghost use Rattle.strm_locks.specs.Ends.{Gains, IsOpened, IsRefused, OpensNoSlave, OpensSlave, joined_end, kept_end, slave_end, split_end};
 ghost use Rattle.strm_locks.specs.Settles.{IsSettled};
 ghost use Rattle.strm_locks.specs.Shares.{entry_of, opener};
 ghost use Rattle.strm_locks.specs.Systems.{IsOne};
+ghost use Rattle.strm_locks.specs.Turns.{IsVisit};
 
 use crate::end::{ALL_PARTS, End, StillShared};
+use crate::gate::Gate;
 use crate::held::{Held, Settled};
 use crate::lock::Lock;
 use crate::object::Object;
+use crate::visit::Visit;
 use std::alloc::{AllocError, Global};
 use std::marker::Model;
 use std::sync::Wait;
 use strm_minors::{Minor, Minors, Opener};
-use strm_types::{Answer, Content, Event, Refusal, Turn};
+use strm_types::{Answer, Content, Event, Refusal};
 
 /// Up to 64 pairs, each under a lock of its own, and their minor numbers. Threads share it by a `&`. No lock is round the whole: calls on
 /// different pairs don't wait for each other, and numbers are claimed without a lock.
@@ -157,8 +160,8 @@ impl<P: Object> System<P> {
         requires { IsOne self.now end.old }
         ensures pair { end.new.pair ≡ end.old.pair }
         ensures opened { MatchResult result
-            (λ e. OpensSlave end.old.end end.new.end × (e ≡ record { pair = end.old.pair; end = slave_end end.old.end }))
-            (λ z. (end.new.end ≡ end.old.end) × ((end.old.end.parts ≡ 1) ⊎ IsRefused end.old.end.caller OpenSlave z)) }
+            (λ e. (end.old.end.parts ≢ 1) × OpensSlave end.old.end end.new.end × (e ≡ record { pair = end.old.pair; end = slave_end end.old.end }))
+            (λ z. (end.new.end ≡ end.old.end) × OpensNoSlave end.old.end z) }
     {
         let slave = self.lock(end.pair).open_slave(rt, &mut end.end)?;
         Ok(PairEnd {
@@ -227,9 +230,26 @@ impl<P: Object> System<P> {
     }
 
     /// Makes a turn of the queue of a pair that was enabled first, as [`Lock::turn`] does.
-    pub fn turn<R: Wait>(&self, rt: &R, pair: u32) -> Option<Result<Turn, Refusal>>
+    pub fn turn<R: Wait>(&self, rt: &R, pair: u32) -> Visit<P>
         requires { pair < length self.now.locks }
+        ensures pair { slice_get self.now.locks pair ≡ Some result.table }
+        ensures made { IsVisit result.table result }
     {
         self.lock(pair).turn(rt)
+    }
+
+    // The same within a gate, for a worker of this number.
+    pub(crate) fn visit<R: Wait, G: Gate>(
+        &self,
+        rt: &R,
+        gate: &G,
+        worker: u32,
+        pair: u32,
+    ) -> Visit<P>
+        requires { pair < length self.now.locks }
+        ensures pair { slice_get self.now.locks pair ≡ Some result.table }
+        ensures made { IsVisit result.table result }
+    {
+        self.lock(pair).visit(rt, gate, worker, pair)
     }
 }

@@ -1,14 +1,17 @@
 //! Threads at the locks of pairs that nobody can open, as their journals take no entry: each visit takes the lock and gives it back.
 
-ghost use Rattle.std.specs.Prelude.{◌≡◌, Some};
+ghost use Rattle.std.specs.Prelude.{◌≡◌, ◌+◌, ◌*◌, ◌<◌, Some};
 ghost use Rattle.strm_types.specs.Events.{request};
 ghost use Rattle.strm_types.specs.declared.events.Caller.{Caller};
 ghost use Rattle.strm_laws.specs.Pair.{call_refused};
 ghost use Rattle.strm_locks.specs.Unopened.{unopened};
 
 use super::*;
+use crate::workers::{Round, work};
 use std::test::Fail;
-use strm_types::{Answer, Caller, Content, Dir, Event, Ledger, QueueName, Refusal, Turn};
+use strm_types::{
+    Answer, Caller, Content, Dir, Event, Ledger, Place, QueueName, Refusal, Side, Turn, Way,
+};
 
 // A pair whose journal takes no entry.
 #[derive(Drop)]
@@ -86,16 +89,59 @@ fn threads_take_turns_at_two_locks(rt: HostRuntime) -> Result<(), Fail> {
     pairs.push(Unopened)?;
     pairs.push(Unopened)?;
     let (system, mut opener) = System::new(rt.alloc(), pairs)?;
-    let report = system.run_workers(&rt, 4, 10000);
-    assert_eq!(rt; report.turns, 0);
-    assert_eq!(rt; report.refused, 0);
+    let report = system.run_workers(&rt, 4, 10000, &NoGate);
+    assert_eq!(rt; report.started, 4);
+    assert_eq!(rt; report.idle, 40000);
 
     let minor = system.minors().claim(&mut opener)?;
     let Err(refused) = system.open(&rt, &minor) else {
         panic!(rt; "opened")
     };
     assert!(rt; refused == Refusal::JournalFull);
-    let report = system.run_workers(&rt, 2, 1);
+    let report = system.run_workers(&rt, 2, 1, &NoGate);
     assert_eq!(rt; report.turns, 0);
+    Ok(())
+}
+
+// Three pairs in memory, of which a visit notes the number as a digit: the first is idle, the second blocked, and the third refuses.
+struct Noted {
+    digits: u64,
+}
+
+impl Round for Noted {
+    ghost count = { λ _. 3 };
+
+    ghost leads = { λ a pair made b. a.digits < 100000000 → b.digits ≡ a.digits * 10 + pair };
+
+    fn visit(&mut self, _worker: u32, pair: u32) -> Option<Made> {
+        if self.digits < 100_000_000 {
+            self.digits = self.digits * 10 + pair as u64;
+        }
+        let queue = QueueName {
+            side: Side::Master,
+            place: Place::Driver,
+            way: Way::Down,
+        };
+        match pair {
+            0 => None,
+            1 => Some(Made {
+                queue,
+                answer: Ok(Turn::Blocked),
+            }),
+            _ => Some(Made {
+                queue,
+                answer: Err(Refusal::Enosr),
+            }),
+        }
+    }
+}
+
+#[test]
+fn a_worker_visits_pairs_round_and_counts(rt: HostRuntime) -> Result<(), Fail> {
+    let mut noted = Noted { digits: 0 };
+    let report = work(&mut noted, 3, 1, 5);
+    assert_eq!(rt; noted.digits, 12012);
+    assert!(rt; report.started == 1 && report.turns == 2 && report.blocked == 2);
+    assert!(rt; report.refused == 2 && report.idle == 1);
     Ok(())
 }

@@ -44,7 +44,8 @@ fn a_session_is_told_and_settles(rt: HostRuntime) -> Result<(), Fail> {
     let abc = b"abc".as_slice();
     let written = lock.call(&rt, &mut master, &Event::Write { bytes: abc }, &mut out);
     assert!(rt; written.is_ok());
-    assert!(rt; matches!(lock.turn(&rt), Some(Ok(_))));
+    let turned = lock.turn(&rt).made();
+    assert!(rt; matches!(&turned, Some(made) if made.answer.is_ok()));
     let read = lock.call(&rt, &mut slave, &Event::Read { n: 10 }, &mut out);
     assert!(rt; read.is_ok());
     assert!(rt; out.as_slice() == abc);

@@ -11,7 +11,7 @@ use Rattle.strm_locks.proofs.lock.Lock.call.Goals as goal
 pub give-requires-clause-lock : goal.give-requires-clause-lock
 give-requires-clause-lock g c = let i = c.end.inside in let k = c.take.ensures.lock.0 in let h = c.take.ensures.lock.1 in
     let did = c.call_held-answer.ensures.did k (ap (λ (m : Mine). m.1) h.seen) in
-    let is : c.call_held-answer.new.seat.me.0 ≡ holding i.seat.me.0 k.book = c.call_held-answer.ensures.same.1 ∙ ap (λ (m : Mine). m.0) h.seen in
+    let is : c.call_held-answer.new.seat.me.0 ≡ holding i.seat.me.0 k = c.call_held-answer.ensures.same.1 ∙ ap (λ (m : Mine). m.0) h.seen in
     (did.0, did.1, subst (λ w. MayGive w did.0.book) (sym is) (gives_applied k i.caller (request c.args.event.now) _ c.call_held-answer.new.out.items did.0 i.seat.me.0 c.call_held-answer.result (has_part _ _ _ c.end.invariant) did.2))
 
 pub plus-end-inside-requires : goal.plus-end-inside-requires
@@ -23,7 +23,7 @@ plus-end-inside-requires g c = let i = c.end.inside in let k = c.take.ensures.lo
 pub invariant_of-end : goal.invariant_of-end
 invariant_of-end g c = let i = c.end.inside in let k = c.take.ensures.lock.0 in let h = c.take.ensures.lock.1 in
     let did = c.call_held-answer.ensures.did k (ap (λ (m : Mine). m.1) h.seen) in
-    let is : c.call_held-answer.new.seat.me.0 ≡ holding i.seat.me.0 k.book = c.call_held-answer.ensures.same.1 ∙ ap (λ (m : Mine). m.0) h.seen in
+    let is : c.call_held-answer.new.seat.me.0 ≡ holding i.seat.me.0 k = c.call_held-answer.ensures.same.1 ∙ ap (λ (m : Mine). m.0) h.seen in
     let e : Share = record { table = i.seat.table_id; caller = i.caller; told = i.told; made = i.seat.me.0.made; parts = i.parts } in
     call_seated k (request c.args.event.now) _ c.call_held-answer.new.out.items did.0 e i.seat.me c.give.new.seat.me c.call_held-answer.result c.plus-end-inside.result
     c.end.invariant did.2 (c.give.ensures.told did.0 did.1 ∙ ap (λ w. (grown w w.found did.0.book, [])) is) c.plus-end-inside.ensures
@@ -33,7 +33,7 @@ returns g c = let i = c.end.inside in let k = c.take.ensures.lock.0 in let h = c
     let did = c.call_held-answer.ensures.did k (ap (λ (m : Mine). m.1) h.seen) in
     let asked = request c.args.event.now in
     let bytes = c.call_held-answer.new.out.items in
-    let is : c.call_held-answer.new.seat.me.0 ≡ holding i.seat.me.0 k.book = c.call_held-answer.ensures.same.1 ∙ ap (λ (m : Mine). m.0) h.seen in
+    let is : c.call_held-answer.new.seat.me.0 ≡ holding i.seat.me.0 k = c.call_held-answer.ensures.same.1 ∙ ap (λ (m : Mine). m.0) h.seen in
     let e : Share = record { table = i.seat.table_id; caller = i.caller; told = i.told; made = i.seat.me.0.made; parts = i.parts } in
     let n : Share = record { table = c.give.new.seat.table_id; caller = i.caller; told = c.plus-end-inside.result; made = c.give.new.seat.me.0.made; parts = i.parts } in
     let table : c.give.new.seat.table_id ≡ i.seat.table_id = c.give.ensures.same.0 ∙ c.call_held-answer.ensures.same.0.0 ∙ c.take.ensures.same.0 in

@@ -1,16 +1,17 @@
-use Rattle.std.proofs.Common.{◌-◌, ◌/◌, sym, ap, ◌∙◌}
+use Rattle.std.proofs.Common.{rules, ◌-◌, ◌/◌, sym, ap, ◌∙◌}
 use Rattle.strm_types.specs.declared.names.Side.TheVariants.{Slave}
 use Rattle.strm_locks.specs.Ends.{Share}
 use Rattle.strm_locks.specs.Rules.{Mine}
 use Rattle.strm_locks.proofs.lock.Lock.open_slave.Goals as goal
 
-pub returns-clause-opened : goal.returns-clause-opened
-returns-clause-opened g c = let b : Share = c.call.new.end in let i = c.end-2.inside in
+pub returns : goal.returns
+returns g c = let b : Share = c.call.new.end in let i = c.end-2.inside in
     let first = c.split_seat-given.ensures.first in let second = c.split_seat-given.ensures.second in
     let gains = c.in_ok-call.ensures in let q = c.end-2.view_is ∙ gains.2 in
     let made = ap (λ (m : Mine). m.0.made) first.1 in
     let given = ap (λ (m : Mine). m.0.made) second.1 in
     let half = ap (λ (x : Share). x.parts / 2) q in (
+      search rules,
       (
         c.in_ok-call.field-0,
         c.call.new.out.items,

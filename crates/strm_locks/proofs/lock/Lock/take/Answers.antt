@@ -10,7 +10,7 @@ pub returns-then-compare_exchange-eq0-clause-lock : goal.returns-then-compare_ex
 returns-then-compare_exchange-eq0-clause-lock g c = let same = c.loop.invariant.1 in let t = c.compare_exchange.ensures.2.0 c.if-compare_exchange-eq0.true in let k = t.0 in (
   k,
   record {
-    seen = t.1 ∙ ap (λ m. (holding m.0 k.book, (0, k) ∷ m.1)) same ∙ ap (λ l. (holding c.args.seat.now.me.0 k.book, (0, k) ∷ l)) c.requires.free.0;
+    seen = t.1 ∙ ap (λ m. (holding m.0 k, (0, k) ∷ m.1)) same ∙ ap (λ l. (holding c.args.seat.now.me.0 k, (0, k) ∷ l)) c.requires.free.0;
     knows = subst (λ m. Knows m.0 k.book) same t.2;
   },
 )

@@ -1,0 +1,40 @@
+-- A call that opens the slave is never refused by ERANGE.
+use Rattle.std.proofs.Common.{◌≡◌, ◌≢◌, ◌+◌, refl, sym, ap, ◌∙◌}
+use Rattle.std.specs.Prelude.{Bool, true, false, not, Option, None, Some}
+use Rattle.strm_types.specs.declared.events.Caller.{Caller}
+use Rattle.strm_types.specs.declared.events.Event.TheVariants.{OpenSlave}
+use Rattle.strm_types.specs.declared.refusals.Refusal.{Refusal}
+use Rattle.strm_types.specs.declared.refusals.Refusal.TheVariants.{Einval, Eagain, Enxio, Enosr, Erange, JournalFull}
+use Rattle.strm_types.specs.Names.{is_open}
+use Rattle.strm_types.specs.Needs.{needs}
+use Rattle.strm_types.specs.Refused.{or_else, unless}
+use Rattle.strm_laws.specs.Pair.{PairState, call_refused}
+use Rattle.strm_laws.specs.Refusals.{blocks_asked, enough, has_room}
+use Rattle.strm_locks.specs.Ends.{IsRefused}
+
+abbrev is_erange : Option Refusal → Bool
+is_erange (Some Erange) = true
+is_erange _ = false
+
+others : (a b c d e : Bool) → is_erange (or_else (unless a Enxio) (or_else (unless b JournalFull) (or_else (unless c Enosr) (or_else (unless d Einval) (unless e Eagain))))) ≡ false
+others false b c d e = refl
+others true false c d e = refl
+others true true false d e = refl
+others true true true false e = refl
+others true true true true false = refl
+others true true true true true = refl
+
+-- the stream of the master, the journal's room, the blocks, and then what the state says
+flat : (a : Bool) (o : Option Refusal) → or_else (or_else (unless a Enxio) None) o ≡ or_else (unless a Enxio) o
+flat true o = refl
+flat false o = refl
+
+never : (p : PairState) (caller : Caller) → is_erange (call_refused p caller OpenSlave) ≡ false
+never p caller =
+    let room = has_room p.journal p.limits ((needs OpenSlave).brings + (needs OpenSlave).gives) in
+    let blocks = enough (blocks_asked OpenSlave) p.free in
+    let rest : Option Refusal = or_else (unless room JournalFull) (or_else (unless blocks Enosr) (or_else (unless (not (is_open p.state.slave.opened)) Einval) (unless (not p.state.locked) Eagain))) in
+    ap is_erange (flat (is_open p.state.master.opened) rest) ∙ others (is_open p.state.master.opened) room blocks (not (is_open p.state.slave.opened)) (not p.state.locked)
+
+pub not_erange : (caller : Caller) (z : Refusal) → IsRefused caller OpenSlave z → z ≢ Erange
+not_erange caller z r same = let is : true ≡ false = sym (ap is_erange (r.1 ∙ ap (λ (x : Refusal). Some x) same)) ∙ never r.0 caller in absurd (cc)

@@ -1,0 +1,6 @@
+use Rattle.std.proofs.Common.{rules}
+use Rattle.strm_locks.proofs.Keeps.{passes}
+use Rattle.strm_locks.proofs.lock.Lock.pass.Goals as goal
+
+pub store-requires : goal.store-requires
+store-requires g c = let t = c.requires.lock in (search rules, search rules, passes _ _ _ t.0 (search rules) c.requires.held t.1 t.2)

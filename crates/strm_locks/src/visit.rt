@@ -1,0 +1,35 @@
+//! A visit to a pair, which makes a turn under its lock.
+
+ghost use Rattle.std.specs.Prelude.{◌≡◌};
+
+use crate::held::Made;
+use crate::object::Object;
+use crate::rule::Place;
+use std::marker::Model;
+
+/// What a visit to a pair was: the seat that had the lock, and the turn that it made there. No end was told of it: a turn writes and reads
+/// nothing.
+///
+/// Contracts see which lock it had, the pair as it found it and as it left it, and the turn. No program reads the two pairs.
+#[derive(Drop)]
+pub struct Visit<P: Object> {
+    pub(crate) seat: Place<P>,
+    pub(crate) made: Option<Made>,
+}
+
+impl<P: Object> Model for Visit<P> {
+    ghost use Rattle.strm_locks.specs.Turns.{Visited};
+
+    ghost Value = { Visited };
+
+    ghost view = { λ v. record { table = v.seat.table_id; met = v.seat.me.0.met; made = v.made } };
+}
+
+impl<P: Object> Visit<P> {
+    /// The turn, if a queue was enabled.
+    pub fn made(&self) -> Option<Made>
+        ensures { result ≡ self.now.made }
+    {
+        self.made
+    }
+}
