@@ -104,6 +104,7 @@ fn threads_take_turns_at_two_locks(rt: HostRuntime) -> Result<(), Fail> {
 }
 
 // Three pairs in memory, of which a visit notes the number as a digit: the first is idle, the second blocked, and the third refuses.
+#[derive(Drop)]
 struct Noted {
     digits: u64,
 }
