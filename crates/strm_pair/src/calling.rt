@@ -71,25 +71,27 @@ impl Streams {
 
     // How many bytes are booked as made in each direction.
     pub(crate) fn booked(&self) -> Made
-        ensures counts { result ≡ record { from_master = self.now.from_master.made; from_slave = self.now.from_slave.made } }
+        ensures counts { result ≡ record { from_master = self.now.books.master.made; from_slave = self.now.books.slave.made } }
         ensures few { (result.from_master < 2 ^ 64) × (result.from_slave < 2 ^ 64) }
     {
-        Made::new(self.from_master.made, self.from_slave.made)
+        Made::new(self.books.master.made, self.books.slave.made)
     }
 
     // Books what was made since so many had been, in each direction.
     pub(crate) fn book_made(&mut self, before: Made, told: &Fates)
-        requires master { BookTakes self.old.from_master.made (between before.from_master told.now.made_from_master) }
-        requires slave { BookTakes self.old.from_slave.made (between before.from_slave told.now.made_from_slave) }
+        requires master { BookTakes self.old.books.master.made (between before.from_master told.now.made_from_master) }
+        requires slave { BookTakes self.old.books.slave.made (between before.from_slave told.now.made_from_slave) }
         ensures { self.new ≡ record self.old {
-          from_master = with_made (between before.from_master told.now.made_from_master) self.old.from_master;
-          from_slave = with_made (between before.from_slave told.now.made_from_slave) self.old.from_slave;
+          books = record {
+            master = with_made (between before.from_master told.now.made_from_master) self.old.books.master;
+            slave = with_made (between before.from_slave told.now.made_from_slave) self.old.books.slave;
+          };
         } }
     {
         let made = Made::of(told).since(before);
         let booked = self.booked();
-        self.from_master.made = booked.from_master + made.from_master;
-        self.from_slave.made = booked.from_slave + made.from_slave;
+        self.books.master.made = booked.from_master + made.from_master;
+        self.books.slave.made = booked.from_slave + made.from_slave;
     }
 
     // The stack of a side serves a call of a turn, and nothing else of the streams changes.
@@ -110,10 +112,10 @@ impl Streams {
         ensures serves { StackServes (B.value store.old) (B.value store.new) (end_at here.side self.old).stack (end_at here.side self.new).stack
             here again result told.old told.new }
     {
-        match here.side {
-            Side::Master => self.master.stack.serve(store, here, again, told),
-            Side::Slave => self.slave.stack.serve(store, here, again, told),
-        }
+        self.ends
+            .get_mut(here.side)
+            .stack
+            .serve(store, here, again, told)
     }
 
     // The module at a place serves a call of a turn: what it says of its queues goes by how the stream was before, and what it made is

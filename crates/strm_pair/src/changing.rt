@@ -17,6 +17,7 @@ ghost use Rattle.strm_pair.specs.Parts.{longest_part};
 ghost use Rattle.strm_pair.specs.Taken.{TookNone, TookTop, WithoutTop};
 
 use crate::earlier::note;
+use crate::ends::first_list;
 use crate::stacks::{Taken, module_count, push_named, take_top};
 use crate::streams::Streams;
 use strm_blocks::Blocks;
@@ -85,10 +86,14 @@ impl Streams {
         ensures met { IfSome result
             (λ taken. taken.met ≡ is_met seeking (below_top (stream side (state_in (B.value store.old) self.old)).modules)) }
     {
-        match side {
-            Side::Master => take_top(&mut self.master.stack, store, side, rule, seeking, told),
-            Side::Slave => take_top(&mut self.slave.stack, store, side, rule, seeking, told),
-        }
+        take_top(
+            &mut self.ends.get_mut(side).stack,
+            store,
+            side,
+            rule,
+            seeking,
+            told,
+        )
     }
 
     /// Takes the module off that is on top of a side's stream, and tells its name, where one stands there: what stands on its
@@ -251,10 +256,12 @@ impl Streams {
             (λ p. state_in (B.value store.now) self.new ≡ with_modules side (p ∷ (stream side s).modules) s) }
         ensures held { AreHeld (B.value store.now) self.new }
     {
-        match side {
-            Side::Master => push_named(&mut self.master.stack, store, name, 0),
-            Side::Slave => push_named(&mut self.slave.stack, store, name, 4),
-        }
+        push_named(
+            &mut self.ends.get_mut(side).stack,
+            store,
+            name,
+            first_list(side),
+        );
     }
 
     // What the other side's driver has may come to the read queue of the module on top, which has this name, where it has one: no other module of the

@@ -67,24 +67,14 @@ impl Streams {
         ensures pool { SamePool (B.value store.old) (B.value store.new) }
     {
         let direction = side.head().direction();
-        let gone = match side {
-            Side::Master => clear_queue(
-                store,
-                &mut self.master.head.queue,
-                None,
-                direction,
-                Rule::EndClosed,
-                told,
-            ),
-            Side::Slave => clear_queue(
-                store,
-                &mut self.slave.head.queue,
-                None,
-                direction,
-                Rule::EndClosed,
-                told,
-            ),
-        };
+        let gone = clear_queue(
+            store,
+            &mut self.ends.get_mut(side).head.queue,
+            None,
+            direction,
+            Rule::EndClosed,
+            told,
+        );
         self.let_go(side, Way::Up, 0, gone.room);
     }
 
@@ -99,24 +89,14 @@ impl Streams {
     {
         let direction = side.driver().direction();
         let at = self.driver_place(side);
-        let gone = match side {
-            Side::Master => clear_queue(
-                store,
-                &mut self.master.driver,
-                None,
-                direction,
-                Rule::EndClosed,
-                told,
-            ),
-            Side::Slave => clear_queue(
-                store,
-                &mut self.slave.driver,
-                None,
-                direction,
-                Rule::EndClosed,
-                told,
-            ),
-        };
+        let gone = clear_queue(
+            store,
+            &mut self.ends.get_mut(side).driver,
+            None,
+            direction,
+            Rule::EndClosed,
+            told,
+        );
         self.let_go(side, Way::Down, at, gone.room);
     }
 
@@ -127,10 +107,7 @@ impl Streams {
         ensures held { AreHeld (B.value store.new) self.new }
         ensures pool { SamePool (B.value store.old) (B.value store.new) }
     {
-        match side {
-            Side::Master => self.master.close(store),
-            Side::Slave => self.slave.close(store),
-        }
+        self.ends.get_mut(side).close(store);
     }
 
     // An M_HANGUP goes up the slave's stream, where that is open.
@@ -138,8 +115,8 @@ impl Streams {
         ensures state { (s : StoreValue) → state_in s self.new ≡ hung_up_at Slave (state_in s self.old) }
         ensures held { (s : StoreValue) → AreHeld s self.old → AreHeld s self.new }
     {
-        if self.slave.opened.is_open() {
-            self.slave.head.hung_up = true;
+        if self.ends.slave.opened.is_open() {
+            self.ends.slave.head.hung_up = true;
         }
     }
 

@@ -1,6 +1,7 @@
 //! One side's stream.
 
-ghost use Rattle.std.specs.Prelude.{◌≡◌};
+ghost use Rattle.std.specs.Prelude.{◌≡◌, ◌≤◌};
+ghost use Rattle.strm_pair.specs.Lists.{first_list};
 ghost use Rattle.strm_types.specs.declared.names.Openness.TheVariants.{Open, Closed};
 ghost use Rattle.strm_types.specs.Heads.{new_head};
 ghost use Rattle.strm_queue.specs.Stored.{IsReady, Keeps};
@@ -10,7 +11,18 @@ use crate::stacks::Stack;
 use strm_blocks::Blocks;
 use strm_head::Head;
 use strm_queue::{Flush, HEAD_HIGH, HEAD_LOW, Queue};
-use strm_types::Openness;
+use strm_types::{Openness, Side};
+
+/// The first of the four lists on which a side's queues stand.
+pub(crate) fn first_list(side: Side) -> usize
+    ensures list { result ≡ first_list side }
+    ensures small { result ≤ 4 }
+{
+    match side {
+        Side::Master => 0,
+        Side::Slave => 4,
+    }
+}
 
 /// The stream of one side: its head, its modules and its driver's queue, and whether it was opened.
 #[derive(Drop)]

@@ -33,10 +33,7 @@ impl Streams {
     {
         let number = self.next_ioctl;
         self.next_ioctl = number + 1;
-        match side {
-            Side::Master => self.master.head.begin_ioctl(number, command),
-            Side::Slave => self.slave.head.begin_ioctl(number, command),
-        }
+        self.ends.get_mut(side).head.begin_ioctl(number, command);
     }
 
     // The ioctl that waits on a side's stream ends as refused, where its M_IOCTL was met among messages that go with a module.
@@ -45,10 +42,7 @@ impl Streams {
             state_in s self.new ≡ ioctl_dropped side ms (state_in s self.old) }
         ensures held { (s : StoreValue) → AreHeld s self.old → AreHeld s self.new }
     {
-        match side {
-            Side::Master => self.master.head.drop_ioctl(met),
-            Side::Slave => self.slave.head.drop_ioctl(met),
-        }
+        self.ends.get_mut(side).head.drop_ioctl(met);
     }
 
     // An ioctl of the next number is under way, and its M_IOCTL goes down from a side's head, with all that it gives rise to.
@@ -94,10 +88,7 @@ impl Streams {
         ensures state { (s : StoreValue) → state_in s self.new ≡ (ioctl_told side (state_in s self.old)).state }
         ensures held { (s : StoreValue) → AreHeld s self.old → AreHeld s self.new }
     {
-        match side {
-            Side::Master => self.master.head.tell_ioctl(out),
-            Side::Slave => self.slave.head.tell_ioctl(out),
-        }
+        self.ends.get_mut(side).head.tell_ioctl(out)
     }
 
     /// Sends a command down from a side's head, with these bytes, and tells the answer if it came at once, else the number of the
@@ -144,10 +135,7 @@ impl Streams {
         ensures state { (s : StoreValue) → state_in s self.new ≡ (signals_told side (state_in s self.old)).state }
         ensures held { (s : StoreValue) → AreHeld s self.old → AreHeld s self.new }
     {
-        match side {
-            Side::Master => self.master.head.take_signals(out),
-            Side::Slave => self.slave.head.take_signals(out),
-        }
+        self.ends.get_mut(side).head.take_signals(out);
         Answer::Signals(out.len() as u32)
     }
 }

@@ -28,8 +28,8 @@ impl Streams {
         ensures { (s : StoreValue) → result ≡ book direction (state_in s self.now) }
     {
         match direction {
-            Dir::MasterToSlave => self.from_master,
-            Dir::SlaveToMaster => self.from_slave,
+            Dir::MasterToSlave => self.books.master,
+            Dir::SlaveToMaster => self.books.slave,
         }
     }
 

@@ -44,10 +44,7 @@ impl Streams {
         ensures state { (s : StoreValue) → state_in s self.new ≡ with_book (direction_from side) book (state_in s self.old) }
         ensures held { (s : StoreValue) → AreHeld s self.old → AreHeld s self.new }
     {
-        match side {
-            Side::Master => self.from_master = book,
-            Side::Slave => self.from_slave = book,
-        }
+        *self.books.get_mut(side) = book;
     }
 
     /// Sends a message of these parts down from a side's head, with all that it gives rise to, and books their bytes as written.
@@ -120,28 +117,16 @@ impl Streams {
         let most = (cmax as usize).min(READ_MAX);
         let most_data = (dmax as usize).min(READ_MAX);
         let direction = side.head().direction();
-        let got = match side {
-            Side::Master => getmsg(
-                store,
-                &mut self.master.head.queue,
-                wanted,
-                most,
-                most_data,
-                out,
-                direction,
-                told,
-            ),
-            Side::Slave => getmsg(
-                store,
-                &mut self.slave.head.queue,
-                wanted,
-                most,
-                most_data,
-                out,
-                direction,
-                told,
-            ),
-        };
+        let got = getmsg(
+            store,
+            &mut self.ends.get_mut(side).head.queue,
+            wanted,
+            most,
+            most_data,
+            out,
+            direction,
+            told,
+        );
         self.let_go(side, Way::Up, 0, got.lets_go);
         Answer::Msg {
             prio: got.prio,

@@ -86,7 +86,7 @@ impl Streams {
         Across {
             is_open: self.end(other).opened.is_open(),
             bottom: self.modules_on(other) as u8,
-            ended: self.master.opened.is_closed(),
+            ended: self.ends.master.opened.is_closed(),
         }
     }
 
@@ -124,10 +124,11 @@ impl Streams {
             (put_at_head to.side to (message_in s (token message)) (state_in s self.old)) }
     {
         store.audit();
-        let came = match to.side {
-            Side::Master => self.master.head.put(store, to, message, told),
-            Side::Slave => self.slave.head.put(store, to, message, told),
-        };
+        let came = self
+            .ends
+            .get_mut(to.side)
+            .head
+            .put(store, to, message, told);
         self.let_go(to.side, Way::Up, 0, came.lets_go);
         came.down
     }
@@ -175,10 +176,10 @@ impl Streams {
         ensures takes { StackTakes (B.value store.old) (B.value store.new) (end_at to.side self.old).stack (end_at to.side self.new).stack
             (token message) to result told.old told.new }
     {
-        match to.side {
-            Side::Master => self.master.stack.put(store, to, message, told),
-            Side::Slave => self.slave.stack.put(store, to, message, told),
-        }
+        self.ends
+            .get_mut(to.side)
+            .stack
+            .put(store, to, message, told)
     }
 
     // A message that comes to a module of a side's stream. What it says of its queues goes by how the stream was before, and what it made
@@ -240,10 +241,14 @@ impl Streams {
         let across = self.across(to.side);
         let at = self.driver_place(to.side);
         let here = Spot { at: at as u8, ..to };
-        let acts = match to.side {
-            Side::Master => put(store, &mut self.master.driver, across, here, message, told),
-            Side::Slave => put(store, &mut self.slave.driver, across, here, message, told),
-        };
+        let acts = put(
+            store,
+            &mut self.ends.get_mut(to.side).driver,
+            across,
+            here,
+            message,
+            told,
+        );
         self.note(to.side, Some(Place::Driver), at, acts.notes.as_slice());
         acts.sent
     }

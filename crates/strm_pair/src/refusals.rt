@@ -49,10 +49,7 @@ impl Streams {
         ensures end { result.now ≡ end_at side self.now }
         ensures stream { (s : StoreValue) → stream_in s result.now ≡ stream side (state_in s self.now) }
     {
-        match side {
-            Side::Master => &self.master,
-            Side::Slave => &self.slave,
-        }
+        self.ends.get(side)
     }
 
     // Whether the stream is there that a call of a side asks for.
@@ -62,7 +59,7 @@ impl Streams {
     {
         match reach {
             Reach::Nothing => true,
-            Reach::Master => self.master.opened.is_open(),
+            Reach::Master => self.ends.master.opened.is_open(),
             Reach::Own => self.end(side).opened.is_open(),
             Reach::Down => self.end(side).opened.is_open() && !self.end(side).head.hung_up,
         }
@@ -73,15 +70,15 @@ impl Streams {
     pub(crate) fn in_range(&self) -> bool
         ensures { (s : StoreValue) → result ≡ in_range (state_in s self.now) }
     {
-        self.from_master.has_room() && self.from_slave.has_room()
+        self.books.master.has_room() && self.books.slave.has_room()
     }
 
     // EINVAL where the master was opened before.
     fn opened_before(&self) -> Option<Refusal>
-        ensures { (s : StoreValue) → result ≡ unless (is_never (state_in s self.now).master.opened) Einval }
+        ensures { (s : StoreValue) → result ≡ unless (is_never (stream Master (state_in s self.now)).opened) Einval }
     {
         unless(
-            matches!(self.master.opened, Openness::Never),
+            matches!(self.ends.master.opened, Openness::Never),
             Refusal::Einval,
         )
     }
@@ -89,10 +86,10 @@ impl Streams {
     // EINVAL where the slave is open, EAGAIN where it is locked.
     fn unready(&self) -> Option<Refusal>
         ensures { (s : StoreValue) → let state = state_in s self.now in
-            result ≡ or_else (unless (not (is_open state.slave.opened)) Einval) (unless (not state.locked) Eagain) }
+            result ≡ or_else (unless (not (is_open (stream Slave state).opened)) Einval) (unless (not state.locked) Eagain) }
     {
         or_else(
-            unless(!self.slave.opened.is_open(), Refusal::Einval),
+            unless(!self.ends.slave.opened.is_open(), Refusal::Einval),
             unless(!self.locked, Refusal::Eagain),
         )
     }
@@ -103,13 +100,13 @@ impl Streams {
         ensures { result ≡ at_end side (state_in (B.value store.now) self.now) }
     {
         match side {
-            Side::Slave => self.slave.head.hung_up,
+            Side::Slave => self.ends.slave.head.hung_up,
             Side::Master => {
-                self.master.head.hung_up
-                    || (self.slave.opened.is_closed()
-                        && has_no_data(store, &self.slave.driver)
-                        && self.master.stack.none_waits_up(store)
-                        && has_no_data(store, &self.master.head.queue))
+                self.ends.master.head.hung_up
+                    || (self.ends.slave.opened.is_closed()
+                        && has_no_data(store, &self.ends.slave.driver)
+                        && self.ends.master.stack.none_waits_up(store)
+                        && has_no_data(store, &self.ends.master.head.queue))
             }
         }
     }

@@ -91,10 +91,7 @@ impl Streams {
         requires band { band.0 < BANDS }
         ensures { result ≡ has_room_past side way at band.0 (state_in (B.value store.now) self.now) }
     {
-        match side {
-            Side::Master => self.master.may_pass(store, way, at, band),
-            Side::Slave => self.slave.may_pass(store, way, at, band),
-        }
+        self.ends.get(side).may_pass(store, way, at, band)
     }
 
     /// Whether a band is full of the first queue below a side's head (canput(9F)).
@@ -114,9 +111,6 @@ impl Streams {
             ≡ writer_waits side way at band.0 (state_in s self.old) }
         ensures held { (s : StoreValue) → AreHeld s self.old → AreHeld s self.new }
     {
-        match side {
-            Side::Master => self.master.wait_past(way, at, band),
-            Side::Slave => self.slave.wait_past(way, at, band),
-        }
+        self.ends.get_mut(side).wait_past(way, at, band);
     }
 }

@@ -54,16 +54,10 @@ impl Streams {
         ensures beside { AreBeside (B.value store.now) self.new }
         ensures keeps { (i : ℕ) → kept_by self.new i ≡ kept_by self.old i }
     {
-        match here.side {
-            Side::Master => self
-                .master
-                .stack
-                .end_turn(store, here.at as usize, here.way, took),
-            Side::Slave => self
-                .slave
-                .stack
-                .end_turn(store, here.at as usize, here.way, took),
-        }
+        self.ends
+            .get_mut(here.side)
+            .stack
+            .end_turn(store, here.at as usize, here.way, took)
     }
 
     // A turn that treats nothing is over: the queue wants to be read where it is empty, and else it doesn't.

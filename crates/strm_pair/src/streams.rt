@@ -23,27 +23,25 @@ ghost use Rattle.strm_blocks.specs.Blocks.{StoreValue, free_m, free_d, empty_sto
 ghost use Rattle.strm_pair.specs.Streams.{IsBlank, IsSide, stream_in};
 ghost use Rattle.strm_pair.specs.Parts.{longest_part};
 
-use crate::ends::StreamEnd;
+use crate::ends::{StreamEnd, first_list};
 use strm_blocks::Blocks;
 use strm_frame::{Enabled, Stream};
 use strm_head::Head;
 use strm_queue::{HEAD_HIGH, HEAD_LOW, OTHER_HIGH, OTHER_LOW, Queue};
 use strm_types::{
-    Answer, Book, Caller, Content, Event, Fates, Mode, Openness, Place, QueueName, READ_MAX, Side,
-    Turn, Way,
+    Answer, Book, Both, Caller, Content, Event, Fates, Mode, Openness, Place, QueueName, READ_MAX,
+    Side, Turn, Way,
 };
 
 /// The streams of a pair, whether its slave is locked, the queues that are enabled, the number that the next ioctl gets,
 /// and what was booked of each direction.
 #[derive(Drop)]
 pub(crate) struct Streams {
-    pub master: StreamEnd,
-    pub slave: StreamEnd,
+    pub ends: Both<StreamEnd>,
     pub locked: bool,
     pub enabled: Enabled,
     pub next_ioctl: u32,
-    pub from_master: Book,
-    pub from_slave: Book,
+    pub books: Both<Book>,
 }
 
 // A stream that nobody opened, whose queues stand on the lists from a number on: the head's, the driver's, and two that
@@ -62,7 +60,8 @@ fn new_end(first: usize) -> StreamEnd
 }
 
 impl Streams {
-    ghost use Rattle.strm_pair.specs.Pairs.{state_in, AreHeld, SamePool};
+    ghost use Rattle.strm_types.specs.declared.names.Side.TheVariants.{Master};
+    ghost use Rattle.strm_pair.specs.Pairs.{state_in, end_at, with_end, AreHeld, SamePool};
 
     /// The streams of a new pair.
     pub fn new() -> Streams
@@ -70,22 +69,26 @@ impl Streams {
         ensures held { (mblks dblks : ℕ) → AreHeld (empty_store mblks dblks) result }
     {
         Streams {
-            master: new_end(0),
-            slave: new_end(4),
+            ends: Both {
+                master: new_end(first_list(Side::Master)),
+                slave: new_end(first_list(Side::Slave)),
+            },
             locked: true,
             enabled: Enabled::new(),
             next_ioctl: 1,
-            from_master: Book::new(),
-            from_slave: Book::new(),
+            books: Both {
+                master: Book::new(),
+                slave: Book::new(),
+            },
         }
     }
 
     // Opens the master.
     fn open_master(&mut self) -> Answer<u32>
         ensures answer { result ≡ Done }
-        ensures streams { self.new ≡ record self.old { master = record self.old.master { opened = Open } } }
+        ensures streams { self.new ≡ with_end Master (record (end_at Master self.old) { opened = Open }) self.old }
     {
-        self.master.opened = Openness::Open;
+        self.ends.master.opened = Openness::Open;
         Answer::Done
     }
 
@@ -107,8 +110,8 @@ impl Streams {
         ensures held { AreHeld (B.value store.new) self.new }
         ensures pool { SamePool (B.value store.old) (B.value store.new) }
     {
-        self.slave.open(store);
-        if !self.master.driver.is_empty(store) {
+        self.ends.slave.open(store);
+        if !self.ends.master.driver.is_empty(store) {
             self.enabled.enable(Side::Master.driver());
         }
         Answer::Done
@@ -120,10 +123,7 @@ impl Streams {
         ensures state { (s : StoreValue) → state_in s self.new ≡ mode_set side mode (state_in s self.old) }
         ensures held { (s : StoreValue) → AreHeld s self.old → AreHeld s self.new }
     {
-        match side {
-            Side::Master => self.master.head.set_mode(mode),
-            Side::Slave => self.slave.head.set_mode(mode),
-        }
+        self.ends.get_mut(side).head.set_mode(mode);
     }
 
     /// Reads up to `n` bytes from a side's head into `out`, as its modes say.
@@ -148,10 +148,11 @@ impl Streams {
     {
         let wanted = (n as usize).min(READ_MAX);
         let direction = side.head().direction();
-        let goes = match side {
-            Side::Master => self.master.head.read(store, wanted, out, direction, told),
-            Side::Slave => self.slave.head.read(store, wanted, out, direction, told),
-        };
+        let goes = self
+            .ends
+            .get_mut(side)
+            .head
+            .read(store, wanted, out, direction, told);
         self.let_go(side, Way::Up, 0, goes);
     }
 

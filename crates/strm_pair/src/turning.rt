@@ -60,10 +60,7 @@ impl Streams {
             (messages_on (B.value store.old) (end_at side self.old).driver.list ≡ [])
             (λ m. TookFirst side (B.value store.old) (B.value store.new) self.old self.new (token m)) }
     {
-        match side {
-            Side::Master => dequeue(store, &mut self.master.driver),
-            Side::Slave => dequeue(store, &mut self.slave.driver),
-        }
+        dequeue(store, &mut self.ends.get_mut(side).driver)
     }
 
     // The end of a turn that took a message of this size off the queue of a side's driver.
@@ -72,10 +69,7 @@ impl Streams {
         ensures state { state_in (B.value store.now) self.new ≡ turn_ended side size (state_in (B.value store.now) self.old) }
         ensures held { AreHeld (B.value store.now) self.new }
     {
-        let end = match side {
-            Side::Master => settle(store, &mut self.master.driver, size),
-            Side::Slave => settle(store, &mut self.slave.driver, size),
-        };
+        let end = settle(store, &mut self.ends.get_mut(side).driver, size);
         let at = self.driver_place(side);
         self.let_go(side, Way::Down, at, end.room);
         self.enabled.enable_if(end.more, side.driver());
@@ -117,10 +111,7 @@ impl Streams {
             ≡ with_driver side (record (stream side (state_in s self.old)).driver.queue { want_read = want_read }) (state_in s self.old) }
         ensures held { (s : StoreValue) → AreHeld s self.old → AreHeld s self.new }
     {
-        match side {
-            Side::Master => self.master.driver.want_read = want_read,
-            Side::Slave => self.slave.driver.want_read = want_read,
-        }
+        self.ends.get_mut(side).driver.want_read = want_read;
     }
 
     // Whether flow control stops a message of this kind and band at the nearest queue past a side's driver, on the way up.

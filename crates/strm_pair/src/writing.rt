@@ -40,10 +40,7 @@ impl Streams {
     pub(crate) fn book_of(&self, side: Side) -> Book
         ensures { (s : StoreValue) → result ≡ book (direction_from side) (state_in s self.now) }
     {
-        match side {
-            Side::Master => self.from_master,
-            Side::Slave => self.from_slave,
-        }
+        *self.books.get(side)
     }
 
     // Makes an ordinary message of bytes, and delivers it from below a side's head.

@@ -28,10 +28,10 @@ impl<B: Blocks + Drop> Pair<B> {
     /// What the queues keep: of the master its head and its driver, and then of the slave.
     pub(crate) fn kept(&self) -> [Kept; 4] {
         [
-            kept_of(&self.streams.master.head.queue),
-            kept_of(&self.streams.master.driver),
-            kept_of(&self.streams.slave.head.queue),
-            kept_of(&self.streams.slave.driver),
+            kept_of(&self.streams.ends.master.head.queue),
+            kept_of(&self.streams.ends.master.driver),
+            kept_of(&self.streams.ends.slave.head.queue),
+            kept_of(&self.streams.ends.slave.driver),
         ]
     }
 }

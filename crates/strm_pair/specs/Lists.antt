@@ -1,0 +1,8 @@
+-- The lists of a store on which the queues of a side stand: four from a number on.
+use Rattle.std.specs.Prelude.{ℕ}
+use Rattle.strm_types.specs.declared.names.Side.{Side}
+use Rattle.strm_types.specs.declared.names.Side.TheVariants.{Master, Slave}
+
+abbrev pub first_list : Side → ℕ
+first_list Master = 0
+first_list Slave = 4
