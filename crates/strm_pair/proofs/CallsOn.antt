@@ -9,7 +9,6 @@ use Rattle.strm_types.specs.declared.answers.Turn.TheVariants.{Moved}
 use Rattle.strm_types.specs.declared.names.Place.TheVariants.{Driver}
 use Rattle.strm_types.specs.declared.names.QueueName.{QueueName}
 use Rattle.strm_types.specs.declared.names.Side.{Side}
-use Rattle.strm_types.specs.declared.names.Side.TheVariants.{Master, Slave}
 use Rattle.strm_types.specs.declared.names.Way.{Way}
 use Rattle.strm_types.specs.declared.names.Way.TheVariants.{Up, Down}
 use Rattle.strm_types.specs.declared.rules.Fates.{Fates}
@@ -171,10 +170,6 @@ module _ (here : Spot) where
   rest-at zero (p ∷ ps) rest low = rest.0
   rest-at (suc i) (p ∷ ps) rest low = rest-at i ps rest.1 (omega (arith, low))
 
-  rest-on : (side : Side) (s : State ℕ) → AreIdle s → AllByRecursion (λ p. IsAtRest p) (stream side s).modules
-  rest-on Master s idle = idle.master
-  rest-on Slave s idle = idle.slave
-
   begins-rested : (way : Way) (p : Module ℕ) → IsAtRest p → Begins way false (ldterm_of p)
   begins-rested Up (OfLdterm l) rest = rest
   begins-rested Down (OfLdterm l) rest = rest
@@ -184,7 +179,7 @@ module _ (here : Spot) where
   begins-rested Down (OfPckt p) rest = (refl, refl, refl, refl)
 
   pub first-begins : (s : State ℕ) → AreIdle s → here.at - 1 < length (stream here.side s).modules → Begins here.way false (ldterm_of (module_at here s))
-  first-begins s idle low = begins-rested here.way (module_at here s) (rest-at (here.at - 1) (stream here.side s).modules (rest-on here.side s idle) low)
+  first-begins s idle low = begins-rested here.way (module_at here s) (rest-at (here.at - 1) (stream here.side s).modules (idle here.side) low)
 
   one-first : (way : Way) (p : Module ℕ) → turn_cost (record here { way = way }) false p ≤ 25
   one-first Up p = omega arith

@@ -1,23 +1,22 @@
 -- The ioctl that waits at a head, while the module on top is taken off its stream.
-use Rattle.std.proofs.Common.{ℕ, ◌≡◌, List, [], ◌∷◌, refl, ◌∙◌}
+use Rattle.std.proofs.Common.{ℕ, ◌≡◌, List, [], ◌∷◌, refl, ap, ◌∙◌}
 use Rattle.arrayvec.specs.ArrayVec.{ArrayVec}
 use Rattle.strm_types.specs.declared.names.Side.{Side}
-use Rattle.strm_types.specs.declared.names.Side.TheVariants.{Master, Slave}
 use Rattle.strm_types.specs.declared.rules.Rule.{Rule}
 use Rattle.strm_types.specs.declared.rules.Rule.TheVariants.{ModulePopped}
 use Rattle.strm_types.specs.declared.slots.Slot.{Slot}
 use Rattle.strm_types.specs.declared.slots.Slot.TheVariants.{Free, Waiting, Answered}
 use Rattle.strm_types.specs.Dropped.{number_sought}
+use Rattle.strm_types.proofs.BySide.{get-set-same}
 use Rattle.strm_laws.specs.Pushes.{mode_behind, taken_off, top_on, top_taken}
 use Rattle.strm_laws.specs.Stacked.{Module}
-use Rattle.strm_laws.specs.State.{State, stream}
+use Rattle.strm_laws.specs.State.{State, Stream, stream}
 use Rattle.strm_head.specs.Heads.{plain_slot}
 use Rattle.strm_pair.proofs.Modes.{ioctl-stays}
 
 top-stays : (rule : Rule) (side : Side) (ps : List (Module ℕ)) (s : State ℕ) → (stream side (top_taken rule side ps s).state).head.ioctl ≡ (stream side s).head.ioctl
 top-stays rule side [] s = refl
-top-stays rule Master (p ∷ ps) s = refl
-top-stays rule Slave (p ∷ ps) s = refl
+top-stays rule side (p ∷ ps) s = ap (λ (x : Stream ℕ). x.head.ioctl) (get-set-same side (record (stream side s) { modules = ps }) s.ends)
 
 -- it stays, as the head is told its read mode alone
 pub slot-stays : (side : Side) (s : State ℕ) → (stream side (taken_off side s).state).head.ioctl ≡ (stream side s).head.ioctl

@@ -23,11 +23,12 @@ use Rattle.strm_types.specs.Options.{options_in}
 use Rattle.strm_types.specs.Pckts.{new_pckt}
 use Rattle.strm_types.specs.Ptems.{new_ptem}
 use Rattle.strm_types.specs.Options.{mode_message, mode_number}
+use Rattle.strm_types.proofs.BySide.{get-set-same}
 use Rattle.strm_laws.specs.Pushes.{enable_waiting, head_above, let_come, may_stand, mode_on_push, mode_put, named_by, pushed_named, with_modules}
 use Rattle.strm_laws.specs.Puts.{delivered}
 use Rattle.strm_types.specs.Queue.{is_none_left}
 use Rattle.strm_laws.specs.Stacked.{Module, OfLdterm, OfPtem, OfPckt, module_name, module_queue}
-use Rattle.strm_laws.specs.State.{State, stream, with_stream}
+use Rattle.strm_laws.specs.State.{State, Stream, stream, with_stream}
 use Rattle.strm_laws.proofs.FlushDelivered.{carries, went_on}
 
 -- what it does at a head that is open, and at one that isn't
@@ -38,35 +39,21 @@ told_mode true side mode s =
 told_mode false side mode s = record { state = s; gone = Goes (direction_at Up side) EndClosed (cells_of {C = ℕ} (mode_message mode)) ∷ [] }
 
 puts-mode : (side : Side) (mode : ReadMode) (s : State ℕ) → mode_put side (Some mode) s ≡ told_mode (is_open (stream side s).opened) side mode s
-puts-mode Master mode s = by (is_open s.master.opened)
+puts-mode side mode s = by (is_open (stream side s).opened)
   where
     by : (opened : Bool) → (let t : Took ℕ (State ℕ) = cond opened
-        (record { state = with_stream Master (record s.master { head = with_options (options_in (mode_number mode ∷ [])) s.master.head }) s; sent = []; gone = [] })
-        (record { state = s; sent = []; gone = Goes (direction_at Up Master) EndClosed (cells_of {C = ℕ} (mode_message mode)) ∷ [] }) in record { state = t.state; gone = t.gone }) ≡ told_mode opened Master mode s
-    by true = refl
-    by false = refl
-puts-mode Slave mode s = by (is_open s.slave.opened)
-  where
-    by : (opened : Bool) → (let t : Took ℕ (State ℕ) = cond opened
-        (record { state = with_stream Slave (record s.slave { head = with_options (options_in (mode_number mode ∷ [])) s.slave.head }) s; sent = []; gone = [] })
-        (record { state = s; sent = []; gone = Goes (direction_at Up Slave) EndClosed (cells_of {C = ℕ} (mode_message mode)) ∷ [] }) in record { state = t.state; gone = t.gone }) ≡ told_mode opened Slave mode s
+        (record { state = with_stream side (record (stream side s) { head = with_options (options_in (mode_number mode ∷ [])) (stream side s).head }) s; sent = []; gone = [] })
+        (record { state = s; sent = []; gone = Goes (direction_at Up side) EndClosed (cells_of {C = ℕ} (mode_message mode)) ∷ [] }) in record { state = t.state; gone = t.gone }) ≡ told_mode opened side mode s
     by true = refl
     by false = refl
 
 -- nothing is sent there, so that a delivery does the same
 delivers-mode : (side : Side) (mode : ReadMode) (s : State ℕ) → delivered plain (head_above side) (mode_message mode) s ≡ told_mode (is_open (stream side s).opened) side mode s
-delivers-mode Master mode s = carries plain 15 (record { to = head_above Master; message = mode_message mode }) s ∙ by (is_open s.master.opened)
+delivers-mode side mode s = carries plain 15 (record { to = head_above side; message = mode_message mode }) s ∙ by (is_open (stream side s).opened)
   where
     by : (opened : Bool) → went_on plain 15 (cond opened
-        (record { state = with_stream Master (record s.master { head = with_options (options_in (mode_number mode ∷ [])) s.master.head }) s; sent = []; gone = [] })
-        (record { state = s; sent = []; gone = Goes (direction_at Up Master) EndClosed (cells_of {C = ℕ} (mode_message mode)) ∷ [] })) ≡ told_mode opened Master mode s
-    by true = refl
-    by false = refl
-delivers-mode Slave mode s = carries plain 15 (record { to = head_above Slave; message = mode_message mode }) s ∙ by (is_open s.slave.opened)
-  where
-    by : (opened : Bool) → went_on plain 15 (cond opened
-        (record { state = with_stream Slave (record s.slave { head = with_options (options_in (mode_number mode ∷ [])) s.slave.head }) s; sent = []; gone = [] })
-        (record { state = s; sent = []; gone = Goes (direction_at Up Slave) EndClosed (cells_of {C = ℕ} (mode_message mode)) ∷ [] })) ≡ told_mode opened Slave mode s
+        (record { state = with_stream side (record (stream side s) { head = with_options (options_in (mode_number mode ∷ [])) (stream side s).head }) s; sent = []; gone = [] })
+        (record { state = s; sent = []; gone = Goes (direction_at Up side) EndClosed (cells_of {C = ℕ} (mode_message mode)) ∷ [] })) ≡ told_mode opened side mode s
     by true = refl
     by false = refl
 
@@ -74,9 +61,11 @@ pub mode-delivered : (side : Side) (mode : ReadMode) (s : State ℕ) → deliver
 mode-delivered side mode s = delivers-mode side mode s ∙ sym (puts-mode side mode s)
 
 -- The modules stay, and it is the same with others.
+told-there : (side : Side) (mode : ReadMode) (s : State ℕ) → stream side (told_mode true side mode s).state ≡ record (stream side s) { head = with_options (options_in (mode_number mode ∷ [])) (stream side s).head }
+told-there side mode s = get-set-same side (record (stream side s) { head = with_options (options_in (mode_number mode ∷ [])) (stream side s).head }) s.ends
+
 told-stays : (opened : Bool) (side : Side) (mode : ReadMode) (s : State ℕ) → (stream side (told_mode opened side mode s).state).modules ≡ (stream side s).modules
-told-stays true Master mode s = refl
-told-stays true Slave mode s = refl
+told-stays true side mode s = ap (λ (x : Stream ℕ). x.modules) (told-there side mode s)
 told-stays false side mode s = refl
 
 pub modules-stay : (side : Side) (mode : Option ReadMode) (s : State ℕ) → (stream side (mode_put side mode s).state).modules ≡ (stream side s).modules
@@ -85,8 +74,7 @@ modules-stay side (Some mode) s = ap (λ (t : Carried ℕ (State ℕ)). (stream 
 
 -- So does the ioctl under way.
 ioctl-told : (opened : Bool) (side : Side) (mode : ReadMode) (s : State ℕ) → (stream side (told_mode opened side mode s).state).head.ioctl ≡ (stream side s).head.ioctl
-ioctl-told true Master mode s = refl
-ioctl-told true Slave mode s = refl
+ioctl-told true side mode s = ap (λ (x : Stream ℕ). x.head.ioctl) (told-there side mode s)
 ioctl-told false side mode s = refl
 
 pub ioctl-stays : (side : Side) (mode : Option ReadMode) (s : State ℕ) → (stream side (mode_put side mode s).state).head.ioctl ≡ (stream side s).head.ioctl
@@ -103,8 +91,7 @@ told-among true Slave mode ms s = refl
 told-among false side mode ms s = refl
 
 opened-same : (side : Side) (ms : List (Module ℕ)) (s : State ℕ) → is_open (stream side (with_modules side ms s)).opened ≡ is_open (stream side s).opened
-opened-same Master ms s = refl
-opened-same Slave ms s = refl
+opened-same side ms s = ap (λ (x : Stream ℕ). is_open x.opened) (get-set-same side (record (stream side s) { modules = ms }) s.ends)
 
 mode-among : (side : Side) (mode : Option ReadMode) (ms : List (Module ℕ)) (s : State ℕ) → mode_put side mode (with_modules side ms s) ≡ among side ms (mode_put side mode s)
 mode-among side None ms s = refl
@@ -155,8 +142,7 @@ or_new None = OfLdterm new_ldterm
 or_new (Some p) = p
 
 stays-there : (side : Side) (p : Module ℕ) (s : State ℕ) → with_modules side (p ∷ (stream side s).modules) s ≡ driver_comes false side (with_modules side (p ∷ (stream side s).modules) s)
-stays-there Master p s = refl
-stays-there Slave p s = refl
+stays-there side p s = refl
 
 -- A module is pushed: the head may be told its mode before it stands there.
 pub pushed-is : (side : Side) (name : ModuleName) (p : Module ℕ) (s : State ℕ) → named_by (Some name) ≡ Some p → may_stand (named_by (Some name)) (stream side s).modules ≡ true

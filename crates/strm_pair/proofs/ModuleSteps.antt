@@ -2,12 +2,12 @@
 use Rattle.std.proofs.Common.{ℕ, zero, suc, ◌≡◌, ◌≤◌, ◌<◌, ◌+◌, ◌-◌, List, length, map, refl, sym, ap, subst, ◌∙◌, arith}
 use Rattle.std.specs.Prelude.{◌*◌, ◌^◌, slice_index_or, Option, None}
 use Rattle.strm_types.specs.declared.books.Book.{Book}
+use Rattle.strm_types.specs.declared.both.Both.{Both}
 use Rattle.strm_types.specs.declared.names.Dir.{Dir}
 use Rattle.strm_types.specs.declared.names.Dir.TheVariants.{MasterToSlave, SlaveToMaster}
 use Rattle.strm_types.specs.declared.names.Place.{Place}
 use Rattle.strm_types.specs.declared.names.QueueName.{QueueName}
 use Rattle.strm_types.specs.declared.names.Side.{Side}
-use Rattle.strm_types.specs.declared.names.Side.TheVariants.{Master, Slave}
 use Rattle.strm_types.specs.declared.names.Way.{Way}
 use Rattle.strm_types.specs.declared.rules.Fates.{Fates}
 use Rattle.strm_types.specs.declared.spots.Note.{Note}
@@ -19,7 +19,9 @@ use Rattle.strm_laws.specs.Earlier.{places_of}
 use Rattle.strm_types.specs.Input.{made_of}
 use Rattle.strm_types.specs.Message.{Message}
 use Rattle.strm_types.specs.ModuleQueues.{at_place}
+use Rattle.strm_types.specs.Both.{set}
 use Rattle.strm_types.specs.Names.{other}
+use Rattle.strm_types.proofs.BySide.{get-map, get-set-same}
 use Rattle.strm_laws.specs.Puts.{earlier_at, made_above, module_acted, noted, put_at_module}
 use Rattle.strm_laws.specs.Spares.{module_packs, packet_most, spare, spare_behind}
 use Rattle.strm_laws.specs.StackCosts.{EachOnce, module_leaves, module_takes}
@@ -38,11 +40,13 @@ use Rattle.strm_frame.specs.Hands.{AreIn, CanPut, Handles, OnlyOwn, SamePool, Sp
 use Rattle.strm_frame.specs.Outboxes.{message_in, sent_of, times_sent}
 use Rattle.strm_pair.specs.declared.ends.StreamEnd.{StreamEnd}
 use Rattle.strm_pair.specs.declared.streams.Streams.{Streams}
+use Rattle.strm_pair.specs.Framing.{kept-parts, kept-with}
+use Rattle.strm_pair.specs.Lists.{first_list}
 use Rattle.strm_pair.specs.Pairs.{state_in, end_at, with_end, AreBeside, Stays, kept_by}
-use Rattle.strm_pair.specs.ModuleServed.{BookTakes, between}
+use Rattle.strm_pair.specs.ModuleServed.{BookTakes, between, with_more}
 use Rattle.strm_pair.specs.PutBy.{PutAs, StackTakes, taken_at}
 use Rattle.strm_pair.specs.Streams.{stream_in, IsSide}
-use Rattle.strm_pair.proofs.Sides.{both, queue-same, side-stays, stream-stays}
+use Rattle.strm_pair.proofs.Sides.{OtherStays, modules-are, never-both, one-beside, one-state, queue-same, stream-is}
 use Rattle.strm_pair.specs.Stacks.{modules_in, IsStackHeld, stack_owns, stack_keeps, Stack}
 
 -- modules of the same names
@@ -86,67 +90,48 @@ module _ (s t : StoreValue) (first : ℕ) (e : StreamEnd) (x : Stack) (is : IsSi
 -- what the other side's stack keeps stays, as it is apart from what goes and from what this one keeps
 pub other-stays : (side : Side) (s t : StoreValue) (p : Streams) (gone keeps sent : ℕ → ℕ) → IsStore s → AreIn s gone (kept_by p)
     → Handles s t gone (stack_keeps (end_at side p).stack) keeps sent → SamePool s t → Stays s t (stack_keeps (end_at (other side) p).stack)
-other-stays Master s t p gone keeps sent store can hands pool = record {
+other-stays side s t p gone keeps sent store can hands pool = record {
   mblks = pool.mblks;
   dblks = pool.dblks;
-  kept = λ i some. hands.others i (omega (arith, can.apart i, store.apart i, some)) (omega (arith, can.apart i, store.apart i, some)) (omega (arith, can.apart i, some));
-}
-other-stays Slave s t p gone keeps sent store can hands pool = record {
-  mblks = pool.mblks;
-  dblks = pool.dblks;
-  kept = λ i some. hands.others i (omega (arith, can.apart i, store.apart i, some)) (omega (arith, can.apart i, store.apart i, some)) (omega (arith, can.apart i, some));
+  kept = λ i some.
+      let parts = kept-parts side p i in
+      hands.others i (omega (arith, can.apart i, store.apart i, some, parts)) (omega (arith, can.apart i, store.apart i, some, parts)) (omega (arith, can.apart i, some, parts));
 }
 
 -- what both stacks keep
 pub joint-hands : (side : Side) (s t : StoreValue) (p : Streams) (x : Stack) (gone sent : ℕ → ℕ)
     → Handles s t gone (stack_keeps (end_at side p).stack) (stack_keeps x) sent → Handles s t gone (kept_by p) (kept_by (with_end side (record (end_at side p) { stack = x }) p)) sent
-joint-hands Master s t p x gone sent hands = record {
-  counts = λ i. omega (arith, hands.counts i);
-  others = λ i none kept some. hands.others i none (omega (arith, kept)) some;
-}
-joint-hands Slave s t p x gone sent hands = record {
-  counts = λ i. omega (arith, hands.counts i);
-  others = λ i none kept some. hands.others i none (omega (arith, kept)) some;
-}
+joint-hands side s t p x gone sent hands =
+    let e = record (end_at side p) { stack = x } in
+    record {
+      counts = λ i. omega (arith, hands.counts i, kept-parts side p i, kept-with side e p i);
+      others = λ i none kept some. hands.others i none (omega (arith, kept, kept-parts side p i)) some;
+    }
 
 module _ (s t : StoreValue) (p : Streams) (x : Stack) (beside : AreBeside s p) where
-  -- the lists of the slave's side, where the master's stack changed, and the other way round
-  slave-apart : OnlyOwn s t (stack_owns p.master.stack) (stack_owns x) → (k : ℕ) → 4 ≤ k → k < 4 + 4 → list_at t k ≡ list_at s k
-  slave-apart own k low high = apart s t 0 p.master x beside.master own k (λ above below. absurd (omega (arith, low, below)))
-
-  master-apart : OnlyOwn s t (stack_owns p.slave.stack) (stack_owns x) → (k : ℕ) → 0 ≤ k → k < 0 + 4 → list_at t k ≡ list_at s k
-  master-apart own k low high = apart s t 4 p.slave x beside.slave own k (λ above below. absurd (omega (arith, high, above)))
-
   -- the stack of a side changed
-  pub stack-changed : (side : Side) → OnlyOwn s t (stack_owns (end_at side p).stack) (stack_owns x) → Stays s t (stack_keeps (end_at (other side) p).stack) → IsStackHeld t x
-      → SameNames (modules_in t x) (modules_in s (end_at side p).stack) → AreBeside t (with_end side (record (end_at side p) { stack = x }) p)
-  stack-changed Master own stays held names = record { master = stack-side s t 0 p.master x beside.master own held names; slave = side-stays s t 4 p.slave beside.slave stays (slave-apart own) }
-  stack-changed Slave own stays held names = record { master = side-stays s t 0 p.master beside.master stays (master-apart own); slave = stack-side s t 4 p.slave x beside.slave own held names }
+  module _ (side : Side) (own : OnlyOwn s t (stack_owns (end_at side p).stack) (stack_owns x)) (stays : Stays s t (stack_keeps (end_at (other side) p).stack)) where
+    elsewhere : OtherStays s t p beside side
+    elsewhere = record {
+      lists = λ k low high. apart s t (first_list side) (end_at side p) x (beside side) own k (λ above below. never-both side k (omega (arith, above)) below low high);
+      keeps = stays;
+    }
 
-  pub stack-state : (side : Side) → OnlyOwn s t (stack_owns (end_at side p).stack) (stack_owns x) → Stays s t (stack_keeps (end_at (other side) p).stack) → (ms : List (Module ℕ)) → modules_in t x ≡ ms
-      → state_in t (with_end side (record (end_at side p) { stack = x }) p) ≡ with_stream side (record (stream side (state_in s p)) { modules = ms }) (state_in s p)
-  stack-state Master own stays ms state =
-      both p (stream_in t (record p.master { stack = x })) (record (stream_in s p.master) { modules = ms }) (stream_in t p.slave) (stream_in s p.slave)
-      (stack-stream s t 0 p.master x beside.master own ms state) (stream-stays s t 4 p.slave beside.slave stays (slave-apart own))
-  stack-state Slave own stays ms state =
-      both p (stream_in t p.master) (stream_in s p.master) (stream_in t (record p.slave { stack = x })) (record (stream_in s p.slave) { modules = ms })
-      (stream-stays s t 0 p.master beside.master stays (master-apart own)) (stack-stream s t 4 p.slave x beside.slave own ms state)
+    pub stack-changed : IsStackHeld t x → SameNames (modules_in t x) (modules_in s (end_at side p).stack) → AreBeside t (with_end side (record (end_at side p) { stack = x }) p)
+    stack-changed held names = one-beside s t p beside side (record (end_at side p) { stack = x }) (stack-side s t (first_list side) (end_at side p) x (beside side) own held names) elsewhere
 
--- the modules of a side, as the state has them
-pub modules-are : (s : StoreValue) (p : Streams) (side : Side) → (stream side (state_in s p)).modules ≡ modules_in s (end_at side p).stack
-modules-are s p Master = refl
-modules-are s p Slave = refl
+    pub stack-state : (ms : List (Module ℕ)) → modules_in t x ≡ ms → state_in t (with_end side (record (end_at side p) { stack = x }) p) ≡ with_stream side (record (stream side (state_in s p)) { modules = ms }) (state_in s p)
+    stack-state ms state =
+        one-state s t p beside side (record (end_at side p) { stack = x }) (record (stream_in s (end_at side p)) { modules = ms })
+        (stack-stream s t (first_list side) (end_at side p) x (beside side) own ms state) elsewhere
+        ∙ ap (λ (y : Stream ℕ). with_stream side (record y { modules = ms }) (state_in s p)) (sym (stream-is s p side))
 
 -- the modules of a side whose stack is another one
-pub stack-modules : (side : Side) (t : StoreValue) (p : Streams) (x : Stack) (names : List QueueName) (a b : Book)
-    → (stream side (state_in t (record (with_end side (record (end_at side p) { stack = x }) p) { enabled = names; from_master = a; from_slave = b }))).modules ≡ modules_in t x
-stack-modules Master t p x names a b = refl
-stack-modules Slave t p x names a b = refl
-
--- the books stay where a stream changes, and the queues that are enabled do
-pub books-same : (side : Side) (e : StreamEnd) (p : Streams) → ((with_end side e p).from_master ≡ p.from_master) × ((with_end side e p).from_slave ≡ p.from_slave) × ((with_end side e p).enabled ≡ p.enabled)
-books-same Master e p = (refl, refl, refl)
-books-same Slave e p = (refl, refl, refl)
+pub stack-modules : (side : Side) (t : StoreValue) (p : Streams) (x : Stack) (names : List QueueName) (books : Both Book)
+    → (stream side (state_in t (record (with_end side (record (end_at side p) { stack = x }) p) { enabled = names; books = books }))).modules ≡ modules_in t x
+stack-modules side t p x names books =
+    let e = record (end_at side p) { stack = x } in
+    ap (λ (y : Stream ℕ). y.modules) (get-map (stream_in t) side (set side e p.ends) ∙ ap (stream_in t) (get-set-same side e p.ends))
 
 -- A stack acted at a place: the streams stand for what its modules did, what they said of their queues is noted, and what they made is booked.
 pub record ActsIn (s t : StoreValue) (p q : Streams) (gone sent : ℕ → ℕ) (is : State ℕ) : Type 0 where
@@ -167,8 +152,7 @@ module _ (s t : StoreValue) (p q : Streams) (x : Stack) (here : Spot) (gone sent
       → Handles s t gone (stack_keeps old) (stack_keeps x) sent → SamePool s t → m ≡ made_in MasterToSlave did.gone → n ≡ made_in SlaveToMaster did.gone
       → q ≡ record (with_end here.side (record (end_at here.side p) { stack = x }) p) {
         enabled = noted here.side place earlier notes p.enabled;
-        from_master = with_made m p.from_master;
-        from_slave = with_made n p.from_slave;
+        books = with_more m n p.books;
       }
       → ActsIn s t p q gone sent (module_acted here did st).state
   stack-acts did place earlier notes m n store can beside place_is earlier_is state notes_is names held own hands pool m_is n_is q_is =
@@ -179,7 +163,7 @@ module _ (s t : StoreValue) (p q : Streams) (x : Stack) (here : Spot) (gone sent
       ap (λ ns. noted here.side place earlier ns p.enabled) notes_is
       ∙ ap (λ pl. noted here.side pl earlier did.notes p.enabled) place_is
       ∙ noted-same here.side (slice_index_or (places_of (stream here.side st).modules) (here.at - 1) None) earlier (earlier_at here.side here.at st) earlier_is did.notes p.enabled in
-      let booked_at : ℕ → ℕ → List QueueName → State ℕ → State ℕ = λ a b ns v. record v { enabled = ns; from_master = with_made a p.from_master; from_slave = with_made b p.from_slave } in
+      let booked_at : ℕ → ℕ → List QueueName → State ℕ → State ℕ = λ a b ns v. record v { enabled = ns; books = with_more a b p.books } in
       let on : Stream ℕ = record (stream here.side st) { modules = did.state } in
       let same = ap (λ ls. map module_name ls) state ∙ names ∙ ap (λ ls. map module_name ls) (modules-are s p here.side) in
       record {
@@ -200,8 +184,7 @@ pub module-by : (s t : StoreValue) (p q : Streams) (x : Stack) (i : ℕ) (to : S
     → StackTakes s t (end_at to.side p).stack x i to acts f f' → a ≡ made_in MasterToSlave (taken_at to m ms).gone → b ≡ made_in SlaveToMaster (taken_at to m ms).gone
     → q ≡ record (with_end to.side (record (end_at to.side p) { stack = x }) p) {
       enabled = noted to.side place earlier acts.notes.items p.enabled;
-      from_master = with_made a p.from_master;
-      from_slave = with_made b p.from_slave;
+      books = with_more a b p.books;
     }
     → PutAs s t p q i (at_place (module_takes to m) 0 to.at ms) (at_place (module_leaves to m) 0 to.at ms) (sent_of acts.sent) f f' (put_at_module plain to m st)
 module-by s t p q x i to place earlier acts f f' a b store can place_is earlier_is beside e a_is b_is q_is =
@@ -259,8 +242,8 @@ module _ (to : Spot) (m : Message ℕ) (st : State ℕ) (small : length m.plain 
   takes-by (suc (suc n)) made more most one spare less = absurd (omega (arith, one))
 
   pub put-fits : units ≤ spare st → (d : Dir) → BookTakes (book d st).made (made_in d told_of)
-  put-fits spare MasterToSlave = takes-by units st.from_master.made (made_in MasterToSlave told_of) makes one-unit (omega (arith, spare)) (omega (arith, made-within told_of))
-  put-fits spare SlaveToMaster = takes-by units st.from_slave.made (made_in SlaveToMaster told_of) makes one-unit (omega (arith, spare)) (omega (arith, made-within told_of))
+  put-fits spare MasterToSlave = takes-by units (book MasterToSlave st).made (made_in MasterToSlave told_of) makes one-unit (omega (arith, spare)) (omega (arith, made-within told_of))
+  put-fits spare SlaveToMaster = takes-by units (book SlaveToMaster st).made (made_in SlaveToMaster told_of) makes one-unit (omega (arith, spare)) (omega (arith, made-within told_of))
 
   -- and the counts tell it
   pub put-between : (d : Dir) (f f' : Fates) → f.made_from_master < 2 ^ 64 → f.made_from_slave < 2 ^ 64 → f' ≡ tallied told_of f → between (made_told d f) (made_told d f') ≡ made_in d told_of

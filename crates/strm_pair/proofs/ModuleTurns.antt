@@ -7,13 +7,13 @@ use Rattle.strm_types.specs.declared.answers.Turn.TheVariants.{Idle, Blocked}
 use Rattle.strm_types.specs.declared.kinds.Band.{Band}
 use Rattle.strm_types.specs.declared.names.QueueName.{QueueName}
 use Rattle.strm_types.specs.declared.names.Side.{Side}
-use Rattle.strm_types.specs.declared.names.Side.TheVariants.{Master, Slave}
 use Rattle.strm_types.specs.declared.names.Way.{Way}
 use Rattle.strm_types.specs.declared.names.Way.TheVariants.{Up, Down}
 use Rattle.strm_types.specs.declared.spots.Asks.{Asks}
 use Rattle.strm_types.specs.declared.spots.Asks.TheVariants as asked
 use Rattle.strm_types.specs.declared.spots.Spot.{Spot}
 use Rattle.strm_types.specs.Cells.{plain}
+use Rattle.strm_types.proofs.BySide.{get-set-same}
 use Rattle.strm_laws.specs.Kept.{AreIdle}
 use Rattle.strm_types.specs.Ldterms.{is_between}
 use Rattle.strm_types.specs.ModuleQueues.{at_place, messages_at, place_past, waits}
@@ -45,10 +45,6 @@ rests-at i [] idle low = absurd (omega (arith, low))
 rests-at zero (p ∷ ps) idle low = rests-idle p idle.0
 rests-at (suc i) (p ∷ ps) idle low = rests-at i ps idle.1 (omega (arith, low))
 
-idle-on : (side : Side) (s : State ℕ) → AreIdle s → AllByRecursion (λ p. IsAtRest p) (stream side s).modules
-idle-on Master s idle = idle.master
-idle-on Slave s idle = idle.slave
-
 abbrev pub spot_of : QueueName → ℕ → Spot
 spot_of name at = record { side = name.side; at = at; way = name.way }
 
@@ -62,7 +58,7 @@ pub turned-asks : (name : QueueName) (at : ℕ) (asks : Asks) (turn : Turn) (s :
 turned-asks name at asks turn s idle found is =
     let ps = (stream name.side s).modules in
     let low = found-low name.place ps at found in
-    let rested : at_place module_rests false at ps ≡ true = rests-at (at - 1) ps (idle-on name.side s idle) (omega (arith, low.0, low.1)) in
+    let rested : at_place module_rests false at ps ≡ true = rests-at (at - 1) ps (idle name.side) (omega (arith, low.0, low.1)) in
     ap (turned_named plain name turn s) found
     ∙ ap (λ b. cond {A = TurnOutcome ℕ} b (asked_turn plain (spot_of name at) (at_place (module_asks name.way) asked.Empty at ps) name turn s) (stayed_put Blocked s)) rested
     ∙ ap (λ a. asked_turn plain (spot_of name at) a name turn s) (sym is)
@@ -106,5 +102,7 @@ waits-long Down band None t = refl
 waits-long way band (Some at) t = change-long (waits module_queue with_module_queue way band) (at - 1) t.modules
 
 pub waiting-long : (side : Side) (way : Way) (at band : ℕ) (s : State ℕ) → length (stream side (writer_waits side way at band s)).modules ≡ length (stream side s).modules
-waiting-long Master way at band s = waits-long way band (place_past module_queue way at s.master.modules) s.master
-waiting-long Slave way at band s = waits-long way band (place_past module_queue way at s.slave.modules) s.slave
+waiting-long side way at band s =
+    let t = stream side s in
+    let past = place_past module_queue way at t.modules in
+    ap (λ (x : Stream ℕ). length x.modules) (get-set-same side (waits_on way band past t) s.ends) ∙ waits-long way band past t

@@ -6,6 +6,7 @@ use Rattle.std.proofs.lemmas.Bool.Decides.{nat_tests}
 use Rattle.strm_types.specs.declared.limits.TheConstants.{MODULES}
 use Rattle.strm_types.specs.declared.names.Side.{Side}
 use Rattle.strm_types.specs.declared.names.Side.TheVariants.{Master, Slave}
+use Rattle.strm_types.proofs.BySide.{each-side, get-map}
 use Rattle.strm_types.specs.declared.spots.Spot.{Spot}
 use Rattle.strm_types.specs.Cells.{plain}
 use Rattle.strm_types.specs.Costs.{cost_of, most_cost}
@@ -16,9 +17,9 @@ use Rattle.strm_types.specs.Message.{Message}
 use Rattle.strm_types.specs.ModuleQueues.{at_place}
 use Rattle.strm_laws.specs.Puts.{made_above, put_at_head, put_at_module, put_behind, put_below, put_in}
 use Rattle.strm_laws.specs.Spares.{module_packs, spare}
-use Rattle.strm_laws.specs.StackCosts.{StandOnce, Stands, module_leaves, module_takes, stack_cost, stands_of, stands_on}
+use Rattle.strm_laws.specs.StackCosts.{EachOnce, StandOnce, Stands, module_leaves, module_takes, stack_cost, stands_of, stands_on}
 use Rattle.strm_laws.specs.Stacked.{module_name}
-use Rattle.strm_laws.specs.State.{State, stream}
+use Rattle.strm_laws.specs.State.{State, Stream, stream}
 use Rattle.strm_laws.proofs.PutsFall.{few-stand}
 use Rattle.strm_laws.proofs.StackBounds.{packs-few}
 use Rattle.strm_laws.proofs.StackModules.{place-fits, place-spends, place-within}
@@ -44,8 +45,7 @@ plain-few s i store = at (is_data_kind (block_at 0 (in_hand s i)).kind) refl
     at false is = omega (arith, ap (λ (m : Message ℕ). length m.plain) (plain-is (in_hand s i) is), bytes-sum (in_hand s i), few-bytes s store 0 i)
 
 on-side : (side : Side) (s : State ℕ) → stands_on side (stands_of s) ≡ map module_name (stream side s).modules
-on-side Master s = refl
-on-side Slave s = refl
+on-side side s = get-map (λ (t : Stream ℕ). map module_name t.modules) side s.ends
 
 module _ (to : Spot) (m : Message ℕ) (s : State ℕ) where
   -- at the place of a module
@@ -102,7 +102,7 @@ sent-most all once [] = omega arith
 sent-most all once (p ∷ ps) = let first = stack-most all once p.to p.message in let rest = sent-most all once ps in omega (arith, first, rest)
 
 pub once-stands : (s : StoreValue) (p : Streams) → AreBeside s p → StandOnce (stands_of (state_in s p))
-once-stands s p beside = record { master = beside.master.once; slave = beside.slave.once }
+once-stands s p beside = each-side (λ sd on. EachOnce on) (stands_of (state_in s p)) (beside Master).once (beside Slave).once
 
 -- a message that stands for one of which is known what it takes at most
 pub may-by : (s : StoreValue) (left : ℕ) (to : Spot) (m x : Message ℕ) (n : ℕ) → m ≡ x → most_cost to x ≤ n → HasRoom s n → n ≤ left → MayTake s left (most_cost to m)

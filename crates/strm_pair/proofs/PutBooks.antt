@@ -40,8 +40,8 @@ pub written-low : (a b : Book) → (books.has_room a && books.has_room b) ≡ tr
 written-low a b h = let parts = both-true (books.has_room a) (books.has_room b) h in (room-low a parts.0, room-low b parts.1)
 
 pub book-low : (side : Side) (s : State ℕ) → in_range s ≡ true → (book (direction_from side) s).written < BOOK_MAX
-book-low Master s room = (written-low s.from_master s.from_slave room).0
-book-low Slave s room = (written-low s.from_master s.from_slave room).1
+book-low Master s room = (written-low (book MasterToSlave s) (book SlaveToMaster s) room).0
+book-low Slave s room = (written-low (book MasterToSlave s) (book SlaveToMaster s) room).1
 
 -- plain bytes have no origin
 part-plain : (dir : Dir) (n : ℕ) (o : Option (List ℕ)) → option_map (cells_written plain dir n) o ≡ o

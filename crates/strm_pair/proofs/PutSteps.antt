@@ -27,7 +27,6 @@ use Rattle.strm_pair.proofs.Sides.{driver-changed, driver-state, head-changed, h
 use Rattle.strm_types.specs.declared.names.Place.TheVariants as places
 use Rattle.strm_types.specs.declared.names.QueueName.{QueueName}
 use Rattle.strm_types.specs.declared.names.Side.{Side}
-use Rattle.strm_types.specs.declared.names.Side.TheVariants.{Master, Slave}
 use Rattle.strm_types.specs.declared.names.Way.TheVariants.{Up, Down}
 use Rattle.strm_types.specs.declared.rules.Fates.{Fates}
 use Rattle.strm_types.specs.declared.spots.Spot.{Spot}
@@ -60,7 +59,7 @@ use Rattle.strm_types.specs.Costs.{cost, cost_of, head_takes, below_takes, is_ac
 use Rattle.strm_types.specs.ModuleQueues.{at_place}
 use Rattle.strm_laws.specs.StackCosts.{module_leaves, module_takes, stack_cost, stands_of}
 use Rattle.strm_pair.specs.Pairs.{state_in, AreBeside, Stays, kept_by}
-use Rattle.strm_pair.specs.Framing.{same-state, same-beside}
+use Rattle.strm_pair.specs.Framing.{kept-parts, kept-with, same-state, same-beside}
 use Rattle.strm_pair.specs.PutBy.{PutAs, PutBy, CameBy}
 use Rattle.strm_pair.proofs.PlaceCosts.{place-cost}
 use Rattle.strm_pair.proofs.PutsCost.{behind-stack, behind-takes, head-stack}
@@ -148,12 +147,10 @@ can-alone s m keeps can = record { apart = λ i. omega (arith, can.apart i) }
 
 -- the stacks stay where a head changes, or a driver
 kept-head : (p : Streams) (side : Side) (h : heads.Head) (i : ℕ) → kept_by (with_end side (record (end_at side p) { head = h }) p) i ≡ kept_by p i
-kept-head p Master h i = refl
-kept-head p Slave h i = refl
+kept-head p side h i = kept-with side (record (end_at side p) { head = h }) p i ∙ sym (kept-parts side p i)
 
 kept-driver : (p : Streams) (side : Side) (d : Queue) (i : ℕ) → kept_by (with_end side (record (end_at side p) { driver = d }) p) i ≡ kept_by p i
-kept-driver p Master d i = refl
-kept-driver p Slave d i = refl
+kept-driver p side d i = kept-with side (record (end_at side p) { driver = d }) p i ∙ sym (kept-parts side p i)
 
 -- behind the head there is room for what a put takes itself, and so for what stands there: on the way down nothing goes by what was sent across
 pub behind-room : (way : Way) (s : StoreValue) (i : ℕ) (to : Spot) → let m = message_in s i in to.way ≡ way → (to.at ≡ 0 → ⊥) → HasRoom s (cost to m) → HasRoom s (below_takes way (has_parts m) (is_across to m))

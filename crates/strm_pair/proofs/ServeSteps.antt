@@ -8,13 +8,11 @@ use Rattle.strm_types.specs.declared.names.Dir.TheVariants.{MasterToSlave, Slave
 use Rattle.strm_types.specs.declared.names.Place.{Place}
 use Rattle.strm_types.specs.declared.names.QueueName.{QueueName}
 use Rattle.strm_types.specs.declared.names.Side.{Side}
-use Rattle.strm_types.specs.declared.names.Side.TheVariants.{Master, Slave}
 use Rattle.strm_types.specs.declared.names.Way.{Way}
 use Rattle.strm_types.specs.declared.names.Way.TheVariants.{Up, Down}
 use Rattle.strm_types.specs.declared.limits.TheConstants.{HOPS}
 use Rattle.strm_types.specs.declared.rules.Fates.{Fates}
 use Rattle.strm_types.specs.declared.spots.Spot.{Spot}
-use Rattle.strm_types.specs.Books.{with_made}
 use Rattle.strm_types.specs.Cells.{plain}
 use Rattle.strm_types.specs.Costs.{cost_of, most_cost}
 use Rattle.strm_types.specs.Deliver.{Carried, Fate, Parcel, carried, in_turn, tallied}
@@ -46,11 +44,13 @@ use Rattle.strm_ldterm.specs.Turns.{needs}
 use Rattle.strm_pair.specs.AnyModules.{MayServe, turn_cost}
 use Rattle.strm_pair.specs.declared.calling.Call.{Call}
 use Rattle.strm_pair.specs.declared.streams.Streams.{Streams}
-use Rattle.strm_pair.specs.ModuleServed.{ActsAs, CallsAs, IsKeptAll, MayBook, StackServes, TellsAs, acts_in, between, call_of, call_units, next_cost, stop_in}
+use Rattle.strm_pair.specs.ModuleServed.{ActsAs, CallsAs, IsKeptAll, MayBook, StackServes, TellsAs, acts_in, between, call_of, call_units, next_cost, stop_in, with_more}
 use Rattle.strm_pair.specs.Pairs.{state_in, end_at, with_end, AreBeside, kept_by}
 use Rattle.strm_pair.proofs.Takings.{tallied-both}
 use Rattle.strm_ldterm.proofs.Spared.{call-few}
-use Rattle.strm_pair.proofs.ModuleSteps.{modules-are, stack-acts, stack-modules}
+use Rattle.strm_pair.specs.Framing.{kept-parts}
+use Rattle.strm_pair.proofs.ModuleSteps.{stack-acts, stack-modules}
+use Rattle.strm_pair.proofs.Sides.{modules-are}
 use Rattle.strm_pair.proofs.PlaceCosts.{once-stands, sent-most}
 use Rattle.strm_pair.specs.Stacks.{stack_keeps, Stack}
 use Rattle.strm_pair.specs.ModuleStacks.{stack-long}
@@ -125,8 +125,8 @@ module _ (here : Spot) (again : Bool) (call : Call) (st : State ℕ) (tells : Te
   fits-by made more may few = omega (arith, units-fit made more (call_units left) may (omega (arith, most-made, few)) (omega arith))
 
   pub made-fits : MayBook here again st → (d : Dir) → (book d st).made + made_in d told_in < 2 ^ 64
-  made-fits may MasterToSlave = fits-by st.from_master.made (made_in MasterToSlave told_in) (omega (arith, may)) (omega (arith, made-within told_in))
-  made-fits may SlaveToMaster = fits-by st.from_slave.made (made_in SlaveToMaster told_in) (omega (arith, may)) (omega (arith, made-within told_in))
+  made-fits may MasterToSlave = fits-by (book MasterToSlave st).made (made_in MasterToSlave told_in) (omega (arith, may)) (omega (arith, made-within told_in))
+  made-fits may SlaveToMaster = fits-by (book SlaveToMaster st).made (made_in SlaveToMaster told_in) (omega (arith, may)) (omega (arith, made-within told_in))
 
   -- it takes some of them
   pub acted-left : spare st ≤ spare (module_acted here (called here again (stop_in call) (stream here.side st).modules) st).state + (3 * call.bytes + 2)
@@ -147,16 +147,14 @@ module _ (here : Spot) (again : Bool) (call : Call) (st : State ℕ) (tells : Te
 
 -- what the stack of a side keeps is in hand, where all that is in hand is kept
 pub kept-in : (side : Side) (s : StoreValue) (p : Streams) → IsKeptAll s p → AreIn s (λ _. 0) (stack_keeps (end_at side p).stack)
-kept-in Master s p all = record { apart = λ i. omega (arith, all i) }
-kept-in Slave s p all = record { apart = λ i. omega (arith, all i) }
+kept-in side s p all = record { apart = λ i. omega (arith, all i, kept-parts side p i) }
 
 pub all-in : (s : StoreValue) (p : Streams) → IsKeptAll s p → AreIn s (λ _. 0) (kept_by p)
 all-in s p all = record { apart = λ i. omega (arith, all i) }
 
 -- as many modules stand there, whatever the store
 pub within-any : (s t : StoreValue) (p : Streams) (side : Side) (at : ℕ) → at ≤ length (stream side (state_in s p)).modules → at ≤ length (stream side (state_in t p)).modules
-within-any s t p Master at low = omega (arith, low, stack-long s t p.master.stack)
-within-any s t p Slave at low = omega (arith, low, stack-long s t p.slave.stack)
+within-any s t p side at low = omega (arith, low, stack-long s t (end_at side p).stack, ap (λ (ms : List (Module ℕ)). length ms) (modules-are s p side), ap (λ (ms : List (Module ℕ)). length ms) (modules-are t p side))
 
 module _ (s t : StoreValue) (p q : Streams) (x : Stack) (here : Spot) (again : Bool) (served : Served) (f f' : Fates) where
   abbrev st : State ℕ
@@ -187,8 +185,7 @@ module _ (s t : StoreValue) (p q : Streams) (x : Stack) (here : Spot) (again : B
       → let told = (called here again (stop_in (call_of served)) ms).gone in m ≡ made_in MasterToSlave told → n ≡ made_in SlaveToMaster told
       → q ≡ record (with_end here.side (record (end_at here.side p) { stack = x }) p) {
         enabled = noted here.side place earlier served.acts.notes.items p.enabled;
-        from_master = with_made m p.from_master;
-        from_slave = with_made n p.from_slave;
+        books = with_more m n p.books;
       }
       → ActsAs s t p q here again (call_of served) (sent_of served.acts.sent) f f'
   acts-by place earlier m n store all beside place_is earlier_is e m_is n_is q_is =
@@ -207,7 +204,7 @@ module _ (s t : StoreValue) (p q : Streams) (x : Stack) (here : Spot) (again : B
         chains = e.chains;
         falls = e.falls;
         hands = r.hands;
-        room = subst (λ ls. HasRoom t (later_cost most_cost served.again (at_place (turn_cost here true) 0 here.at ls) (parcels_in t (sent_of served.acts.sent)))) (sym (ap (λ y. (stream here.side (state_in t y)).modules) q_is ∙ stack-modules here.side t p x (noted here.side place earlier served.acts.notes.items p.enabled) (with_made m p.from_master) (with_made n p.from_slave))) e.room;
+        room = subst (λ ls. HasRoom t (later_cost most_cost served.again (at_place (turn_cost here true) 0 here.at ls) (parcels_in t (sent_of served.acts.sent)))) (sym (ap (λ y. (stream here.side (state_in t y)).modules) q_is ∙ stack-modules here.side t p x (noted here.side place earlier served.acts.notes.items p.enabled) (with_more m n p.books))) e.room;
         pool = e.pool;
       }
 

@@ -1,9 +1,10 @@
 -- What the state of a pair shows of its store.
-use Rattle.std.proofs.Common.{◌≡◌, ◌≤◌, ◌+◌, ℕ, List, [], ◌∷◌, ◌++◌, length, refl, ap, arith}
+use Rattle.std.proofs.Common.{◌≡◌, ◌≤◌, ◌+◌, ℕ, List, [], ◌∷◌, ◌++◌, length, refl, sym, ap, ◌∙◌, arith}
 use Rattle.std.specs.Prelude.{sum_by}
 use Rattle.std.specs.List.{AllByRecursion}
 use Rattle.std.proofs.lemmas.List.{length-map}
 use Rattle.std.proofs.lemmas.List.Sums.{sum_by-append, sum_by-cons}
+use Rattle.strm_types.specs.declared.names.Side.TheVariants.{Master, Slave}
 use Rattle.strm_types.specs.declared.limits.Config.{Config}
 use Rattle.strm_laws.specs.Kept.{AreIdle}
 use Rattle.strm_types.specs.Queue.{IsOrdered, Queue}
@@ -12,12 +13,13 @@ use Rattle.strm_laws.specs.Stacked.{IsAtRest, queues_of_modules}
 use Rattle.strm_blocks.specs.Blocks.{Block, StoreValue, IsStore, list_at, empty_store, used}
 use Rattle.strm_blocks.proofs.Laws.{free_m-is}
 use Rattle.strm_msg.specs.Messages.{message_of}
-use Rattle.strm_queue.specs.Stored.{queue_in}
+use Rattle.strm_queue.specs.Stored.{messages_on, queue_in}
 use Rattle.strm_pair.specs.declared.ends.StreamEnd.{StreamEnd}
 use Rattle.strm_pair.specs.declared.streams.Streams.{Streams}
 use Rattle.strm_pair.specs.ModuleLists.{ordered-map}
 use Rattle.strm_pair.specs.Pairs.{state_in, free_in, AreHeld}
 use Rattle.strm_pair.specs.Pool.{IsPoolOf}
+use Rattle.strm_pair.specs.Shows.{ShowsStream}
 use Rattle.strm_pair.specs.Streams.{AreFor, AreShown, IsSide, stream_in}
 use Rattle.strm_pair.proofs.FreeBlocks.{IsBare, used-enough, bare-free_m, bare-free_d}
 use Rattle.strm_pair.specs.Stacks.{modules_in, stack_owns}
@@ -37,6 +39,14 @@ module _ (s : StoreValue) (first : ℕ) (e : StreamEnd) (is : IsSide s first e) 
 
   pub modules-shown : AreShown s (first + 2) (modules_in s e.stack)
   modules-shown = stack-shows s e.stack (first + 2) is.stack idle lists-for
+
+  pub stream-shown : ShowsStream s first (stream_in s e)
+  stream-shown = record {
+    head = ap (messages_on s) (sym is.head_list);
+    driver = ap (messages_on s) (sym is.driver_list);
+    up = modules-shown.up;
+    down = ap (messages_on s) (let next : first + 3 ≡ first + 2 + 1 = omega arith in next) ∙ modules-shown.down;
+  }
 
   pub stream-ordered : AllByRecursion (λ q. IsOrdered q.messages) (stream_queues (stream_in s e))
   stream-ordered = (
@@ -70,17 +80,17 @@ no-chain (c ∷ q) none = absurd (omega arith)
 module _ (s : StoreValue) (p : Streams) (held : AreHeld s p) (idle : AreIdle (state_in s p)) where
   -- each queue is in order
   pub ordered : AreOrdered (state_in s p)
-  ordered = all-joined (λ (q : Queue ℕ). IsOrdered q.messages) (stream_queues (stream_in s p.master)) (stream_queues (stream_in s p.slave))
-      (stream-ordered s 0 p.master held.beside.master idle.master) (stream-ordered s 4 p.slave held.beside.slave idle.slave)
+  ordered = all-joined (λ (q : Queue ℕ). IsOrdered q.messages) (stream_queues (stream_in s p.ends.master)) (stream_queues (stream_in s p.ends.slave))
+      (stream-ordered s 0 p.ends.master (held.beside Master) (idle Master)) (stream-ordered s 4 p.ends.slave (held.beside Slave) (idle Slave))
 
   -- how many messages stand on the queues
   many : messages_in (state_in s p)
       ≡ length (list_at s 0) + (length (list_at s 1) + (length (list_at s 2) + length (list_at s 3))) + (length (list_at s 4) + (length (list_at s 5) + (length (list_at s 6) + length (list_at s 7))))
   many = omega (
     arith,
-    sum_by-append (λ (q : Queue ℕ). length q.messages) (stream_queues (stream_in s p.master)) (stream_queues (stream_in s p.slave)),
-    stream-many s 0 p.master held.beside.master idle.master,
-    stream-many s 4 p.slave held.beside.slave idle.slave,
+    sum_by-append (λ (q : Queue ℕ). length q.messages) (stream_queues (stream_in s p.ends.master)) (stream_queues (stream_in s p.ends.slave)),
+    stream-many s 0 p.ends.master (held.beside Master) (idle Master),
+    stream-many s 4 p.ends.slave (held.beside Slave) (idle Slave),
   )
 
   in-use : IsStore s → messages_in (state_in s p) ≤ used s

@@ -6,7 +6,9 @@ use Rattle.strm_types.specs.declared.names.Side.TheVariants.{Master, Slave}
 use Rattle.strm_types.specs.declared.kinds.MsgKind.TheVariants as kinds
 use Rattle.strm_types.specs.Flush.{is_data_kind}
 use Rattle.strm_types.specs.Emptied.{of_all, emptied, none_goes, queue_behind}
-use Rattle.strm_types.specs.Names.{enable_some}
+use Rattle.strm_types.specs.Both.{get, set, map_both}
+use Rattle.strm_types.specs.Names.{enable_some, other}
+use Rattle.strm_types.proofs.BySide.{get-map, get-set-other, get-set-same, map-set, set-all, set-same, side-and-other}
 use Rattle.strm_types.specs.Queue as state
 use Rattle.strm_types.specs.Queue.{is_none_left}
 use Rattle.strm_laws.specs.Earlier.{before_driver, before_head}
@@ -25,23 +27,21 @@ use Rattle.strm_frame.proofs.Seeking.{all-gone}
 use Rattle.strm_pty.specs.Does.{OnlyQueue}
 use Rattle.strm_pair.specs.declared.ends.StreamEnd.{StreamEnd}
 use Rattle.strm_pair.specs.declared.streams.Streams.{Streams}
-use Rattle.strm_pair.specs.Framing.{state_with, stack-same, stays-master, stays-slave, still}
+use Rattle.strm_pair.specs.Framing.{state_with, stack-same, stays-at, still}
+use Rattle.strm_pair.specs.Lists.{first_list}
 use Rattle.strm_pair.specs.Streams.{stream_in, IsBlank, IsSide, AreApart}
 use Rattle.strm_pair.specs.Pairs.{state_in, end_at, with_end, AreBeside, AreHeld, Stays, kept_by}
-use Rattle.strm_pair.specs.Stacks.{modules_in, IsStackHeld, stack_owns, stack_keeps}
+use Rattle.strm_pair.specs.Stacks.{modules_in, IsStackHeld, Stack, stack_owns, stack_keeps}
 
 -- the driver of a side is ready, and so is the head
 pub driver-ready : (s : StoreValue) (p : Streams) → AreBeside s p → (side : Side) → IsReady s (end_at side p).driver
-driver-ready s p beside Master = beside.master.driver
-driver-ready s p beside Slave = beside.slave.driver
+driver-ready s p beside side = (beside side).driver
 
 pub head-queue : (s : StoreValue) (p : Streams) → AreBeside s p → (side : Side) → IsHeadQueue s (end_at side p).head.queue
-head-queue s p beside Master = beside.master.head
-head-queue s p beside Slave = beside.slave.head
+head-queue s p beside side = (beside side).head
 
 pub stack-held : (s : StoreValue) (p : Streams) → AreBeside s p → (side : Side) → IsStackHeld s (end_at side p).stack
-stack-held s p beside Master = beside.master.stack
-stack-held s p beside Slave = beside.slave.stack
+stack-held s p beside side = (beside side).stack
 
 -- a list that stays has a message still, or none
 none-map : {A B : Type 0} (f : A → B) (xs : List A) → is_none_left (map f xs) ≡ is_none_left xs
@@ -202,54 +202,114 @@ readable-cleared t q old is = readable-none (list_at t q.list) (no-chain (list_a
     behind true = all-gone old.messages
     behind false = all-gone old.messages
 
--- a state where both streams change
-pub both : (p : Streams) (m m' sl sl' : streams.Stream ℕ) → m ≡ m' → sl ≡ sl' → state_with p m sl ≡ state_with p m' sl'
-both p m m' sl sl' a b = ap (λ v. state_with p v sl) a ∙ ap (λ v. state_with p m' v) b
+-- no list is of both sides
+pub never-both : (side : Side) (k : ℕ) → first_list side ≤ k → k < first_list side + 4 → first_list (other side) ≤ k → k < first_list (other side) + 4 → ⊥
+never-both Master k low high above below = omega (arith, high, above)
+never-both Slave k low high above below = omega (arith, low, below)
+
+-- the streams as the state has them
+pub stream-is : (s : StoreValue) (p : Streams) (side : Side) → stream side (state_in s p) ≡ stream_in s (end_at side p)
+stream-is s p side = get-map (stream_in s) side p.ends
+
+pub modules-are : (s : StoreValue) (p : Streams) (side : Side) → (stream side (state_in s p)).modules ≡ modules_in s (end_at side p).stack
+modules-are s p side = ap (λ (x : streams.Stream ℕ). x.modules) (stream-is s p side)
+
+-- behind another stream of a side with the same stack the same modules stand there
+pub modules-behind : (s : StoreValue) (p : Streams) (side : Side) (e : StreamEnd) → e.stack ≡ (end_at side p).stack → (stream side (state_in s (with_end side e p))).modules ≡ (stream side (state_in s p)).modules
+modules-behind s p side e same =
+    modules-are s (with_end side e p) side
+    ∙ ap (λ (x : StreamEnd). modules_in s x.stack) (get-set-same side e p.ends)
+    ∙ ap (modules_in s) same
+    ∙ sym (modules-are s p side)
+
+-- a stream that fits may stand on its side
+pub held-with : (s : StoreValue) (p : Streams) (side : Side) (e : StreamEnd) → AreHeld s p → IsSide s (first_list side) e → AreHeld s (with_end side e p)
+held-with s p side e held is = record { hand = held.hand; beside = set-all (λ sd x. IsSide s (first_list sd) x) side e p.ends is held.beside }
+
+-- so does one whose head has the same queue
+pub head-held : (s : StoreValue) (p : Streams) (side : Side) (r : StreamEnd) (h : Head) → r ≡ end_at side p → h.queue ≡ r.head.queue → AreHeld s p → AreHeld s (with_end side (record r { head = h }) p)
+head-held s p side r h is same held =
+    let fits : IsSide s (first_list side) r = subst (IsSide s (first_list side)) (sym is) (held.beside side) in
+    held-with s p side (record r { head = h }) held (record {
+      head_list = ap (λ q. q.list) same ∙ fits.head_list;
+      driver_list = fits.driver_list;
+      head = subst (IsHeadQueue s) (sym same) fits.head;
+      driver = fits.driver;
+      stack = fits.stack;
+      once = fits.once;
+      owned = fits.owned;
+      spare = fits.spare;
+    })
+
+-- a stream whose stack alone is another one
+pub stack-there : (p : Streams) (side : Side) (r : StreamEnd) (y : Stack) → r ≡ end_at side p
+    → let q = with_end side (record r { stack = y }) p in ((end_at side q).stack ≡ y) × (q ≡ with_end side (record (end_at side p) { stack = (end_at side q).stack }) p)
+stack-there p side r y is =
+    let there = ap (λ (e : StreamEnd). e.stack) (get-set-same side (record r { stack = y }) p.ends) in
+    (there, ap (λ (e : StreamEnd). with_end side (record e { stack = y }) p) is ∙ ap (λ z. with_end side (record (end_at side p) { stack = z }) p) (sym there))
+
+-- the state with another stream of a side
+pub set-state : (s : StoreValue) (p : Streams) (side : Side) (e : StreamEnd) → state_in s (with_end side e p) ≡ with_stream side (stream_in s e) (state_in s p)
+set-state s p side e = ap (state_with p) (map-set (stream_in s) side e p.ends)
+
+module _ (s t : StoreValue) (p : Streams) (beside : AreBeside s p) (side : Side) where
+  -- the lists of the other side stay, and what its stack keeps
+  pub record OtherStays : Type 0 where
+    pub lists : (k : ℕ) → first_list (other side) ≤ k → k < first_list (other side) + 4 → list_at t k ≡ list_at s k
+    pub keeps : Stays s t (stack_keeps (end_at (other side) p).stack)
+
+  pub other-same : OtherStays → stream_in t (end_at (other side) p) ≡ stream_in s (end_at (other side) p)
+  other-same stays = stream-stays s t (first_list (other side)) (end_at (other side) p) (beside (other side)) stays.keeps stays.lists
+
+  -- one side changed
+  pub one-beside : (e : StreamEnd) → IsSide t (first_list side) e → OtherStays → AreBeside t (with_end side e p)
+  one-beside e is stays = side-and-other (λ sd x. IsSide t (first_list sd) x) side (set side e p.ends)
+      (subst (IsSide t (first_list side)) (sym (get-set-same side e p.ends)) is)
+      (subst (IsSide t (first_list (other side))) (sym (get-set-other side e p.ends)) (side-stays s t (first_list (other side)) (end_at (other side) p) (beside (other side)) stays.keeps stays.lists))
+
+  pub one-state : (e : StreamEnd) (x : streams.Stream ℕ) → stream_in t e ≡ x → OtherStays → state_in t (with_end side e p) ≡ with_stream side x (state_in s p)
+  one-state e x is stays = ap (state_with p)
+      (map-set (stream_in t) side e p.ends
+      ∙ ap (λ y. set side y (map_both (stream_in t) p.ends)) is
+      ∙ set-same side x (map_both (stream_in t) p.ends) (map_both (stream_in s) p.ends) (get-map (stream_in t) (other side) p.ends ∙ other-same stays ∙ sym (get-map (stream_in s) (other side) p.ends)))
 
 module _ (s t : StoreValue) (p : Streams) (beside : AreBeside s p) (stays : Stays s t (kept_by p)) where
-  module _ (q : Queue) (only : OnlyQueue s t p.master.driver q) where
-    across-master-driver : (k : ℕ) → 4 ≤ k → k < 4 + 4 → list_at t k ≡ list_at s k
-    across-master-driver k low high = only.others k (λ eq. let a = beside.master.driver_list in absurd (omega arith))
+  -- one queue of a side changed
+  pub only-here : (side : Side) (q q' : Queue) → first_list side ≤ q.list → q.list < first_list side + 4 → OnlyQueue s t q q' → OtherStays s t p beside side
+  only-here side q q' low high only = record {
+    lists = λ k above below. only.others k (λ eq. never-both side k (omega (arith, low)) (omega (arith, high)) above below);
+    keeps = stays-at s t (other side) p stays;
+  }
 
-  module _ (q : Queue) (only : OnlyQueue s t p.slave.driver q) where
-    across-slave-driver : (k : ℕ) → 0 ≤ k → k < 0 + 4 → list_at t k ≡ list_at s k
-    across-slave-driver k low high = only.others k (λ eq. let a = beside.slave.driver_list in absurd (omega arith))
+  only-driver : (side : Side) (q : Queue) → OnlyQueue s t (end_at side p).driver q → OtherStays s t p beside side
+  only-driver side q only = let l = (beside side).driver_list in only-here side (end_at side p).driver q (omega (arith, l)) (omega (arith, l)) only
 
-  module _ (h : Head) (only : OnlyQueue s t p.master.head.queue h.queue) where
-    across-master-head : (k : ℕ) → 4 ≤ k → k < 4 + 4 → list_at t k ≡ list_at s k
-    across-master-head k low high = only.others k (λ eq. let a = beside.master.head_list in absurd (omega arith))
-
-  module _ (h : Head) (only : OnlyQueue s t p.slave.head.queue h.queue) where
-    across-slave-head : (k : ℕ) → 0 ≤ k → k < 0 + 4 → list_at t k ≡ list_at s k
-    across-slave-head k low high = only.others k (λ eq. let a = beside.slave.head_list in absurd (omega arith))
+  only-head : (side : Side) (h : Head) → OnlyQueue s t (end_at side p).head.queue h.queue → OtherStays s t p beside side
+  only-head side h only = let l = (beside side).head_list in only-here side (end_at side p).head.queue h.queue (omega (arith, l)) (omega (arith, l)) only
 
   -- the queue of a side's driver changed
   pub driver-changed : (side : Side) (q : Queue) → OnlyQueue s t (end_at side p).driver q → AreBeside t (with_end side (record (end_at side p) { driver = q }) p)
-  driver-changed Master q only = record { master = driver-side s t 0 p.master beside.master (stays-master s t p stays) q only; slave = side-stays s t 4 p.slave beside.slave (stays-slave s t p stays) (across-master-driver q only) }
-  driver-changed Slave q only = record { master = side-stays s t 0 p.master beside.master (stays-master s t p stays) (across-slave-driver q only); slave = driver-side s t 4 p.slave beside.slave (stays-slave s t p stays) q only }
+  driver-changed side q only = one-beside s t p beside side (record (end_at side p) { driver = q })
+      (driver-side s t (first_list side) (end_at side p) (beside side) (stays-at s t side p stays) q only) (only-driver side q only)
 
   pub driver-state : (side : Side) (q : Queue) → OnlyQueue s t (end_at side p).driver q
       → state_in t (with_end side (record (end_at side p) { driver = q }) p) ≡ with_stream side (with_driver_queue (queue_in t q) (stream side (state_in s p))) (state_in s p)
-  driver-state Master q only =
-      both p (stream_in t (record p.master { driver = q })) (with_driver_queue (queue_in t q) (stream_in s p.master)) (stream_in t p.slave) (stream_in s p.slave)
-      (driver-stream s t 0 p.master beside.master (stays-master s t p stays) q only) (stream-stays s t 4 p.slave beside.slave (stays-slave s t p stays) (across-master-driver q only))
-  driver-state Slave q only =
-      both p (stream_in t p.master) (stream_in s p.master) (stream_in t (record p.slave { driver = q })) (with_driver_queue (queue_in t q) (stream_in s p.slave))
-      (stream-stays s t 0 p.master beside.master (stays-master s t p stays) (across-slave-driver q only)) (driver-stream s t 4 p.slave beside.slave (stays-slave s t p stays) q only)
+  driver-state side q only =
+      one-state s t p beside side (record (end_at side p) { driver = q }) (with_driver_queue (queue_in t q) (stream_in s (end_at side p)))
+      (driver-stream s t (first_list side) (end_at side p) (beside side) (stays-at s t side p stays) q only) (only-driver side q only)
+      ∙ ap (λ x. with_stream side (with_driver_queue (queue_in t q) x) (state_in s p)) (sym (stream-is s p side))
 
   -- the head of a side changed
   pub head-changed : (side : Side) (h : Head) → OnlyQueue s t (end_at side p).head.queue h.queue → HoldsReadable (list_at t h.queue.list) → AreBeside t (with_end side (record (end_at side p) { head = h }) p)
-  head-changed Master h only readable = record { master = head-side s t 0 p.master beside.master (stays-master s t p stays) h only readable; slave = side-stays s t 4 p.slave beside.slave (stays-slave s t p stays) (across-master-head h only) }
-  head-changed Slave h only readable = record { master = side-stays s t 0 p.master beside.master (stays-master s t p stays) (across-slave-head h only); slave = head-side s t 4 p.slave beside.slave (stays-slave s t p stays) h only readable }
+  head-changed side h only readable = one-beside s t p beside side (record (end_at side p) { head = h })
+      (head-side s t (first_list side) (end_at side p) (beside side) (stays-at s t side p stays) h only readable) (only-head side h only)
 
   pub head-state : (side : Side) (h : Head) → OnlyQueue s t (end_at side p).head.queue h.queue
       → state_in t (with_end side (record (end_at side p) { head = h }) p) ≡ with_stream side (record (stream side (state_in s p)) { head = head_in t h }) (state_in s p)
-  head-state Master h only =
-      both p (stream_in t (record p.master { head = h })) (record (stream_in s p.master) { head = head_in t h }) (stream_in t p.slave) (stream_in s p.slave)
-      (head-stream s t 0 p.master beside.master (stays-master s t p stays) h only) (stream-stays s t 4 p.slave beside.slave (stays-slave s t p stays) (across-master-head h only))
-  head-state Slave h only =
-      both p (stream_in t p.master) (stream_in s p.master) (stream_in t (record p.slave { head = h })) (record (stream_in s p.slave) { head = head_in t h })
-      (stream-stays s t 0 p.master beside.master (stays-master s t p stays) (across-slave-head h only)) (head-stream s t 4 p.slave beside.slave (stays-slave s t p stays) h only)
+  head-state side h only =
+      one-state s t p beside side (record (end_at side p) { head = h }) (record (stream_in s (end_at side p)) { head = head_in t h })
+      (head-stream s t (first_list side) (end_at side p) (beside side) (stays-at s t side p stays) h only) (only-head side h only)
+      ∙ ap (λ (x : streams.Stream ℕ). with_stream side (record x { head = head_in t h }) (state_in s p)) (sym (stream-is s p side))
 
 -- the same while nobody is in a call
 pub driver-held : (s t : StoreValue) (p : Streams) (side : Side) (q : Queue) → AreHeld s p → OnlyQueue s t (end_at side p).driver q → t.hand ≡ s.hand → t.mblks ≡ s.mblks → t.dblks ≡ s.dblks
@@ -261,42 +321,38 @@ driver-held s t p side q held only hand mblks dblks = record {
 
 -- the queue of a side's driver, as the state has it
 pub driver-is : (s : StoreValue) (p : Streams) (side : Side) → (stream side (state_in s p)).driver.queue ≡ queue_in s (end_at side p).driver
-driver-is s p Master = refl
-driver-is s p Slave = refl
+driver-is s p side = ap (λ (x : streams.Stream ℕ). x.driver.queue) (stream-is s p side)
 
 -- and its head
 pub head-is : (s : StoreValue) (p : Streams) (side : Side) → (stream side (state_in s p)).head ≡ head_in s (end_at side p).head
-head-is s p Master = refl
-head-is s p Slave = refl
+head-is s p side = ap (λ (x : streams.Stream ℕ). x.head) (stream-is s p side)
 
 -- a side whose head's queue was emptied, and whose driver stays
-pub master-renewed : (s t : StoreValue) (p : Streams) (e : StreamEnd) → AreBeside s p → e.driver ≡ p.master.driver → e.stack ≡ p.master.stack → Keeps s t p.master.head.queue e.head.queue → AreBeside t (with_end Master e p)
-master-renewed s t p e beside same stays keeps =
-    let all = head-changed s t p beside (still s t (kept_by p) keeps.hand keeps.mblks keeps.dblks) Master e.head (only-kept s t p.master.head.queue e.head.queue keeps) (readable-kept s t p.master.head.queue e.head.queue beside.master.head keeps) in
-    record { master = as-side t 0 p.master e same stays all.master; slave = all.slave }
+module _ (s t : StoreValue) (p : Streams) (e : StreamEnd) (beside : AreBeside s p) (side : Side) (same : e.driver ≡ (end_at side p).driver) (stays : e.stack ≡ (end_at side p).stack) (keeps : Keeps s t (end_at side p).head.queue e.head.queue) where
+  all-kept : Stays s t (kept_by p)
+  all-kept = still s t (kept_by p) keeps.hand keeps.mblks keeps.dblks
 
-pub slave-renewed : (s t : StoreValue) (p : Streams) (e : StreamEnd) → AreBeside s p → e.driver ≡ p.slave.driver → e.stack ≡ p.slave.stack → Keeps s t p.slave.head.queue e.head.queue → AreBeside t (with_end Slave e p)
-slave-renewed s t p e beside same stays keeps =
-    let all = head-changed s t p beside (still s t (kept_by p) keeps.hand keeps.mblks keeps.dblks) Slave e.head (only-kept s t p.slave.head.queue e.head.queue keeps) (readable-kept s t p.slave.head.queue e.head.queue beside.slave.head keeps) in
-    record { master = all.master; slave = as-side t 4 p.slave e same stays all.slave }
+  only-renewed : OnlyQueue s t (end_at side p).head.queue e.head.queue
+  only-renewed = only-kept s t (end_at side p).head.queue e.head.queue keeps
 
--- what a renewed side stands for: its head alone, and whether it was opened
-module _ (s t : StoreValue) (p : Streams) (e : StreamEnd) (beside : AreBeside s p) where
-  as-stream : (e' : StreamEnd) → e.driver ≡ e'.driver → e.stack ≡ e'.stack → stream_in t e ≡ record (stream_in t (record e' { head = e.head })) { opened = e.opened }
-  as-stream e' same stays =
+  pub renewed-beside : AreBeside t (with_end side e p)
+  renewed-beside =
+      one-beside s t p beside side e
+      (as-side t (first_list side) (end_at side p) e same stays (head-side s t (first_list side) (end_at side p) (beside side) (stays-at s t side p all-kept) e.head only-renewed (readable-kept s t (end_at side p).head.queue e.head.queue (beside side).head keeps)))
+      (only-head s t p beside all-kept side e.head only-renewed)
+
+  -- what it stands for: its head alone, and whether it was opened
+  as-stream : stream_in t e ≡ record (stream_in t (record (end_at side p) { head = e.head })) { opened = e.opened }
+  as-stream =
       ap (λ d. record { opened = e.opened; head = head_in t e.head; modules = modules_in t e.stack; driver = record { queue = queue_in t d } }) same
-      ∙ ap (λ x. record { opened = e.opened; head = head_in t e.head; modules = modules_in t x; driver = record { queue = queue_in t e'.driver } }) stays
+      ∙ ap (λ x. record { opened = e.opened; head = head_in t e.head; modules = modules_in t x; driver = record { queue = queue_in t (end_at side p).driver } }) stays
 
-  pub renewed-state : (side : Side) → e.driver ≡ (end_at side p).driver → e.stack ≡ (end_at side p).stack → Keeps s t (end_at side p).head.queue e.head.queue
-      → state_in t (with_end side e p) ≡ with_stream side (record (stream side (state_in s p)) { opened = e.opened; head = head_in t e.head }) (state_in s p)
-  renewed-state Master same stays keeps =
-      ap (λ m. state_with p m (stream_in t p.slave)) (as-stream p.master same stays)
-      ∙ ap (λ (v : State ℕ). record v { master = record v.master { opened = e.opened } })
-      (head-state s t p beside (still s t (kept_by p) keeps.hand keeps.mblks keeps.dblks) Master e.head (only-kept s t p.master.head.queue e.head.queue keeps))
-  renewed-state Slave same stays keeps =
-      ap (λ m. state_with p (stream_in t p.master) m) (as-stream p.slave same stays)
-      ∙ ap (λ (v : State ℕ). record v { slave = record v.slave { opened = e.opened } })
-      (head-state s t p beside (still s t (kept_by p) keeps.hand keeps.mblks keeps.dblks) Slave e.head (only-kept s t p.slave.head.queue e.head.queue keeps))
+  pub renewed-state : state_in t (with_end side e p) ≡ with_stream side (record (stream side (state_in s p)) { opened = e.opened; head = head_in t e.head }) (state_in s p)
+  renewed-state =
+      one-state s t p beside side e (record (stream_in s (end_at side p)) { opened = e.opened; head = head_in t e.head })
+      (as-stream ∙ ap (λ (x : streams.Stream ℕ). record x { opened = e.opened }) (head-stream s t (first_list side) (end_at side p) (beside side) (stays-at s t side p all-kept) e.head only-renewed))
+      (only-head s t p beside all-kept side e.head only-renewed)
+      ∙ ap (λ (x : streams.Stream ℕ). with_stream side (record x { opened = e.opened; head = head_in t e.head }) (state_in s p)) (sym (stream-is s p side))
 
 -- the queue of a side's head, or of its driver, once messages went from it, and a writer before it
 module _ (s t : StoreValue) (p : Streams) (beside : AreBeside s p) (q q' : Queue) (plain : state.Queue ℕ) (goes goes' : Bool) (changes : Changes s t q q') where
@@ -313,13 +369,8 @@ module _ (s t : StoreValue) (p : Streams) (beside : AreBeside s p) (q q' : Queue
       let only : OnlyQueue s t e.head.queue q' = subst (λ x. OnlyQueue s t x q') there (only-changed s t q q' changes) in
       ap (λ (v : State ℕ). record v { enabled = enable_some goes (before_head side st) p.enabled }) (head-state s t p beside keeps-all side (record e.head { queue = q' }) only)
       ∙ ap (λ (v : state.Queue ℕ). record (with_stream side (record (stream side st) { head = record (head_in s e.head) { queue = v } }) st) { enabled = enable_some goes (before_head side st) p.enabled }) is
-      ∙ at side same
-    where
-      at : (side : Side) → goes ≡ goes' → let e = end_at side p in let st = state_in s p in
-          record (with_stream side (record (stream side st) { head = record (head_in s e.head) { queue = plain } }) st) { enabled = enable_some goes (before_head side st) p.enabled }
-          ≡ record (with_stream side (with_head_queue plain (stream side st)) st) { enabled = enable_some goes' (before_head side st) st.enabled }
-      at Master same = let st = state_in s p in ap (λ b. record (with_stream Master (with_head_queue plain (stream Master st)) st) { enabled = enable_some b (before_head Master st) st.enabled }) same
-      at Slave same = let st = state_in s p in ap (λ b. record (with_stream Slave (with_head_queue plain (stream Slave st)) st) { enabled = enable_some b (before_head Slave st) st.enabled }) same
+      ∙ ap (λ (x : streams.Stream ℕ). record (with_stream side (record (stream side st) { head = record x.head { queue = plain } }) st) { enabled = enable_some goes (before_head side st) p.enabled }) (sym (stream-is s p side))
+      ∙ ap (λ b. record (with_stream side (with_head_queue plain (stream side st)) st) { enabled = enable_some b (before_head side st) st.enabled }) same
 
   pub driver-went : (side : Side) → q ≡ (end_at side p).driver → queue_in t q' ≡ plain → goes ≡ goes'
       → let st = state_in s p in

@@ -3,17 +3,17 @@ use Rattle.std.proofs.Common.{ℕ, zero, suc, ◌≡◌, ◌≤◌, ◌<◌, ◌
 use Rattle.std.specs.Prelude.{Some}
 use Rattle.strm_types.specs.declared.names.QueueName.{QueueName}
 use Rattle.strm_types.specs.declared.names.Side.{Side}
-use Rattle.strm_types.specs.declared.names.Side.TheVariants.{Master, Slave}
 use Rattle.strm_types.specs.declared.rules.Fates.{Fates}
 use Rattle.strm_types.specs.declared.rules.Rule.{Rule}
 use Rattle.strm_types.specs.declared.spots.Note.{Note}
 use Rattle.strm_types.specs.Deliver.{Carried, Fate, counted_with, tallied}
 use Rattle.strm_types.specs.Modules.{top_name, without_module}
-use Rattle.strm_types.specs.Names.{place_of}
+use Rattle.strm_types.specs.Names.{other, place_of}
+use Rattle.strm_types.proofs.BySide.{get-set-same}
 use Rattle.strm_laws.specs.Pushes.{all_taken, top_taken, with_modules}
 use Rattle.strm_laws.specs.Puts.{earlier_at, noted}
 use Rattle.strm_laws.specs.Stacked.{Module, module_name}
-use Rattle.strm_laws.specs.State.{State, stream}
+use Rattle.strm_laws.specs.State.{State, Stream, stream, with_stream}
 use Rattle.strm_laws.proofs.StackOnce.{pop-once}
 use Rattle.strm_blocks.specs.Blocks.{StoreValue, list_at}
 use Rattle.strm_queue.specs.Stored.{queue_in, HoldsReadable}
@@ -21,11 +21,12 @@ use Rattle.strm_queue.proofs.Placed.{ready-same}
 use Rattle.strm_pair.specs.declared.ends.StreamEnd.{StreamEnd}
 use Rattle.strm_pair.specs.declared.stacks.Taken.{Taken}
 use Rattle.strm_pair.specs.declared.streams.Streams.{Streams}
-use Rattle.strm_pair.specs.Framing.{stays-master, stays-slave, still}
+use Rattle.strm_pair.specs.Framing.{stays-at, still}
+use Rattle.strm_pair.specs.Lists.{first_list}
 use Rattle.strm_pair.specs.Pairs.{state_in, end_at, with_end, AreBeside, AreHeld, kept_by}
 use Rattle.strm_pair.specs.Streams.{stream_in, IsSide, AreApart}
 use Rattle.strm_pair.specs.Taken.{TookTop, WithoutTop, let_go_of}
-use Rattle.strm_pair.proofs.Sides.{both, queue-same, side-stays, stream-stays, stream_of}
+use Rattle.strm_pair.proofs.Sides.{OtherStays, modules-are, never-both, one-beside, one-state, queue-same, stream-is, stream_of}
 use Rattle.strm_pair.specs.Stacks.{modules_in, stack_owns, Stack}
 
 -- what was let go first, and then the rest
@@ -40,18 +41,15 @@ zero-if (suc n) never = absurd (let one : 0 < suc n = omega arith in omega (arit
 module _ (s t : StoreValue) where
   module _ (first : ℕ) (e : StreamEnd) (is : IsSide s first e) where
     -- a stack owns no list but its two
-    pub unowned-below : (k : ℕ) → k < first + 2 → stack_owns e.stack k ≡ 0
-    unowned-below k low = zero-if (stack_owns e.stack k) (λ some. let own = is.owned k some in omega (arith, low, own.0))
-
-    pub unowned-beyond : (k : ℕ) → first + 4 ≤ k → stack_owns e.stack k ≡ 0
-    unowned-beyond k high = zero-if (stack_owns e.stack k) (λ some. let own = is.owned k some in omega (arith, high, own.1))
+    pub unowned : (k : ℕ) → (first + 2 ≤ k → k < first + 4 → ⊥) → stack_owns e.stack k ≡ 0
+    unowned k away = zero-if (stack_owns e.stack k) (λ some. let own = is.owned k some in absurd (away own.0 own.1))
 
     module _ (side : Side) (rule : Rule) (told told' : Fates) (taken : Taken) (y : Stack) (took : TookTop side rule s t e.stack y told told' taken) where
       head-beside : list_at t e.head.queue.list ≡ list_at s e.head.queue.list
-      head-beside = took.others e.head.queue.list (unowned-below e.head.queue.list (omega (arith, is.head_list)))
+      head-beside = took.others e.head.queue.list (unowned e.head.queue.list (λ low high. omega (arith, is.head_list, low)))
 
       driver-beside : list_at t e.driver.list ≡ list_at s e.driver.list
-      driver-beside = took.others e.driver.list (unowned-below e.driver.list (omega (arith, is.driver_list)))
+      driver-beside = took.others e.driver.list (unowned e.driver.list (λ low high. omega (arith, is.driver_list, low)))
 
       took-spare : (k : ℕ) → first + 2 ≤ k → k < first + 4 → stack_owns y k ≡ 0 → list_at t k ≡ []
       took-spare k low high none = by (stack_owns e.stack k) refl
@@ -79,45 +77,21 @@ module _ (s t : StoreValue) where
           ∙ ap (λ d. stream_of e (queue_in s e.head.queue) took.rest d) (queue-same s t e.driver driver-beside)
 
   module _ (p : Streams) (beside : AreBeside s p) (rule : Rule) (told told' : Fates) (taken : Taken) where
-    took-beside : (side : Side) (y : Stack) → TookTop side rule s t (end_at side p).stack y told told' taken → AreBeside t (with_end side (record (end_at side p) { stack = y }) p)
-    took-beside Master y took = record {
-      master = took-side 0 p.master beside.master Master rule told told' taken y took;
-      slave = side-stays s t 4 p.slave beside.slave (stays-slave s t p (still s t (kept_by p) took.hand.hand took.hand.mblks took.hand.dblks)) (λ k low high. took.others k (unowned-beyond 0 p.master beside.master k low));
-    }
-    took-beside Slave y took = record {
-      master = side-stays s t 0 p.master beside.master (stays-master s t p (still s t (kept_by p) took.hand.hand took.hand.mblks took.hand.dblks)) (λ k low high. took.others k (unowned-below 4 p.slave beside.slave k (omega (arith, high))));
-      slave = took-side 4 p.slave beside.slave Slave rule told told' taken y took;
-    }
+    module _ (side : Side) (y : Stack) (took : TookTop side rule s t (end_at side p).stack y told told' taken) where
+      elsewhere : OtherStays s t p beside side
+      elsewhere = record {
+        lists = λ k low high. took.others k (unowned (first_list side) (end_at side p) (beside side) k (λ above below. never-both side k (omega (arith, above)) below low high));
+        keeps = stays-at s t (other side) p (still s t (kept_by p) took.hand.hand took.hand.mblks took.hand.dblks);
+      }
 
-    took-state : (side : Side) (y : Stack) (took : TookTop side rule s t (end_at side p).stack y told told' taken) → state_in t (with_end side (record (end_at side p) { stack = y }) p) ≡ with_modules side took.rest (state_in s p)
-    took-state Master y took =
-        both p (stream_in t (record p.master { stack = y })) (record (stream_in s p.master) { modules = took.rest }) (stream_in t p.slave) (stream_in s p.slave)
-        (took-stream 0 p.master beside.master Master rule told told' taken y took)
-        (stream-stays s t 4 p.slave beside.slave (stays-slave s t p (still s t (kept_by p) took.hand.hand took.hand.mblks took.hand.dblks)) (λ k low high. took.others k (unowned-beyond 0 p.master beside.master k low)))
-    took-state Slave y took =
-        both p (stream_in t p.master) (stream_in s p.master) (stream_in t (record p.slave { stack = y })) (record (stream_in s p.slave) { modules = took.rest })
-        (stream-stays s t 0 p.master beside.master (stays-master s t p (still s t (kept_by p) took.hand.hand took.hand.mblks took.hand.dblks)) (λ k low high. took.others k (unowned-below 4 p.slave beside.slave k (omega (arith, high)))))
-        (took-stream 4 p.slave beside.slave Slave rule told told' taken y took)
+      took-beside : AreBeside t (with_end side (record (end_at side p) { stack = y }) p)
+      took-beside = one-beside s t p beside side (record (end_at side p) { stack = y }) (took-side (first_list side) (end_at side p) (beside side) side rule told told' taken y took) elsewhere
 
--- the modules of a side, as its stack stands for them
-pub modules-are : (s : StoreValue) (p : Streams) (side : Side) → (stream side (state_in s p)).modules ≡ modules_in s (end_at side p).stack
-modules-are s p Master = refl
-modules-are s p Slave = refl
-
--- the same queues are enabled where only a stack changed
-same-enabled : (p : Streams) (side : Side) (e : StreamEnd) → (with_end side e p).enabled ≡ p.enabled
-same-enabled p Master e = refl
-same-enabled p Slave e = refl
-
-pub enabled-stays : (p q : Streams) (side : Side) → q ≡ with_end side (record (end_at side p) { stack = (end_at side q).stack }) p → q.enabled ≡ p.enabled
-enabled-stays p q side same = ap (λ (r : Streams). r.enabled) same ∙ same-enabled p side (record (end_at side p) { stack = (end_at side q).stack })
-
--- another order of enabled queues
-abbrev with_enabled : List QueueName → Streams → Streams
-with_enabled names p = record p { enabled = names }
-
-enabled-beside : (t : StoreValue) (names : List QueueName) (p : Streams) → AreBeside t p → AreBeside t (with_enabled names p)
-enabled-beside t names p beside = record { master = beside.master; slave = beside.slave }
+      took-state : state_in t (with_end side (record (end_at side p) { stack = y }) p) ≡ with_modules side took.rest (state_in s p)
+      took-state =
+          one-state s t p beside side (record (end_at side p) { stack = y }) (record (stream_in s (end_at side p)) { modules = took.rest })
+          (took-stream (first_list side) (end_at side p) (beside side) side rule told told' taken y took) elsewhere
+          ∙ ap (λ (x : Stream ℕ). with_stream side (record x { modules = took.rest }) (state_in s p)) (sym (stream-is s p side))
 
 module _ (side : Side) (rule : Rule) (s : StoreValue) (p : Streams) (held : AreHeld s p) (told : Fates) where
   -- the module on top went, and these queues are enabled behind it
@@ -143,7 +117,7 @@ module _ (side : Side) (rule : Rule) (s : StoreValue) (p : Streams) (held : AreH
         tells = took.tells ∙ sym (ap (λ ms. tallied (top_taken rule side ms st).gone told) these);
         held = record {
           hand = took.hand.hand ∙ held.hand;
-          beside = enabled-beside t names q (subst (AreBeside t) (sym same) (took-beside s t p held.beside rule told told' taken side y took));
+          beside = subst (AreBeside t) (sym same) (took-beside s t p held.beside rule told told' taken side y took);
         };
         frees = took.frees;
         pool = record { mblks = took.hand.mblks; dblks = took.hand.dblks };
@@ -160,8 +134,7 @@ abbrev joined : Rule → Side → List (Fate ℕ) → List (Module ℕ) → Stat
 joined rule side gone ms s = record { state = (all_taken rule side ms s).state; gone = gone ++ (all_taken rule side ms s).gone }
 
 rest-stands : (rule : Rule) (side : Side) (p : Module ℕ) (ps : List (Module ℕ)) (s : State ℕ) → (stream side (top_taken rule side (p ∷ ps) s).state).modules ≡ ps
-rest-stands rule Master p ps s = refl
-rest-stands rule Slave p ps s = refl
+rest-stands rule side p ps s = ap (λ (x : Stream ℕ). x.modules) (get-set-same side (record (stream side s) { modules = ps }) s.ends)
 
 pub none-taken : (rule : Rule) (side : Side) (s : State ℕ) → length (stream side s).modules ≡ 0 → after_all rule side s ≡ record { state = s; gone = [] }
 none-taken rule side s none = by (stream side s).modules none

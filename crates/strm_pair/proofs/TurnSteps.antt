@@ -5,7 +5,6 @@ use Rattle.strm_types.specs.declared.answers.Turn.TheVariants.{Blocked}
 use Rattle.strm_types.specs.declared.kinds.MsgKind.{MsgKind}
 use Rattle.strm_types.specs.declared.kinds.MsgKind.TheVariants.{Flush, Iocack, Ioctl}
 use Rattle.strm_types.specs.declared.names.Side.{Side}
-use Rattle.strm_types.specs.declared.names.Side.TheVariants.{Master, Slave}
 use Rattle.strm_types.specs.declared.names.Way.{Way}
 use Rattle.strm_types.specs.declared.names.Way.TheVariants.{Up}
 use Rattle.strm_types.specs.Cells as cells
@@ -21,7 +20,7 @@ use Rattle.strm_types.specs.Far.{far_at, is_turned, turns_round}
 use Rattle.strm_types.specs.Queue as plain
 use Rattle.strm_types.specs.Queue.{left_with}
 use Rattle.strm_laws.specs.Spares.{spare}
-use Rattle.strm_laws.specs.State.{State, stream}
+use Rattle.strm_laws.specs.State.{State, Stream, stream, with_driver_queue}
 use Rattle.strm_laws.specs.TurnOutcomes.{stayed_put}
 use Rattle.strm_laws.specs.Turns.{is_stopped_across, held_back, with_driver, moved_across, driver_serves, driver_turned, turn_ended}
 use Rattle.strm_laws.proofs.StackSpares.{same-spare}
@@ -41,7 +40,8 @@ use Rattle.strm_pair.specs.declared.streams.Streams.{Streams}
 use Rattle.strm_pair.specs.Framing.{rests}
 use Rattle.strm_pair.specs.Pairs.{state_in, end_at, with_end, AreBeside, Stays, kept_by}
 use Rattle.strm_pair.specs.Took.{TookFirst}
-use Rattle.strm_pair.proofs.Sides.{driver-changed, driver-state, driver-is}
+use Rattle.strm_pair.proofs.Sides.{driver-changed, driver-state, driver-is, stream-is}
+use Rattle.strm_pair.proofs.Idle.{idle-with}
 use Rattle.strm_pair.proofs.Peeked.{seen-before}
 
 pub only-dequeued : (s t : StoreValue) (q q' : Queue) (i : ℕ) → Dequeued s t q q' i → OnlyQueue s t q q'
@@ -67,8 +67,7 @@ took-first side s t p q i beside idle d =
 
 -- nothing of a turn is under way where a message was taken off a driver's queue
 pub taken-idle : (side : Side) (q : plain.Queue ℕ) (s : State ℕ) → AreIdle s → AreIdle (with_driver side q s)
-taken-idle Master q s idle = record { master = idle.master; slave = idle.slave }
-taken-idle Slave q s idle = record { master = idle.master; slave = idle.slave }
+taken-idle side q s idle = idle-with side (with_driver_queue q (stream side s)) s (idle side) idle
 
 pub took : (side : Side) (s t : StoreValue) (p : Streams) (q : Queue) (result : Option InHand) → AreBeside s p → AreIdle (state_in s p)
     → MatchOption result (messages_on s (end_at side p).driver.list ≡ []) (λ m. Dequeued s t (end_at side p).driver q (token m))
@@ -162,8 +161,7 @@ serves-moved side m rest st opened goes = rw (opened, goes) refl
 
 -- what is seen of both ends is what the state has
 opened-at : (s : StoreValue) (p : Streams) (side : Side) → (stream side (state_in s p)).opened ≡ (end_at side p).opened
-opened-at s p Master = refl
-opened-at s p Slave = refl
+opened-at s p side = ap (λ (x : Stream ℕ). x.opened) (stream-is s p side)
 
 -- whether the next queue above a driver has no room for a band
 abbrev full_above : Side → State ℕ → ℕ → Bool

@@ -2,10 +2,15 @@
 use Rattle.std.specs.Prelude.{ℕ, ◌≡◌, ◌+◌, ◌≤◌, ◌<◌, List, [], slice_index_or}
 use Rattle.std.proofs.Common.{refl, sym, ap, subst, ◌∙◌, arith}
 use Rattle.std.specs.List.{AllByRecursion}
+use Rattle.strm_types.specs.declared.both.Both.{Both}
+use Rattle.strm_types.specs.declared.names.Side.{Side}
+use Rattle.strm_types.specs.declared.names.Side.TheVariants.{Master, Slave}
 use Rattle.strm_types.specs.declared.spots.Spot.{Spot}
 use Rattle.strm_types.specs.Cells as cells
 use Rattle.strm_laws.specs.Kept.{AreIdle}
 use Rattle.strm_types.specs.Message.{Message}
+use Rattle.strm_types.specs.Names.{other}
+use Rattle.strm_types.proofs.BySide.{map-same}
 use Rattle.strm_laws.specs.Puts.{put_in}
 use Rattle.strm_laws.specs.StackCosts.{Stands, stack_cost, stands_of}
 use Rattle.strm_laws.specs.Stacked as plain
@@ -20,7 +25,8 @@ use Rattle.strm_queue.specs.Stored.{queue_in, HoldsReadable}
 use Rattle.strm_queue.proofs.Placed.{ready-same}
 use Rattle.strm_pair.specs.declared.ends.StreamEnd.{StreamEnd}
 use Rattle.strm_pair.specs.declared.streams.Streams.{Streams}
-use Rattle.strm_pair.specs.Pairs.{state_in, AreBeside, Stays, kept_by}
+use Rattle.strm_pair.specs.Lists.{first_list}
+use Rattle.strm_pair.specs.Pairs.{state_in, end_at, with_end, AreBeside, Stays, kept_by}
 use Rattle.strm_pair.specs.Streams.{stream_in, IsSide, AreApart}
 use Rattle.strm_pair.specs.Stacks.{modules_in, IsStackHeld, stack_keeps}
 use Rattle.strm_pair.specs.ModuleStacks.{stack-frame, stack-idle}
@@ -38,16 +44,14 @@ stream_with s e modules = record {
   driver = record { queue = queue_in s e.driver };
 }
 
--- a state by its two streams
-abbrev pub state_with : Streams → state.Stream ℕ → state.Stream ℕ → State ℕ
-state_with p m sl = record {
-  master = m;
-  slave = sl;
+-- a state by its streams
+abbrev pub state_with : Streams → Both (state.Stream ℕ) → State ℕ
+state_with p ends = record {
+  ends = ends;
   locked = p.locked;
   enabled = p.enabled;
   next_ioctl = p.next_ioctl;
-  from_master = p.from_master;
-  from_slave = p.from_slave;
+  books = p.books;
 }
 
 -- a stack that rests keeps nothing
@@ -55,14 +59,20 @@ none-kept : (s : StoreValue) (first : ℕ) (e : StreamEnd) → IsSide s first e 
 none-kept s first e is idle i = stack-idle s e.stack is.stack idle i
 
 pub rests : (s : StoreValue) (p : Streams) → AreBeside s p → AreIdle (state_in s p) → (i : ℕ) → kept_by p i ≡ 0
-rests s p beside idle i = omega (arith, none-kept s 0 p.master beside.master idle.master i, none-kept s 4 p.slave beside.slave idle.slave i)
+rests s p beside idle i = omega (arith, none-kept s 0 p.ends.master (beside Master) (idle Master) i, none-kept s 4 p.ends.slave (beside Slave) (idle Slave) i)
+
+-- what the stack of a side keeps, and the other one's
+pub kept-parts : (side : Side) (p : Streams) (i : ℕ) → kept_by p i ≡ stack_keeps (end_at side p).stack i + stack_keeps (end_at (other side) p).stack i
+kept-parts Master p i = refl
+kept-parts Slave p i = omega arith
+
+pub kept-with : (side : Side) (e : StreamEnd) (p : Streams) (i : ℕ) → kept_by (with_end side e p) i ≡ stack_keeps e.stack i + stack_keeps (end_at (other side) p).stack i
+kept-with Master e p i = refl
+kept-with Slave e p i = omega arith
 
 module _ (s t : StoreValue) where
-  pub stays-master : (p : Streams) → Stays s t (kept_by p) → Stays s t (stack_keeps p.master.stack)
-  stays-master p stays = record { mblks = stays.mblks; dblks = stays.dblks; kept = λ i some. stays.kept i (omega (arith, some)) }
-
-  pub stays-slave : (p : Streams) → Stays s t (kept_by p) → Stays s t (stack_keeps p.slave.stack)
-  stays-slave p stays = record { mblks = stays.mblks; dblks = stays.dblks; kept = λ i some. stays.kept i (omega (arith, some)) }
+  pub stays-at : (side : Side) (p : Streams) → Stays s t (kept_by p) → Stays s t (stack_keeps (end_at side p).stack)
+  stays-at side p stays = record { mblks = stays.mblks; dblks = stays.dblks; kept = λ i some. stays.kept i (omega (arith, some, kept-parts side p i)) }
 
   -- a stack stands for the same, and fits, where its lists are the same and what it keeps is
   pub stack-same : (first : ℕ) (e : StreamEnd) → IsSide s first e → Stays s t (stack_keeps e.stack) → ((k : ℕ) → first + 2 ≤ k → k < first + 4 → list_at t k ≡ list_at s k) → (modules_in t e.stack ≡ modules_in s e.stack) × IsStackHeld t e.stack
@@ -96,11 +106,10 @@ module _ (s t : StoreValue) where
 
     pub same-state : (p : Streams) → AreBeside s p → Stays s t (kept_by p) → state_in t p ≡ state_in s p
     same-state p beside stays =
-        ap (λ m. state_with p m (stream_in t p.slave)) (side-same 0 p.master beside.master (stays-master p stays))
-        ∙ ap (state_with p (stream_in s p.master)) (side-same 4 p.slave beside.slave (stays-slave p stays))
+        ap (state_with p) (map-same (stream_in t) (stream_in s) p.ends (λ side. side-same (first_list side) (end_at side p) (beside side) (stays-at side p stays)))
 
     pub same-beside : (p : Streams) → AreBeside s p → Stays s t (kept_by p) → AreBeside t p
-    same-beside p beside stays = record { master = side-fits 0 p.master beside.master (stays-master p stays); slave = side-fits 4 p.slave beside.slave (stays-slave p stays) }
+    same-beside p beside stays = λ side. side-fits (first_list side) (end_at side p) (beside side) (stays-at side p stays)
 
 pub streams-frame : (s t : StoreValue) (p : Streams) → SameFor s t (kept_by p) → AreBeside s p → (state_in t p ≡ state_in s p) × AreBeside t p
 streams-frame s t p same beside =

@@ -2,9 +2,12 @@
 use Rattle.std.specs.Prelude.{ℕ, ◌≡◌, ◌≤◌, ◌<◌, ◌+◌, ◌-◌, ◌*◌, ◌==◌, ◌%◌, ◌^◌, Bool, true, false, not, List, length, Option, HoldsAt}
 use Rattle.std.specs.Bool.{OnTrue}
 use Rattle.strm_types.specs.declared.answers.Turn.TheVariants.{Moved}
+use Rattle.strm_types.specs.declared.books.Book.{Book}
+use Rattle.strm_types.specs.declared.both.Both.{Both}
 use Rattle.strm_types.specs.declared.names.QueueName.{QueueName}
 use Rattle.strm_types.specs.declared.rules.Fates.{Fates}
 use Rattle.strm_types.specs.declared.spots.Spot.{Spot}
+use Rattle.strm_types.specs.Books.{with_made}
 use Rattle.strm_types.specs.Cells.{plain}
 use Rattle.strm_types.specs.Deliver.{AreLower, Fate, Took, tallied}
 use Rattle.strm_types.specs.Input.{made_of}
@@ -48,6 +51,10 @@ next_cost here s = call_cost here true s
 -- where more is made, it fits a book
 abbrev pub BookTakes : ℕ → ℕ → Type 0
 BookTakes made more = 0 < more → made + more < 2 ^ 64
+
+-- the books with so many more bytes made in each direction
+abbrev pub with_more : ℕ → ℕ → Both Book → Both Book
+with_more m n books = record { master = with_made m books.master; slave = with_made n books.slave }
 
 -- how much of the books a call takes at most that treats so many bytes: for what it makes, and for what becomes packets of what it sends
 abbrev pub call_units : ℕ → ℕ

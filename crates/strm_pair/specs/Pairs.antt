@@ -2,6 +2,7 @@
 use Rattle.std.specs.Prelude.{ℕ, ◌≡◌, ◌<◌, ◌+◌, List, []}
 use Rattle.strm_types.specs.declared.names.Side.{Side}
 use Rattle.strm_types.specs.declared.names.Side.TheVariants.{Master, Slave}
+use Rattle.strm_types.specs.Both.{get, set, map_both}
 use Rattle.strm_laws.specs.State.{State}
 use Rattle.strm_laws.specs.Refusals.{Free}
 use Rattle.strm_types.specs.Journal.{PlainEntry, entries_in}
@@ -15,32 +16,28 @@ use Rattle.strm_pair.specs.Stacks.{stack_keeps}
 -- the plain state
 abbrev pub state_in : StoreValue → Streams → State ℕ
 state_in s p = record {
-  master = stream_in s p.master;
-  slave = stream_in s p.slave;
+  ends = map_both (stream_in s) p.ends;
   locked = p.locked;
   enabled = p.enabled;
   next_ioctl = p.next_ioctl;
-  from_master = p.from_master;
-  from_slave = p.from_slave;
+  books = p.books;
 }
 
 -- the stream of a side
 abbrev pub end_at : Side → Streams → StreamEnd
-end_at Master p = p.master
-end_at Slave p = p.slave
+end_at side p = get side p.ends
 
 -- the streams with another stream on a side
 abbrev pub with_end : Side → StreamEnd → Streams → Streams
-with_end Master e p = record p { master = e }
-with_end Slave e p = record p { slave = e }
+with_end side e p = record p { ends = set side e p.ends }
 
 -- the store and the streams beside it fit, whatever is in hand
 abbrev pub AreBeside : StoreValue → Streams → Type 0
-AreBeside s p = AreSides s p.master p.slave
+AreBeside s p = AreSides s p.ends
 
 -- how often the stacks of both sides keep a message of a name in hand
 abbrev pub kept_by : Streams → ℕ → ℕ
-kept_by p i = stack_keeps p.master.stack i + stack_keeps p.slave.stack i
+kept_by p i = stack_keeps (end_at Master p).stack i + stack_keeps (end_at Slave p).stack i
 
 -- the same while nobody is in a call: nothing is in hand
 pub record AreHeld (s : StoreValue) (p : Streams) : Type 0 where

@@ -1,32 +1,33 @@
 -- What a pair shows of its queues.
-use Rattle.std.specs.Prelude.{ℕ, ◌≡◌, Bool, false, List, []}
+use Rattle.std.specs.Prelude.{ℕ, ◌≡◌, ◌+◌, Bool, false, List, []}
 use Rattle.strm_types.specs.Message.{Message}
 use Rattle.strm_types.specs.declared.names.Place.{Place}
 use Rattle.strm_types.specs.declared.names.Place.TheVariants.{Head, Ldterm, Driver}
 use Rattle.strm_types.specs.declared.names.Way.{Way}
 use Rattle.strm_types.specs.declared.names.Way.TheVariants.{Up, Down}
 use Rattle.strm_types.specs.declared.names.QueueName.{QueueName}
+use Rattle.strm_types.specs.Both.{AllSides}
 use Rattle.strm_types.specs.ModuleQueues as modules
 use Rattle.strm_types.specs.Queue.{count_of, is_full, first_size}
 use Rattle.strm_laws.specs.Stacked.{module_queue}
 use Rattle.strm_laws.specs.State.{State, Stream, stream}
 use Rattle.strm_blocks.specs.Blocks.{StoreValue}
 use Rattle.strm_queue.specs.Stored.{messages_on}
+use Rattle.strm_pair.specs.Lists.{first_list}
 use Rattle.strm_pair.specs.Named.{at_named, messages_named, messages_queued}
 
--- Each list of the store, read along its chains, is the state's queue: the master's head and driver on the lists 0
--- and 1, and on 2 and 3 what stands on the read queues and on the write queues of the modules on its stream, of which one at most has any; the
--- slave's on 4 to 7. Nothing is in hand.
+-- Four lists of the store from a number on, read along their chains, are a stream's queues: the head's and the driver's, and then what stands on the
+-- read queues and on the write queues of its modules, of which one at most has any.
+pub record ShowsStream (s : StoreValue) (first : ℕ) (t : Stream ℕ) : Type 0 where
+  pub head : messages_on s first ≡ t.head.queue.messages
+  pub driver : messages_on s (first + 1) ≡ t.driver.queue.messages
+  pub up : messages_on s (first + 2) ≡ messages_queued Up t.modules
+  pub down : messages_on s (first + 3) ≡ messages_queued Down t.modules
+
+-- The store shows the stream of each side: the master's from list 0 on, the slave's from 4. Nothing is in hand.
 pub record Shows (s : StoreValue) (state : State ℕ) : Type 0 where
   pub hand : s.hand ≡ []
-  pub master_head : messages_on s 0 ≡ state.master.head.queue.messages
-  pub master_driver : messages_on s 1 ≡ state.master.driver.queue.messages
-  pub master_up : messages_on s 2 ≡ messages_queued Up state.master.modules
-  pub master_down : messages_on s 3 ≡ messages_queued Down state.master.modules
-  pub slave_head : messages_on s 4 ≡ state.slave.head.queue.messages
-  pub slave_driver : messages_on s 5 ≡ state.slave.driver.queue.messages
-  pub slave_up : messages_on s 6 ≡ messages_queued Up state.slave.modules
-  pub slave_down : messages_on s 7 ≡ messages_queued Down state.slave.modules
+  pub streams : AllSides (λ side t. ShowsStream s (first_list side) t) state.ends
 
 -- the messages of a stream's queue: the head's read queue, the driver's write queue, or one of a module that stands there
 abbrev pub messages_in : Place → Way → Stream ℕ → List (Message ℕ)

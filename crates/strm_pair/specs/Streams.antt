@@ -1,7 +1,9 @@
 -- What the two streams stand for, beside their store.
 use Rattle.std.specs.Prelude.{ℕ, ◌≡◌, ◌+◌, ◌≤◌, ◌<◌, List, [], length, map, sum_by}
 use Rattle.std.specs.List.{AllByRecursion}
+use Rattle.strm_types.specs.declared.both.Both.{Both}
 use Rattle.strm_types.specs.declared.names.Way.TheVariants.{Up, Down}
+use Rattle.strm_types.specs.Both.{AllSides}
 use Rattle.strm_types.specs.Queue.{IsOrdered}
 use Rattle.strm_laws.specs.StackCosts.{EachOnce}
 use Rattle.strm_laws.specs.Stacked as plain
@@ -11,6 +13,7 @@ use Rattle.strm_blocks.specs.Blocks.{StoreValue, list_at}
 use Rattle.strm_pair.specs.declared.ends.StreamEnd.{StreamEnd}
 use Rattle.strm_head.specs.Heads.{head_in}
 use Rattle.strm_queue.specs.Stored.{messages_on, queue_in, IsReady, IsHeadQueue}
+use Rattle.strm_pair.specs.Lists.{first_list}
 use Rattle.strm_pair.specs.Named.{messages_queued}
 use Rattle.strm_pair.specs.Stacks.{modules_in, IsStackHeld, stack_owns}
 
@@ -59,7 +62,6 @@ pub record IsSide (s : StoreValue) (first : ℕ) (e : StreamEnd) : Type 0 where
   pub owned : (k : ℕ) → 0 < stack_owns e.stack k → (first + 2 ≤ k) × (k < first + 4)
   pub spare : (k : ℕ) → first + 2 ≤ k → k < first + 4 → stack_owns e.stack k ≡ 0 → list_at s k ≡ []
 
--- Both sides beside their store, whatever is in hand: the master's lists are 0 to 3, the slave's 4 to 7.
-pub record AreSides (s : StoreValue) (m sl : StreamEnd) : Type 0 where
-  pub master : IsSide s 0 m
-  pub slave : IsSide s 4 sl
+-- Both sides beside their store, whatever is in hand, each on lists of its own.
+abbrev pub AreSides : StoreValue → Both StreamEnd → Type 0
+AreSides s ends = AllSides (λ side e. IsSide s (first_list side) e) ends

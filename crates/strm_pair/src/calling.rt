@@ -3,7 +3,6 @@
 
 ghost use Rattle.std.specs.Prelude.{ℕ, ◌≡◌, ◌≤◌, ◌<◌, ◌+◌, ◌^◌, length, true, false};
 ghost use Rattle.strm_types.specs.declared.limits.TheConstants.{MODULES};
-ghost use Rattle.strm_types.specs.Books.{with_made};
 ghost use Rattle.strm_laws.specs.Kept.{AreIdle};
 ghost use Rattle.strm_laws.specs.Refusals.{in_range};
 ghost use Rattle.strm_laws.specs.State.{stream};
@@ -12,7 +11,7 @@ ghost use Rattle.strm_laws.specs.TurnCalls.{ldterm_of, module_at};
 ghost use Rattle.strm_blocks.specs.Blocks.{StoreValue};
 ghost use Rattle.strm_frame.specs.Hands.{HasRoom};
 ghost use Rattle.strm_frame.specs.Outboxes.{sent_of};
-ghost use Rattle.strm_pair.specs.ModuleServed.{ActsAs, BookTakes, CallsAs, IsKeptAll, MayBook, StackServes, TreatsAs, between, call_cost, call_of};
+ghost use Rattle.strm_pair.specs.ModuleServed.{ActsAs, BookTakes, CallsAs, IsKeptAll, MayBook, StackServes, TreatsAs, between, call_cost, call_of, with_more};
 
 use crate::earlier::note;
 use crate::stacks::place_at;
@@ -82,10 +81,7 @@ impl Streams {
         requires master { BookTakes self.old.books.master.made (between before.from_master told.now.made_from_master) }
         requires slave { BookTakes self.old.books.slave.made (between before.from_slave told.now.made_from_slave) }
         ensures { self.new ≡ record self.old {
-          books = record {
-            master = with_made (between before.from_master told.now.made_from_master) self.old.books.master;
-            slave = with_made (between before.from_slave told.now.made_from_slave) self.old.books.slave;
-          };
+          books = with_more (between before.from_master told.now.made_from_master) (between before.from_slave told.now.made_from_slave) self.old.books;
         } }
     {
         let made = Made::of(told).since(before);

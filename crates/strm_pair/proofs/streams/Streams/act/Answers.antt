@@ -2,7 +2,6 @@
 use Rattle.std.proofs.Common.{◌<◌, ◌-◌, length, sym, ap, ◌∙◌, arith}
 use Rattle.std.specs.Prelude.{slice_index_or, None}
 use Rattle.strm_types.specs.declared.names.Dir.TheVariants.{MasterToSlave, SlaveToMaster}
-use Rattle.strm_types.specs.Books.{with_made}
 use Rattle.strm_types.specs.Deliver.{tallied}
 use Rattle.strm_laws.specs.Earlier.{places_of}
 use Rattle.strm_laws.specs.Puts.{noted}
@@ -11,11 +10,11 @@ use Rattle.strm_laws.specs.TurnCalls.{called}
 use Rattle.strm_pair.specs.declared.ends.StreamEnd.{StreamEnd}
 use Rattle.strm_pair.specs.declared.calling.Made.{Made}
 use Rattle.strm_pair.specs.declared.streams.Streams.{Streams}
-use Rattle.strm_pair.specs.ModuleServed.{between, call_of, stop_in}
+use Rattle.strm_pair.specs.ModuleServed.{between, call_of, stop_in, with_more}
 use Rattle.strm_pair.specs.Nearest.{earlier_of}
-use Rattle.strm_pair.specs.Pairs.{end_at, state_in, with_end}
-use Rattle.strm_pair.proofs.ModuleSteps.{books-same, modules-are}
+use Rattle.strm_pair.specs.Pairs.{end_at, state_in}
 use Rattle.strm_pair.proofs.ServeSteps.{acts-by, made-fits, master-between, slave-between, tells-by, within-any}
+use Rattle.strm_pair.proofs.Sides.{modules-are}
 use Rattle.strm_pair.proofs.streams.Streams.act.Goals as goal
 use Rattle.strm_pair.specs.Stacks.{modules_in}
 
@@ -49,7 +48,7 @@ book_made-requires-clause-master g c =
     let counts = c.of-before.ensures.counts in
     let before = ap (λ (m : Made). m.from_master) counts in
     let made = ap (λ k. between k f'.made_from_master) before ∙ master-between here c.args.again call st tells c.requires.begins low c.requires.books f f' (omega (arith, few, before)) tallies in
-    let book = ap (λ (y : Streams). y.from_master.made) e.streams ∙ ap (λ b. b.made) (books-same here.side (record (end_at here.side p) { stack = x }) p).0 in
+    let book = ap (λ (y : Streams). y.books.master.made) e.streams in
     let fits = made-fits here c.args.again call st tells c.requires.begins low c.requires.books MasterToSlave in
     λ some. omega (arith, made, book, fits)
 
@@ -72,7 +71,7 @@ book_made-requires-clause-slave g c =
     let few = c.of-before.ensures.few.1 in
     let before = ap (λ (m : Made). m.from_slave) c.of-before.ensures.counts in
     let made = ap (λ k. between k f'.made_from_slave) before ∙ slave-between here c.args.again call st tells c.requires.begins low c.requires.books f f' (omega (arith, few, before)) tallies in
-    let book = ap (λ (y : Streams). y.from_slave.made) e.streams ∙ ap (λ b. b.made) (books-same here.side (record (end_at here.side p) { stack = x }) p).1 in
+    let book = ap (λ (y : Streams). y.books.slave.made) e.streams in
     let fits = made-fits here c.args.again call st tells c.requires.begins low c.requires.books SlaveToMaster in
     λ some. omega (arith, made, book, fits)
 
@@ -104,14 +103,9 @@ returns g c =
     let n_is = ap (λ k. between k f'.made_from_slave) second ∙ slave-between here c.args.again call st tells c.requires.begins low c.requires.books f f' (omega (arith, few.1, second)) tallies in
     let m = between c.of-before.result.from_master f'.made_from_master in
     let n = between c.of-before.result.from_slave f'.made_from_slave in
-    let changed = with_end here.side (record (end_at here.side p) { stack = x }) p in
-    let same = books-same here.side (record (end_at here.side p) { stack = x }) p in
-    let at : Streams → Streams = λ z. record z { enabled = noted here.side place earlier served.acts.notes.items z.enabled; from_master = with_made m z.from_master; from_slave = with_made n z.from_slave } in
+    let at : Streams → Streams = λ z. record z { enabled = noted here.side place earlier served.acts.notes.items z.enabled; books = with_more m n z.books } in
     acts-by s t p c.book_made.new.self x here c.args.again served f f' place earlier m n c.audit.ensures c.requires.hand c.requires.beside
     place_is (λ way. c.earlier-earlier.ensures s way) e.serves m_is n_is
     (c.book_made.ensures
-    ∙ ap (λ ns. record y { enabled = ns; from_master = with_made m y.from_master; from_slave = with_made n y.from_slave }) (c.note.ensures ∙ ap (λ ns. noted here.side place earlier ns y.enabled) c.as_slice.ensures.value)
-    ∙ ap at e.streams
-    ∙ ap (λ b. record changed { enabled = noted here.side place earlier served.acts.notes.items changed.enabled; from_master = with_made m b; from_slave = with_made n changed.from_slave }) same.0
-    ∙ ap (λ b. record changed { enabled = noted here.side place earlier served.acts.notes.items changed.enabled; from_master = with_made m p.from_master; from_slave = with_made n b }) same.1
-    ∙ ap (λ ns. record changed { enabled = noted here.side place earlier served.acts.notes.items ns; from_master = with_made m p.from_master; from_slave = with_made n p.from_slave }) same.2)
+    ∙ ap (λ ns. record y { enabled = ns; books = with_more m n y.books }) (c.note.ensures ∙ ap (λ ns. noted here.side place earlier ns y.enabled) c.as_slice.ensures.value)
+    ∙ ap at e.streams)

@@ -1,71 +1,41 @@
 -- Nothing is left on the queue that was cleared.
-use Rattle.std.proofs.Common.{◌≡◌, ap, ◌∙◌, refl, sym, subst}
-use Rattle.strm_types.specs.declared.names.Side.{Side}
+use Rattle.std.proofs.Common.{◌≡◌, ap, ◌∙◌, refl}
 use Rattle.strm_types.specs.declared.names.Way.TheVariants.{Up}
 use Rattle.strm_types.specs.Emptied.{of_all, queue_behind, writer_goes}
 use Rattle.strm_types.specs.Names.{enable_some}
-use Rattle.strm_laws.specs.Closes.{head_behind}
-use Rattle.strm_laws.specs.Earlier.{before_at}
-use Rattle.strm_types.specs.declared.names.Side.TheVariants.{Master, Slave}
+use Rattle.strm_laws.specs.Earlier.{before_among}
 use Rattle.strm_queue.specs.Stored.{queue_in}
 use Rattle.strm_pair.specs.Framing.{still}
 use Rattle.strm_pair.specs.declared.streams.Streams.{Streams}
-use Rattle.strm_pair.specs.Pairs.{kept_by, state_in, with_end}
-use Rattle.strm_pair.proofs.Sides.{head-changed, head-went, only-changed, readable-cleared}
+use Rattle.strm_pair.specs.Pairs.{end_at, kept_by, state_in, with_end}
+use Rattle.strm_pair.proofs.Sides.{head-changed, head-went, modules-behind, only-changed, readable-cleared}
 use Rattle.strm_pair.proofs.streams.Streams.clear_head.Goals as goal
-use Rattle.strm_pair.proofs.streams.Streams.clear_head.Goals.{in-Master, in-Slave}
 
 pub returns-clause-held : goal.returns-clause-held
 returns-clause-held g c =
     let s = g.B.Blocks.value c.args.store.now in
+    let t = g.B.Blocks.value c.clear_queue-gone.new.store in
     let p = c.args.self.now in
-    elim c.match-side.branch [
-      | in-Master w ↦
-          (let e = w.clear_queue-gone.ensures in
-          let t = g.B.Blocks.value w.clear_queue-gone.new.store in
-          let q = w.clear_queue-gone.new.queue in
-          rw (w.store-is, c.let_go.ensures s, w.self-is)
-          (record {
-            hand = e.changes.hand ∙ c.requires.hand;
-            beside = head-changed s t p c.requires.beside (still s t (kept_by p) e.changes.hand e.changes.mblks e.changes.dblks) Master (record p.master.head { queue = q }) (only-changed s t p.master.head.queue q e.changes) (readable-cleared t q (queue_in s p.master.head.queue) e.queue);
-          }))
-      | in-Slave w ↦
-          (let e = w.clear_queue-gone-in-Slave.ensures in
-          let t = g.B.Blocks.value w.clear_queue-gone-in-Slave.new.store in
-          let q = w.clear_queue-gone-in-Slave.new.queue in
-          rw (w.store-is, c.let_go.ensures s, w.self-is)
-          (record {
-            hand = e.changes.hand ∙ c.requires.hand;
-            beside = head-changed s t p c.requires.beside (still s t (kept_by p) e.changes.hand e.changes.mblks e.changes.dblks) Slave (record p.slave.head { queue = q }) (only-changed s t p.slave.head.queue q e.changes) (readable-cleared t q (queue_in s p.slave.head.queue) e.queue);
-          }))
-    ]
+    let h = (end_at c.args.side p).head in
+    let q = c.clear_queue-gone.new.queue in
+    let e = rw c.get_mut.ensures.value at c.clear_queue-gone.ensures in
+    rw (c.let_go.ensures s, c.get_mut.ensures.value)
+    (record {
+      hand = e.changes.hand ∙ c.requires.hand;
+      beside = head-changed s t p c.requires.beside (still s t (kept_by p) e.changes.hand e.changes.mblks e.changes.dblks) c.args.side (record h { queue = q }) (only-changed s t h.queue q e.changes) (readable-cleared t q (queue_in s h.queue) e.queue);
+    })
 
 pub returns-clause-state : goal.returns-clause-state
 returns-clause-state g c =
     let s = g.B.Blocks.value c.args.store.now in
+    let t = g.B.Blocks.value c.clear_queue-gone.new.store in
     let p = c.args.self.now in
-    let m = c.match-side in
-    let beside = c.requires.beside in
-    ap (state_in (g.B.Blocks.value m.store)) (c.let_go.ensures s)
-    ∙ elim m.branch [
-      | in-Master w ↦
-          (let e = w.clear_queue-gone.ensures in
-          let t = g.B.Blocks.value w.clear_queue-gone.new.store in
-          let q = w.clear_queue-gone.new.queue in
-          let one : Streams = with_end Master (record p.master { head = record p.master.head { queue = q } }) p in
-          let went = head-went s t p beside p.master.head.queue q (queue_behind of_all (queue_in s p.master.head.queue)) w.clear_queue-gone.result.room (writer_goes of_all (queue_in s p.master.head.queue)) e.changes Master refl e.queue e.room in
-          ap (λ (x : Streams). record (state_in (g.B.Blocks.value m.store) x) { enabled = enable_some m.gone.room (before_at c.args.side Up 0 (state_in s x)) x.enabled }) w.self-is
-          ∙ ap (λ z. record (state_in (g.B.Blocks.value z) one) { enabled = enable_some m.gone.room (before_at c.args.side Up 0 (state_in s one)) p.enabled }) w.store-is
-          ∙ ap (λ gone. record (state_in t one) { enabled = enable_some gone.room (before_at c.args.side Up 0 (state_in s one)) p.enabled }) w.gone-is
-          ∙ subst (λ (sd : Side). record (state_in t one) { enabled = enable_some w.clear_queue-gone.result.room (before_at sd Up 0 (state_in s one)) p.enabled } ≡ head_behind of_all sd (state_in s p)) (sym w.in-Master.is) went)
-      | in-Slave w ↦
-          (let e = w.clear_queue-gone-in-Slave.ensures in
-          let t = g.B.Blocks.value w.clear_queue-gone-in-Slave.new.store in
-          let q = w.clear_queue-gone-in-Slave.new.queue in
-          let one : Streams = with_end Slave (record p.slave { head = record p.slave.head { queue = q } }) p in
-          let went = head-went s t p beside p.slave.head.queue q (queue_behind of_all (queue_in s p.slave.head.queue)) w.clear_queue-gone-in-Slave.result.room (writer_goes of_all (queue_in s p.slave.head.queue)) e.changes Slave refl e.queue e.room in
-          ap (λ (x : Streams). record (state_in (g.B.Blocks.value m.store) x) { enabled = enable_some m.gone.room (before_at c.args.side Up 0 (state_in s x)) x.enabled }) w.self-is
-          ∙ ap (λ z. record (state_in (g.B.Blocks.value z) one) { enabled = enable_some m.gone.room (before_at c.args.side Up 0 (state_in s one)) p.enabled }) w.store-is
-          ∙ ap (λ gone. record (state_in t one) { enabled = enable_some gone.room (before_at c.args.side Up 0 (state_in s one)) p.enabled }) w.gone-is
-          ∙ subst (λ (sd : Side). record (state_in t one) { enabled = enable_some w.clear_queue-gone-in-Slave.result.room (before_at sd Up 0 (state_in s one)) p.enabled } ≡ head_behind of_all sd (state_in s p)) (sym w.in-Slave.is) went)
-    ]
+    let side = c.args.side in
+    let end = end_at side p in
+    let q = c.clear_queue-gone.new.queue in
+    let room = c.clear_queue-gone.result.room in
+    let e = rw c.get_mut.ensures.value at c.clear_queue-gone.ensures in
+    let one : Streams = with_end side (record end { head = record end.head { queue = q } }) p in
+    ap (state_in t) (rw c.get_mut.ensures.value at c.let_go.ensures s)
+    ∙ ap (λ ms. record (state_in t one) { enabled = enable_some room (before_among side Up 0 ms) p.enabled }) (modules-behind s p side (record end { head = record end.head { queue = q } }) refl)
+    ∙ head-went s t p c.requires.beside end.head.queue q (queue_behind of_all (queue_in s end.head.queue)) room (writer_goes of_all (queue_in s end.head.queue)) e.changes side refl e.queue e.room

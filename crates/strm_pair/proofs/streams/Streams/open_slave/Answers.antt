@@ -5,19 +5,19 @@ use Rattle.strm_types.specs.declared.names.Openness.TheVariants.{Open}
 use Rattle.strm_types.specs.declared.names.Side.TheVariants.{Master, Slave}
 use Rattle.strm_types.specs.Heads.{Head, new_head}
 use Rattle.strm_types.specs.Names.{driver_of, enable, enable_if}
-use Rattle.strm_laws.specs.State.{State}
+use Rattle.strm_laws.specs.State.{State, stream, with_stream}
 use Rattle.strm_head.specs.Heads.{head_in}
 use Rattle.strm_pair.specs.Pairs.{state_in}
-use Rattle.strm_pair.proofs.Sides.{none-left, renewed-state, slave-renewed}
+use Rattle.strm_pair.proofs.Sides.{none-left, renewed-beside, renewed-state}
 use Rattle.strm_pair.proofs.streams.Streams.open_slave.Goals as goal
 
 pub returns-then-not-is_empty-clause-held : goal.returns-then-not-is_empty-clause-held
 returns-then-not-is_empty-clause-held g c =
-    record { hand = c.open.ensures.keeps.hand ∙ c.requires.hand; beside = slave-renewed (g.B.Blocks.value c.args.store.now) (g.B.Blocks.value c.open.new.store) c.args.self.now c.open.new.self c.requires.beside c.open.ensures.driver c.open.ensures.stack c.open.ensures.keeps }
+    record { hand = c.open.ensures.keeps.hand ∙ c.requires.hand; beside = renewed-beside (g.B.Blocks.value c.args.store.now) (g.B.Blocks.value c.open.new.store) c.args.self.now c.open.new.self c.requires.beside Slave c.open.ensures.driver c.open.ensures.stack c.open.ensures.keeps }
 
 pub returns-else-not-is_empty-clause-held : goal.returns-else-not-is_empty-clause-held
 returns-else-not-is_empty-clause-held g c =
-    record { hand = c.open.ensures.keeps.hand ∙ c.requires.hand; beside = slave-renewed (g.B.Blocks.value c.args.store.now) (g.B.Blocks.value c.open.new.store) c.args.self.now c.open.new.self c.requires.beside c.open.ensures.driver c.open.ensures.stack c.open.ensures.keeps }
+    record { hand = c.open.ensures.keeps.hand ∙ c.requires.hand; beside = renewed-beside (g.B.Blocks.value c.args.store.now) (g.B.Blocks.value c.open.new.store) c.args.self.now c.open.new.self c.requires.beside Slave c.open.ensures.driver c.open.ensures.stack c.open.ensures.keeps }
 
 pub returns-then-not-is_empty-clause-state : goal.returns-then-not-is_empty-clause-state
 returns-then-not-is_empty-clause-state g c =
@@ -29,10 +29,10 @@ returns-then-not-is_empty-clause-state g c =
     let e = c.open.ensures in
     ap (λ (v : State ℕ). record v { enabled = c.enable.new.self })
     (renewed-state s t p x c.requires.beside Slave e.driver e.stack e.keeps
-    ∙ ap (λ (o : Openness). record st { slave = record st.slave { opened = o; head = head_in t x.head } }) e.opened
-    ∙ ap (λ (h : Head ℕ). record st { slave = record st.slave { opened = Open; head = h } }) e.head)
-    ∙ ap (λ names. record st { slave = record st.slave { opened = Open; head = new_head }; enabled = names })
-    (c.enable.ensures ∙ ap (λ n. enable n p.enabled) c.driver.ensures ∙ sym (ap (λ b. enable_if b (driver_of Master) p.enabled) (ap not (none-left s t p.master.driver.list (e.keeps.others p.master.driver.list (λ same. let a = c.requires.beside.master.driver_list in let b = c.requires.beside.slave.head_list in absurd (omega arith)))) ∙ ap not (sym c.is_empty.ensures ∙ c.if-not-is_empty.true))))
+    ∙ ap (λ (o : Openness). with_stream Slave (record (stream Slave st) { opened = o; head = head_in t x.head }) st) e.opened
+    ∙ ap (λ (h : Head ℕ). with_stream Slave (record (stream Slave st) { opened = Open; head = h }) st) e.head)
+    ∙ ap (λ names. record (with_stream Slave (record (stream Slave st) { opened = Open; head = new_head }) st) { enabled = names })
+    (c.enable.ensures ∙ ap (λ n. enable n p.enabled) c.driver.ensures ∙ sym (ap (λ b. enable_if b (driver_of Master) p.enabled) (ap not (none-left s t p.ends.master.driver.list (e.keeps.others p.ends.master.driver.list (λ same. let a = (c.requires.beside Master).driver_list in let b = (c.requires.beside Slave).head_list in absurd (omega arith)))) ∙ ap not (sym c.is_empty.ensures ∙ c.if-not-is_empty.true))))
 
 pub returns-else-not-is_empty-clause-state : goal.returns-else-not-is_empty-clause-state
 returns-else-not-is_empty-clause-state g c =
@@ -44,7 +44,7 @@ returns-else-not-is_empty-clause-state g c =
     let e = c.open.ensures in
     ap (λ (v : State ℕ). record v { enabled = p.enabled })
     (renewed-state s t p x c.requires.beside Slave e.driver e.stack e.keeps
-    ∙ ap (λ (o : Openness). record st { slave = record st.slave { opened = o; head = head_in t x.head } }) e.opened
-    ∙ ap (λ (h : Head ℕ). record st { slave = record st.slave { opened = Open; head = h } }) e.head)
-    ∙ ap (λ names. record st { slave = record st.slave { opened = Open; head = new_head }; enabled = names })
-    (sym (ap (λ b. enable_if b (driver_of Master) p.enabled) (ap not (none-left s t p.master.driver.list (e.keeps.others p.master.driver.list (λ same. let a = c.requires.beside.master.driver_list in let b = c.requires.beside.slave.head_list in absurd (omega arith)))) ∙ ap not (sym c.is_empty.ensures ∙ c.if-not-is_empty.false))))
+    ∙ ap (λ (o : Openness). with_stream Slave (record (stream Slave st) { opened = o; head = head_in t x.head }) st) e.opened
+    ∙ ap (λ (h : Head ℕ). with_stream Slave (record (stream Slave st) { opened = Open; head = h }) st) e.head)
+    ∙ ap (λ names. record (with_stream Slave (record (stream Slave st) { opened = Open; head = new_head }) st) { enabled = names })
+    (sym (ap (λ b. enable_if b (driver_of Master) p.enabled) (ap not (none-left s t p.ends.master.driver.list (e.keeps.others p.ends.master.driver.list (λ same. let a = (c.requires.beside Master).driver_list in let b = (c.requires.beside Slave).head_list in absurd (omega arith)))) ∙ ap not (sym c.is_empty.ensures ∙ c.if-not-is_empty.false))))

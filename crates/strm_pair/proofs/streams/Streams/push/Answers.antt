@@ -53,4 +53,4 @@ pub returns-clause-held : goal.returns-clause-held
 returns-clause-held g c =
     let r = c.put_on.ensures.held in
     subst (λ (p : Streams). AreHeld (g.B.Blocks.value c.put_mode.new.store) p) (sym c.come_from_driver.ensures)
-    (record { hand = r.hand; beside = record { master = r.beside.master; slave = r.beside.slave } })
+    (record { hand = r.hand; beside = r.beside })

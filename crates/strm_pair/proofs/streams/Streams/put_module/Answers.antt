@@ -2,7 +2,6 @@
 use Rattle.std.proofs.Common.{◌-◌, sym, ap, ◌∙◌, arith}
 use Rattle.std.specs.Prelude.{slice_index_or, None}
 use Rattle.strm_types.specs.declared.names.Dir.TheVariants.{MasterToSlave, SlaveToMaster}
-use Rattle.strm_types.specs.Books.{with_made}
 use Rattle.strm_types.specs.Deliver.{tallied}
 use Rattle.strm_laws.specs.Earlier.{places_of}
 use Rattle.strm_laws.specs.Puts.{noted}
@@ -10,12 +9,13 @@ use Rattle.strm_laws.specs.State as state
 use Rattle.strm_frame.specs.Outboxes.{message_in}
 use Rattle.strm_pair.specs.declared.calling.Made.{Made}
 use Rattle.strm_pair.specs.declared.streams.Streams.{Streams}
-use Rattle.strm_pair.specs.ModuleServed.{between}
+use Rattle.strm_pair.specs.ModuleServed.{between, with_more}
 use Rattle.strm_pair.specs.Nearest.{earlier_of}
-use Rattle.strm_pair.specs.Pairs.{end_at, state_in, with_end}
+use Rattle.strm_pair.specs.Pairs.{end_at, state_in}
 use Rattle.strm_pair.specs.PutBy.{taken_at}
-use Rattle.strm_pair.proofs.ModuleSteps.{books-same, module-by, modules-are, put-between, put-fits}
+use Rattle.strm_pair.proofs.ModuleSteps.{module-by, put-between, put-fits}
 use Rattle.strm_pair.proofs.PlaceCosts.{plain-few}
+use Rattle.strm_pair.proofs.Sides.{modules-are}
 use Rattle.strm_pair.proofs.streams.Streams.put_module.Goals as goal
 use Rattle.strm_blocks.specs.Blocks.{token}
 
@@ -30,14 +30,13 @@ book_made-requires-clause-master g c =
     let f = c.args.told.now in
     let f' = c.put_on_stack-acts.new.told in
     let e = c.put_on_stack-acts.ensures in
-    let x = (end_at to.side c.put_on_stack-acts.new.self).stack in
     let small = plain-few s i c.audit.ensures in
     let tells = e.takes.tells ∙ ap (λ ls. tallied (taken_at to m ls).gone f) (sym (modules-are s p to.side)) in
     let few = c.of-before.ensures.few in
     let first = ap (λ (b : Made). b.from_master) c.of-before.ensures.counts in
     let second = ap (λ (b : Made). b.from_slave) c.of-before.ensures.counts in
     let made = ap (λ k. between k f'.made_from_master) first ∙ put-between to m st small MasterToSlave f f' (omega (arith, few.0, first)) (omega (arith, few.1, second)) tells in
-    let book = ap (λ (y : Streams). y.from_master.made) e.streams ∙ ap (λ b. b.made) (books-same to.side (record (end_at to.side p) { stack = x }) p).0 in
+    let book = ap (λ (y : Streams). y.books.master.made) e.streams in
     λ some. (let fits = put-fits to m st small c.requires.books MasterToSlave (omega (arith, some, made)) in omega (arith, made, book, fits))
 
 pub book_made-requires-clause-slave : goal.book_made-requires-clause-slave
@@ -51,14 +50,13 @@ book_made-requires-clause-slave g c =
     let f = c.args.told.now in
     let f' = c.put_on_stack-acts.new.told in
     let e = c.put_on_stack-acts.ensures in
-    let x = (end_at to.side c.put_on_stack-acts.new.self).stack in
     let small = plain-few s i c.audit.ensures in
     let tells = e.takes.tells ∙ ap (λ ls. tallied (taken_at to m ls).gone f) (sym (modules-are s p to.side)) in
     let few = c.of-before.ensures.few in
     let first = ap (λ (b : Made). b.from_master) c.of-before.ensures.counts in
     let second = ap (λ (b : Made). b.from_slave) c.of-before.ensures.counts in
     let made = ap (λ k. between k f'.made_from_slave) second ∙ put-between to m st small SlaveToMaster f f' (omega (arith, few.0, first)) (omega (arith, few.1, second)) tells in
-    let book = ap (λ (y : Streams). y.from_slave.made) e.streams ∙ ap (λ b. b.made) (books-same to.side (record (end_at to.side p) { stack = x }) p).1 in
+    let book = ap (λ (y : Streams). y.books.slave.made) e.streams in
     λ some. (let fits = put-fits to m st small c.requires.books SlaveToMaster (omega (arith, some, made)) in omega (arith, made, book, fits))
 
 pub returns : goal.returns
@@ -87,14 +85,9 @@ returns g c =
     let b = between c.of-before.result.from_slave f'.made_from_slave in
     let a_is = ap (λ k. between k f'.made_from_master) first ∙ put-between to m st small MasterToSlave f f' (omega (arith, few.0, first)) (omega (arith, few.1, second)) tells in
     let b_is = ap (λ k. between k f'.made_from_slave) second ∙ put-between to m st small SlaveToMaster f f' (omega (arith, few.0, first)) (omega (arith, few.1, second)) tells in
-    let changed = with_end to.side (record (end_at to.side p) { stack = x }) p in
-    let same = books-same to.side (record (end_at to.side p) { stack = x }) p in
-    let at : Streams → Streams = λ z. record z { enabled = noted to.side place earlier acts.notes.items z.enabled; from_master = with_made a z.from_master; from_slave = with_made b z.from_slave } in
+    let at : Streams → Streams = λ z. record z { enabled = noted to.side place earlier acts.notes.items z.enabled; books = with_more a b z.books } in
     module-by s (g.B.Blocks.value c.put_on_stack-acts.new.store) p c.book_made.new.self x i to place earlier acts f f' a b
     c.audit.ensures c.requires.can_put place_is (λ way. c.earlier-earlier.ensures s way) c.requires.beside e.takes a_is b_is
     (c.book_made.ensures
-    ∙ ap (λ ns. record y { enabled = ns; from_master = with_made a y.from_master; from_slave = with_made b y.from_slave }) (c.note.ensures ∙ ap (λ ns. noted to.side place earlier ns y.enabled) c.as_slice.ensures.value)
-    ∙ ap at e.streams
-    ∙ ap (λ k. record changed { enabled = noted to.side place earlier acts.notes.items changed.enabled; from_master = with_made a k; from_slave = with_made b changed.from_slave }) same.0
-    ∙ ap (λ k. record changed { enabled = noted to.side place earlier acts.notes.items changed.enabled; from_master = with_made a p.from_master; from_slave = with_made b k }) same.1
-    ∙ ap (λ ns. record changed { enabled = noted to.side place earlier acts.notes.items ns; from_master = with_made a p.from_master; from_slave = with_made b p.from_slave }) same.2)
+    ∙ ap (λ ns. record y { enabled = ns; books = with_more a b y.books }) (c.note.ensures ∙ ap (λ ns. noted to.side place earlier ns y.enabled) c.as_slice.ensures.value)
+    ∙ ap at e.streams)

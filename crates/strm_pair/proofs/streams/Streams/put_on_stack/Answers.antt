@@ -1,39 +1,40 @@
 -- The stack of the side takes the message, as its put says.
-use Rattle.std.proofs.Common.{◌≤◌, sym, subst, arith}
+use Rattle.std.proofs.Common.{length, ap, sym, subst, ◌∙◌, arith}
 use Rattle.std.proofs.lemmas.List.{length-map}
-use Rattle.strm_types.specs.declared.names.Side.{Side}
 use Rattle.strm_types.specs.ModuleQueues.{at_place}
-use Rattle.strm_laws.specs.Earlier.{modules_on}
 use Rattle.strm_laws.specs.StackCosts.{module_takes}
-use Rattle.strm_laws.specs.State.{stream}
 use Rattle.strm_frame.specs.Hands.{HasRoom}
 use Rattle.strm_frame.specs.Outboxes.{message_in}
 use Rattle.strm_pair.specs.AnyModules.{module_in}
-use Rattle.strm_pair.specs.declared.streams.Streams.{Streams}
-use Rattle.strm_pair.specs.Pairs.{end_at, state_in}
+use Rattle.strm_pair.specs.declared.ends.StreamEnd.{StreamEnd}
+use Rattle.strm_pair.specs.Framing.{kept-parts}
+use Rattle.strm_pair.specs.Pairs.{end_at}
 use Rattle.strm_pair.specs.PutBy.{StackTakes}
+use Rattle.strm_pair.specs.Stacks.{modules_in, stack_keeps}
+use Rattle.strm_pair.proofs.Sides.{modules-are, stack-there}
 use Rattle.strm_pair.proofs.streams.Streams.put_on_stack.Goals as goal
 use Rattle.strm_blocks.specs.Blocks.{token}
 
 pub put-requires : goal.put-requires
 put-requires g c =
     let s = g.B.Blocks.value c.args.store.now in
-    let st = state_in s c.args.self.now in
+    let p = c.args.self.now in
     let to = c.args.to in
-    let there = subst (λ sd. to.at ≤ modules_on sd st) c.in-Master.is c.requires.within in
-    let few = length-map c.args.self.now.master.stack.modules.items (module_in s) in (
+    let is = c.get_mut.ensures.value in
+    let few = length-map c.get_mut.result.now.stack.modules.items (module_in s) in
+    let same = modules-are s p to.side ∙ ap (λ (e : StreamEnd). modules_in s e.stack) (sym is) in (
       omega arith,
       (
         c.requires.inside,
         (
-          omega (arith, there, few),
+          omega (arith, c.requires.within, few, ap length same),
           (
-            c.requires.beside.master.stack,
+            rw is (c.requires.beside to.side).stack,
             (
-              record { apart = λ i. omega (arith, c.requires.can_put.apart i) },
+              record { apart = λ i. omega (arith, c.requires.can_put.apart i, kept-parts to.side p i, ap (λ (e : StreamEnd). stack_keeps e.stack i) is) },
               (
                 c.requires.chain,
-                subst (λ sd. HasRoom s (at_place (module_takes to (message_in s (token c.args.message))) 0 to.at (stream sd st).modules)) c.in-Master.is c.requires.room,
+                subst (λ ms. HasRoom s (at_place (module_takes to (message_in s (token c.args.message))) 0 to.at ms)) same c.requires.room,
               ),
             ),
           ),
@@ -41,46 +42,15 @@ put-requires g c =
       ),
     )
 
-pub put-requires-in-Slave : goal.put-requires-in-Slave
-put-requires-in-Slave g c =
+pub returns-clause-streams : goal.returns-clause-streams
+returns-clause-streams g c = (stack-there c.args.self.now c.args.to.side c.get_mut.result.now c.put.new.self c.get_mut.ensures.value).1
+
+pub returns-clause-takes : goal.returns-clause-takes
+returns-clause-takes g c =
     let s = g.B.Blocks.value c.args.store.now in
-    let st = state_in s c.args.self.now in
-    let to = c.args.to in
-    let there = subst (λ sd. to.at ≤ modules_on sd st) c.in-Slave.is c.requires.within in
-    let few = length-map c.args.self.now.slave.stack.modules.items (module_in s) in (
-      omega arith,
-      (
-        c.requires.inside,
-        (
-          omega (arith, there, few),
-          (
-            c.requires.beside.slave.stack,
-            (
-              record { apart = λ i. omega (arith, c.requires.can_put.apart i) },
-              (
-                c.requires.chain,
-                subst (λ sd. HasRoom s (at_place (module_takes to (message_in s (token c.args.message))) 0 to.at (stream sd st).modules)) c.in-Slave.is c.requires.room,
-              ),
-            ),
-          ),
-        ),
-      ),
-    )
-
-pub returns-in-Master-clause-takes : goal.returns-in-Master-clause-takes
-returns-in-Master-clause-takes g c =
-    let e = c.put.ensures in
-    let p = c.args.self.now in
-    let q : Streams = record p { master = record p.master { stack = c.put.new.self } } in
-    subst (λ (side : Side). StackTakes (g.B.Blocks.value c.args.store.now) (g.B.Blocks.value c.put.new.store) (end_at side p).stack (end_at side q).stack
-    (token c.args.message) c.args.to c.put.result c.args.told.now c.put.new.told) (sym c.in-Master.is)
-    (record { state = e.state; notes = e.notes; sent = e.sent; tells = e.told; held = e.held; own = e.own; chains = e.chains; hands = e.hands; spends = e.spends; pool = e.pool })
-
-pub returns-in-Slave-clause-takes : goal.returns-in-Slave-clause-takes
-returns-in-Slave-clause-takes g c =
-    let e = c.put-in-Slave.ensures in
-    let p = c.args.self.now in
-    let q : Streams = record p { slave = record p.slave { stack = c.put-in-Slave.new.self } } in
-    subst (λ (side : Side). StackTakes (g.B.Blocks.value c.args.store.now) (g.B.Blocks.value c.put-in-Slave.new.store) (end_at side p).stack (end_at side q).stack
-    (token c.args.message) c.args.to c.put-in-Slave.result c.args.told.now c.put-in-Slave.new.told) (sym c.in-Slave.is)
+    let t = g.B.Blocks.value c.put.new.store in
+    let x = (end_at c.args.to.side c.args.self.now).stack in
+    let e = rw c.get_mut.ensures.value at c.put.ensures in
+    subst (λ y. StackTakes s t x y (token c.args.message) c.args.to c.put.result c.args.told.now c.put.new.told)
+    (sym (stack-there c.args.self.now c.args.to.side c.get_mut.result.now c.put.new.self c.get_mut.ensures.value).0)
     (record { state = e.state; notes = e.notes; sent = e.sent; tells = e.told; held = e.held; own = e.own; chains = e.chains; hands = e.hands; spends = e.spends; pool = e.pool })

@@ -2,7 +2,6 @@
 use Rattle.std.proofs.Common.{ℕ, ◌≡◌, ◌≤◌, List, [], ◌∷◌, refl, sym, ap, subst, ◌∙◌, arith}
 use Rattle.strm_types.specs.declared.ioctls.Ioc.{Ioc}
 use Rattle.strm_types.specs.declared.names.Side.{Side}
-use Rattle.strm_types.specs.declared.names.Side.TheVariants.{Master, Slave}
 use Rattle.strm_types.specs.declared.names.Way.TheVariants.{Down}
 use Rattle.strm_types.specs.declared.spots.Spot.{Spot}
 use Rattle.strm_types.specs.Cells.{plain}
@@ -20,14 +19,14 @@ use Rattle.strm_blocks.specs.Blocks.{in_hand, token}
 use Rattle.strm_msg.specs.Messages.{message_of}
 use Rattle.strm_head.specs.Sending.{ioctl_blocks}
 use Rattle.strm_pair.specs.Pairs.{state_in}
+use Rattle.strm_pair.proofs.Idle.{idle-with}
 use Rattle.strm_pair.proofs.InHand.{made-alone, made-state}
 use Rattle.strm_pair.proofs.PlaceCosts.{may-by}
 use Rattle.strm_pair.proofs.streams.Streams.send_ioctl.Goals as goal
 
 -- the modules stay where an ioctl begins
 begun-idle : (side : Side) (command : ℕ) (s : State ℕ) → AreIdle s → AreIdle (ioctl_begun side command s)
-begun-idle Master command s idle = record { master = idle.master; slave = idle.slave }
-begun-idle Slave command s idle = record { master = idle.master; slave = idle.slave }
+begun-idle side command s idle = idle-with side _ s (idle side) idle
 
 pub deliver_alone-requires-clause-alone : goal.deliver_alone-requires-clause-alone
 deliver_alone-requires-clause-alone g c =
@@ -70,8 +69,7 @@ blocks-few [] = omega arith
 blocks-few (b ∷ body) = omega arith
 
 begun-spare : (side : Side) (command : ℕ) (s : State ℕ) → spare (ioctl_begun side command s) ≡ spare s
-begun-spare Master command s = refl
-begun-spare Slave command s = refl
+begun-spare side command s = refl
 
 pub deliver_alone-requires-clause-room : goal.deliver_alone-requires-clause-room
 deliver_alone-requires-clause-room g c =

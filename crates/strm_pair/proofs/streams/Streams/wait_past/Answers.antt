@@ -1,10 +1,11 @@
 -- The other side stays.
+use Rattle.std.proofs.Common.{sym, subst}
+use Rattle.strm_pair.specs.Lists.{first_list}
+use Rattle.strm_pair.specs.Streams.{IsSide}
+use Rattle.strm_pair.proofs.Sides.{held-with}
 use Rattle.strm_pair.proofs.streams.Streams.wait_past.Goals as goal
 
-pub returns-in-Master-clause-held : goal.returns-in-Master-clause-held
-returns-in-Master-clause-held c =
-    λ s held. record { hand = held.hand; beside = record { master = c.wait_past.ensures.side s 0 held.beside.master; slave = held.beside.slave } }
-
-pub returns-in-Slave-clause-held : goal.returns-in-Slave-clause-held
-returns-in-Slave-clause-held c =
-    λ s held. record { hand = held.hand; beside = record { master = held.beside.master; slave = c.wait_past-in-Slave.ensures.side s 4 held.beside.slave } }
+pub returns-clause-held : goal.returns-clause-held
+returns-clause-held c = λ s held.
+    let first = first_list c.args.side in
+    held-with s c.args.self.now c.args.side c.wait_past.new.self held (c.wait_past.ensures.side s first (subst (IsSide s first) (sym c.get_mut.ensures.value) (held.beside c.args.side)))
