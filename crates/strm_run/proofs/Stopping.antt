@@ -188,9 +188,9 @@ goes-far : (side : Side) (way : Way) (n : ℕ) (s : State ℕ) → (b : Bool) �
     → turned plain (named side way) (turn_to (cond b (Some n) None) (named side way) s) s ≡ turned plain (named side way) (Moved n) s
 goes-far side way n s true is = refl
 goes-far Master way n s false is =
-    goes-whole Master way n (record s { enabled = without (named Master way) s.enabled }) s.master refl (past-end n _ is)
+    goes-whole Master way n (record s { enabled = without (named Master way) s.enabled }) s.ends.master refl (past-end n _ is)
 goes-far Slave way n s false is =
-    goes-whole Slave way n (record s { enabled = without (named Slave way) s.enabled }) s.slave refl (past-end n _ is)
+    goes-whole Slave way n (record s { enabled = without (named Slave way) s.enabled }) s.ends.slave refl (past-end n _ is)
 
 goes-so : (n : ℕ) (side : Side) (place : Place) (way : Way) (s : State ℕ) →
     let name : QueueName = record { side = side; place = place; way = way } in

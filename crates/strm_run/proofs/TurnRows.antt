@@ -43,7 +43,7 @@ written_on = let on : Stream ℕ = new_stream in record on { opened = Open; driv
 
 abbrev typed : PlainPair
 typed = record {
-  state = record opening { master = written_on; slave = typed_on; enabled = reading ∷ driver_of Master ∷ [] };
+  state = record opening { ends = record { master = written_on; slave = typed_on }; enabled = reading ∷ driver_of Master ∷ [] };
   journal = [];
   limits = script_limits 64;
 }

@@ -95,13 +95,13 @@ module _ {C : Type 0} where
 
   module _ (cells : Cells C) where
     pub read-queued : (side : Side) (n : ℕ) (s : State C) → let d = direction_of (head_of side) in gone_in d (read_loses side n s) + queued d (read_at cells side n s).state ≡ queued d s
-    read-queued Master n s = let h = s.master.head in omega (arith, read-leaves SlaveToMaster h.read_mode h.control_mode (min n READ_MAX) h.queue)
-    read-queued Slave n s = let h = s.slave.head in omega (arith, read-leaves MasterToSlave h.read_mode h.control_mode (min n READ_MAX) h.queue)
+    read-queued Master n s = let h = s.ends.master.head in omega (arith, read-leaves SlaveToMaster h.read_mode h.control_mode (min n READ_MAX) h.queue)
+    read-queued Slave n s = let h = s.ends.slave.head in omega (arith, read-leaves MasterToSlave h.read_mode h.control_mode (min n READ_MAX) h.queue)
 
     pub get-queued : (side : Side) (wanted : Wanted) (cmax dmax : ℕ) (s : State C) → let d = direction_of (head_of side) in
         gone_in d (get_gone d wanted (min cmax READ_MAX) (min dmax READ_MAX) (stream side s).head.queue.messages) + queued d (get_at cells side wanted cmax dmax s).state ≡ queued d s
-    get-queued Master wanted cmax dmax s = omega (arith, get-leaves SlaveToMaster wanted (min cmax READ_MAX) (min dmax READ_MAX) s.master.head.queue)
-    get-queued Slave wanted cmax dmax s = omega (arith, get-leaves MasterToSlave wanted (min cmax READ_MAX) (min dmax READ_MAX) s.slave.head.queue)
+    get-queued Master wanted cmax dmax s = omega (arith, get-leaves SlaveToMaster wanted (min cmax READ_MAX) (min dmax READ_MAX) s.ends.master.head.queue)
+    get-queued Slave wanted cmax dmax s = omega (arith, get-leaves MasterToSlave wanted (min cmax READ_MAX) (min dmax READ_MAX) s.ends.slave.head.queue)
 
     pub read-inline : (side : Side) (n : ℕ) (s : State C) → let d = direction_of (head_of side) in inline d (read_at cells side n s).state ≡ inline d s
     read-inline Master n s = refl

@@ -33,8 +33,8 @@ module _ {C : Type 0} (cells : Cells C) where
   -- a book with more written
   more-written : (dir d : Dir) (n : ℕ) (t : State C) → (book dir (with_book d (with_written n (book d t)) t)).written ≡ (book dir t).written + only_in dir d n
   more-written MasterToSlave MasterToSlave n t = refl
-  more-written MasterToSlave SlaveToMaster n t = let e : t.from_master.written ≡ t.from_master.written + 0 = omega arith in e
-  more-written SlaveToMaster MasterToSlave n t = let e : t.from_slave.written ≡ t.from_slave.written + 0 = omega arith in e
+  more-written MasterToSlave SlaveToMaster n t = let e : t.books.master.written ≡ t.books.master.written + 0 = omega arith in e
+  more-written SlaveToMaster MasterToSlave n t = let e : t.books.slave.written ≡ t.books.slave.written + 0 = omega arith in e
   more-written SlaveToMaster SlaveToMaster n t = refl
 
   none-written : (dir d : Dir) → only_in dir d 0 ≡ 0
@@ -42,10 +42,6 @@ module _ {C : Type 0} (cells : Cells C) where
   none-written MasterToSlave SlaveToMaster = refl
   none-written SlaveToMaster MasterToSlave = refl
   none-written SlaveToMaster SlaveToMaster = refl
-
-  begun-same : (side : Side) (command : ℕ) (s : State C) → SameBooks s (ioctl_begun side command s)
-  begun-same Master command s = record { from_master = refl; from_slave = refl }
-  begun-same Slave command s = record { from_master = refl; from_slave = refl }
 
   module _ (dir : Dir) (s : State C) where
     abbrev now : State C → ℕ
@@ -93,8 +89,7 @@ module _ {C : Type 0} (cells : Cells C) where
         let t = ioctl_sent cells caller.side command body s in
         stays caller (Ioctl command body)
         (ap (λ b. b.written) (books-are t.state (ioctl_told caller.side t.state).state (told-books caller.side t.state) dir)
-        ∙ ((delivered-books cells (record { side = caller.side; at = 1; way = Down }) (ioctl_message (asking command s.next_ioctl) body) begun).written dir
-        ∙ ap (λ b. b.written) (books-are s begun (begun-same caller.side command s) dir)))
+        ∙ (delivered-books cells (record { side = caller.side; at = 1; way = Down }) (ioctl_message (asking command s.next_ioctl) body) begun).written dir)
     call-written caller OpenMaster = same caller OpenMaster (still-same cells caller OpenMaster s refl)
     call-written caller Unlock = same caller Unlock (still-same cells caller Unlock s refl)
     call-written caller OpenSlave = same caller OpenSlave (still-same cells caller OpenSlave s refl)
