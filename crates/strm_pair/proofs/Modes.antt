@@ -35,34 +35,34 @@ use Rattle.strm_laws.proofs.FlushDelivered.{carries, went_on}
 abbrev told_mode : Bool → Side → ReadMode → State ℕ → Carried ℕ (State ℕ)
 told_mode true side mode s =
     let above = stream side s in
-    record { state = with_stream side (record above { head = with_options (options_in (mode_number mode ∷ [])) above.head }) s; gone = [] }
-told_mode false side mode s = record { state = s; gone = Goes (direction_at Up side) EndClosed (cells_of {C = ℕ} (mode_message mode)) ∷ [] }
+    record { state = with_stream side (record above { head = with_options (options_in (mode_number mode ∷ 0 ∷ [])) above.head }) s; gone = [] }
+told_mode false side mode s = record { state = s; gone = Goes (direction_at Up side) EndClosed (cells_of {C = ℕ} (mode_message mode false)) ∷ [] }
 
 puts-mode : (side : Side) (mode : ReadMode) (s : State ℕ) → mode_put side (Some mode) s ≡ told_mode (is_open (stream side s).opened) side mode s
 puts-mode side mode s = by (is_open (stream side s).opened)
   where
     by : (opened : Bool) → (let t : Took ℕ (State ℕ) = cond opened
-        (record { state = with_stream side (record (stream side s) { head = with_options (options_in (mode_number mode ∷ [])) (stream side s).head }) s; sent = []; gone = [] })
-        (record { state = s; sent = []; gone = Goes (direction_at Up side) EndClosed (cells_of {C = ℕ} (mode_message mode)) ∷ [] }) in record { state = t.state; gone = t.gone }) ≡ told_mode opened side mode s
+        (record { state = with_stream side (record (stream side s) { head = with_options (options_in (mode_number mode ∷ 0 ∷ [])) (stream side s).head }) s; sent = []; gone = [] })
+        (record { state = s; sent = []; gone = Goes (direction_at Up side) EndClosed (cells_of {C = ℕ} (mode_message mode false)) ∷ [] }) in record { state = t.state; gone = t.gone }) ≡ told_mode opened side mode s
     by true = refl
     by false = refl
 
 -- nothing is sent there, so that a delivery does the same
-delivers-mode : (side : Side) (mode : ReadMode) (s : State ℕ) → delivered plain (head_above side) (mode_message mode) s ≡ told_mode (is_open (stream side s).opened) side mode s
-delivers-mode side mode s = carries plain 15 (record { to = head_above side; message = mode_message mode }) s ∙ by (is_open (stream side s).opened)
+delivers-mode : (side : Side) (mode : ReadMode) (s : State ℕ) → delivered plain (head_above side) (mode_message mode false) s ≡ told_mode (is_open (stream side s).opened) side mode s
+delivers-mode side mode s = carries plain 15 (record { to = head_above side; message = mode_message mode false }) s ∙ by (is_open (stream side s).opened)
   where
     by : (opened : Bool) → went_on plain 15 (cond opened
-        (record { state = with_stream side (record (stream side s) { head = with_options (options_in (mode_number mode ∷ [])) (stream side s).head }) s; sent = []; gone = [] })
-        (record { state = s; sent = []; gone = Goes (direction_at Up side) EndClosed (cells_of {C = ℕ} (mode_message mode)) ∷ [] })) ≡ told_mode opened side mode s
+        (record { state = with_stream side (record (stream side s) { head = with_options (options_in (mode_number mode ∷ 0 ∷ [])) (stream side s).head }) s; sent = []; gone = [] })
+        (record { state = s; sent = []; gone = Goes (direction_at Up side) EndClosed (cells_of {C = ℕ} (mode_message mode false)) ∷ [] })) ≡ told_mode opened side mode s
     by true = refl
     by false = refl
 
-pub mode-delivered : (side : Side) (mode : ReadMode) (s : State ℕ) → delivered plain (head_above side) (mode_message mode) s ≡ mode_put side (Some mode) s
+pub mode-delivered : (side : Side) (mode : ReadMode) (s : State ℕ) → delivered plain (head_above side) (mode_message mode false) s ≡ mode_put side (Some mode) s
 mode-delivered side mode s = delivers-mode side mode s ∙ sym (puts-mode side mode s)
 
 -- The modules stay, and it is the same with others.
-told-there : (side : Side) (mode : ReadMode) (s : State ℕ) → stream side (told_mode true side mode s).state ≡ record (stream side s) { head = with_options (options_in (mode_number mode ∷ [])) (stream side s).head }
-told-there side mode s = get-set-same side (record (stream side s) { head = with_options (options_in (mode_number mode ∷ [])) (stream side s).head }) s.ends
+told-there : (side : Side) (mode : ReadMode) (s : State ℕ) → stream side (told_mode true side mode s).state ≡ record (stream side s) { head = with_options (options_in (mode_number mode ∷ 0 ∷ [])) (stream side s).head }
+told-there side mode s = get-set-same side (record (stream side s) { head = with_options (options_in (mode_number mode ∷ 0 ∷ [])) (stream side s).head }) s.ends
 
 told-stays : (opened : Bool) (side : Side) (mode : ReadMode) (s : State ℕ) → (stream side (told_mode opened side mode s).state).modules ≡ (stream side s).modules
 told-stays true side mode s = ap (λ (x : Stream ℕ). x.modules) (told-there side mode s)

@@ -181,7 +181,7 @@ impl Streams {
         self.take_all(store, side, rule, told, count);
     }
 
-    // A side's head is told its read mode, where there is one to tell, by an M_SETOPTS that comes up to it.
+    // A side's head is told its read mode, and that TOSTOP isn't set, where there is a mode to tell, by an M_SETOPTS that comes up to it.
     fn put_mode<B: Blocks>(
         &mut self,
         store: &mut B,
@@ -200,7 +200,7 @@ impl Streams {
         let Some(mode) = mode else {
             return;
         };
-        let message = make(store, MsgKind::Setopts, &[mode_number(mode)]);
+        let message = make(store, MsgKind::Setopts, &[mode_number(mode), 0]);
         let head = Spot {
             side,
             at: 0,

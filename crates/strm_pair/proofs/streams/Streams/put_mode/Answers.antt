@@ -1,5 +1,5 @@
 -- The M_SETOPTS is alone in hand.
-use Rattle.std.proofs.Common.{ℕ, ◌≡◌, ◌≤◌, List, [], ◌∷◌, refl, ap, ◌∙◌, arith}
+use Rattle.std.proofs.Common.{ℕ, ◌≡◌, ◌≤◌, false, List, [], ◌∷◌, refl, ap, ◌∙◌, arith}
 use Rattle.strm_types.specs.declared.names.Side.{Side}
 use Rattle.std.specs.Prelude.{None}
 use Rattle.strm_types.specs.declared.kinds.MsgKind.TheVariants.{Setopts}
@@ -37,7 +37,7 @@ mode-free side bytes = omega arith
 pub deliver_alone-requires-clause-room : goal.deliver_alone-requires-clause-room
 deliver_alone-requires-clause-room g c =
     let made = g.B.Blocks.value c.make-message.new.store in
-    let bytes = c.mode_number.result ∷ [] in
+    let bytes = c.mode_number.result ∷ 0 ∷ [] in
     may-by made (spare (state_in made c.args.self.now)) (head_above c.args.side) (message_of (in_hand made (token c.make-message.result))) (record { kind = Setopts; band = 0; control = None; body = None; plain = bytes }) 0
     c.make-message.ensures.shows (mode-free c.args.side bytes) (record { mblks = omega arith; dblks = omega arith }) (omega arith)
 
@@ -49,7 +49,7 @@ returns-clause-state g c =
     let i = token c.make-message.result in
     let m = message_of (in_hand made i) in
     let to = head_above c.args.side in
-    let shown : m ≡ mode_message c.in-Some.mode = c.make-message.ensures.shows ∙ ap (λ (n : ℕ). record { kind = Setopts; band = 0; control = None; body = None; plain = n ∷ [] }) c.mode_number.ensures in
+    let shown : m ≡ mode_message c.in-Some.mode false = c.make-message.ensures.shows ∙ ap (λ (n : ℕ). record { kind = Setopts; band = 0; control = None; body = None; plain = n ∷ 0 ∷ [] }) c.mode_number.ensures in
     rw c.in-Some.is
     (c.deliver_alone.ensures.state
     ∙ ap (λ v. (delivered plain to m v).state) (made-state s made p c.requires.held c.requires.idle i c.make-message.ensures.after)
@@ -64,7 +64,7 @@ returns-clause-told g c =
     let i = token c.make-message.result in
     let m = message_of (in_hand made i) in
     let to = head_above c.args.side in
-    let shown : m ≡ mode_message c.in-Some.mode = c.make-message.ensures.shows ∙ ap (λ (n : ℕ). record { kind = Setopts; band = 0; control = None; body = None; plain = n ∷ [] }) c.mode_number.ensures in
+    let shown : m ≡ mode_message c.in-Some.mode false = c.make-message.ensures.shows ∙ ap (λ (n : ℕ). record { kind = Setopts; band = 0; control = None; body = None; plain = n ∷ 0 ∷ [] }) c.mode_number.ensures in
     rw c.in-Some.is
     (c.deliver_alone.ensures.told
     ∙ ap (λ v. tallied (delivered plain to m v).gone c.args.told.now) (made-state s made p c.requires.held c.requires.idle i c.make-message.ensures.after)
