@@ -17,7 +17,7 @@ use Rattle.strm_raw.specs.declared.msg_nodes.MsgLink.{MsgLink}
 use Rattle.strm_raw.specs.declared.data_nodes.DataLink.{DataLink}
 use Rattle.strm_raw.proofs.Apart.{hand-apart, lists-apart, map-none, map-one}
 use Rattle.strm_raw.proofs.Finding.{sum-without, found, found-some, found-chain, found-len, found-block}
-use Rattle.strm_raw.proofs.Parting.{row-keeps}
+use Rattle.strm_raw.proofs.Relinking.{row-keeps}
 use Rattle.strm_raw.proofs.Becoming.{Becomes, row-becomes}
 
 -- what leads on from a message block: to the next one, to its data block and to its neighbours on a list

@@ -1,21 +1,22 @@
 -- What a message block that is given back leaves of a store, and a reference that is given up.
-use Rattle.std.proofs.Common.{ℕ, ◌≡◌, ◌≢◌, ◌<◌, ◌+◌, ◌-◌, cond, eqb, List, [], ◌∷◌, length, refl, sym, ap, ◌∙◌, subst, arith, inl, inr}
+use Rattle.std.proofs.Common.{ℕ, ◌≡◌, ◌<◌, ◌+◌, ◌-◌, cond, eqb, List, [], ◌∷◌, length, refl, sym, ap, ◌∙◌, subst, arith, inl, inr}
 use Rattle.std.proofs.Math.ListN.{set, length-set}
 use Rattle.std.specs.Prelude.{◌⊎◌, sum_by, Option, Some, option_map}
 use Rattle.std.proofs.lemmas.Bool.Decides.{nat_tests}
 use Rattle.std.proofs.lemmas.Bool.{cases_eq}
-use Rattle.std.proofs.lemmas.List.{get_or-set_same, get_or-set_other}
 use Rattle.std.proofs.lemmas.List.Sums.{sum_by-cons}
-use Rattle.strm_blocks.specs.Blocks.{Block, in_hand, dropped}
-use Rattle.strm_raw.specs.Numbered.{Nodes, Row, DataRow, row_at, data_at, no_row, msg_number, data_number, IsData}
+use Rattle.strm_blocks.specs.Blocks.{in_hand, dropped}
+use Rattle.strm_raw.specs.Numbered.{Nodes, Row, DataRow, row_at, data_at, msg_number, data_number, IsData}
 use Rattle.strm_raw.specs.Roster.{Msg, Roster}
-use Rattle.strm_raw.specs.Raw.{ids, times, chain_of, held_of, block_no, shown, value_of, naming, breaks, broken, IsRaw, next_of, free_after, is_there, askew, IsHere, without_in, GivesLast, GivesOne}
+use Rattle.strm_raw.specs.Raw.{ids, times, chain_of, held_of, value_of, naming, breaks, broken, IsRaw, next_of, free_after, is_there, askew, IsHere, without_in, GivesLast, GivesOne}
 use Rattle.strm_raw.specs.declared.msg_nodes.MsgLink.{MsgLink}
 use Rattle.strm_raw.specs.declared.data_nodes.DataLink.{DataLink}
-use Rattle.strm_raw.proofs.Apart.{times-cons, breaks-apart, weigh-apart, apart-head, apart-tail, map-same, maps-same, gap-self, weigh-same}
-use Rattle.strm_raw.proofs.Stocking.{Stocked, stocked, references-at, free-kept, datum-new, shown-kept}
+use Rattle.strm_raw.proofs.Apart.{times-cons, weigh-apart, map-same, maps-same, gap-self, weigh-same}
+use Rattle.strm_raw.proofs.Stocking.{Stocked, stocked, references-at, free-kept, datum-new}
 use Rattle.strm_raw.proofs.Finding.{found, found-head, found-len, without-value}
-use Rattle.strm_raw.proofs.Parting.{row-keeps, map-ext, split, out-tail, out-free, out-others}
+use Rattle.strm_raw.proofs.Parting.{split, out-free, out-others}
+use Rattle.strm_raw.proofs.Relinking.{row-keeps}
+use Rattle.strm_raw.proofs.Relinking as relinking
 
 -- the data blocks of a store, where one reference to one of them is given up
 pub record Drops (v : Nodes) (number : ℕ) (datas : List DataRow) (first_d : Option DataLink) (spare_d : ℕ) (free_d : List ℕ) : Type 0 where
@@ -99,26 +100,12 @@ module _ {v : Nodes} {b : Roster} {first_m : Option MsgLink} {first_d : Option D
   sum-m : (g : ℕ → ℕ) → sum_by g (ids m) ≡ g i
   sum-m g = let c = sum_by-cons g m.head m.tail in let h = ap g (found-head is l here) in let t = ap (λ xs. sum_by g xs) no-tail in omega arith
 
-  next-old : (j : ℕ) → j ≢ i → next_of (set v.rows i r) j ≡ next_of v.rows j
-  next-old j other = ap (λ (x : Row). x.next) (get_or-set_other v.rows i j r no_row other)
-
-  next-new : next_of (set v.rows i r) i ≡ option_map (msg_number v.mat) first_m
-  next-new = ap (λ (x : Row). x.next) (get_or-set_same v.rows i r no_row inside)
-
-  broken-old : (x : Msg) → times i (ids x) ≡ 0 → broken (set v.rows i r) x ≡ broken v.rows x
-  broken-old x z =
-      ap (λ o. breaks (next_of (set v.rows i r)) o x.tail) (next-old x.head (apart-head i x.head x.tail z))
-      ∙ breaks-apart i (next_of v.rows) (next_of (set v.rows i r)) next-old (next_of v.rows x.head) x.tail (apart-tail i x.head x.tail z)
-
-  naming-same : (e : ℕ) (x : Msg) → naming (set v.rows i r) e x ≡ naming v.rows e x
-  naming-same e x = Rattle.strm_raw.proofs.Parting.sum-ext _ _ (row-keeps (λ (y : Row). cond {A = ℕ} (eqb y.number e) 1 0) v.rows i r inside refl) (ids x)
-
   linked-first : breaks (next_of (set v.rows i r)) (Some i) (i ∷ b.free_m) ≡ 0
   unfolding breaks
   linked-first =
       let g = gap-self (Some i) in
-      let e = ap (λ o. breaks (next_of (set v.rows i r)) o b.free_m) next-new in
-      let a = breaks-apart i (next_of v.rows) (next_of (set v.rows i r)) next-old (option_map (msg_number v.mat) first_m) b.free_m (out-free is l here) in
+      let e = ap (λ o. breaks (next_of (set v.rows i r)) o b.free_m) (relinking.next-new v i inside (option_map (msg_number v.mat) first_m)) in
+      let a = relinking.free-old v i inside (option_map (msg_number v.mat) first_m) (option_map (msg_number v.mat) first_m) b.free_m (out-free is l here) in
       let c = is.linked_m in omega arith
 
   pub given-raw : IsRaw given_nodes (Some l) first_d' (spare_m + 1) spare_d' given_roster
@@ -136,11 +123,11 @@ module _ {v : Nodes} {b : Roster} {first_m : Option MsgLink} {first_d : Option D
         owned_d = drops.stock.owned;
         referenced = λ e. (
             let o = is.referenced e in let f = drops.fewer e in let s = split is l here (naming v.rows e) in let p = sum-m (λ x. cond (eqb (row_at x v.rows).number e) 1 0) in
-            let w = weigh-same (naming (set v.rows i r) e) (naming v.rows e) (naming-same e) b.lists others in omega arith);
+            let w = weigh-same (naming (set v.rows i r) e) (naming v.rows e) (relinking.naming-same v i inside (option_map (msg_number v.mat) first_m) e) b.lists others in omega arith);
         bounded = λ e. (let o = is.bounded e in let f = drops.fewer e in omega arith);
         linked_m = linked-first;
         linked_d = drops.stock.linked;
-        chained = let c = is.chained in let s = split is l here (broken v.rows) in let a = weigh-apart i (broken (set v.rows i r)) (broken v.rows) broken-old b.lists others (out-others is l here) in omega arith;
+        chained = let c = is.chained in let s = split is l here (broken v.rows) in let a = weigh-apart i (broken (set v.rows i r)) (broken v.rows) (relinking.broken-old v i inside (option_map (msg_number v.mat) first_m)) b.lists others (out-others is l here) in omega arith;
         straight = λ k. row-keeps askew v.rows i r inside refl k ∙ is.straight k;
         count_m = let c = is.count_m in omega arith;
         count_d = drops.stock.count;
@@ -148,16 +135,10 @@ module _ {v : Nodes} {b : Roster} {first_m : Option MsgLink} {first_d : Option D
         there_d = drops.stock.there;
       }
 
-  chain-same : (x : Msg) → chain_of given_nodes x ≡ chain_of v x
-  chain-same x = map-ext (block_no given_nodes) (block_no v) (λ j. shown-kept v.datas datas drops.stock.bytes (row_at j (set v.rows i r)) ∙ row-keeps (shown v.datas) v.rows i r inside refl j) (ids x)
-
-  held-same : (x : Msg) → held_of given_nodes x ≡ held_of v x
-  held-same x = ap (λ (c : List Block). record { name = x.head; chain = c }) (chain-same x)
-
   pub given-value : value_of given_nodes given_roster ≡ dropped (value_of v b) (msg_number v.mat l)
   given-value = λ k. record {
-    lists = maps-same (chain_of given_nodes) (chain_of v) chain-same b.lists k;
-    hand = (map-same (held_of given_nodes) (held_of v) held-same others ∙ sym (without-value v i b.hand)) k;
+    lists = maps-same (chain_of given_nodes) (chain_of v) (relinking.chain-same v i inside (option_map (msg_number v.mat) first_m) datas drops.stock.bytes) b.lists k;
+    hand = (map-same (held_of given_nodes) (held_of v) (relinking.held-same v i inside (option_map (msg_number v.mat) first_m) datas drops.stock.bytes) others ∙ sym (without-value v i b.hand)) k;
     mblks = length-set v.rows i r k;
     dblks = drops.stock.len k;
   }

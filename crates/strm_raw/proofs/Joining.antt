@@ -3,17 +3,18 @@ use Rattle.std.proofs.Common.{ℕ, suc, ◌≡◌, ◌≢◌, ◌≤◌, ◌<◌
 use Rattle.std.proofs.Math.ListN.{set, length-set, length-append}
 use Rattle.std.specs.Prelude.{sum_by, Option, Some, option_map}
 use Rattle.std.proofs.lemmas.Bool.Decides.{nat_tests}
-use Rattle.std.proofs.lemmas.List.{get_or-set_same, get_or-set_other, map-append}
+use Rattle.std.proofs.lemmas.List.{map-append}
 use Rattle.std.proofs.lemmas.List.Sums.{sum_by-append}
-use Rattle.strm_blocks.specs.Blocks.{Block, without, with_chain, in_hand, dropped, changed}
-use Rattle.strm_raw.specs.Numbered.{Nodes, Row, row_at, no_row, msg_number, with_row}
+use Rattle.strm_blocks.specs.Blocks.{without, with_chain, in_hand, dropped, changed}
+use Rattle.strm_raw.specs.Numbered.{Nodes, Row, row_at, msg_number, with_row}
 use Rattle.strm_raw.specs.Roster.{Msg, Roster}
-use Rattle.strm_raw.specs.Raw.{weigh, ids, times, chain_of, held_of, block_no, shown, value_of, naming, breaks, broken, gap, IsRaw, IsHere, next_of, is_there, askew, with_in, without_in, msg_in, heads, joined}
+use Rattle.strm_raw.specs.Raw.{weigh, ids, times, chain_of, held_of, block_no, value_of, naming, breaks, broken, gap, IsRaw, IsHere, next_of, is_there, askew, with_in, without_in, msg_in, heads, joined}
 use Rattle.strm_raw.specs.declared.msg_nodes.MsgLink.{MsgLink}
 use Rattle.strm_raw.specs.declared.data_nodes.DataLink.{DataLink}
-use Rattle.strm_raw.proofs.Apart.{times-cons, times-self, gap-same, gap-self, breaks-apart, weigh-apart, weigh-same, map-same, maps-same, apart-head, apart-tail}
+use Rattle.strm_raw.proofs.Apart.{times-cons, times-self, gap-same, gap-self, weigh-apart, weigh-same, map-same, maps-same}
 use Rattle.strm_raw.proofs.Finding.{sum-with, sum-without, found, found-some, found-head, found-chain, with-value, without-value}
-use Rattle.strm_raw.proofs.Parting.{row-keeps, sum-ext, map-ext}
+use Rattle.strm_raw.proofs.Relinking.{row-keeps}
+use Rattle.strm_raw.proofs.Relinking as relinking
 
 -- the last of a number and those behind it
 abbrev pub last_in : ℕ → List ℕ → ℕ
@@ -128,30 +129,16 @@ module _ {v : Nodes} {b : Roster} {first_m : Option MsgLink} {first_d : Option D
   abbrev pub joined_roster : Roster
   joined_roster = record b { hand = joined_hand }
 
-  next-old : (k : ℕ) → k ≢ t → next_of (set v.rows t r) k ≡ next_of v.rows k
-  next-old k other = ap (λ (x : Row). x.next) (get_or-set_other v.rows t k r no_row other)
-
-  next-new : next_of (set v.rows t r) t ≡ Some j
-  next-new = ap (λ (x : Row). x.next) (get_or-set_same v.rows t r no_row within)
-
-  broken-old : (x : Msg) → times t (ids x) ≡ 0 → broken (set v.rows t r) x ≡ broken v.rows x
-  broken-old x z =
-      ap (λ o. breaks (next_of (set v.rows t r)) o x.tail) (next-old x.head (apart-head t x.head x.tail z))
-      ∙ breaks-apart t (next_of v.rows) (next_of (set v.rows t r)) next-old (next_of v.rows x.head) x.tail (Rattle.strm_raw.proofs.Apart.apart-tail t x.head x.tail z)
-
   unbroken : (f : Msg → ℕ) → weigh f b.lists b.hand ≡ 0 → (f m ≡ 0) × (f p ≡ 0)
   unbroken f z = let s = parts f in (omega arith, omega arith)
 
   broken-whole : broken (set v.rows t r) whole ≡ 0
   broken-whole =
       let u = unbroken (broken v.rows) is.chained in
-      let second : breaks (next_of (set v.rows t r)) (next_of (set v.rows t r) p.head) p.tail ≡ 0 = broken-old p out-second ∙ u.1 in
+      let second : breaks (next_of (set v.rows t r)) (next_of (set v.rows t r) p.head) p.tail ≡ 0 = relinking.broken-old v t within (Some j) p out-second ∙ u.1 in
       let h = found-head is l2 here2 in
       ap (λ k. breaks (next_of (set v.rows t r)) (next_of (set v.rows t r) m.head) (m.tail ++ k ∷ p.tail)) h
-      ∙ breaks-joined (next_of v.rows) (next_of (set v.rows t r)) t j next-old next-new p.tail (ap (λ k. breaks (next_of (set v.rows t r)) (next_of (set v.rows t r) k) p.tail) (sym h) ∙ second) m.head m.tail refl once u.0
-
-  naming-same : (d : ℕ) (x : Msg) → naming (set v.rows t r) d x ≡ naming v.rows d x
-  naming-same d x = sum-ext _ _ (row-keeps (λ (y : Row). cond {A = ℕ} (eqb y.number d) 1 0) v.rows t r within refl) (ids x)
+      ∙ breaks-joined (next_of v.rows) (next_of (set v.rows t r)) t j (relinking.next-old v t within (Some j)) (relinking.next-new v t within (Some j)) p.tail (ap (λ k. breaks (next_of (set v.rows t r)) (next_of (set v.rows t r) k) p.tail) (sym h) ∙ second) m.head m.tail refl once u.0
 
   pub joined-raw : IsRaw joined_nodes first_m first_d spare_m spare_d joined_roster
   joined-raw =
@@ -168,13 +155,13 @@ module _ {v : Nodes} {b : Roster} {first_m : Option MsgLink} {first_d : Option D
         owned_d = is.owned_d;
         referenced = λ d. (
             let o = is.referenced d in let s = parts (naming v.rows d) in let w = parts-joined (naming v.rows d) in let a = sum-whole (λ x. cond (eqb (row_at x v.rows).number d) 1 0) in
-            let e = weigh-same (naming (set v.rows t r) d) (naming v.rows d) (naming-same d) b.lists joined_hand in omega arith);
+            let e = weigh-same (naming (set v.rows t r) d) (naming v.rows d) (relinking.naming-same v t within (Some j) d) b.lists joined_hand in omega arith);
         bounded = is.bounded;
-        linked_m = breaks-apart t (next_of v.rows) (next_of (set v.rows t r)) next-old (option_map (msg_number v.mat) first_m) b.free_m out-free ∙ is.linked_m;
+        linked_m = relinking.free-old v t within (Some j) (option_map (msg_number v.mat) first_m) b.free_m out-free ∙ is.linked_m;
         linked_d = is.linked_d;
         chained =
             let c = is.chained in let s = parts (broken v.rows) in let w = parts-joined (broken (set v.rows t r)) in
-            let a = weigh-apart t (broken (set v.rows t r)) (broken v.rows) broken-old b.lists rest out-rest in
+            let a = weigh-apart t (broken (set v.rows t r)) (broken v.rows) (relinking.broken-old v t within (Some j)) b.lists rest out-rest in
             let x = broken-whole in omega arith;
         straight = λ k. row-keeps askew v.rows t r within refl k ∙ is.straight k;
         count_m = is.count_m;
@@ -184,10 +171,7 @@ module _ {v : Nodes} {b : Roster} {first_m : Option MsgLink} {first_d : Option D
       }
 
   pub chain-same : (x : Msg) → chain_of joined_nodes x ≡ chain_of v x
-  chain-same x = map-ext (block_no joined_nodes) (block_no v) (row-keeps (shown v.datas) v.rows t r within refl) (ids x)
-
-  held-same : (x : Msg) → held_of joined_nodes x ≡ held_of v x
-  held-same x = ap (λ (c : List Block). record { name = x.head; chain = c }) (chain-same x)
+  chain-same = relinking.chain-same v t within (Some j) v.datas (λ e. refl)
 
   chain-whole : chain_of v whole ≡ in_hand (value_of v b) i ++ in_hand (value_of v b) j
   chain-whole = map-append (block_no v) (ids m) (ids p) ∙ (λ k. sym (found-chain is l here) k ++ sym (found-chain is l2 here2) k)
@@ -198,7 +182,7 @@ module _ {v : Nodes} {b : Roster} {first_m : Option MsgLink} {first_d : Option D
       sym (with-value v i whole (found-head is l here) others) ∙ (λ k. with_chain i (chain-whole k) (sym (without-value v j b.hand) k)) in
       λ k. record {
         lists = maps-same (chain_of joined_nodes) (chain_of v) chain-same b.lists k;
-        hand = (map-same (held_of joined_nodes) (held_of v) held-same joined_hand ∙ hand) k;
+        hand = (map-same (held_of joined_nodes) (held_of v) (relinking.held-same v t within (Some j) v.datas (λ e. refl)) joined_hand ∙ hand) k;
         mblks = length-set v.rows t r k;
         dblks = length v.datas;
       }

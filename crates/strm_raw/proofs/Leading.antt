@@ -8,7 +8,7 @@ use Rattle.strm_raw.specs.Numbered.{Nodes, Row, row_at, no_row, msg_number, with
 use Rattle.strm_raw.specs.Lists.{lead, plain, Ties}
 use Rattle.strm_raw.specs.declared.neighbours.Ends.{Ends}
 use Rattle.strm_raw.specs.declared.msg_nodes.MsgLink.{MsgLink}
-use Rattle.strm_raw.proofs.Parting.{row-keeps}
+use Rattle.strm_raw.proofs.Relinking.{row-keeps}
 
 -- A list leads from a place to another one by a link or an end. What else these lead to stays, what the other link and the
 -- other end lead to, and the blocks themselves.

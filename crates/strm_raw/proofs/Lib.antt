@@ -3,6 +3,7 @@ pub mod Lent
 pub mod Numbered
 pub mod Made
 pub mod Apart
+pub mod Relinking
 pub mod Standing
 pub mod Finding
 pub mod Listed

@@ -11,7 +11,7 @@ use Rattle.strm_raw.specs.Raw.{value_of, chain_of}
 use Rattle.strm_raw.specs.Lists.{AreListed, IsList, IsTied, no_ends, on, back, ahead_of, behind_of, ends_at, queue_at}
 use Rattle.strm_raw.specs.declared.neighbours.Ends.{Ends}
 use Rattle.strm_raw.specs.declared.msg_nodes.MsgLink.{MsgLink}
-use Rattle.strm_raw.proofs.Parting.{row-keeps}
+use Rattle.strm_raw.proofs.Relinking.{row-keeps}
 
 module _ {v : Nodes} {ends : List Ends} {b : Roster} (is : AreListed v ends b) (v' : Nodes) (b' : Roster)
     (mat : v'.mat ≡ v.mat) (i : ℕ) (within : i < length v.rows) (r : Row) (ahead : r.ahead ≡ (row_at i v.rows).ahead) (behind : r.behind ≡ (row_at i v.rows).behind)

@@ -16,7 +16,8 @@ use Rattle.strm_raw.specs.declared.neighbours.Ends.{Ends}
 use Rattle.strm_raw.specs.declared.msg_nodes.MsgLink.{MsgLink}
 use Rattle.strm_raw.specs.declared.data_nodes.DataLink.{DataLink}
 use Rattle.strm_raw.proofs.Numbered.{map-set}
-use Rattle.strm_raw.proofs.Parting.{heads-few, map-ext}
+use Rattle.strm_raw.proofs.Parting.{heads-few}
+use Rattle.strm_raw.proofs.Relinking.{map-ext}
 use Rattle.strm_raw.proofs.Tied.{tied-same}
 
 -- what one list has, and what two have, is no more than what all have

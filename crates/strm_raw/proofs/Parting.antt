@@ -1,35 +1,20 @@
 -- A message in hand, and what is written into its first block.
-use Rattle.std.proofs.Common.{ℕ, ◌≡◌, ◌≢◌, ◌≤◌, ◌<◌, ◌+◌, cond, eqb, List, [], ◌∷◌, length, drop, get_or, map, refl, sym, ap, ◌∙◌, arith, inl, inr}
+use Rattle.std.proofs.Common.{ℕ, ◌≡◌, ◌≤◌, ◌<◌, ◌+◌, cond, eqb, List, [], ◌∷◌, length, drop, get_or, map, refl, sym, ap, ◌∙◌, arith}
 use Rattle.std.proofs.Math.ListN.{set, length-set}
 use Rattle.std.specs.Prelude.{sum_by, Option, None, Some, option_map}
 use Rattle.std.proofs.lemmas.Bool.Decides.{nat_tests}
-use Rattle.std.proofs.lemmas.Bool.{cases_eq}
-use Rattle.std.proofs.lemmas.List.{get_or-set_same, get_or-set_other}
 use Rattle.std.proofs.lemmas.List.Sums.{sum_by-cons}
 use Rattle.strm_blocks.specs.Blocks.{Block, in_hand, held, changed, with_chain, IsFreshName}
-use Rattle.strm_raw.specs.Numbered.{Nodes, Row, row_at, no_row, msg_number, with_row}
+use Rattle.strm_raw.specs.Numbered.{Nodes, Row, row_at, msg_number, with_row}
 use Rattle.strm_raw.specs.Roster.{Msg, Roster}
-use Rattle.strm_raw.specs.Raw.{weigh, ids, times, chain_of, held_of, block_no, shown, value_of, naming, breaks, broken, gap, IsRaw, next_of, is_there, askew, IsHere, with_in, without_in, heads, rest_of, alone}
+use Rattle.strm_raw.specs.Raw.{weigh, ids, times, chain_of, held_of, block_no, value_of, naming, breaks, broken, gap, IsRaw, next_of, is_there, askew, IsHere, with_in, without_in, heads, rest_of, alone}
 use Rattle.strm_raw.specs.declared.msg_nodes.MsgLink.{MsgLink}
 use Rattle.strm_raw.specs.declared.data_nodes.DataLink.{DataLink}
-use Rattle.strm_raw.proofs.Apart.{times-cons, times-self, sum-apart, map-apart, breaks-apart, weigh-apart, apart-head, map-same, maps-same, gap-self, weigh-same}
+use Rattle.strm_raw.proofs.Apart.{times-cons, times-self, weigh-apart, map-same, maps-same, weigh-same}
+use Rattle.strm_raw.proofs.Relinking.{row-keeps}
+use Rattle.strm_raw.proofs.Relinking as relinking
 use Rattle.strm_raw.proofs.Standing.{begun, ended}
 use Rattle.strm_raw.proofs.Finding.{sum-with, sum-without, found, found-some, found-head, found-linked, found-chain, found-len, with-value, times-heads}
-
--- what a row has still stands in each place where another row that has it too stands in one of them
-pub row-keeps : {B : Type 0} (g : Row → B) (rows : List Row) (i : ℕ) (r : Row) → i < length rows → g r ≡ g (row_at i rows) → (k : ℕ) → g (row_at k (set rows i r)) ≡ g (row_at k rows)
-row-keeps g rows i r within same k = elim (cases_eq k i) [
-  | inl e ↦ ap (λ j. g (row_at j (set rows i r))) e ∙ ap g (get_or-set_same rows i r no_row within) ∙ same ∙ ap (λ j. g (row_at j rows)) (sym e)
-  | inr other ↦ ap g (get_or-set_other rows i k r no_row other)
-]
-
-pub sum-ext : (f g : ℕ → ℕ) → ((j : ℕ) → f j ≡ g j) → (xs : List ℕ) → sum_by f xs ≡ sum_by g xs
-sum-ext f g same [] = refl
-sum-ext f g same (j ∷ xs) = let s = same j in let ih = sum-ext f g same xs in omega (arith, sum_by-cons f j xs, sum_by-cons g j xs)
-
-pub map-ext : {B : Type 0} (f g : ℕ → B) → ((j : ℕ) → f j ≡ g j) → (xs : List ℕ) → map f xs ≡ map g xs
-map-ext f g same [] = refl
-map-ext f g same (j ∷ xs) = λ k. same j k ∷ map-ext f g same xs k
 
 -- no more messages begin with a block than have it
 pub heads-few : (j : ℕ) (q : List Msg) → heads j q ≤ sum_by (λ m. times j (ids m)) q
@@ -112,32 +97,18 @@ module _ {v : Nodes} {b : Roster} {first_m : Option MsgLink} {first_d : Option D
     weigh-parted : (f : Msg → ℕ) → weigh f b.lists parted_roster.hand ≡ weigh f b.lists others + f (alone i) + f (rest_of m)
     weigh-parted f = let s = split-with f (alone i) in omega (arith, sum_by-cons f (rest_of m) (with_in i (alone i) b.hand))
 
-    next-old : (k : ℕ) → k ≢ i → next_of (set v.rows i r) k ≡ next_of v.rows k
-    next-old k other = ap (λ (x : Row). x.next) (get_or-set_other v.rows i k r no_row other)
-
-    next-new : next_of (set v.rows i r) i ≡ None
-    next-new = ap (λ (x : Row). x.next) (get_or-set_same v.rows i r no_row within)
-
-    broken-old : (x : Msg) → times i (ids x) ≡ 0 → broken (set v.rows i r) x ≡ broken v.rows x
-    broken-old x z =
-        ap (λ o. breaks (next_of (set v.rows i r)) o x.tail) (next-old x.head (apart-head i x.head x.tail z))
-        ∙ breaks-apart i (next_of v.rows) (next_of (set v.rows i r)) next-old (next_of v.rows x.head) x.tail (Rattle.strm_raw.proofs.Apart.apart-tail i x.head x.tail z)
-
     apart-rest : times i (j ∷ behind-first.0) ≡ 0
     apart-rest = ap (λ xs. times i xs) (sym behind-first.1.0) ∙ out-tail
 
     broken-rest : broken (set v.rows i r) (rest_of m) ≡ 0
     broken-rest =
         ap (λ (x : Msg). broken (set v.rows i r) x) rest-is
-        ∙ broken-old (record { head = j; tail = behind-first.0 }) apart-rest
+        ∙ relinking.broken-old v i within None (record { head = j; tail = behind-first.0 }) apart-rest
         ∙ behind-first.1.1
 
     broken-alone : broken (set v.rows i r) (alone i) ≡ 0
     unfolding breaks
-    broken-alone = ap (λ o. gap o None) next-new
-
-    naming-same : (d : ℕ) (x : Msg) → naming (set v.rows i r) d x ≡ naming v.rows d x
-    naming-same d x = sum-ext _ _ (row-keeps (λ (y : Row). cond {A = ℕ} (eqb y.number d) 1 0) v.rows i r within refl) (ids x)
+    broken-alone = ap (λ o. gap o None) (relinking.next-new v i within None)
 
     pub parted-raw : IsRaw parted_nodes first_m first_d spare_m spare_d parted_roster
     parted-raw =
@@ -156,13 +127,13 @@ module _ {v : Nodes} {b : Roster} {first_m : Option MsgLink} {first_d : Option D
           owned_d = is.owned_d;
           referenced = λ d. (
               let o = is.referenced d in let s = split (naming v.rows d) in let w = weigh-parted (naming v.rows d) in let p = sum-parted (λ x. cond (eqb (row_at x v.rows).number d) 1 0) in
-              let e = weigh-same (naming (set v.rows i r) d) (naming v.rows d) (naming-same d) b.lists parted_roster.hand in omega arith);
+              let e = weigh-same (naming (set v.rows i r) d) (naming v.rows d) (relinking.naming-same v i within None d) b.lists parted_roster.hand in omega arith);
           bounded = is.bounded;
-          linked_m = breaks-apart i (next_of v.rows) (next_of (set v.rows i r)) next-old (option_map (msg_number v.mat) first_m) b.free_m out-free ∙ is.linked_m;
+          linked_m = relinking.free-old v i within None (option_map (msg_number v.mat) first_m) b.free_m out-free ∙ is.linked_m;
           linked_d = is.linked_d;
           chained =
               let c = is.chained in let s = split (broken v.rows) in let w = weigh-parted (broken (set v.rows i r)) in
-              let a = weigh-apart i (broken (set v.rows i r)) (broken v.rows) broken-old b.lists others out-others in
+              let a = weigh-apart i (broken (set v.rows i r)) (broken v.rows) (relinking.broken-old v i within None) b.lists others out-others in
               let x = broken-rest in let y = broken-alone in omega arith;
           straight = λ k. row-keeps askew v.rows i r within refl k ∙ is.straight k;
           count_m = is.count_m;
@@ -170,12 +141,6 @@ module _ {v : Nodes} {b : Roster} {first_m : Option MsgLink} {first_d : Option D
           there_m = rw len is.there_m;
           there_d = is.there_d;
         }
-
-    chain-same : (x : Msg) → chain_of parted_nodes x ≡ chain_of v x
-    chain-same x = map-ext (block_no parted_nodes) (block_no v) (row-keeps (shown v.datas) v.rows i r within refl) (ids x)
-
-    held-same : (x : Msg) → held_of parted_nodes x ≡ held_of v x
-    held-same x = ap (λ (c : List Block). record { name = x.head; chain = c }) (chain-same x)
 
     abbrev rest_chain : List Block
     rest_chain = chain_of v (rest_of m)
@@ -186,8 +151,8 @@ module _ {v : Nodes} {b : Roster} {first_m : Option MsgLink} {first_d : Option D
         sym (with-value v i (alone i) refl b.hand) in
         let name : (rest_of m).head ≡ j = ap (λ (x : Msg). x.head) rest-is in
         λ k. record {
-          lists = maps-same (chain_of parted_nodes) (chain_of v) chain-same b.lists k;
-          hand = record { name = name k; chain = chain-same (rest_of m) k } ∷ (map-same (held_of parted_nodes) (held_of v) held-same (with_in i (alone i) b.hand) ∙ hand) k;
+          lists = maps-same (chain_of parted_nodes) (chain_of v) (relinking.chain-same v i within None v.datas (λ e. refl)) b.lists k;
+          hand = record { name = name k; chain = relinking.chain-same v i within None v.datas (λ e. refl) (rest_of m) k } ∷ (map-same (held_of parted_nodes) (held_of v) (relinking.held-same v i within None v.datas (λ e. refl)) (with_in i (alone i) b.hand) ∙ hand) k;
           mblks = length-set v.rows i r k;
           dblks = length v.datas;
         }

@@ -12,7 +12,7 @@ use Rattle.strm_raw.specs.declared.msg_nodes.MsgNode.{MsgNode}
 use Rattle.strm_raw.specs.declared.msg_nodes.MsgLink.{MsgLink}
 use Rattle.strm_raw.specs.declared.data_nodes.DataLink.{DataLink}
 use Rattle.strm_raw.proofs.Apart.{times-cons, breaks-apart, gap-self}
-use Rattle.strm_raw.proofs.Parting.{row-keeps}
+use Rattle.strm_raw.proofs.Relinking.{row-keeps}
 
 pub times-below : (i a k : ℕ) → i < a → times i (numbers a k) ≡ 0
 times-below i a zero less = refl
