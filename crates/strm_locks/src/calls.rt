@@ -31,7 +31,7 @@ impl<P: Object> Lock<P> {
         caller: Caller,
         event: &Event<&[u8]>,
         out: &mut Content,
-    ) -> (Result<Answer<usize>, Refusal>, Told)
+    ) -> (Result<Answer<u32>, Refusal>, Told)
         requires own { seat.old.table_id ≡ self.now }
         requires lock { (k : Kept) × (seat.old.me.1 ≡ (0, k) ∷ []) }
         ensures same { IsSame seat.old seat.new × (seat.new.me.0 ≡ seat.old.me.0) }
@@ -46,7 +46,7 @@ impl<P: Object> Lock<P> {
         &self,
         seat: &mut Place<P>,
         out: &mut Content,
-    ) -> (Result<Answer<usize>, Refusal>, Told)
+    ) -> (Result<Answer<u32>, Refusal>, Told)
         requires own { seat.old.table_id ≡ self.now }
         requires lock { (k : Kept) × (seat.old.me.1 ≡ (0, k) ∷ []) }
         ensures same { IsSame seat.old seat.new × (seat.new.me.0 ≡ seat.old.me.0) }
@@ -102,7 +102,7 @@ impl<P: Object> Lock<P> {
         rt: &R,
         seat: &mut Place<P>,
         out: &mut Content,
-    ) -> (Result<Answer<usize>, Refusal>, Told)
+    ) -> (Result<Answer<u32>, Refusal>, Told)
         requires own { seat.old.table_id ≡ self.now }
         requires fresh { seat.old.me ≡ (fresh, []) }
         ensures same { IsSame seat.old seat.new }
@@ -122,7 +122,7 @@ impl<P: Object> Lock<P> {
         end: &mut End<P>,
         event: &Event<&[u8]>,
         out: &mut Content,
-    ) -> Result<Answer<usize>, Refusal>
+    ) -> Result<Answer<u32>, Refusal>
         requires { IsOf self.now end.old }
         ensures { MatchResult result
             (λ a. Gains end.old (entry_of end.old.caller (request event.now) out.new.items a) end.new)

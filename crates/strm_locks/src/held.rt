@@ -75,7 +75,7 @@ impl<P: Object> Held<P> {
         caller: Caller,
         event: &Event<&[u8]>,
         out: &mut Content,
-    ) -> Result<Answer<usize>, Refusal>
+    ) -> Result<Answer<u32>, Refusal>
         ensures refused { MatchOption (call_refused self.old.pair caller (request event.now)) (IsOk result)
             (λ r. (result ≡ Err r) × ((self.new ≡ self.old) × (out.new ≡ out.old))) }
         ensures adds { IfOk result (λ answer.
@@ -135,7 +135,7 @@ impl<P: Object> Held<P> {
         caller: Caller,
         event: &Event<&[u8]>,
         out: &mut Content,
-    ) -> (Result<Answer<usize>, Refusal>, Told)
+    ) -> (Result<Answer<u32>, Refusal>, Told)
         ensures answer { Did self.old caller (request event.now) out.old.items out.new.items result.0 self.new }
         ensures below { IsBelow self.old.book.totals self.new.book.totals }
         ensures fits { Fits self.new.book.totals }
@@ -148,7 +148,7 @@ impl<P: Object> Held<P> {
     }
 
     // The call that opens the master, where no end has a part: it gives all parts away. Else EINVAL, which tells nothing.
-    pub(crate) fn open(&mut self, out: &mut Content) -> (Result<Answer<usize>, Refusal>, Told)
+    pub(crate) fn open(&mut self, out: &mut Content) -> (Result<Answer<u32>, Refusal>, Told)
         ensures answer { Opens self.old out.new.items result.0 self.new }
         ensures below { IsBelow self.old.book.totals self.new.book.totals }
         ensures fits { Fits self.new.book.totals }

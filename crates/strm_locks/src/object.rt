@@ -25,7 +25,7 @@ pub trait Object: Drop {
         caller: Caller,
         event: &Event<&[u8]>,
         out: &mut Content,
-    ) -> Result<Answer<usize>, Refusal>
+    ) -> Result<Answer<u32>, Refusal>
         ensures refused { MatchOption (call_refused (pair_of self.old) caller (request event.now)) (IsOk result)
             (λ r. (result ≡ Err r) × ((pair_of self.new ≡ pair_of self.old) × (out.new ≡ out.old))) }
         ensures adds { IfOk result (λ answer.

@@ -145,7 +145,7 @@ impl<P: Object> System<P> {
         end: &mut PairEnd<P>,
         event: &Event<&[u8]>,
         out: &mut Content,
-    ) -> Result<Answer<usize>, Refusal>
+    ) -> Result<Answer<u32>, Refusal>
         requires { IsOne self.now end.old }
         ensures pair { end.new.pair ≡ end.old.pair }
         ensures told { MatchResult result

@@ -35,7 +35,7 @@ impl Object for Unopened {
         _caller: Caller,
         event: &Event<&[u8]>,
         _out: &mut Content,
-    ) -> Result<Answer<usize>, Refusal> {
+    ) -> Result<Answer<u32>, Refusal> {
         Err(refusal(event))
     }
 

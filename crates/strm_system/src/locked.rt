@@ -51,7 +51,7 @@ impl<B: Blocks + Drop> Object for Locked<B> {
         caller: Caller,
         event: &Event<&[u8]>,
         out: &mut Content,
-    ) -> Result<Answer<usize>, Refusal> {
+    ) -> Result<Answer<u32>, Refusal> {
         self.know(caller.side);
         let answer = self.pair.call(caller, event, out);
         self.know(caller.side);
