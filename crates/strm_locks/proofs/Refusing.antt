@@ -33,8 +33,8 @@ never : (p : PairState) (caller : Caller) → is_erange (call_refused p caller O
 never p caller =
     let room = has_room p.journal p.limits ((needs OpenSlave).brings + (needs OpenSlave).gives) in
     let blocks = enough (blocks_asked OpenSlave) p.free in
-    let rest : Option Refusal = or_else (unless room JournalFull) (or_else (unless blocks Enosr) (or_else (unless (not (is_open p.state.slave.opened)) Einval) (unless (not p.state.locked) Eagain))) in
-    ap is_erange (flat (is_open p.state.master.opened) rest) ∙ others (is_open p.state.master.opened) room blocks (not (is_open p.state.slave.opened)) (not p.state.locked)
+    let rest : Option Refusal = or_else (unless room JournalFull) (or_else (unless blocks Enosr) (or_else (unless (not (is_open p.state.ends.slave.opened)) Einval) (unless (not p.state.locked) Eagain))) in
+    ap is_erange (flat (is_open p.state.ends.master.opened) rest) ∙ others (is_open p.state.ends.master.opened) room blocks (not (is_open p.state.ends.slave.opened)) (not p.state.locked)
 
 pub not_erange : (caller : Caller) (z : Refusal) → IsRefused caller OpenSlave z → z ≢ Erange
 not_erange caller z r same = let is : true ≡ false = sym (ap is_erange (r.1 ∙ ap (λ (x : Refusal). Some x) same)) ∙ never r.0 caller in absurd (cc)
