@@ -195,10 +195,6 @@ module _ {C : Type 0} (cells : Cells C) (p : Dir → C → Bool) (numbered : Num
   abbrev pub total : State C → ℕ
   total s = upto MasterToSlave s.books.master + upto SlaveToMaster s.books.slave
 
-  -- the numbers of two books
-  by-numbers : (dir : Dir) (w w' m m' : ℕ) → w ≡ w' → m ≡ m' → numbered.upto_written dir w + numbered.upto_made dir m ≡ numbered.upto_written dir w' + numbered.upto_made dir m'
-  by-numbers dir w w' m m' e f = ap (λ n. numbered.upto_written dir n + numbered.upto_made dir m) e ∙ ap (λ n. numbered.upto_written dir w' + numbered.upto_made dir n) f
-
   -- what is told as made is counted by the books
   next-counts : (dir : Dir) (n : ℕ) (xs : List C) → AreNext cells dir n xs → count_by (p dir) xs + numbered.upto_made dir n ≡ numbered.upto_made dir (n + length xs)
   next-counts dir n xs next =

@@ -32,9 +32,6 @@ made-within (Comes SlaveToMaster cells ∷ told) = let rest = made-within told i
 abbrev pub both_made : ℕ → ℕ → State ℕ → State ℕ
 both_made m n s = with_book SlaveToMaster (with_made n s.books.slave) (with_book MasterToSlave (with_made m s.books.master) s)
 
-same-made : (m n m' n' : ℕ) (s : State ℕ) → m ≡ m' → n ≡ n' → both_made m n s ≡ both_made m' n' s
-same-made m n m' n' s e f = ap (λ k. both_made k n s) e ∙ ap (λ k. both_made m' k s) f
-
 first-more : (a m n : ℕ) (s : State ℕ) → both_made m n (with_book MasterToSlave (with_made a s.books.master) s) ≡ both_made (a + m) n s
 first-more a m n s = ap (λ (k : ℕ). (with_book SlaveToMaster (with_made n s.books.slave) (with_book MasterToSlave (record s.books.master { made = k }) s))) (let e : s.books.master.made + a + m ≡ s.books.master.made + (a + m) = omega arith in e)
 

@@ -24,9 +24,7 @@ module _ {C D : Type 0} (f : C → D) where
       → image ≡ map_carried f (map_state f) t → ((s : State C) → next' (map_state f s) ≡ map_carried f (map_state f) (next s))
       → and_then image next' ≡ map_carried f (map_state f) (and_then t next)
   and_then-forgets t image next next' is agree =
-      ap (λ (u : Carried D (State D)). and_then u next') is
-      ∙ ap (λ (u : Carried D (State D)). record { state = u.state; gone = map (map_fate f) t.gone ++ u.gone }) (agree t.state)
-      ∙ ap (λ (gone : List (Fate D)). record { state = map_state f (next t.state).state; gone = gone }) (sym (map-append (map_fate f) t.gone (next t.state).gone))
+      rw (is, agree t.state, ← map-append (map_fate f) t.gone (next t.state).gone) refl
 
   -- a close
   hung_up-forgets : (s : State C) → hung_up_at Slave (map_state f s) ≡ map_state f (hung_up_at Slave s)

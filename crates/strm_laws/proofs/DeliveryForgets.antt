@@ -16,9 +16,7 @@ module _ {C D S T : Type 0} (f : C → D) (g : S → T) where
   in_turn-agrees carry carry' agree (q ∷ qs) s =
       let t = carry q s in
       let rest = in_turn-agrees carry carry' agree qs t.state in
-      ap (λ (u : Carried D T). record { state = (in_turn carry' (map (map_parcel f) qs) u.state).state; gone = u.gone ++ (in_turn carry' (map (map_parcel f) qs) u.state).gone }) (agree q s)
-      ∙ ap (λ (u : Carried D T). record { state = u.state; gone = map (map_fate f) t.gone ++ u.gone }) rest
-      ∙ ap (λ fates. record { state = g (in_turn carry qs t.state).state; gone = fates }) (sym (map-join (map_fate f) t.gone (in_turn carry qs t.state).gone))
+      rw (agree q s, rest, ← map-join (map_fate f) t.gone (in_turn carry qs t.state).gone) refl
 
   pub carried-agrees : (put : Spot → Message C → S → Took C S) (put' : Spot → Message D → T → Took D T) → PutsAgree f g put put' → (hops : ℕ) → CarriesAgree f g (carried put hops) (carried put' hops)
   unfolding carried
@@ -26,6 +24,4 @@ module _ {C D S T : Type 0} (f : C → D) (g : S → T) where
   carried-agrees put put' agree (suc hops) q s =
       let t = put q.to q.message s in
       let rest = in_turn-agrees (carried put hops) (carried put' hops) (carried-agrees put put' agree hops) t.sent t.state in
-      ap (λ (u : Took D T). record { state = (in_turn (carried put' hops) u.sent u.state).state; gone = u.gone ++ (in_turn (carried put' hops) u.sent u.state).gone }) (agree q.to q.message s)
-      ∙ ap (λ (u : Carried D T). record { state = u.state; gone = map (map_fate f) t.gone ++ u.gone }) rest
-      ∙ ap (λ fates. record { state = g (in_turn (carried put hops) t.sent t.state).state; gone = fates }) (sym (map-join (map_fate f) t.gone (in_turn (carried put hops) t.sent t.state).gone))
+      rw (agree q.to q.message s, rest, ← map-join (map_fate f) t.gone (in_turn (carried put hops) t.sent t.state).gone) refl

@@ -31,8 +31,7 @@ module _ {C D : Type 0} (f : C → D) where
   first-forgets : (way : Way) (place : ℕ) (ps : List (Module C)) → first_place module_queue way place (images ps) ≡ first_place module_queue way place ps
   first-forgets way place [] = refl
   first-forgets way place (p ∷ ps) =
-      ap (λ b. cond b (Some place) (first_place module_queue way (suc place) (images ps))) (queue-forgets way p)
-      ∙ ap (λ o. cond (has_queue module_queue way p) (Some place) o) (first-forgets way (suc place) ps)
+      rw (queue-forgets way p, first-forgets way (suc place) ps) refl
 
   last-forgets : (way : Way) (place : ℕ) (last : Option ℕ) (ps : List (Module C)) → last_place module_queue way place last (images ps) ≡ last_place module_queue way place last ps
   last-forgets way place last [] = refl
@@ -54,8 +53,7 @@ module _ {C D : Type 0} (f : C → D) where
 
   before_among-forgets : (side : Side) (way : Way) (at : ℕ) (ps : List (Module C)) → before_among side way at (images ps) ≡ before_among side way at ps
   before_among-forgets side way at ps =
-      ap (λ qs. before_by side way at qs (place_before module_queue way at (images ps))) (places-forget ps)
-      ∙ ap (λ o. before_by side way at (places_of ps) o) (place-forgets way at ps)
+      rw (places-forget ps, place-forgets way at ps) refl
 
   pub before_at-forgets : (side : Side) (way : Way) (at : ℕ) (s : State C) → before_at side way at (map_state f s) ≡ before_at side way at s
   before_at-forgets Master way at s = before_among-forgets Master way at s.ends.master.modules

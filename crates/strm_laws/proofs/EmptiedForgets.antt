@@ -20,19 +20,7 @@ use Rattle.strm_laws.specs.State.{State, Stream, stream, with_stream, with_head_
 use Rattle.strm_types.specs.Queue.{is_none_left}
 use Rattle.strm_laws.proofs.Earlier.{before_driver-forgets, before_head-forgets}
 use Rattle.strm_laws.proofs.Forgetting.{kind-forgets, named_band-forgets, cells-forget, size-forgets, none-forgets, relieved-forgets, relieves_from-forgets}
-
--- what becomes of a state whose head's or driver's queue on a side is emptied
-abbrev head_made : {E : Type 0} → Rule → Side → State E → Option QueueName → Queue E → Bool → List E → Carried E (State E)
-head_made rule side s earlier q goes cells = record {
-  state = record (with_stream side (with_head_queue q (stream side s)) s) { enabled = enable_some goes earlier s.enabled };
-  gone = Goes (direction_of (head_of side)) rule cells ∷ [];
-}
-
-abbrev driver_made : {E : Type 0} → Rule → Side → State E → Option QueueName → Queue E → Bool → List E → Carried E (State E)
-driver_made rule side s earlier q goes cells = record {
-  state = record (with_stream side (with_driver_queue q (stream side s)) s) { enabled = enable_some goes earlier s.enabled };
-  gone = Goes (direction_of (driver_of side)) rule cells ∷ [];
-}
+use Rattle.strm_types.proofs.BySide.{map-set}
 
 module _ {C D : Type 0} (f : C → D) where
   -- over one queue
@@ -43,9 +31,7 @@ module _ {C D : Type 0} (f : C → D) where
   stayed-forgets : (chosen : Choice) (ms : List (Message C)) → stayed chosen (map_messages f ms) ≡ map_messages f (stayed chosen ms)
   stayed-forgets chosen [] = refl
   stayed-forgets chosen (m ∷ ms) =
-      ap (λ (goes : Bool). cond (not goes) (map_message f m ∷ stayed chosen (map_messages f ms)) (stayed chosen (map_messages f ms))) (chosen-forgets chosen m)
-      ∙ ap (λ (rest : List (Message D)). cond (not (chosen m.kind m.band)) (map_message f m ∷ rest) rest) (stayed-forgets chosen ms)
-      ∙ at (chosen m.kind m.band)
+      rw (chosen-forgets chosen m, stayed-forgets chosen ms) (at (chosen m.kind m.band))
     where
       at : (goes : Bool) → cond (not goes) (map_message f m ∷ map_messages f (stayed chosen ms)) (map_messages f (stayed chosen ms)) ≡ map_messages f (cond (not goes) (m ∷ stayed chosen ms) (stayed chosen ms))
       at true = refl
@@ -54,10 +40,7 @@ module _ {C D : Type 0} (f : C → D) where
   pub gone-forgets : (chosen : Choice) (ms : List (Message C)) → cells_gone chosen (map_messages f ms) ≡ map f (cells_gone chosen ms)
   gone-forgets chosen [] = refl
   gone-forgets chosen (m ∷ ms) =
-      ap (λ (goes : Bool). cond goes (cells_of (map_message f m)) [] ++ cells_gone chosen (map_messages f ms)) (chosen-forgets chosen m)
-      ∙ ap (λ (cells : List D). cond (chosen m.kind m.band) cells [] ++ cells_gone chosen (map_messages f ms)) (cells-forget f m)
-      ∙ ap (λ (rest : List D). cond (chosen m.kind m.band) (map f (cells_of m)) [] ++ rest) (gone-forgets chosen ms)
-      ∙ at (chosen m.kind m.band)
+      rw (chosen-forgets chosen m, cells-forget f m, gone-forgets chosen ms) (at (chosen m.kind m.band))
     where
       at : (goes : Bool) → cond goes (map f (cells_of m)) [] ++ map f (cells_gone chosen ms) ≡ map f (cond goes (cells_of m) [] ++ cells_gone chosen ms)
       at true = sym (map-append f (cells_of m) (cells_gone chosen ms))
@@ -69,14 +52,11 @@ module _ {C D : Type 0} (f : C → D) where
 
   emptied-forgets : (chosen : Choice) (q : Queue C) → emptied chosen (map_queue f q) ≡ map_queue f (emptied chosen q)
   emptied-forgets chosen q =
-      ap (λ (rest : List (Message D)). record { messages = rest; flows = q.flows; want_read = q.want_read || is_none_left rest; no_enable = q.no_enable }) (stayed-forgets chosen q.messages)
-      ∙ ap (λ (none : Bool). record { messages = map_messages f (stayed chosen q.messages); flows = q.flows; want_read = q.want_read || none; no_enable = q.no_enable }) (none-forgets f (map_message f) (stayed chosen q.messages))
+      rw (stayed-forgets chosen q.messages, none-forgets f (map_message f) (stayed chosen q.messages)) refl
 
   none_goes-forgets : (chosen : Choice) (q : Queue C) → none_goes chosen (map_queue f q) ≡ none_goes chosen q
   none_goes-forgets chosen q =
-      ap (λ (rest : List (Message D)). bytes_of rest == bytes_of (map_messages f q.messages)) (stayed-forgets chosen q.messages)
-      ∙ ap (λ (left : ℕ). left == bytes_of (map_messages f q.messages)) (bytes-forget (stayed chosen q.messages))
-      ∙ ap (λ (all : ℕ). bytes_of (stayed chosen q.messages) == all) (bytes-forget q.messages)
+      rw (stayed-forgets chosen q.messages, bytes-forget (stayed chosen q.messages), bytes-forget q.messages) refl
 
   pub queue_behind-forgets : (chosen : Choice) (q : Queue C) → queue_behind chosen (map_queue f q) ≡ map_queue f (queue_behind chosen q)
   queue_behind-forgets chosen q =
@@ -94,41 +74,19 @@ module _ {C D : Type 0} (f : C → D) where
       ∙ ap (λ (rest : Queue D). cond (none_goes chosen q) false (relieves rest)) (emptied-forgets chosen q)
       ∙ ap (λ (lets : Bool). cond (none_goes chosen q) false lets) (relieves_from-forgets f 0 (stayed chosen q.messages) q.flows)
 
-  -- over a side's head and its driver
-  head_made-forgets : (rule : Rule) (side : Side) (s : State C) (earlier : Option QueueName) (q : Queue C) (goes : Bool) (cells : List C)
-      → head_made rule side (map_state f s) earlier (map_queue f q) goes (map f cells) ≡ map_carried f (map_state f) (head_made rule side s earlier q goes cells)
-  head_made-forgets rule Master s earlier q goes cells = refl
-  head_made-forgets rule Slave s earlier q goes cells = refl
-
-  driver_made-forgets : (rule : Rule) (side : Side) (s : State C) (earlier : Option QueueName) (q : Queue C) (goes : Bool) (cells : List C)
-      → driver_made rule side (map_state f s) earlier (map_queue f q) goes (map f cells) ≡ map_carried f (map_state f) (driver_made rule side s earlier q goes cells)
-  driver_made-forgets rule Master s earlier q goes cells = refl
-  driver_made-forgets rule Slave s earlier q goes cells = refl
-
   pub stream-forgets : (side : Side) (s : State C) → stream side (map_state f s) ≡ map_stream f (stream side s)
   stream-forgets Master s = refl
   stream-forgets Slave s = refl
 
+  -- over a side's head and its driver
   pub head_emptied-forgets : (rule : Rule) (chosen : Choice) (side : Side) (s : State C) → head_emptied rule chosen side (map_state f s) ≡ map_carried f (map_state f) (head_emptied rule chosen side s)
   head_emptied-forgets rule chosen side s =
-      let q = (stream side s).head.queue in
-      let image = map_state f s in
-      let earlier = before_head side s in
-      ap (λ (e : Option QueueName). head_made rule side image e (queue_behind chosen (stream side image).head.queue) (writer_goes chosen (stream side image).head.queue) (cells_gone chosen (stream side image).head.queue.messages)) (before_head-forgets f side s)
-      ∙ ap (λ (t : Stream D). head_made rule side image earlier (queue_behind chosen t.head.queue) (writer_goes chosen t.head.queue) (cells_gone chosen t.head.queue.messages)) (stream-forgets side s)
-      ∙ ap (λ (rest : Queue D). head_made rule side image earlier rest (writer_goes chosen (map_queue f q)) (cells_gone chosen (map_messages f q.messages))) (queue_behind-forgets chosen q)
-      ∙ ap (λ (goes : Bool). head_made rule side image earlier (map_queue f (queue_behind chosen q)) goes (cells_gone chosen (map_messages f q.messages))) (writer_goes-forgets chosen q)
-      ∙ ap (λ (cells : List D). head_made rule side image earlier (map_queue f (queue_behind chosen q)) (writer_goes chosen q) cells) (gone-forgets chosen q.messages)
-      ∙ head_made-forgets rule side s earlier (queue_behind chosen q) (writer_goes chosen q) (cells_gone chosen q.messages)
+      let t = stream side s in
+      let q = t.head.queue in
+      rw (before_head-forgets f side s, stream-forgets side s, queue_behind-forgets chosen q, writer_goes-forgets chosen q, gone-forgets chosen q.messages, map-set (map_stream f) side (with_head_queue (queue_behind chosen q) t) s.ends) refl
 
   pub driver_emptied-forgets : (rule : Rule) (chosen : Choice) (side : Side) (s : State C) → driver_emptied rule chosen side (map_state f s) ≡ map_carried f (map_state f) (driver_emptied rule chosen side s)
   driver_emptied-forgets rule chosen side s =
-      let q = (stream side s).driver.queue in
-      let image = map_state f s in
-      let earlier = before_driver side s in
-      ap (λ (e : Option QueueName). driver_made rule side image e (queue_behind chosen (stream side image).driver.queue) (writer_goes chosen (stream side image).driver.queue) (cells_gone chosen (stream side image).driver.queue.messages)) (before_driver-forgets f side s)
-      ∙ ap (λ (t : Stream D). driver_made rule side image earlier (queue_behind chosen t.driver.queue) (writer_goes chosen t.driver.queue) (cells_gone chosen t.driver.queue.messages)) (stream-forgets side s)
-      ∙ ap (λ (rest : Queue D). driver_made rule side image earlier rest (writer_goes chosen (map_queue f q)) (cells_gone chosen (map_messages f q.messages))) (queue_behind-forgets chosen q)
-      ∙ ap (λ (goes : Bool). driver_made rule side image earlier (map_queue f (queue_behind chosen q)) goes (cells_gone chosen (map_messages f q.messages))) (writer_goes-forgets chosen q)
-      ∙ ap (λ (cells : List D). driver_made rule side image earlier (map_queue f (queue_behind chosen q)) (writer_goes chosen q) cells) (gone-forgets chosen q.messages)
-      ∙ driver_made-forgets rule side s earlier (queue_behind chosen q) (writer_goes chosen q) (cells_gone chosen q.messages)
+      let t = stream side s in
+      let q = t.driver.queue in
+      rw (before_driver-forgets f side s, stream-forgets side s, queue_behind-forgets chosen q, writer_goes-forgets chosen q, gone-forgets chosen q.messages, map-set (map_stream f) side (with_driver_queue (queue_behind chosen q) t) s.ends) refl

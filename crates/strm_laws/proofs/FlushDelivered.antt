@@ -85,8 +85,7 @@ module _ {C : Type 0} (cells : Cells C) where
       let t = carry p s in
       let u = in_turn carry ps t.state in
       let v = in_turn carry qs u.state in
-      ap (λ (w : Carried C (State C)). record { state = w.state; gone = t.gone ++ w.gone }) (turns-join carry ps qs t.state)
-      ∙ ap (λ (gone : List (Fate C)). record { state = v.state; gone = gone }) (sym (append_assoc t.gone u.gone v.gone))
+      rw (turns-join carry ps qs t.state, ← append_assoc t.gone u.gone v.gone) refl
 
   turns-one : (carry : Parcel C → State C → Carried C (State C)) (p : Parcel C) (s : State C) → in_turn carry (p ∷ []) s ≡ carry p s
   turns-one carry p s = ap (λ (gone : List (Fate C)). record { state = (carry p s).state; gone = gone }) (append-nil (carry p s).gone)
@@ -197,9 +196,7 @@ module _ {C : Type 0} (cells : Cells C) where
       ≡ reached (of_data band) (other side) behind
   up-behind hops band side s known none =
       let behind = driver_behind (of_data band) side s in
-      ap (λ (bottom : ℕ). in_turn (carried (put_in cells) (suc hops)) (reader_flush (is_open (stream (other side) s).opened) (asked_of Read band) (up_spot (other side) bottom)) behind) (none-on (other side) s none)
-      ∙ ap (λ (opened : Bool). in_turn (carried (put_in cells) (suc hops)) (reader_flush opened (asked_of Read band) (head_spot (other side))) behind) (stays-opened (of_data band) side s)
-      ∙ reads-reach hops band (other side) behind known
+      rw (none-on (other side) s none, stays-opened (of_data band) side s) (reads-reach hops band (other side) behind known)
 
   across-carried : (hops : ℕ) (band : Option Band) (side : Side) (s : State C) → is_a_band band ≡ true → NoModules s
       → carried (put_in cells) (suc (suc hops)) (flush_to (across_spot side) (read_flush band)) s ≡ write_flushed (of_data band) side s

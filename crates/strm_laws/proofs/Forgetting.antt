@@ -67,14 +67,12 @@ module _ {C D : Type 0} (f : C → D) where
   relieved_from-forgets : (band : ℕ) (messages : List (Message C)) (flows : List Flow) → relieved_from band (map_messages f messages) flows ≡ relieved_from band messages flows
   relieved_from-forgets band messages [] = refl
   relieved_from-forgets band messages (flow ∷ flows) =
-      ap (λ (n : ℕ). (if flow.want_write && nat_le n flow.low then record flow { want_write = false } else flow) ∷ relieved_from (suc band) (map_messages f messages) flows) (count-forgets band messages)
-      ∙ ap (λ (rest : List Flow). (if flow.want_write && nat_le (count_of band messages) flow.low then record flow { want_write = false } else flow) ∷ rest) (relieved_from-forgets (suc band) messages flows)
+      rw (count-forgets band messages, relieved_from-forgets (suc band) messages flows) refl
 
   pub relieves_from-forgets : (band : ℕ) (messages : List (Message C)) (flows : List Flow) → relieves_from band (map_messages f messages) flows ≡ relieves_from band messages flows
   relieves_from-forgets band messages [] = refl
   relieves_from-forgets band messages (flow ∷ flows) =
-      ap (λ (n : ℕ). (flow.want_write && nat_le n flow.low) || relieves_from (suc band) (map_messages f messages) flows) (count-forgets band messages)
-      ∙ ap (λ (rest : Bool). (flow.want_write && nat_le (count_of band messages) flow.low) || rest) (relieves_from-forgets (suc band) messages flows)
+      rw (count-forgets band messages, relieves_from-forgets (suc band) messages flows) refl
 
   pub relieved-forgets : (q : Queue C) → map_queue f (relieved q) ≡ relieved (map_queue f q)
   relieved-forgets q =

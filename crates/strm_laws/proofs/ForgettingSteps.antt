@@ -28,7 +28,7 @@ use Rattle.strm_types.specs.GetQueues.{get_queue, get_lets_go}
 use Rattle.strm_types.specs.Message.{Message, part, map_message}
 use Rattle.strm_types.specs.Queue.{Queue, map_messages, map_queue}
 use Rattle.strm_types.specs.Heads.{Head, new_head, map_head}
-use Rattle.strm_laws.specs.State.{State, stream, with_stream, with_head_queue, book, with_book, map_state}
+use Rattle.strm_laws.specs.State.{State, stream, with_stream, with_head_queue, book, with_book, map_state, map_stream}
 use Rattle.strm_types.specs.Books.{with_written}
 use Rattle.strm_laws.specs.Writes.{Wrote, cells_sent, map_wrote}
 use Rattle.strm_types.specs.Reads.{Drawn, head_draw, read_queue, read_lets_go}
@@ -53,22 +53,12 @@ use Rattle.strm_laws.proofs.GotQueues.{get_queue-forgets, get_lets_go-forgets}
 use Rattle.strm_laws.proofs.PutMessages.{put_at-forgets}
 use Rattle.strm_laws.proofs.ReadForgets.{body-forgets, head_draw-forgets, read_queue-forgets, read_lets_go-forgets}
 use Rattle.strm_laws.proofs.TurnForgets.{driver_turned-forgets}
+use Rattle.strm_types.proofs.BySide.{map-set}
+use Rattle.strm_laws.proofs.EmptiedForgets.{stream-forgets}
 
 -- what a write makes of what was sent
 abbrev sent_on : {C : Type 0} → Side → Wrote C → Outcome C
 sent_on side t = let dir = direction_from side in record { answer = Count t.taken; state = with_book dir (with_written t.taken (book dir t.state)) t.state }
-
--- what a read makes of what was taken, with this answer
-abbrev taken_with : {C : Type 0} → Side → State C → Reply → Queue C → Bool → Option QueueName → Outcome C
-taken_with side s answer q lets earlier = record {
-  answer = answer;
-  state = record (with_stream side (with_head_queue q (stream side s)) s) {
-    enabled = enable_some lets earlier s.enabled;
-  };
-}
-
-abbrev pub taken_from : {C : Type 0} → Side → State C → Reply → Queue C → Bool → Outcome C
-taken_from side s answer q lets = taken_with side s answer q lets (before_head side s)
 
 -- what a get answers
 abbrev msg_of : Prio → Option (List ℕ) → Option (List ℕ) → Bool → Bool → Reply
@@ -104,22 +94,6 @@ module _ {C D : Type 0} (f : C → D) where
   sizes-forgets Master s = told-forgets s.ends.master.head.queue.messages (map_state f s)
   sizes-forgets Slave s = told-forgets s.ends.slave.head.queue.messages (map_state f s)
 
-  -- a write
-  sent_on-forgets : (side : Side) (t : Wrote C) → sent_on side (map_wrote f t) ≡ map_outcome f (sent_on side t)
-  sent_on-forgets Master t = refl
-  sent_on-forgets Slave t = refl
-
-  -- a read
-  taken_with-forgets : (side : Side) (s : State C) (answer : Reply) (q : Queue C) (lets : Bool) (earlier : Option QueueName)
-      → taken_with side (map_state f s) answer (map_queue f q) lets earlier ≡ map_outcome f (taken_with side s answer q lets earlier)
-  taken_with-forgets Master s answer q lets earlier = refl
-  taken_with-forgets Slave s answer q lets earlier = refl
-
-  taken_from-forgets : (side : Side) (s : State C) (answer : Reply) (q : Queue C) (lets : Bool) → taken_from side (map_state f s) answer (map_queue f q) lets ≡ map_outcome f (taken_from side s answer q lets)
-  taken_from-forgets side s answer q lets =
-      ap (λ e. taken_with side (map_state f s) answer (map_queue f q) lets e) (before_head-forgets f side s)
-      ∙ taken_with-forgets side s answer q lets (before_head side s)
-
 module _ {C : Type 0} (cells : Cells C) (are : AreCells cells) where
   -- where origins are forgotten, what is written are the bytes
   write-forgets : (side : Side) (bytes : List ℕ) (s : State C) → wrote plain side bytes (map_state cells.byte s) ≡ map_outcome cells.byte (wrote cells side bytes s)
@@ -130,34 +104,18 @@ module _ {C : Type 0} (cells : Cells C) (are : AreCells cells) where
       let written = cells_written cells dir n bytes in
       ap (λ (xs : List ℕ). sent_on side (cells_sent plain side xs base)) (written-plain dir (book dir base).written bytes ∙ sym (written-bytes cells are dir n bytes))
       ∙ ap (λ (t : Wrote ℕ). sent_on side t) (cells_sent-forgets cells are side written s)
-      ∙ sent_on-forgets cells.byte side (cells_sent cells side written s)
 
   -- a read, which gives the bytes of its cells
+  given-bytes : (k : ℕ) (g : Head C) → bytes_of plain (head_draw g.read_mode g.control_mode k (map_messages cells.byte g.queue.messages)).given ≡ bytes_of cells (head_draw g.read_mode g.control_mode k g.queue.messages).given
+  given-bytes k g = bytes-plain (head_draw g.read_mode g.control_mode k (map_messages cells.byte g.queue.messages)).given ∙ ap (λ (d : Drawn ℕ). d.given) (sym (head_draw-forgets cells.byte g.read_mode g.control_mode k g.queue.messages))
+
   read_at-forgets : (side : Side) (n : ℕ) (s : State C) → read_at plain side n (map_state cells.byte s) ≡ map_outcome cells.byte (read_at cells side n s)
-  read_at-forgets side n s = over side ∙ taken_from-forgets cells.byte side s (Bytes (bytes_of cells (head_draw h.read_mode h.control_mode most h.queue.messages).given)) (read_queue h.read_mode h.control_mode most h.queue) (read_lets_go h.read_mode h.control_mode most h.queue)
-    where
-      h : Head C
-      h = (stream side s).head
-
-      most : ℕ
-      most = min n READ_MAX
-
-      drawn-is : (k : ℕ) (g : Head C) → bytes_of plain (head_draw g.read_mode g.control_mode k (map_messages cells.byte g.queue.messages)).given ≡ bytes_of cells (head_draw g.read_mode g.control_mode k g.queue.messages).given
-      drawn-is k g = bytes-plain (head_draw g.read_mode g.control_mode k (map_messages cells.byte g.queue.messages)).given ∙ ap (λ (d : Drawn ℕ). d.given) (sym (head_draw-forgets cells.byte g.read_mode g.control_mode k g.queue.messages))
-
-      from-head : (side : Side) (k : ℕ) (g : Head C) → let image = map_head cells.byte g in
-          taken_from side (map_state cells.byte s) (Bytes (bytes_of plain (head_draw g.read_mode g.control_mode k image.queue.messages).given)) (read_queue g.read_mode g.control_mode k image.queue) (read_lets_go g.read_mode g.control_mode k image.queue)
-          ≡ taken_from side (map_state cells.byte s) (Bytes (bytes_of cells (head_draw g.read_mode g.control_mode k g.queue.messages).given)) (map_queue cells.byte (read_queue g.read_mode g.control_mode k g.queue)) (read_lets_go g.read_mode g.control_mode k g.queue)
-      from-head side k g =
-          let image = map_head cells.byte g in
-          ap (λ (xs : List ℕ). taken_from side (map_state cells.byte s) (Bytes xs) (read_queue g.read_mode g.control_mode k image.queue) (read_lets_go g.read_mode g.control_mode k image.queue)) (drawn-is k g)
-          ∙ ap (λ (q : Queue ℕ). taken_from side (map_state cells.byte s) (Bytes (bytes_of cells (head_draw g.read_mode g.control_mode k g.queue.messages).given)) q (read_lets_go g.read_mode g.control_mode k image.queue)) (read_queue-forgets cells.byte g.read_mode g.control_mode k g.queue)
-          ∙ ap (λ (go : Bool). taken_from side (map_state cells.byte s) (Bytes (bytes_of cells (head_draw g.read_mode g.control_mode k g.queue.messages).given)) (map_queue cells.byte (read_queue g.read_mode g.control_mode k g.queue)) go) (read_lets_go-forgets cells.byte g.read_mode g.control_mode k g.queue)
-
-      over : (side : Side) → let g = (stream side s).head in let k = min n READ_MAX in
-          read_at plain side n (map_state cells.byte s) ≡ taken_from side (map_state cells.byte s) (Bytes (bytes_of cells (head_draw g.read_mode g.control_mode k g.queue.messages).given)) (map_queue cells.byte (read_queue g.read_mode g.control_mode k g.queue)) (read_lets_go g.read_mode g.control_mode k g.queue)
-      over Master = from-head Master (min n READ_MAX) s.ends.master.head
-      over Slave = from-head Slave (min n READ_MAX) s.ends.slave.head
+  read_at-forgets side n s =
+      let t = stream side s in
+      let h = t.head in
+      let k = min n READ_MAX in
+      rw (before_head-forgets cells.byte side s, stream-forgets cells.byte side s, given-bytes k h, read_queue-forgets cells.byte h.read_mode h.control_mode k h.queue, read_lets_go-forgets cells.byte h.read_mode h.control_mode k h.queue, map-set (map_stream cells.byte) side (with_head_queue (read_queue h.read_mode h.control_mode k h.queue) t) s.ends)
+      refl
 
   -- a get, which gives the bytes of its cells
   bytes-forget : (o : Option (List C)) → option_map (bytes_of plain) (option_map (map cells.byte) o) ≡ option_map (bytes_of cells) o
@@ -166,30 +124,19 @@ module _ {C : Type 0} (cells : Cells C) (are : AreCells cells) where
 
   answer-forgets : (g : Got C) → got_answer plain (map_got cells.byte g) ≡ got_answer cells g
   answer-forgets g =
-      ap (λ o. msg_of (prio_got g) o (option_map (bytes_of plain) (option_map (map cells.byte) g.body)) g.more_control g.more_data) (bytes-forget g.control)
-      ∙ ap (λ o. msg_of (prio_got g) (option_map (bytes_of cells) g.control) o g.more_control g.more_data) (bytes-forget g.body)
+      rw (bytes-forget g.control, bytes-forget g.body) refl
+
+  got-answer : (wanted : Wanted) (c d : ℕ) (q : List (Message C)) → got_answer plain (head_get wanted c d (map_messages cells.byte q)) ≡ got_answer cells (head_get wanted c d q)
+  got-answer wanted c d q = ap (λ (g : Got ℕ). got_answer plain g) (sym (get-forgets cells.byte wanted c d q)) ∙ answer-forgets (head_get wanted c d q)
 
   get_at-forgets : (side : Side) (wanted : Wanted) (cmax dmax : ℕ) (s : State C) → get_at plain side wanted cmax dmax (map_state cells.byte s) ≡ map_outcome cells.byte (get_at cells side wanted cmax dmax s)
   get_at-forgets side wanted cmax dmax s =
-      let q = (stream side s).head.queue in
+      let t = stream side s in
+      let q = t.head.queue in
       let c = min cmax READ_MAX in
       let d = min dmax READ_MAX in
-      over side ∙ taken_from-forgets cells.byte side s (got_answer cells (head_get wanted c d q.messages)) (get_queue wanted c d q) (get_lets_go wanted c d q)
-    where
-      from-queue : (side : Side) (c d : ℕ) (q : Queue C) → let image = map_queue cells.byte q in
-          taken_from side (map_state cells.byte s) (got_answer plain (head_get wanted c d image.messages)) (get_queue wanted c d image) (get_lets_go wanted c d image)
-          ≡ taken_from side (map_state cells.byte s) (got_answer cells (head_get wanted c d q.messages)) (map_queue cells.byte (get_queue wanted c d q)) (get_lets_go wanted c d q)
-      from-queue side c d q =
-          let image = map_queue cells.byte q in
-          ap (λ (g : Got ℕ). taken_from side (map_state cells.byte s) (got_answer plain g) (get_queue wanted c d image) (get_lets_go wanted c d image)) (sym (get-forgets cells.byte wanted c d q.messages))
-          ∙ ap (λ (a : Reply). taken_from side (map_state cells.byte s) a (get_queue wanted c d image) (get_lets_go wanted c d image)) (answer-forgets (head_get wanted c d q.messages))
-          ∙ ap (λ (b : Queue ℕ). taken_from side (map_state cells.byte s) (got_answer cells (head_get wanted c d q.messages)) b (get_lets_go wanted c d image)) (get_queue-forgets cells.byte wanted c d q)
-          ∙ ap (λ (go : Bool). taken_from side (map_state cells.byte s) (got_answer cells (head_get wanted c d q.messages)) (map_queue cells.byte (get_queue wanted c d q)) go) (get_lets_go-forgets cells.byte wanted c d q)
-
-      over : (side : Side) → let q = (stream side s).head.queue in let c = min cmax READ_MAX in let d = min dmax READ_MAX in
-          get_at plain side wanted cmax dmax (map_state cells.byte s) ≡ taken_from side (map_state cells.byte s) (got_answer cells (head_get wanted c d q.messages)) (map_queue cells.byte (get_queue wanted c d q)) (get_lets_go wanted c d q)
-      over Master = from-queue Master (min cmax READ_MAX) (min dmax READ_MAX) s.ends.master.head.queue
-      over Slave = from-queue Slave (min cmax READ_MAX) (min dmax READ_MAX) s.ends.slave.head.queue
+      rw (before_head-forgets cells.byte side s, stream-forgets cells.byte side s, got-answer wanted c d q.messages, get_queue-forgets cells.byte wanted c d q, get_lets_go-forgets cells.byte wanted c d q, map-set (map_stream cells.byte) side (with_head_queue (get_queue wanted c d q) t) s.ends)
+      refl
 
   pub call-forgets : (caller : Caller) (asked : Request) (s : State C) → called plain caller asked (map_state cells.byte s) ≡ map_outcome cells.byte (called cells caller asked s)
   call-forgets caller OpenMaster s = refl

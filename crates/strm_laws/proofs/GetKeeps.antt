@@ -31,10 +31,6 @@ module _ {C : Type 0} where
   part-most : (n : ℕ) (o : Option (List C)) → length (part (option_map (take n) o)) ≤ n
   part-most n o = omega (arith, ap length (part-taken n o), length-take n (part o))
 
-  chosen-most : (b : Bool) (n : ℕ) (o : Option (List C)) → length (part (cond b (option_map (take n) o) None)) ≤ n
-  chosen-most true n o = part-most n o
-  chosen-most false n o = omega arith
-
   module _ (p : C → Bool) where
     weight-parts : (m : Message C) → count_by p (part m.control) + count_by p (part m.body) ≡ weight_of p m
     unfolding weight_of cells_of
@@ -138,10 +134,6 @@ module _ {C D : Type 0} (f : C → D) where
       ∙ ap (λ xs. rest_with xs (map f (drop dmax (part m.body))) (map_message f m)) (dropped-forget f cmax (part m.control) (part (map_message f m).control) (control-forgets f m))
       ∙ ap (λ xs. rest_with (drop cmax (part (map_message f m).control)) xs (map_message f m)) (dropped-forget f dmax (part m.body) (part (map_message f m).body) (body-forgets f m)))
 
-  -- a get by the parts of the message
-  abbrev got_of : Option (List D) → Option (List D) → Bool → ℕ → Bool → Bool → (Bool → List (Message D)) → Got D
-  got_of control body high band more_control more_data left = record { control = control; body = body; high = high; band = band; more_control = more_control; more_data = more_data; left = left (more_control || more_data) }
-
   parts-forget : (cmax dmax : ℕ) (m : Message C) (q : List (Message C)) → map_got f (parts_of cmax dmax m q) ≡ parts_of cmax dmax (map_message f m) (map_messages f q)
   unfolding map_message
   parts-forget cmax dmax m q =
@@ -151,11 +143,7 @@ module _ {C D : Type 0} (f : C → D) where
       let dl : length (part m.body) ≡ length (part m'.body) = sym (length-forgets (part m.body) (part m'.body) (body-forgets f m)) in
       let mc = nat_lt cmax (length (part m.control)) in
       let md = nat_lt dmax (length (part m.body)) in
-      ap (λ ms. record { control = option_map (map f) (option_map (take cmax) m.control); body = option_map (map f) (option_map (take dmax) m.body); high = is_high_priority m.kind; band = m.band; more_control = mc; more_data = md; left = ms }) (left-forgets (mc || md) cmax dmax m q)
-      ∙ ap (λ o. got_of o (option_map (map f) (option_map (take dmax) m.body)) (is_high_priority m.kind) m.band mc md (λ more. left_behind more cmax dmax m' q')) (taken-forgets cmax m.control)
-      ∙ ap (λ o. got_of (option_map (take cmax) m'.control) o (is_high_priority m.kind) m.band mc md (λ more. left_behind more cmax dmax m' q')) (taken-forgets dmax m.body)
-      ∙ ap (λ k. got_of (option_map (take cmax) m'.control) (option_map (take dmax) m'.body) (is_high_priority m.kind) m.band (nat_lt cmax k) md (λ more. left_behind more cmax dmax m' q')) cl
-      ∙ ap (λ k. got_of (option_map (take cmax) m'.control) (option_map (take dmax) m'.body) (is_high_priority m.kind) m.band (nat_lt cmax (length (part m'.control))) (nat_lt dmax k) (λ more. left_behind more cmax dmax m' q')) dl
+      rw (left-forgets (mc || md) cmax dmax m q, taken-forgets cmax m.control, taken-forgets dmax m.body, cl, dl) refl
 
   got-at : (cmax dmax : ℕ) (m : Message C) (q : List (Message C)) (b : Bool) → map_got f (cond b (parts_of cmax dmax m q) (got_none (m ∷ q))) ≡ cond b (parts_of cmax dmax (map_message f m) (map_messages f q)) (got_none (map_messages f (m ∷ q)))
   got-at cmax dmax m q true = parts-forget cmax dmax m q

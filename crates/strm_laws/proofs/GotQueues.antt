@@ -61,10 +61,7 @@ module _ {C D : Type 0} (f : C → D) where
 
   pub get_queue-forgets : (wanted : Wanted) (cmax dmax : ℕ) (q : Queue C) → get_queue wanted cmax dmax (map_queue f q) ≡ map_queue f (get_queue wanted cmax dmax q)
   get_queue-forgets wanted cmax dmax q =
-      ap (λ g. cond (gets_none wanted (map_messages f q.messages)) (map_queue f q) (queue_got g (map_queue f q))) (sym (get-forgets f wanted cmax dmax q.messages))
-      ∙ ap (λ none. cond none (map_queue f q) (queue_got (map_got f (head_get wanted cmax dmax q.messages)) (map_queue f q))) (gets-forget wanted q.messages)
-      ∙ ap (λ behind. cond (gets_none wanted q.messages) (map_queue f q) behind) (queue_got-forgets (head_get wanted cmax dmax q.messages) q)
-      ∙ at (gets_none wanted q.messages)
+      rw (← get-forgets f wanted cmax dmax q.messages, gets-forget wanted q.messages, queue_got-forgets (head_get wanted cmax dmax q.messages) q) (at (gets_none wanted q.messages))
     where
       at : (none : Bool) → cond none (map_queue f q) (map_queue f (queue_got (head_get wanted cmax dmax q.messages) q)) ≡ map_queue f (cond none q (queue_got (head_get wanted cmax dmax q.messages) q))
       at true = refl
@@ -72,11 +69,8 @@ module _ {C D : Type 0} (f : C → D) where
 
   let_go-forgets : (g : Got C) (q : Queue C) → writer_let_go (map_got f g) (map_queue f q) ≡ writer_let_go g q
   let_go-forgets g q =
-      ap (λ none. cond none false (relieves (left_with (map_messages f g.left) (map_queue f q)))) (none_got-forgets g)
-      ∙ ap (λ goes. cond (none_got g) false goes) (relieves_from-forgets f 0 g.left q.flows)
+      rw (none_got-forgets g, relieves_from-forgets f 0 g.left q.flows) refl
 
   pub get_lets_go-forgets : (wanted : Wanted) (cmax dmax : ℕ) (q : Queue C) → get_lets_go wanted cmax dmax (map_queue f q) ≡ get_lets_go wanted cmax dmax q
   get_lets_go-forgets wanted cmax dmax q =
-      ap (λ g. cond (gets_none wanted (map_messages f q.messages)) false (writer_let_go g (map_queue f q))) (sym (get-forgets f wanted cmax dmax q.messages))
-      ∙ ap (λ none. cond none false (writer_let_go (map_got f (head_get wanted cmax dmax q.messages)) (map_queue f q))) (gets-forget wanted q.messages)
-      ∙ ap (λ goes. cond (gets_none wanted q.messages) false goes) (let_go-forgets (head_get wanted cmax dmax q.messages) q)
+      rw (← get-forgets f wanted cmax dmax q.messages, gets-forget wanted q.messages, let_go-forgets (head_get wanted cmax dmax q.messages) q) refl

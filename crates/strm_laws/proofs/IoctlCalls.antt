@@ -74,6 +74,4 @@ module _ {C : Type 0} (cells : Cells C) (are : AreCells cells) where
   pub sent-forgets : (side : Side) (command : ℕ) (body : List ℕ) (s : State C) → ioctl_sent plain side command body (map_state f s) ≡ map_carried f (map_state f) (ioctl_sent cells side command body s)
   sent-forgets side command body s =
       let m = ioctl_message (asking command s.next_ioctl) body in
-      ap (λ (t : State ℕ). delivered plain (below side) (ioctl_message (asking command s.next_ioctl) body) t) (begun-forgets f side command s)
-      ∙ ap (λ x. delivered plain (below side) x (map_state f (ioctl_begun side command s))) (sym (message-forgets f (asking command s.next_ioctl) body))
-      ∙ delivered-forgets cells are (below side) m (ioctl_begun side command s)
+      rw (begun-forgets f side command s, ← message-forgets f (asking command s.next_ioctl) body) (delivered-forgets cells are (below side) m (ioctl_begun side command s))

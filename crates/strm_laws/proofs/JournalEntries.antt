@@ -31,8 +31,7 @@ request_in-more : (shape : Event ℕ) (bytes more : List ℕ) → event_len shap
 request_in-more (shapes.Write len) bytes more le = ap shapes.Write (take-append-le len bytes more le)
 request_in-more (shapes.Put prio control body) bytes more le =
     let first : part_len control ≤ length bytes = omega (arith, le) in
-    ap (λ c. shapes.Put prio c (part_in body (drop (part_len control) (bytes ++ more)))) (part_in-more control bytes more first)
-    ∙ ap (λ d. shapes.Put prio (part_in control bytes) d) (second-more control body bytes more le)
+    rw (part_in-more control bytes more first, second-more control body bytes more le) refl
 request_in-more (shapes.Ioctl command len) bytes more le = ap (λ body. shapes.Ioctl command body) (take-append-le len bytes more le)
 request_in-more _ bytes more le = refl
 
@@ -40,8 +39,7 @@ reply_in-more : (shape : Answer ℕ) (bytes more : List ℕ) → answer_len shap
 reply_in-more (told.Bytes len) bytes more le = ap told.Bytes (take-append-le len bytes more le)
 reply_in-more (told.Msg prio control body more_control more_data) bytes more le =
     let first : part_len control ≤ length bytes = omega (arith, le) in
-    ap (λ c. told.Msg prio c (part_in body (drop (part_len control) (bytes ++ more))) more_control more_data) (part_in-more control bytes more first)
-    ∙ ap (λ d. told.Msg prio (part_in control bytes) d more_control more_data) (second-more control body bytes more le)
+    rw (part_in-more control bytes more first, second-more control body bytes more le) refl
 reply_in-more (told.Signals len) bytes more le = ap told.Signals (take-append-le len bytes more le)
 reply_in-more _ bytes more le = refl
 
@@ -50,9 +48,7 @@ entry_in-more : (entry : Entry ℕ) (bytes more : List ℕ) → entry_len entry 
 entry_in-more (Called caller event answer) bytes more le =
     let first : event_len event ≤ length bytes = omega (arith, le) in
     let second : answer_len answer ≤ length (drop (event_len event) bytes) = omega (arith, le, length-drop (event_len event) bytes) in
-    ap (λ a. Called caller a (reply_in answer (drop (event_len event) (bytes ++ more)))) (request_in-more event bytes more first)
-    ∙ ap (λ b. Called caller (request_in event bytes) (reply_in answer b)) (drop-append-le (event_len event) bytes more first)
-    ∙ ap (λ r. Called caller (request_in event bytes) r) (reply_in-more answer (drop (event_len event) bytes) more second)
+    rw (request_in-more event bytes more first, drop-append-le (event_len event) bytes more first, reply_in-more answer (drop (event_len event) bytes) more second) refl
 entry_in-more (Turned name turn) bytes more le = refl
 
 -- one more entry, with its bytes at the end of the buffer
@@ -63,9 +59,7 @@ entries_in-push (e ∷ entries) entry bytes more lengths =
     let sums : entry_len e + sum_by entry_len entries ≡ length bytes = sym (sum_by-cons entry_len e entries) ∙ lengths in
     let le : entry_len e ≤ length bytes = omega (arith, sums) in
     let others : sum_by entry_len entries ≡ length (drop (entry_len e) bytes) = omega (arith, sums, length-drop (entry_len e) bytes) in
-    ap (λ x. x ∷ entries_in (entries ++ entry ∷ []) (drop (entry_len e) (bytes ++ more))) (entry_in-more e bytes more le)
-    ∙ ap (λ b. entry_in e bytes ∷ entries_in (entries ++ entry ∷ []) b) (drop-append-le (entry_len e) bytes more le)
-    ∙ ap (λ xs. entry_in e bytes ∷ xs) (entries_in-push entries entry (drop (entry_len e) bytes) more others)
+    rw (entry_in-more e bytes more le, drop-append-le (entry_len e) bytes more le, entries_in-push entries entry (drop (entry_len e) bytes) more others) refl
 
 -- there are as many plain entries
 pub length-entries_in : (entries : List (Entry ℕ)) (bytes : List ℕ) → length (entries_in entries bytes) ≡ length entries

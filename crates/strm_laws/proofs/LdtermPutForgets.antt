@@ -40,9 +40,6 @@ use Rattle.strm_laws.proofs.PutForgets.{flush-forgets as message-forgets, mode-f
 abbrev queued_made : {E : Type 0} → Way → Bool → Queue E → Ldterm E → Acted E (Ldterm E)
 queued_made way enables behind l = record { state = with_queue_at way behind l; notes = cond enables (Enable way ∷ []) []; sent = []; gone = [] }
 
-abbrev flushed_made : {E : Type 0} → Side → Way → Bool → List E → Queue E → Ldterm E → Acted E (Ldterm E)
-flushed_made side way goes cells behind l = record { state = with_queue_at way behind l; notes = cond goes (Room way ∷ []) []; sent = []; gone = Goes (direction_at way side) Flushed cells ∷ [] }
-
 module _ {C D : Type 0} (f : C → D) where
   abbrev pub image : Acted C (Ldterm C) → Acted D (Ldterm D)
   image t = map_acted f (map_ldterm f) t
@@ -65,8 +62,7 @@ module _ {C D : Type 0} (f : C → D) where
 
   queued-forgets : (way : Way) (m : Message C) (l : Ldterm C) → queued_at way (map_message f m) (map_ldterm f l) ≡ image (queued_at way m l)
   queued-forgets Up m l =
-      ap (λ b. queued_made Up b (put_on (map_message f m) (map_queue f l.read_queue)) (map_ldterm f l)) (put_enables-forgets f m l.read_queue)
-      ∙ ap (λ q. queued_made Up (put_enables m l.read_queue) q (map_ldterm f l)) (put_on-forgets f m l.read_queue)
+      rw (put_enables-forgets f m l.read_queue, put_on-forgets f m l.read_queue) refl
   queued-forgets Down m l =
       ap (λ n. queued_made Down (put_enables (map_message f m) (map_queue f l.write_queue)) (put_on (map_message f m) (map_queue f l.write_queue))
       (record (map_ldterm f l) { echoing = l.echoing && nat_lt 0 n })) (band-forgets m)
@@ -77,29 +73,22 @@ module _ {C D : Type 0} (f : C → D) where
   flushed-forgets Up here band l =
       let q = l.read_queue in
       let chosen = of_data band in
-      ap (λ b. flushed_made here.side Up b (cells_gone chosen (map_queue f q).messages) (queue_behind chosen (map_queue f q)) (map_ldterm f l)) (writer_goes-forgets f chosen q)
-      ∙ ap (λ cells. flushed_made here.side Up (writer_goes chosen q) cells (queue_behind chosen (map_queue f q)) (map_ldterm f l)) (gone-forgets f chosen q.messages)
-      ∙ ap (λ behind. flushed_made here.side Up (writer_goes chosen q) (map f (cells_gone chosen q.messages)) behind (map_ldterm f l)) (queue_behind-forgets f chosen q)
+      rw (writer_goes-forgets f chosen q, gone-forgets f chosen q.messages, queue_behind-forgets f chosen q) refl
   flushed-forgets Down here band l =
       let q = l.write_queue in
       let chosen = of_data band in
-      ap (λ b. flushed_made here.side Down b (cells_gone chosen (map_queue f q).messages) (queue_behind chosen (map_queue f q)) (map_ldterm f l)) (writer_goes-forgets f chosen q)
-      ∙ ap (λ cells. flushed_made here.side Down (writer_goes chosen q) cells (queue_behind chosen (map_queue f q)) (map_ldterm f l)) (gone-forgets f chosen q.messages)
-      ∙ ap (λ behind. flushed_made here.side Down (writer_goes chosen q) (map f (cells_gone chosen q.messages)) behind (map_ldterm f l)) (queue_behind-forgets f chosen q)
+      rw (writer_goes-forgets f chosen q, gone-forgets f chosen q.messages, queue_behind-forgets f chosen q) refl
 
   -- one after the other
   joined-forget : (t u : Acted C (Ldterm C)) → record { state = (image u).state; notes = t.notes ++ u.notes; sent = (image t).sent ++ (image u).sent; gone = (image t).gone ++ (image u).gone }
       ≡ image (record { state = u.state; notes = t.notes ++ u.notes; sent = t.sent ++ u.sent; gone = t.gone ++ u.gone })
   joined-forget t u =
-      ap (λ sent. record { state = (image u).state; notes = t.notes ++ u.notes; sent = sent; gone = (image t).gone ++ (image u).gone }) (sym (map-append (map_parcel f) t.sent u.sent))
-      ∙ ap (λ gone. record { state = (image u).state; notes = t.notes ++ u.notes; sent = map (map_parcel f) (t.sent ++ u.sent); gone = gone }) (sym (map-append (map_fate f) t.gone u.gone))
+      rw (← map-append (map_parcel f) t.sent u.sent, ← map-append (map_fate f) t.gone u.gone) refl
 
   both-forget : (t : Acted C (Ldterm C)) (t' : Acted D (Ldterm D)) (next : Ldterm C → Acted C (Ldterm C)) (next' : Ldterm D → Acted D (Ldterm D)) → t' ≡ image t →
       next' (map_ldterm f t.state) ≡ image (next t.state) → both t' next' ≡ image (both t next)
   both-forget t t' next next' first second =
-      ap (λ a. both a next') first
-      ∙ ap (λ u. record { state = u.state; notes = t.notes ++ u.notes; sent = (image t).sent ++ u.sent; gone = (image t).gone ++ u.gone }) second
-      ∙ joined-forget t (next t.state)
+      rw (first, second) (joined-forget t (next t.state))
 
   line-forgets : (here : Spot) (band : Option Band) (l : Ldterm C) → line_flushed here band (map_ldterm f l) ≡ image (line_flushed here band l)
   line-forgets here band l = either-agrees (takes_band_0 band) (record (sends [] (without_line l)) { gone = line_gone here.side Flushed l.line }) (sends [] l)

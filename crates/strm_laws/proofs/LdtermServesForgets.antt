@@ -66,10 +66,7 @@ module _ {C D : Type 0} (f : C → D) where
   then_on-forgets : (made : ℕ) (t : Acted C (Ldterm C)) (next : ℕ → Ldterm C → Acted C (Ldterm C)) (next' : ℕ → Ldterm D → Acted D (Ldterm D)) →
       ((n : ℕ) → next' n (map_ldterm f t.state) ≡ image f (next n t.state)) → then_on made (image f t) next' ≡ image f (then_on made t next)
   then_on-forgets made t next next' agree =
-      ap (λ none. cond none (joined_made (image f t) (next' (made + made_of (map (map_fate f) t.gone)) (map_ldterm f t.state))) (image f t)) (none-forgets f (map_parcel f) t.sent)
-      ∙ ap (λ n. cond (is_none_left t.sent) (joined_made (image f t) (next' (made + n) (map_ldterm f t.state))) (image f t)) (made_of-forgets t.gone)
-      ∙ ap (λ u. cond (is_none_left t.sent) (joined_made (image f t) u) (image f t)) (agree (made + made_of t.gone))
-      ∙ at (is_none_left t.sent)
+      rw (none-forgets f (map_parcel f) t.sent, made_of-forgets t.gone, agree (made + made_of t.gone)) (at (is_none_left t.sent))
     where
       at : (none : Bool) → (let u = next (made + made_of t.gone) t.state in
           cond none (joined_made (image f t) (image f u)) (image f t) ≡ image f (cond none (joined_made t u) t))
@@ -80,9 +77,7 @@ module _ {C D : Type 0} (f : C → D) where
   pub back_on-forgets : (work : Option (Message C)) (q : Queue C) → back_on (option_map (map_message f) work) (map_queue f q) ≡ map_queue f (back_on work q)
   back_on-forgets None q = refl
   back_on-forgets (Some m) q =
-      ap (λ xs. cond (is_none_left xs) (map_queue f q) (record (map_queue f q) { messages = put_back (map_message f m) (map_messages f q.messages) })) (cells-forget f m)
-      ∙ ap (λ none. cond none (map_queue f q) (record (map_queue f q) { messages = put_back (map_message f m) (map_messages f q.messages) })) (none-forgets f f (cells_of m))
-      ∙ at (is_none_left (cells_of m))
+      rw (cells-forget f m, none-forgets f f (cells_of m)) (at (is_none_left (cells_of m)))
     where
       at : (none : Bool) → cond none (map_queue f q) (record (map_queue f q) { messages = put_back (map_message f m) (map_messages f q.messages) }) ≡ map_queue f (cond none q (record q { messages = put_back m q.messages }))
       at true = refl
@@ -110,18 +105,13 @@ module _ {C : Type 0} (cells : Cells C) (are : AreCells cells) where
 
     finished-forgets : (l : Ldterm C) → finished plain here (map_ldterm f l) ≡ image f (finished cells here l)
     finished-forgets l =
-        ap (λ sent. sends sent (record (map_ldterm f l) { gathered = []; echoing = false; stage = Between; in_work = None; read_queue = back_on (option_map (map_message f) l.in_work) (map_queue f l.read_queue) })) (gathered-forget cells are here l.gathered)
-        ∙ ap (λ q. sends (map (map_parcel f) (gathered_up cells here l.gathered)) (record (map_ldterm f l) { gathered = []; echoing = false; stage = Between; in_work = None; read_queue = q })) (back_on-forgets f l.in_work l.read_queue)
+        rw (gathered-forget cells are here l.gathered, back_on-forgets f l.in_work l.read_queue) refl
 
     stages-forget : (n made : ℕ) (l : Ldterm C) → stages plain here n made (map_ldterm f l) ≡ image f (stages cells here n made l)
     stages-forget zero made l = finished-forgets l
     stages-forget (suc more) made l =
         ap (λ t. then_on made t (stages plain here more)) (next-forgets made l)
         ∙ then_on-forgets f made (next_stage cells here made l) (stages cells here more) (stages plain here more) (λ n. stages-forget more n (next_stage cells here made l).state)
-
-    -- what is told of a call
-    abbrev served : {E : Type 0} → ℕ → Bool → ℕ → ℕ → Acted E (Ldterm E) → Serving E (Ldterm E)
-    served bytes again before after t = record { acted = t; bytes = cond again (before - after) bytes; again = again }
 
     work-forgets : (work : Option (Message C)) → is_some (option_map (map_message f) work) ≡ is_some work
     work-forgets None = refl
@@ -130,11 +120,7 @@ module _ {C : Type 0} (cells : Cells C) (are : AreCells cells) where
     pub treats-forget : (bytes made : ℕ) (l : Ldterm C) → treats plain here bytes made (map_ldterm f l) ≡ of_serving (treats cells here bytes made l)
     treats-forget bytes made l =
         let t = stages cells here (3 * bytes - stages_done l.stage) made l in
-        ap (λ done. (let u = stages plain here (3 * bytes - done) made (map_ldterm f l) in served bytes (is_some u.state.in_work) (to_treat (map_ldterm f l)) (to_treat u.state) u)) (done-forgets f l.stage)
-        ∙ ap (λ u. served bytes (is_some u.state.in_work) (to_treat (map_ldterm f l)) (to_treat u.state) u) (stages-forget (3 * bytes - stages_done l.stage) made l)
-        ∙ ap (λ again. served bytes again (to_treat (map_ldterm f l)) (to_treat (map_ldterm f t.state)) (image f t)) (work-forgets t.state.in_work)
-        ∙ ap (λ n. served bytes (is_some t.state.in_work) n (to_treat (map_ldterm f t.state)) (image f t)) (to_treat-forgets f l)
-        ∙ ap (λ n. served bytes (is_some t.state.in_work) (to_treat l) n (image f t)) (to_treat-forgets f t.state)
+        rw (done-forgets f l.stage, stages-forget (3 * bytes - stages_done l.stage) made l, work-forgets t.state.in_work, to_treat-forgets f l, to_treat-forgets f t.state) refl
 
     passes-forget : (way : Way) (m : Message C) (rest : List (Message C)) (l : Ldterm C) → passes plain here way (map_message f m) (map_messages f rest) (map_ldterm f l) ≡ of_serving (passes cells here way m rest l)
     passes-forget Up m rest l = ap (λ n. record { acted = image f (passes cells here Up m rest l).acted; bytes = n; again = false }) (size-forgets f m)

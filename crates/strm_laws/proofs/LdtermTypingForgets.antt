@@ -53,9 +53,7 @@ module _ {C D : Type 0} (f : C → D) where
   end-forgets test [] = refl
   end-forgets test (c ∷ line) =
       let rest = without_end (λ x. test (f x)) line in
-      ap (λ r. cond (is_none_left r && test (f c)) [] (f c ∷ r)) (end-forgets test line)
-      ∙ ap (λ b. cond (b && test (f c)) [] (f c ∷ map f rest)) (none-forgets f f rest)
-      ∙ at (is_none_left rest && test (f c)) rest
+      rw (end-forgets test line, none-forgets f f rest) (at (is_none_left rest && test (f c)) rest)
     where
       at : (b : Bool) (rest : List C) → cond b [] (f c ∷ map f rest) ≡ map f (cond b [] (c ∷ rest))
       at true rest = refl
@@ -86,10 +84,6 @@ added_made here canonical room bell gathered line c l =
 abbrev struck_made : {E : Type 0} → Bool → Bool → List ℕ → Acted E (Ldterm E) → Acted E (Ldterm E)
 struck_made started none echo t = record t { state = record t.state { stage = Answered echo }; notes = cond (started && not none) (Enable Down ∷ []) [] }
 
--- with the turn's echo on its write queue
-abbrev echo_made : {E : Type 0} → Spot → Bool → Queue E → List E → Ldterm E → Acted E (Ldterm E)
-echo_made here enables behind new l = record { state = record l { write_queue = behind; echoing = true }; notes = cond enables (Enable Down ∷ []) []; sent = []; gone = Comes (direction_at Down here.side) new ∷ [] }
-
 module _ {C : Type 0} (cells : Cells C) (are : AreCells cells) (here : Spot) where
   abbrev f : C → ℕ
   f = cells.byte
@@ -98,11 +92,8 @@ module _ {C : Type 0} (cells : Cells C) (are : AreCells cells) (here : Spot) whe
       edits_made here rule left' (drop (length left') (map f l.line)) (f c) (map_ldterm f l) ≡ image f (edits_made here rule left (drop (length left) l.line) c l)
   edits-forget left left' rule c l is =
       let gone = drop (length left) l.line in
-      ap (λ line. edits_made here rule line (drop (length line) (map f l.line)) (f c) (map_ldterm f l)) is
-      ∙ ap (λ n. edits_made here rule (map f left) (drop n (map f l.line)) (f c) (map_ldterm f l)) (length-map left f)
-      ∙ ap (λ xs. edits_made here rule (map f left) xs (f c) (map_ldterm f l)) (drop-map f (length left) l.line)
-      ∙ ap (λ fates. record { state = record (map_ldterm f l) { line = map f left }; notes = []; sent = []; gone = fates ++ line_gone here.side EraseKey (f c ∷ []) }) (line_gone-forgets f here.side rule gone)
-      ∙ ap (λ fates. record { state = record (map_ldterm f l) { line = map f left }; notes = []; sent = []; gone = fates }) (sym (map-append (map_fate f) (line_gone here.side rule gone) (line_gone here.side EraseKey (c ∷ []))))
+      rw (is, length-map left f, drop-map f (length left) l.line, line_gone-forgets f here.side rule gone, ← map-append (map_fate f) (line_gone here.side rule gone) (line_gone here.side EraseKey (c ∷ [])))
+      refl
 
   up-forgets : (line : List C) → goes_up plain here (map f line) ≡ map_parcel f (goes_up cells here line)
   up-forgets line = ap (λ m. onward Up here m) (sym (data-forgets f line))
@@ -125,8 +116,7 @@ module _ {C : Type 0} (cells : Cells C) (are : AreCells cells) (here : Spot) whe
   sent-forgets : (gathered : List C) (more : List (Parcel C)) (more' : List (Parcel ℕ)) → more' ≡ map (map_parcel f) more →
       gathered_up plain here (map f gathered) ++ more' ≡ map (map_parcel f) (gathered_up cells here gathered ++ more)
   sent-forgets gathered more more' is =
-      ap (λ ps. ps ++ more') (gathered-forget gathered) ∙ ap (λ ps. map (map_parcel f) (gathered_up cells here gathered) ++ ps) is
-      ∙ sym (map-append (map_parcel f) (gathered_up cells here gathered) more)
+      rw (gathered-forget gathered, is) (sym (map-append (map_parcel f) (gathered_up cells here gathered) more))
 
   signals-forget : (asked : FlushAsked) (signal : ℕ) (c : C) (l : Ldterm C) → signals plain here asked signal (f c) (map_ldterm f l) ≡ image f (signals cells here asked signal c l)
   signals-forget asked signal c l = at (noflsh l.termios)
@@ -135,8 +125,7 @@ module _ {C : Type 0} (cells : Cells C) (are : AreCells cells) (here : Spot) whe
       key = ap (λ m. onward Up here m ∷ []) (sym (bare-forgets f kinds.Pcsig (signal ∷ [])))
 
       flush : onward Up here (flush_message (flush_bytes asked)) ∷ onward Up here (bare kinds.Pcsig (signal ∷ [])) ∷ [] ≡ map (map_parcel f) (onward Up here (flush_message (flush_bytes asked)) ∷ onward Up here (bare kinds.Pcsig (signal ∷ [])) ∷ [])
-      flush = ap (λ m. onward Up here m ∷ onward Up here (bare kinds.Pcsig (signal ∷ [])) ∷ []) (sym (flush-forgets f (flush_bytes asked)))
-          ∙ ap (λ ps. onward Up here (map_message f (flush_message (flush_bytes asked))) ∷ ps) key
+      flush = rw (← flush-forgets f (flush_bytes asked), key) refl
 
       at : (kept : Bool) → cond kept
           (signalled (gathered_up plain here (map f l.gathered) ++ onward Up here (bare kinds.Pcsig (signal ∷ [])) ∷ []) (lost plain here SignalKey (f c ∷ [])) (record (map_ldterm f l) { gathered = [] }))
@@ -159,10 +148,7 @@ module _ {C : Type 0} (cells : Cells C) (are : AreCells cells) (here : Spot) whe
 
   added-forgets : (c : C) (l : Ldterm C) → added plain here (f c) (map_ldterm f l) ≡ image f (added cells here c l)
   added-forgets c l =
-      ap (λ room. added_made here (icanon l.termios) room (imaxbel l.termios) (map f l.gathered ++ f c ∷ []) (map f l.line ++ f c ∷ []) (f c) (map_ldterm f l)) (room-forgets l.line)
-      ∙ ap (λ gathered. added_made here (icanon l.termios) (has_room l.line) (imaxbel l.termios) gathered (map f l.line ++ f c ∷ []) (f c) (map_ldterm f l)) (longer-forgets l.gathered c)
-      ∙ ap (λ line. added_made here (icanon l.termios) (has_room l.line) (imaxbel l.termios) (map f (l.gathered ++ c ∷ [])) line (f c) (map_ldterm f l)) (longer-forgets l.line c)
-      ∙ at (icanon l.termios) (has_room l.line) (imaxbel l.termios) (l.gathered ++ c ∷ []) (l.line ++ c ∷ [])
+      rw (room-forgets l.line, longer-forgets l.gathered c, longer-forgets l.line c) (at (icanon l.termios) (has_room l.line) (imaxbel l.termios) (l.gathered ++ c ∷ []) (l.line ++ c ∷ []))
     where
       at : (canonical room bell : Bool) (gathered line : List C) → added_made here canonical room bell (map f gathered) (map f line) (f c) (map_ldterm f l) ≡ image f (added_made here canonical room bell gathered line c l)
       at false room bell gathered line = refl
@@ -209,9 +195,7 @@ module _ {C : Type 0} (cells : Cells C) (are : AreCells cells) (here : Spot) whe
   grown-forgets : (new : List C) (ms : List (Message C)) → grown plain here (map f new) (map_messages f ms) ≡ map_messages f (grown cells here new ms)
   grown-forgets new [] = refl
   grown-forgets new (m ∷ []) =
-      ap (λ xs. data_message (xs ++ map f new) ∷ []) (cells-forget f m)
-      ∙ ap (λ xs. data_message xs ∷ []) (sym (map-append f (cells_of m) new))
-      ∙ ap (λ x. x ∷ []) (sym (data-forgets f (cells_of m ++ new)))
+      rw (cells-forget f m, ← map-append f (cells_of m) new, ← data-forgets f (cells_of m ++ new)) refl
   grown-forgets new (m ∷ n ∷ ms) = ap (λ rest. map_message f m ∷ rest) (grown-forgets new (n ∷ ms))
 
   grows-forget : (new : List C) (l : Ldterm C) → echo_grows plain here (map f new) (map_ldterm f l) ≡ image f (echo_grows cells here new l)
@@ -220,9 +204,7 @@ module _ {C : Type 0} (cells : Cells C) (are : AreCells cells) (here : Spot) whe
   stands-forget : (new : List C) (l : Ldterm C) → echo_stands plain here (map f new) (map_ldterm f l) ≡ image f (echo_stands cells here new l)
   stands-forget new l =
       let m = data_message new in
-      ap (λ n. echo_made here (put_enables n (map_queue f l.write_queue)) (put_on n (map_queue f l.write_queue)) (map f new) (map_ldterm f l)) (sym (data-forgets f new))
-      ∙ ap (λ b. echo_made here b (put_on (map_message f m) (map_queue f l.write_queue)) (map f new) (map_ldterm f l)) (put_enables-forgets f m l.write_queue)
-      ∙ ap (λ q. echo_made here (put_enables m l.write_queue) q (map f new) (map_ldterm f l)) (put_on-forgets f m l.write_queue)
+      rw (← data-forgets f new, put_enables-forgets f m l.write_queue, put_on-forgets f m l.write_queue) refl
 
   pub echoed-forgets : (made : ℕ) (echo : List ℕ) (l : Ldterm C) → echoed plain here made echo (map_ldterm f l) ≡ image f (echoed cells here made echo l)
   echoed-forgets made [] l = refl

@@ -89,9 +89,7 @@ module _ {C D : Type 0} (f : C → D) where
   rests-same (OfPtem p) = refl
   rests-same (OfPckt p) = refl
   rests-same (OfLdterm p) =
-      ap (λ b. not b && (is_none_left (map f p.gathered) && (not p.echoing && is_between (map_stage f p.stage)))) (work-same p.in_work)
-      ∙ ap (λ b. not (is_some p.in_work) && (b && (not p.echoing && is_between (map_stage f p.stage)))) (gathered-same p.gathered)
-      ∙ ap (λ b. not (is_some p.in_work) && (is_none_left p.gathered && (not p.echoing && b))) (between-same p.stage)
+      rw (work-same p.in_work, gathered-same p.gathered, between-same p.stage) refl
 
   first-same : (ms : List (Message C)) → first_size (map_messages f ms) ≡ first_size ms
   first-same [] = refl
@@ -126,9 +124,7 @@ module _ {C D : Type 0} (f : C → D) where
 
   ended_at-same : (here : Spot) (took : Bool) (s : State C) → with_stream here.side (queue_ended here took (stream here.side (map_state f s))) (map_state f s) ≡ map_state f (with_stream here.side (queue_ended here took (stream here.side s)) s)
   ended_at-same here took s =
-      ap (λ t. with_stream here.side (queue_ended here took t) (map_state f s)) (stream-forgets f here.side s)
-      ∙ ap (λ t. with_stream here.side t (map_state f s)) (queue_ended-same here took (stream here.side s))
-      ∙ with_stream-same f here.side (queue_ended here took (stream here.side s)) s
+      rw (stream-forgets f here.side s, queue_ended-same here took (stream here.side s)) (with_stream-same f here.side (queue_ended here took (stream here.side s)) s)
 
   relieves-same : (took : Bool) (q : Queue C) → turn_relieves took (map_queue f q) ≡ turn_relieves took q
   relieves-same took q = ap (λ b. took && b) (relieves_from-forgets f 0 q.messages q.flows)
@@ -163,10 +159,6 @@ module _ {C D : Type 0} (f : C → D) where
       ∙ ap (λ x. with_enabled (names more goes earlier) x) (ended_at-same here took s)
 
   -- how many were made
-  made-same : (side : Side) (s : State C) → made_below side (map_state f s) ≡ made_below side s
-  made-same Master s = refl
-  made-same Slave s = refl
-
   -- one of several acts
   among-same : (acts : Module C → Acted C (Module C)) (acts' : Module D → Acted D (Module D)) → ((p : Module C) → acts' (map_module f p) ≡ map_acted f (map_module f) (acts p)) → (i : ℕ) (ps : List (Module C))
       → act_among acts' i (images ps) ≡ map_acted f (map (map_module f)) (act_among acts i ps)
@@ -216,7 +208,6 @@ module _ {C : Type 0} (cells : Cells C) (are : AreCells cells) where
       let ps = (stream here.side s).modules in
       let made = made_below here.side s in
       ap (λ (t : Stream ℕ). module_acted here (call_at plain here (made_below here.side (map_state f s)) again left t.modules) (map_state f s)) (stream-forgets f here.side s)
-      ∙ ap (λ n. module_acted here (call_at plain here n again left (map (map_module f) ps)) (map_state f s)) (made-same f here.side s)
       ∙ ap (λ t. module_acted here t (map_state f s))
       (among-same f (λ p. (module_serves cells here made again (Some left) p).acted) (λ p. (module_serves plain here made again (Some left) p).acted) (acts-same here made again left) (here.at - 1) ps)
       ∙ acted-same f here (call_at cells here made again left ps) s
@@ -249,7 +240,6 @@ module _ {C : Type 0} (cells : Cells C) (are : AreCells cells) where
       let goes = again_at cells here made again left ps in
       let next : Bool → ℕ → Took ℕ (State ℕ) → Calls ℕ = λ b n x. (let y = in_turn (carried (put_in plain) HOPS) x.sent x.state in went_on b n x y (calls plain here more true (left - n) y.state)) in
       ap (λ (on : Stream ℕ). next (again_at plain here (made_below here.side (map_state f s)) again left on.modules) (bytes_at plain here (made_below here.side (map_state f s)) again left on.modules) (module_called plain here again left (map_state f s))) (stream-forgets f here.side s)
-      ∙ ap (λ n. next (again_at plain here n again left (map (map_module f) ps)) (bytes_at plain here n again left (map (map_module f) ps)) (module_called plain here again left (map_state f s))) (made-same f here.side s)
       ∙ ap (λ b. next b (bytes_at plain here made again left (map (map_module f) ps)) (module_called plain here again left (map_state f s)))
       (at_place-same f (λ p. (module_serves cells here made again (Some left) p).again) (λ p. (module_serves plain here made again (Some left) p).again) (again-same here made again left) false here.at ps)
       ∙ ap (λ n. next goes n (module_called plain here again left (map_state f s)))
@@ -295,10 +285,8 @@ module _ {C : Type 0} (cells : Cells C) (are : AreCells cells) where
       let rests = at_place module_rests false here.at ps in
       let asks = at_place (module_asks here.way) asked.Empty here.at ps in
       let image = map_state f s in
-      ap (λ (t : Stream ℕ). cond (at_place module_rests false here.at t.modules) (asked_turn plain here (at_place (module_asks here.way) asked.Empty here.at t.modules) name turn image) (stayed_put Blocked image)) (stream-forgets f here.side s)
-      ∙ ap (λ b. cond b (asked_turn plain here (at_place (module_asks here.way) asked.Empty here.at (map (map_module f) ps)) name turn image) (stayed_put Blocked image)) (at_place-same f module_rests module_rests (rests-same f) false here.at ps)
-      ∙ ap (λ o. cond rests (asked_turn plain here o name turn image) (stayed_put Blocked image)) (at_place-same f (module_asks here.way) (module_asks here.way) (asks-same f here.way) asked.Empty here.at ps)
-      ∙ either-same f rests (asked_turn cells here asks name turn s) (stayed_put Blocked s) _ _ (asked-turn-same here asks name turn s) refl
+      rw (stream-forgets f here.side s, at_place-same f module_rests module_rests (rests-same f) false here.at ps, at_place-same f (module_asks here.way) (module_asks here.way) (asks-same f here.way) asked.Empty here.at ps)
+      (either-same f rests (asked_turn cells here asks name turn s) (stayed_put Blocked s) _ _ (asked-turn-same here asks name turn s) refl)
 
   turned_named-same : (name : QueueName) (turn : Turn) (s : State C) (at : Option ℕ) → turned_named plain name turn (map_state f s) at ≡ map_turn_outcome f (turned_named cells name turn s at)
   turned_named-same name turn s None = refl
@@ -306,6 +294,4 @@ module _ {C : Type 0} (cells : Cells C) (are : AreCells cells) where
 
   pub module_turned-forgets : (name : QueueName) (turn : Turn) (s : State C) → module_turned plain name turn (map_state f s) ≡ map_turn_outcome f (module_turned cells name turn s)
   module_turned-forgets name turn s =
-      ap (λ (t : Stream ℕ). turned_named plain name turn (map_state f s) (place_named name.place t.modules)) (stream-forgets f name.side s)
-      ∙ ap (λ at. turned_named plain name turn (map_state f s) at) (named-same f name.place (stream name.side s).modules)
-      ∙ turned_named-same name turn s (place_named name.place (stream name.side s).modules)
+      rw (stream-forgets f name.side s, named-same f name.place (stream name.side s).modules) (turned_named-same name turn s (place_named name.place (stream name.side s).modules))

@@ -70,8 +70,4 @@ module _ {C : Type 0} (cells : Cells C) (are : AreCells cells) (dir : Dir) where
       let given = given_for cells dir p.given made c in
       let told = told_for cells dir p.given made c in
       let u = posts cells dir (made + made_for p.given) t p.column xs in
-      ap (λ v. in_front (given_for plain dir p.given made (f c)) (told_for plain dir p.given made (f c)) v) (posts-forget (made + made_for p.given) t p.column xs)
-      ∙ ap (λ g. in_front g (told_for plain dir p.given made (f c)) (map_output f u)) (given-forgets p.given made c)
-      ∙ ap (λ g. in_front (map f given) g (map_output f u)) (told-forgets p.given made c)
-      ∙ ap (λ g. record { given = g; column = u.column; told = map (map_fate f) told ++ map (map_fate f) u.told }) (sym (map-append f given u.given))
-      ∙ ap (λ g. record { given = map f (given ++ u.given); column = u.column; told = g }) (sym (map-append (map_fate f) told u.told))
+      rw (posts-forget (made + made_for p.given) t p.column xs, given-forgets p.given made c, told-forgets p.given made c, ← map-append f given u.given, ← map-append (map_fate f) told u.told) refl

@@ -137,8 +137,7 @@ module _ {C : Type 0} (cells : Cells C) (are : AreCells cells) (here : Spot) (st
 
   parted-forgets : (t : Output C) (n : ℕ) (left : List C) (m : Message C) → parted (map_output f t) n (map f left) (map_message f m) ≡ map_outgoing f (parted t n left m)
   parted-forgets t n left m =
-      ap (λ ms. record { messages = ms; left = Some (left_of (map f left) (map_message f m)); bytes = n; column = t.column; told = map (map_fate f) t.told }) (given-forgets t.given m)
-      ∙ ap (λ rest. record { messages = map_messages f (with_given t.given m); left = Some rest; bytes = n; column = t.column; told = map (map_fate f) t.told }) (left_of-forgets f left m)
+      rw (given-forgets t.given m, left_of-forgets f left m) refl
 
   posted-forgets : (made : ℕ) (xs : List C) (m : Message C) (l : Ldterm C) → posted plain here stop made (map f xs) (map_message f m) (map_ldterm f l) ≡ map_outgoing f (posted cells here stop made xs m l)
   posted-forgets made [] m l = unchanged-forgets m l
@@ -146,12 +145,8 @@ module _ {C : Type 0} (cells : Cells C) (are : AreCells cells) (here : Spot) (st
       let dir = output_dir cells here in
       let xs = c ∷ rest in
       let most = unwrap_or stop (length xs) in
-      ap (λ n. (let treated = take (unwrap_or stop n) (map f xs) in parted (posts plain dir made l.termios l.column treated) (length treated) (drop (unwrap_or stop n) (map f xs)) (map_message f m))) (length-map xs f)
-      ∙ ap (λ treated. parted (posts plain dir made l.termios l.column treated) (length treated) (drop most (map f xs)) (map_message f m)) (take-map f most xs)
-      ∙ ap (λ left. parted (posts plain dir made l.termios l.column (map f (take most xs))) (length (map f (take most xs))) left (map_message f m)) (drop-map f most xs)
-      ∙ ap (λ n. parted (posts plain dir made l.termios l.column (map f (take most xs))) n (map f (drop most xs)) (map_message f m)) (length-map (take most xs) f)
-      ∙ ap (λ t. parted t (length (take most xs)) (map f (drop most xs)) (map_message f m)) (posts-forget cells are dir made l.termios l.column (take most xs))
-      ∙ parted-forgets (posts cells dir made l.termios l.column (take most xs)) (length (take most xs)) (drop most xs) m
+      rw (length-map xs f, take-map f most xs, drop-map f most xs, length-map (take most xs) f, posts-forget cells are dir made l.termios l.column (take most xs))
+      (parted-forgets (posts cells dir made l.termios l.column (take most xs)) (length (take most xs)) (drop most xs) m)
 
   outgoing-forgets : (made : ℕ) (m : Message C) (l : Ldterm C) → outgoing plain here stop made (map_message f m) (map_ldterm f l) ≡ map_outgoing f (outgoing cells here stop made m l)
   outgoing-forgets made m l =
@@ -170,16 +165,7 @@ module _ {C : Type 0} (cells : Cells C) (are : AreCells cells) (here : Spot) (st
 
   turn-forgets : (rest : List (Message C)) (l : Ldterm C) (t : Outgoing C) → turn_of here (map_messages f rest) (map_ldterm f l) (map_outgoing f t) ≡ map_serving f (map_ldterm f) (turn_of here rest l t)
   turn-forgets rest l t =
-      ap (λ q. record {
-        acted = record { state = record (map_ldterm f l) { write_queue = q; column = t.column }; notes = []; sent = map (onward Down here) (map_messages f t.messages); gone = map (map_fate f) t.told };
-        bytes = t.bytes;
-        again = false;
-      }) (back_on-forgets f t.left (left_with rest l.write_queue))
-      ∙ ap (λ sent. record {
-        acted = record { state = map_ldterm f (turn_of here rest l t).acted.state; notes = []; sent = sent; gone = map (map_fate f) t.told };
-        bytes = t.bytes;
-        again = false;
-      }) (sent-forgets t.messages)
+      rw (back_on-forgets f t.left (left_with rest l.write_queue), sent-forgets t.messages) refl
 
   pub output-forgets : (made : ℕ) (ms : List (Message C)) (l : Ldterm C) → output_serves plain here stop made (map_messages f ms) (map_ldterm f l) ≡ map_serving f (map_ldterm f) (output_serves cells here stop made ms l)
   output-forgets made [] l = refl

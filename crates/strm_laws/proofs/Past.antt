@@ -51,8 +51,7 @@ module _ {C D : Type 0} (f : C → D) where
 
   may_pass-same : (way : Way) (at band : ℕ) (t : Stream C) → may_pass way at band (map_stream f t) ≡ may_pass way at band t
   may_pass-same way at band t =
-      ap (λ o. unwrap_or o (not (is_full band (end_queue way (map_stream f t))))) (can_pass-same way band at t.modules)
-      ∙ ap (λ b. unwrap_or (can_pass module_queue way band at t.modules) (not b)) (end-same way band t)
+      rw (can_pass-same way band at t.modules, end-same way band t) refl
 
   pub room-forgets : (side : Side) (way : Way) (at band : ℕ) (s : State C) → has_room_past side way at band (map_state f s) ≡ has_room_past side way at band s
   room-forgets side way at band s = ap (λ t. may_pass way at band t) (stream-forgets f side s) ∙ may_pass-same way at band (stream side s)
@@ -83,10 +82,7 @@ module _ {C D : Type 0} (f : C → D) where
   writer_waits-forgets side way at band s =
       let t = stream side s in
       let past = place_past module_queue way at t.modules in
-      ap (λ x. with_stream side (waits_on way band (place_past module_queue way at x.modules) x) (map_state f s)) (stream-forgets f side s)
-      ∙ ap (λ o. with_stream side (waits_on way band o (map_stream f t)) (map_state f s)) (place_past-forgets f way at t.modules)
-      ∙ ap (λ x. with_stream side x (map_state f s)) (waits_on-same way band past t)
-      ∙ with_stream-same side (waits_on way band past t) s
+      rw (stream-forgets f side s, place_past-forgets f way at t.modules, waits_on-same way band past t) (with_stream-same side (waits_on way band past t) s)
 
 module _ {C : Type 0} where
   idle-on : (way : Way) (band : ℕ) (o : Option ℕ) (t : Stream C) → AllIdle t.modules → AllIdle (waits_on way band o t).modules

@@ -90,8 +90,7 @@ module _ {C D : Type 0} (f : C → D) where
       packs_made here kind bytes band bare (f number) (map f own) (map f rest) ≡ image (packs_made here kind bytes band bare number own rest)
   unfolding map_message
   packs_made-forgets here kind bytes band bare number own rest =
-      ap (λ passed. gone_up here (proto_made band (f number) (cond bare None (Some (map f own ++ map f rest)))) passed (f number ∷ map f rest)) (passed-forgets here kind bytes)
-      ∙ ap (λ body. gone_up here (proto_made band (f number) body) (map (map_parcel f) (flush_passed here kind bytes)) (f number ∷ map f rest)) (body bare)
+      rw (passed-forgets here kind bytes, body bare) refl
     where
       body : (bare : Bool) → cond bare None (Some (map f own ++ map f rest)) ≡ option_map (map f) (cond bare None (Some (own ++ rest)))
       body true = refl

@@ -58,18 +58,9 @@ let_go side rule p up up_goes up_cells line down down_goes down_cells = record {
 abbrev pub clears : {E : Type 0} → Side → Rule → Module E → Acted E (Module E)
 clears side rule p = cleared module_queue with_module_queue module_line without_module_line side rule p
 
-clears-is : {E : Type 0} (side : Side) (rule : Rule) (p : ldterms.Ldterm E) → clears side rule (OfLdterm p)
-    ≡ done_by OfLdterm (let_go side rule p (queue_behind of_all p.read_queue) (writer_goes of_all p.read_queue) (cells_gone of_all p.read_queue.messages) (line_gone side rule p.line)
-    (queue_behind of_all p.write_queue) (writer_goes of_all p.write_queue) (cells_gone of_all p.write_queue.messages))
-clears-is side rule p = refl
-
 -- a pair on whose stream of a side the module on top was let go so, with these queues enabled
 abbrev taken : {E : Type 0} → Side → List (Module E) → List (Fate E) → List QueueName → State E → Carried E (State E)
 taken side ps gone names s = record { state = record (with_modules side ps s) { enabled = names }; gone = gone }
-
--- and one of which more queues are enabled
-abbrev with_enabled : {E : Type 0} → List QueueName → State E → State E
-with_enabled names s = record s { enabled = names }
 
 module _ {C D : Type 0} (f : C → D) where
   abbrev images : List (Module C) → List (Module D)
@@ -98,14 +89,8 @@ module _ {C D : Type 0} (f : C → D) where
       let q = map_ldterm f p in
       let up = queue_behind of_all r in
       let down = queue_behind of_all w in
-      ap (λ (x : Queue D). let_go side rule q x (writer_goes of_all q.read_queue) (cells_gone of_all q.read_queue.messages) (line_gone side rule q.line) (queue_behind of_all q.write_queue) (writer_goes of_all q.write_queue) (cells_gone of_all q.write_queue.messages)) (queue_behind-forgets f of_all r)
-      ∙ ap (λ (b : Bool). let_go side rule q (map_queue f up) b (cells_gone of_all q.read_queue.messages) (line_gone side rule q.line) (queue_behind of_all q.write_queue) (writer_goes of_all q.write_queue) (cells_gone of_all q.write_queue.messages)) (writer_goes-forgets f of_all r)
-      ∙ ap (λ (xs : List D). let_go side rule q (map_queue f up) (writer_goes of_all r) xs (line_gone side rule q.line) (queue_behind of_all q.write_queue) (writer_goes of_all q.write_queue) (cells_gone of_all q.write_queue.messages)) (gone-forgets f of_all r.messages)
-      ∙ ap (λ (line : List (Fate D)). let_go side rule q (map_queue f up) (writer_goes of_all r) (map f (cells_gone of_all r.messages)) line (queue_behind of_all q.write_queue) (writer_goes of_all q.write_queue) (cells_gone of_all q.write_queue.messages)) (line_gone-forgets f side rule p.line)
-      ∙ ap (λ (x : Queue D). let_go side rule q (map_queue f up) (writer_goes of_all r) (map f (cells_gone of_all r.messages)) (map (map_fate f) (line_gone side rule p.line)) x (writer_goes of_all q.write_queue) (cells_gone of_all q.write_queue.messages)) (queue_behind-forgets f of_all w)
-      ∙ ap (λ (b : Bool). let_go side rule q (map_queue f up) (writer_goes of_all r) (map f (cells_gone of_all r.messages)) (map (map_fate f) (line_gone side rule p.line)) (map_queue f down) b (cells_gone of_all q.write_queue.messages)) (writer_goes-forgets f of_all w)
-      ∙ ap (λ (xs : List D). let_go side rule q (map_queue f up) (writer_goes of_all r) (map f (cells_gone of_all r.messages)) (map (map_fate f) (line_gone side rule p.line)) (map_queue f down) (writer_goes of_all w) xs) (gone-forgets f of_all w.messages)
-      ∙ let_go-forgets side rule p up down (writer_goes of_all r) (writer_goes of_all w) (cells_gone of_all r.messages) (cells_gone of_all w.messages) (line_gone side rule p.line))
+      rw (queue_behind-forgets f of_all r, writer_goes-forgets f of_all r, gone-forgets f of_all r.messages, line_gone-forgets f side rule p.line, queue_behind-forgets f of_all w, writer_goes-forgets f of_all w, gone-forgets f of_all w.messages)
+      (let_go-forgets side rule p up down (writer_goes of_all r) (writer_goes of_all w) (cells_gone of_all r.messages) (cells_gone of_all w.messages) (line_gone side rule p.line)))
 
   -- the module on top, and all of them
   taken-forgets : (side : Side) (ps : List (Module C)) (gone : List (Fate C)) (names : List QueueName) (s : State C)
@@ -169,9 +154,7 @@ module _ {C D : Type 0} (f : C → D) where
 
   none_waits-forgets : (name : QueueName) (s : State C) → is_none_left (messages_on name (map_state f s)) ≡ is_none_left (messages_on name s)
   none_waits-forgets name s =
-      ap (λ (t : Stream D). is_none_left (messages_there name.place name.way t)) (stream-forgets f name.side s)
-      ∙ ap (λ (ms : List (Message D)). is_none_left ms) (there-forgets name.place name.way (stream name.side s))
-      ∙ none-forgets f (map_message f) (messages_on name s)
+      rw (stream-forgets f name.side s, there-forgets name.place name.way (stream name.side s)) (none-forgets f (map_message f) (messages_on name s))
 
   waiting-forgets : (earlier : Option QueueName) (s : State C) → enable_waiting earlier (map_state f s) ≡ enable_waiting earlier s
   waiting-forgets None s = refl
@@ -180,8 +163,7 @@ module _ {C D : Type 0} (f : C → D) where
   let_come-forgets : (reads : Bool) (side : Side) (s : State C) → let_come reads side (map_state f s) ≡ map_state f (let_come reads side s)
   let_come-forgets false side s = refl
   let_come-forgets true side s =
-      ap (λ (earlier : Option QueueName). with_enabled (enable_waiting earlier (map_state f s)) (map_state f s)) (before_at-forgets f side Up 1 s)
-      ∙ ap (λ (names : List QueueName). with_enabled names (map_state f s)) (waiting-forgets (before_at side Up 1 s) s)
+      rw (before_at-forgets f side Up 1 s, waiting-forgets (before_at side Up 1 s) s) refl
 
   with_modules-forgets : (side : Side) (ps : List (Module C)) (s : State C) → with_modules side (images ps) (map_state f s) ≡ map_state f (with_modules side ps s)
   with_modules-forgets Master ps s = refl
@@ -226,11 +208,7 @@ module _ {C D : Type 0} (f : C → D) where
       let ps = (stream side s).modules in
       let t = top_taken ModulePopped side ps s in
       let mode = mode_behind (top_on side s) in
-      ap (λ (name : Option ModuleName). let x = top_taken ModulePopped side (stream side (map_state f s)).modules (map_state f s) in let u = mode_put side (mode_behind name) x.state in record { state = u.state; gone = x.gone ++ u.gone }) (top-forgets side s)
-      ∙ ap (λ (on : Stream D). let x = top_taken ModulePopped side on.modules (map_state f s) in let u = mode_put side mode x.state in record { state = u.state; gone = x.gone ++ u.gone }) (stream-forgets f side s)
-      ∙ ap (λ (x : Carried D (State D)). let u = mode_put side mode x.state in record { state = u.state; gone = x.gone ++ u.gone }) (top_taken-forgets ModulePopped side ps s)
-      ∙ ap (λ (u : Carried D (State D)). record { state = u.state; gone = map (map_fate f) t.gone ++ u.gone }) (mode_put-forgets side mode t.state)
-      ∙ joined-forgets t (mode_put side mode t.state)
+      rw (top-forgets side s, stream-forgets f side s, top_taken-forgets ModulePopped side ps s, mode_put-forgets side mode t.state) (joined-forgets t (mode_put side mode t.state))
 
   -- the ioctl whose M_IOCTL goes
   below-forgets : (ps : List (Module C)) → below_top (images ps) ≡ map_messages f (below_top ps)
@@ -241,9 +219,7 @@ module _ {C D : Type 0} (f : C → D) where
 
   ioctl-forgets : (number : ℕ) (m : Message C) → is_ioctl_of number (map_message f m) ≡ is_ioctl_of number m
   ioctl-forgets number m =
-      ap (λ kind. (is_ioctl kind && not (has_parts (map_message f m))) && has_number number (read_ioc (map_message f m).plain)) (kind-forgets f m)
-      ∙ ap (λ parts. (is_ioctl m.kind && not parts) && has_number number (read_ioc (map_message f m).plain)) (parts-forget f m)
-      ∙ ap (λ bytes. is_asked m && has_number number (read_ioc bytes)) (bytes-forget f m)
+      rw (kind-forgets f m, parts-forget f m, bytes-forget f m) refl
 
   ioctls-forget : (number : ℕ) (ms : List (Message C)) → has_ioctl number (map_messages f ms) ≡ has_ioctl number ms
   ioctls-forget number [] = refl

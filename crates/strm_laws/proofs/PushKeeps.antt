@@ -78,10 +78,6 @@ module _ {C : Type 0} (p : Dir → C → Bool) where
   modules-weigh Master ps s = omega arith
   modules-weigh Slave ps s = omega arith
 
-  modules-are : (side : Side) (ps : List (Module C)) (s : State C) → (stream side (with_modules side ps s)).modules ≡ ps
-  modules-are Master ps s = refl
-  modules-are Slave ps s = refl
-
   -- the module on top, and all of them
   pub top_taken-keeps : (rule : Rule) (side : Side) (ps : List (Module C)) (s : State C) → (stream side s).modules ≡ ps → AllByRecursion (λ l. IsAtRest l) ps → Keeps (top_taken rule side ps s) (state_weight p s)
   top_taken-keeps rule side [] s are idle = refl

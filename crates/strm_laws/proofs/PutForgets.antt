@@ -36,23 +36,6 @@ taken_made side ended enables cells q behind =
     cond ended (record (freed q) { gone = Goes (direction_from side) EndClosed cells ∷ [] })
     (record (freed behind) { notes = cond enables (Enable Down ∷ []) [] })
 
--- a driver and a head whose queue is flushed
-abbrev own_made : {E : Type 0} → Side → Queue E → Bool → List E → Acted E (Queue E)
-own_made side behind goes cells = record {
-  state = behind;
-  notes = cond goes (Room Down ∷ []) [];
-  sent = [];
-  gone = Goes (direction_from side) Flushed cells ∷ [];
-}
-
-abbrev head_made : {E : Type 0} → Spot → Head E → Queue E → Bool → List E → Acted E (Head E)
-head_made here h behind goes cells = record {
-  state = record h { queue = behind };
-  notes = cond goes (Room Up ∷ []) [];
-  sent = [];
-  gone = Goes (direction_at Up here.side) Flushed cells ∷ [];
-}
-
 -- a head that has the message for its readers, or lets it go
 abbrev waits_made : {E : Type 0} → Spot → Bool → List E → Head E → Queue E → Acted E (Head E)
 waits_made here doubled cells h behind =
@@ -109,17 +92,12 @@ module _ {C D : Type 0} (f : C → D) where
 
   taken_in-forgets : (side : Side) (across : Across) (m : Message C) (q : Queue C) → taken_in side across (map_message f m) (map_queue f q) ≡ driver_image (taken_in side across m q)
   taken_in-forgets side across m q =
-      ap (λ b. taken_made side across.ended b (cells_of (map_message f m)) (map_queue f q) (put_on (map_message f m) (map_queue f q))) (put_enables-forgets f m q)
-      ∙ ap (λ cells. taken_made side across.ended (put_enables m q) cells (map_queue f q) (put_on (map_message f m) (map_queue f q))) (cells-forget f m)
-      ∙ ap (λ behind. taken_made side across.ended (put_enables m q) (map f (cells_of m)) (map_queue f q) behind) (put_on-forgets f m q)
-      ∙ taken_made-forgets side across.ended (put_enables m q) (cells_of m) q (put_on m q)
+      rw (put_enables-forgets f m q, cells-forget f m, put_on-forgets f m q) (taken_made-forgets side across.ended (put_enables m q) (cells_of m) q (put_on m q))
 
   own-forgets : (side : Side) (asked : FlushAsked) (q : Queue C) → own_flushed side asked (map_queue f q) ≡ driver_image (own_flushed side asked q)
   own-forgets side asked q =
       let chosen = of_data asked.band in
-      ap (λ behind. own_made side behind (writer_goes chosen (map_queue f q)) (cells_gone chosen (map_messages f q.messages))) (queue_behind-forgets f chosen q)
-      ∙ ap (λ goes. own_made side (map_queue f (queue_behind chosen q)) goes (cells_gone chosen (map_messages f q.messages))) (writer_goes-forgets f chosen q)
-      ∙ ap (λ cells. own_made side (map_queue f (queue_behind chosen q)) (writer_goes chosen q) cells) (gone-forgets f chosen q.messages)
+      rw (queue_behind-forgets f chosen q, writer_goes-forgets f chosen q, gone-forgets f chosen q.messages) refl
 
   flushed-forgets : (side : Side) (asked : FlushAsked) (q : Queue C) (own : Bool) → cond own (own_flushed side asked (map_queue f q)) (freed (map_queue f q)) ≡ driver_image (cond own (own_flushed side asked q) (freed q))
   flushed-forgets side asked q own = either-agrees driver_image own (own_flushed side asked q) (freed q) (own_flushed side asked (map_queue f q)) (freed (map_queue f q)) (own-forgets side asked q) refl
@@ -135,10 +113,7 @@ module _ {C D : Type 0} (f : C → D) where
       let ps = reader_flush {C = C} goes asked up in
       let qs = reader_flush {C = C} asked.for_read asked over in
       let t = cond asked.for_write (own_flushed side asked q) (freed q) in
-      ap (λ u. sends (reader_flush goes asked up ++ reader_flush asked.for_read asked over) u) (flushed-forgets side asked q asked.for_write)
-      ∙ ap (λ xs. sends (xs ++ reader_flush asked.for_read asked over) (driver_image t)) (reads-forget goes asked up)
-      ∙ ap (λ xs. sends (map (map_parcel f) ps ++ xs) (driver_image t)) (reads-forget asked.for_read asked over)
-      ∙ ap (λ xs. sends xs (driver_image t)) (sym (map-append (map_parcel f) ps qs))
+      rw (flushed-forgets side asked q asked.for_write, reads-forget goes asked up, reads-forget asked.for_read asked over, ← map-append (map_parcel f) ps qs) refl
 
   across-forgets : (side : Side) (across : Across) (asked : FlushAsked) (q : Queue C) →
       sends (reader_flush across.is_open asked (bottom_across side across)) (own_flushed side asked (map_queue f q)) ≡ driver_image (sends (reader_flush across.is_open asked (bottom_across side across)) (own_flushed side asked q))
@@ -189,13 +164,11 @@ module _ {C D : Type 0} (f : C → D) where
   any-forgets : (ms : List (Message C)) → list_any (λ x. is_pcproto x.kind) (map_messages f ms) ≡ list_any (λ x. is_pcproto x.kind) ms
   any-forgets [] = refl
   any-forgets (m ∷ ms) =
-      ap (λ kind. is_pcproto kind || list_any (λ x. is_pcproto x.kind) (map_messages f ms)) (kind-forgets f m)
-      ∙ ap (λ b. is_pcproto m.kind || b) (any-forgets ms)
+      rw (kind-forgets f m, any-forgets ms) refl
 
   doubled-forgets : (m : Message C) (ms : List (Message C)) → is_doubled (map_message f m) (map_messages f ms) ≡ is_doubled m ms
   doubled-forgets m ms =
-      ap (λ kind. is_pcproto kind && list_any (λ x. is_pcproto x.kind) (map_messages f ms)) (kind-forgets f m)
-      ∙ ap (λ b. is_pcproto m.kind && b) (any-forgets ms)
+      rw (kind-forgets f m, any-forgets ms) refl
 
   waits_made-forgets : (here : Spot) (doubled : Bool) (cells : List C) (h : Head C) (behind : Queue C) → waits_made here doubled (map f cells) (map_head f h) (map_queue f behind) ≡ head_image (waits_made here doubled cells h behind)
   waits_made-forgets here true cells h behind = refl
@@ -203,18 +176,13 @@ module _ {C D : Type 0} (f : C → D) where
 
   waits-forgets : (here : Spot) (m : Message C) (h : Head C) → waits_for_readers here (map_message f m) (map_head f h) ≡ head_image (waits_for_readers here m h)
   waits-forgets here m h =
-      ap (λ b. waits_made here b (cells_of (map_message f m)) (map_head f h) (put_on (map_message f m) (map_queue f h.queue))) (doubled-forgets m h.queue.messages)
-      ∙ ap (λ cells. waits_made here (is_doubled m h.queue.messages) cells (map_head f h) (put_on (map_message f m) (map_queue f h.queue))) (cells-forget f m)
-      ∙ ap (λ behind. waits_made here (is_doubled m h.queue.messages) (map f (cells_of m)) (map_head f h) behind) (put_on-forgets f m h.queue)
-      ∙ waits_made-forgets here (is_doubled m h.queue.messages) (cells_of m) h (put_on m h.queue)
+      rw (doubled-forgets m h.queue.messages, cells-forget f m, put_on-forgets f m h.queue) (waits_made-forgets here (is_doubled m h.queue.messages) (cells_of m) h (put_on m h.queue))
 
   head-flushed-forgets : (here : Spot) (asked : FlushAsked) (h : Head C) → head_flushed here asked (map_head f h) ≡ head_image (head_flushed here asked h)
   head-flushed-forgets here asked h =
       let chosen = of_data asked.band in
       let q = h.queue in
-      ap (λ behind. head_made here (map_head f h) behind (writer_goes chosen (map_queue f q)) (cells_gone chosen (map_messages f q.messages))) (queue_behind-forgets f chosen q)
-      ∙ ap (λ goes. head_made here (map_head f h) (map_queue f (queue_behind chosen q)) goes (cells_gone chosen (map_messages f q.messages))) (writer_goes-forgets f chosen q)
-      ∙ ap (λ cells. head_made here (map_head f h) (map_queue f (queue_behind chosen q)) (writer_goes chosen q) cells) (gone-forgets f chosen q.messages)
+      rw (queue_behind-forgets f chosen q, writer_goes-forgets f chosen q, gone-forgets f chosen q.messages) refl
 
   round-forgets : (here : Spot) (asked : FlushAsked) (goes : Bool) → let bytes = flush_bytes (record asked { for_read = false }) in
       cond goes (record { to = toward Down here; message = flush_message {C = D} bytes } ∷ []) [] ≡ map (map_parcel f) (cond goes (record { to = toward Down here; message = flush_message bytes } ∷ []) [])
@@ -224,8 +192,8 @@ module _ {C D : Type 0} (f : C → D) where
   up-forgets : (here : Spot) (asked : FlushAsked) (h : Head C) →
       sends (turned_round here asked) (cond asked.for_read (head_flushed here asked (map_head f h)) (passed_by (map_head f h))) ≡ head_image (sends (turned_round here asked) (cond asked.for_read (head_flushed here asked h) (passed_by h)))
   up-forgets here asked h =
-      ap (λ u. sends (turned_round here asked) u) (either-agrees head_image asked.for_read (head_flushed here asked h) (passed_by h) (head_flushed here asked (map_head f h)) (passed_by (map_head f h)) (head-flushed-forgets here asked h) refl)
-      ∙ ap (λ xs. sends xs (head_image (cond asked.for_read (head_flushed here asked h) (passed_by h)))) (round-forgets here asked asked.for_write)
+      rw (either-agrees head_image asked.for_read (head_flushed here asked h) (passed_by h) (head_flushed here asked (map_head f h)) (passed_by (map_head f h)) (head-flushed-forgets here asked h) refl, round-forgets here asked asked.for_write)
+      refl
 
   nak_down-forgets : (here : Spot) (known : Option Ioc) → nak_down here known ≡ map (map_parcel f) (nak_down here known)
   nak_down-forgets here None = refl

@@ -62,10 +62,6 @@ put-forgets f High control body = refl
 put-forgets f (Band band) None body = refl
 put-forgets f (Band band) (Some xs) body = refl
 
-booked-forgets : {C D : Type 0} (f : C → D) (dir : Dir) (n : ℕ) (t : Carried C (State C)) → booked dir n (map_carried f (map_state f) t) ≡ map_carried f (map_state f) (booked dir n t)
-booked-forgets f MasterToSlave n t = refl
-booked-forgets f SlaveToMaster n t = refl
-
 module _ {C : Type 0} (cells : Cells C) (are : AreCells cells) where
   written-forgets : (dir : Dir) (n : ℕ) (o : Option (List ℕ)) → option_map (cells_written plain dir n) o ≡ option_map (map cells.byte) (option_map (cells_written cells dir n) o)
   written-forgets dir n None = refl
@@ -77,32 +73,25 @@ module _ {C : Type 0} (cells : Cells C) (are : AreCells cells) where
 
   message-forgets : (dir : Dir) (n : ℕ) (prio : Prio) (control body : Option (List ℕ)) → message_of plain dir n prio control body ≡ map_message cells.byte (message_of cells dir n prio control body)
   message-forgets dir n prio control body =
-      ap (λ c. put_message prio c (option_map (cells_written plain dir (n + length (part control))) body)) (written-forgets dir n control)
-      ∙ ap (λ d. put_message prio (option_map (map cells.byte) (option_map (cells_written cells dir n) control)) d) (written-forgets dir (n + length (part control)) body)
-      ∙ put-forgets cells.byte prio (option_map (cells_written cells dir n) control) (option_map (cells_written cells dir (n + length (part control))) body)
+      rw (written-forgets dir n control, written-forgets dir (n + length (part control)) body)
+      (put-forgets cells.byte prio (option_map (cells_written cells dir n) control) (option_map (cells_written cells dir (n + length (part control))) body))
 
   pub put_at-forgets : (side : Side) (prio : Prio) (control body : Option (List ℕ)) (s : State C) → put_at plain side prio control body (map_state cells.byte s) ≡ map_carried cells.byte (map_state cells.byte) (put_at cells side prio control body s)
-  put_at-forgets side prio control body s = over side
+  put_at-forgets side prio control body s = at (no_parts control body)
     where
       image : State ℕ
       image = map_state cells.byte s
 
+      dir : Dir
+      dir = direction_from side
+
+      n : ℕ
+      n = (book dir s).written
+
       size : ℕ
       size = length (part control) + length (part body)
 
-      sent-forgets : (side : Side) (dir : Dir) (b : Book) → booked dir size (delivered plain (below side) (message_of plain dir b.written prio control body) image)
-          ≡ map_carried cells.byte (map_state cells.byte) (booked dir size (delivered cells (below side) (message_of cells dir b.written prio control body) s))
-      sent-forgets side dir b =
-          let m = message_of cells dir b.written prio control body in
-          ap (λ x. booked dir size (delivered plain (below side) x image)) (message-forgets dir b.written prio control body)
-          ∙ ap (λ t. booked dir size t) (delivered-forgets cells are (below side) m s)
-          ∙ booked-forgets cells.byte dir size (delivered cells (below side) m s)
-
-      at : (none : Bool) (side : Side) (dir : Dir) (b : Book) → cond none (record { state = image; gone = [] }) (booked dir size (delivered plain (below side) (message_of plain dir b.written prio control body) image))
-          ≡ map_carried cells.byte (map_state cells.byte) (cond none (record { state = s; gone = [] }) (booked dir size (delivered cells (below side) (message_of cells dir b.written prio control body) s)))
-      at true side dir b = refl
-      at false side dir b = sent-forgets side dir b
-
-      over : (side : Side) → put_at plain side prio control body image ≡ map_carried cells.byte (map_state cells.byte) (put_at cells side prio control body s)
-      over Master = at (no_parts control body) Master MasterToSlave s.books.master
-      over Slave = at (no_parts control body) Slave SlaveToMaster s.books.slave
+      at : (none : Bool) → cond none (record { state = image; gone = [] }) (booked dir size (delivered plain (below side) (message_of plain dir n prio control body) image))
+          ≡ map_carried cells.byte (map_state cells.byte) (cond none (record { state = s; gone = [] }) (booked dir size (delivered cells (below side) (message_of cells dir n prio control body) s)))
+      at true = refl
+      at false = rw (message-forgets dir n prio control body, delivered-forgets cells are (below side) (message_of cells dir n prio control body) s) refl

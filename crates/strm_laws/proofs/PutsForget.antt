@@ -39,13 +39,10 @@ use Rattle.strm_laws.proofs.Forgetting.{cells-forget, kind-forgets}
 use Rattle.strm_laws.proofs.ModulePuts.{among-forgets}
 use Rattle.strm_laws.proofs.Noted.{noted-same}
 use Rattle.strm_laws.proofs.PutForgets.{driver_put-forgets, flush-forgets, head_put-forgets, parts-forget}
+use Rattle.strm_types.proofs.BySide.{map-set}
+use Rattle.strm_laws.specs.State.{map_stream}
 
--- a pair whose head of a side, where that is open, or whose driver has had a message; with these queues enabled
-abbrev head_took : {E : Type 0} → Side → Bool → Acted E (Head E) → List E → List QueueName → State E → Took E (State E)
-head_took side opened t cells names s =
-    cond opened (record { state = record (with_stream side (record (stream side s) { head = t.state }) s) { enabled = names }; sent = t.sent; gone = t.gone })
-    (record { state = s; sent = []; gone = Goes (direction_at Up side) EndClosed cells ∷ [] })
-
+-- a pair whose driver of a side has had a message, with these queues enabled
 abbrev driver_took : {E : Type 0} → Side → Acted E (Queue E) → List QueueName → State E → Took E (State E)
 driver_took side t names s = record { state = record (with_stream side (with_driver_queue t.state (stream side s)) s) { enabled = names }; sent = t.sent; gone = t.gone }
 
@@ -57,13 +54,6 @@ module _ {C D : Type 0} (f : C → D) where
   either-agrees true one another one' another' first second = first
   either-agrees false one another one' another' first second = second
 
-  head_took-forgets : (side : Side) (opened : Bool) (t : Acted C (Head C)) (cells : List C) (names : List QueueName) (s : State C)
-      → head_took side opened (map_acted f (map_head f) t) (map f cells) names (map_state f s) ≡ image (head_took side opened t cells names s)
-  head_took-forgets Master true t cells names s = refl
-  head_took-forgets Master false t cells names s = refl
-  head_took-forgets Slave true t cells names s = refl
-  head_took-forgets Slave false t cells names s = refl
-
   driver_took-forgets : (side : Side) (t : Acted C (Queue C)) (names : List QueueName) (s : State C) → driver_took side (map_acted f (map_queue f) t) names (map_state f s) ≡ image (driver_took side t names s)
   driver_took-forgets Master t names s = refl
   driver_took-forgets Slave t names s = refl
@@ -74,62 +64,26 @@ module _ {C D : Type 0} (f : C → D) where
   notes-forget side place at notes names s = noted-same side place _ _ (λ way. before_at-forgets f side way at s) notes names
 
   pub head-forgets : (side : Side) (here : Spot) (m : Message C) (s : State C) → put_at_head side here (map_message f m) (map_state f s) ≡ image (put_at_head side here m s)
-  head-forgets side here m s = over side
-    where
-      names : Side → State D → List Note → List QueueName
-      names side t notes = noted side (Some places.Head) (earlier_at side 0 t) notes s.enabled
-
-      from : (side : Side) (opened : Bool) (h : Head C) →
-          head_took side opened (head_put here (map_message f m) (map_head f h)) (cells_of (map_message f m)) (names side (map_state f s) (head_put here (map_message f m) (map_head f h)).notes) (map_state f s)
-          ≡ image (head_took side opened (head_put here m h) (cells_of m) (noted side (Some places.Head) (earlier_at side 0 s) (head_put here m h).notes s.enabled) s)
-      from side opened h =
-          let t = head_put here m h in
-          ap (λ x. head_took side opened x (cells_of (map_message f m)) (names side (map_state f s) x.notes) (map_state f s)) (head_put-forgets f here m h)
-          ∙ ap (λ cells. head_took side opened (map_acted f (map_head f) t) cells (names side (map_state f s) t.notes) (map_state f s)) (cells-forget f m)
-          ∙ ap (λ enabled. head_took side opened (map_acted f (map_head f) t) (map f (cells_of m)) enabled (map_state f s)) (notes-forget side (Some places.Head) 0 t.notes s.enabled s)
-          ∙ head_took-forgets side opened t (cells_of m) (noted side (Some places.Head) (earlier_at side 0 s) t.notes s.enabled) s
-
-      over : (side : Side) → put_at_head side here (map_message f m) (map_state f s) ≡ image (put_at_head side here m s)
-      over Master = from Master (is_open s.ends.master.opened) s.ends.master.head
-      over Slave = from Slave (is_open s.ends.slave.opened) s.ends.slave.head
+  head-forgets side here m s =
+      let t = stream side s in
+      let put = head_put here m t.head in
+      rw (stream-forgets f side s, head_put-forgets f here m t.head, cells-forget f m, notes-forget side (Some places.Head) 0 put.notes s.enabled s, ← map-set (map_stream f) side (record t { head = put.state }) s.ends)
+      (either-agrees (is_open t.opened) _ _ _ _ refl refl)
 
   -- the books
   booked-same : (told : List (Fate C)) (s : State C) → booked (map (map_fate f) told) (map_state f s) ≡ map_state f (booked told s)
   booked-same [] s = refl
   booked-same (Goes dir rule cells ∷ told) s = booked-same told s
   booked-same (Comes dir cells ∷ told) s =
-      ap (λ n. booked (map (map_fate f) told) (with_book dir (with_made n (book dir (map_state f s))) (map_state f s))) (length-map cells f)
-      ∙ ap (λ x. booked (map (map_fate f) told) x) (book-same dir (length cells) s)
-      ∙ booked-same told (with_book dir (with_made (length cells) (book dir s)) s)
-    where
-      book-same : (dir : Dir) (n : ℕ) (s : State C) → with_book dir (with_made n (book dir (map_state f s))) (map_state f s) ≡ map_state f (with_book dir (with_made n (book dir s)) s)
-      book-same MasterToSlave n s = refl
-      book-same SlaveToMaster n s = refl
+      rw (length-map cells f) (booked-same told (with_book dir (with_made (length cells) (book dir s)) s))
 
   -- modules that have acted
-  abbrev acted_so : {E : Type 0} → Spot → Acted E (List (Module E)) → List QueueName → State E → Took E (State E)
-  acted_so here t names s = record {
-    state = booked t.gone (record (with_stream here.side (record (stream here.side s) { modules = t.state }) s) { enabled = names });
-    sent = t.sent;
-    gone = t.gone;
-  }
-
-  with_modules-same : (side : Side) (ps : List (Module C)) (names : List QueueName) (s : State C)
-      → record (with_stream side (record (stream side (map_state f s)) { modules = map (map_module f) ps }) (map_state f s)) { enabled = names } ≡ map_state f (record (with_stream side (record (stream side s) { modules = ps }) s) { enabled = names })
-  with_modules-same Master ps names s = refl
-  with_modules-same Slave ps names s = refl
-
   pub acted-same : (here : Spot) (t : Acted C (List (Module C))) (s : State C) → module_acted here (map_acted f (map (map_module f)) t) (map_state f s) ≡ map_took f (map_state f) (module_acted here t s)
   acted-same here t s =
       let on = stream here.side s in
-      let u = map_acted f (map (map_module f)) t in
+      let u = (module_acted here (record t { gone = [] }) s).state in
       let place = slice_index_or (places_of on.modules) (here.at - 1) None in
-      let names = noted here.side place (earlier_at here.side here.at s) t.notes s.enabled in
-      ap (λ (x : Stream D). acted_so here u (noted here.side (slice_index_or (places_of x.modules) (here.at - 1) None) (earlier_at here.side here.at (map_state f s)) t.notes s.enabled) (map_state f s)) (stream-forgets f here.side s)
-      ∙ ap (λ places. acted_so here u (noted here.side (slice_index_or places (here.at - 1) None) (earlier_at here.side here.at (map_state f s)) t.notes s.enabled) (map_state f s)) (places-forget f on.modules)
-      ∙ ap (λ ns. acted_so here u ns (map_state f s)) (notes-forget here.side place here.at t.notes s.enabled s)
-      ∙ ap (λ x. record { state = booked u.gone x; sent = u.sent; gone = u.gone }) (with_modules-same here.side t.state names s)
-      ∙ ap (λ x. record { state = x; sent = u.sent; gone = u.gone }) (booked-same t.gone (record (with_stream here.side (record on { modules = t.state }) s) { enabled = names }))
+      rw (stream-forgets f here.side s, places-forget f on.modules, notes-forget here.side place here.at t.notes s.enabled s, ← booked-same t.gone u, map-set (map_stream f) here.side (record on { modules = t.state }) s.ends) refl
 
   driver-forgets : (side : Side) (here : Spot) (m : Message C) (s : State C) → put_at_driver side here (map_message f m) (map_state f s) ≡ image (put_at_driver side here m s)
   driver-forgets side here m s = over side
@@ -148,11 +102,8 @@ module _ {C D : Type 0} (f : C → D) where
           let at = driver_place side s in
           let bottom = modules_on (other side) s in
           let t = puts side opened bottom at m q in
-          ap (λ n. took side (suc n) (puts side opened (modules_on (other side) (map_state f s)) (suc n) (map_message f m) (map_queue f q))) (modules_on-forgets f side s)
-          ∙ ap (λ n. took side at (puts side opened n at (map_message f m) (map_queue f q))) (modules_on-forgets f (other side) s)
-          ∙ ap (λ u. took side at u) (driver_put-forgets f side (record { is_open = opened; bottom = bottom; ended = is_closed s.ends.master.opened }) (record here { at = at }) m q)
-          ∙ ap (λ enabled. driver_took side (map_acted f (map_queue f) t) enabled (map_state f s)) (notes-forget side (Some places.Driver) at t.notes s.enabled s)
-          ∙ driver_took-forgets side t (noted side (Some places.Driver) (earlier_at side at s) t.notes s.enabled) s
+          rw (modules_on-forgets f side s, modules_on-forgets f (other side) s, driver_put-forgets f side (record { is_open = opened; bottom = bottom; ended = is_closed s.ends.master.opened }) (record here { at = at }) m q, notes-forget side (Some places.Driver) at t.notes s.enabled s)
+          (driver_took-forgets side t (noted side (Some places.Driver) (earlier_at side at s) t.notes s.enabled) s)
 
       over : (side : Side) → put_at_driver side here (map_message f m) (map_state f s) ≡ image (put_at_driver side here m s)
       over Master = from Master (is_open s.ends.slave.opened) s.ends.master.driver.queue
@@ -174,17 +125,12 @@ module _ {C : Type 0} (cells : Cells C) (are : AreCells cells) where
   abbrev f : C → ℕ
   f = cells.byte
 
-  above-same : (side : Side) (s : State C) → made_above side (map_state f s) ≡ made_above side s
-  above-same Master s = refl
-  above-same Slave s = refl
-
   module-forgets : (here : Spot) (m : Message C) (s : State C) → put_at_module plain here (map_message f m) (map_state f s) ≡ map_took f (map_state f) (put_at_module cells here m s)
   module-forgets here m s =
       let i = here.at - 1 in
       let ps = (stream here.side s).modules in
       let made = made_above here.side s in
       ap (λ (t : Stream ℕ). module_acted here (put_among (module_puts plain (made_above here.side (map_state f s))) i here (map_message f m) t.modules) (map_state f s)) (stream-forgets f here.side s)
-      ∙ ap (λ n. module_acted here (put_among (module_puts plain n) i here (map_message f m) (map (map_module f) ps)) (map_state f s)) (above-same here.side s)
       ∙ ap (λ t. module_acted here t (map_state f s)) (among-forgets cells are made i here m ps)
       ∙ acted-same f here (put_among (module_puts cells made) i here m ps) s
 

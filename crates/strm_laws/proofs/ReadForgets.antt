@@ -67,8 +67,7 @@ module _ {C D : Type 0} (f : C → D) where
   all-forget : (q : List (Message C)) → all_cells (map_messages f q) ≡ map f (all_cells q)
   all-forget [] = refl
   all-forget (m ∷ q) =
-      ap (λ xs. xs ++ all_cells (map_messages f q)) (cells-forget f m) ∙ ap (λ xs. map f (cells_of m) ++ xs) (all-forget q)
-      ∙ sym (map-append f (cells_of m) (all_cells q))
+      rw (cells-forget f m, all-forget q) (sym (map-append f (cells_of m) (all_cells q)))
 
   pub rest_with-forgets : (control body : List C) (m : Message C) → map_message f (rest_with control body m) ≡ rest_with (map f control) (map f body) (map_message f m)
   unfolding map_message band_of
@@ -93,25 +92,17 @@ module _ {C D : Type 0} (f : C → D) where
   put-rest-forgets : (n : ℕ) (m : Message C) (q : List (Message C)) → map_messages f (put_back (rest_after n m) q) ≡ put_back (rest_after n (map_message f m)) (map_messages f q)
   put-rest-forgets n m q = put_back-forgets f (rest_after n m) q ∙ ap (λ r. put_back r (map_messages f q)) (rest_after-forgets n m)
 
-  -- the front of a message, by its parts
-  abbrev fronted : List D → List D → List D → List (Message D) → Drawn D
-  fronted given discarded dropped left = record { given = given; discarded = discarded; dropped = dropped; left = left }
-
   front-forgets : (read : ReadMode) (n : ℕ) (dropped : List C) (m : Message C) (q : List (Message C)) → map_drawn f (front_of read n dropped m q) ≡ front_of read n (map f dropped) (map_message f m) (map_messages f q)
   front-forgets ByteStream n dropped m q =
-      ap (λ xs. fronted xs [] (map f dropped) (map_messages f (put_back (rest_after n m) q))) (given-forgets n m)
-      ∙ ap (λ ms. fronted (take n (cells_of (map_message f m))) [] (map f dropped) ms) (put-rest-forgets n m q)
+      rw (given-forgets n m, put-rest-forgets n m q) refl
   front-forgets MessageKeep n dropped m q =
-      ap (λ xs. fronted xs [] (map f dropped) (map_messages f (put_back (rest_after n m) q))) (given-forgets n m)
-      ∙ ap (λ ms. fronted (take n (cells_of (map_message f m))) [] (map f dropped) ms) (put-rest-forgets n m q)
+      rw (given-forgets n m, put-rest-forgets n m q) refl
   front-forgets MessageDiscard n dropped m q =
-      ap (λ xs. fronted xs (map f (drop n (cells_of m))) (map f dropped) (map_messages f q)) (given-forgets n m)
-      ∙ ap (λ xs. fronted (take n (cells_of (map_message f m))) xs (map f dropped) (map_messages f q)) (dropped-forget n (cells_of m) (cells_of (map_message f m)) (cells-forget f m))
+      rw (given-forgets n m, dropped-forget n (cells_of m) (cells_of (map_message f m)) (cells-forget f m)) refl
 
   more-forgets : (cells dropped : List C) (more : Drawn C) → map_drawn f (and_more cells dropped more) ≡ and_more (map f cells) (map f dropped) (map_drawn f more)
   more-forgets cells dropped more =
-      ap (λ xs. fronted xs (map f more.discarded) (map f (dropped ++ more.dropped)) (map_messages f more.left)) (map-append f cells more.given)
-      ∙ ap (λ xs. fronted (map f cells ++ map f more.given) (map f more.discarded) xs (map_messages f more.left)) (map-append f dropped more.dropped)
+      rw (map-append f cells more.given, map-append f dropped more.dropped) refl
 
   -- a step of a read by what it is told of its message
   abbrev step_of : ReadMode → ControlMode → Bool → ℕ → List (Message D) → Message D → List (Message D) → Bool → Bool → List D → Message D → List D → Drawn D
@@ -163,20 +154,16 @@ module _ {C D : Type 0} (f : C → D) where
 
   pub refusal-forgets : (control : ControlMode) (at_end : Bool) (n : ℕ) (q : List (Message C)) → read_refusal control at_end n (map_messages f q) ≡ read_refusal control at_end n q
   refusal-forgets control at_end n q =
-      ap (λ b. cond (n == 0) None (cond b (cond at_end None (Some Eagain)) (cond (starts_refused control (map_messages f q)) (Some Ebadmsg) None))) (none-forgets control q)
-      ∙ ap (λ b. cond (n == 0) None (cond (finds_none control q) (cond at_end None (Some Eagain)) (cond b (Some Ebadmsg) None))) (starts-forgets control q)
+      rw (none-forgets control q, starts-forgets control q) refl
 
   -- the queue behind a read, and who is let go
   takes-forgets : (control : ControlMode) (n : ℕ) (q : List (Message C)) → takes_none control n (map_messages f q) ≡ takes_none control n q
   takes-forgets control n q =
-      ap (λ b. n == 0 || (b || starts_refused control (map_messages f q))) (none-forgets control q)
-      ∙ ap (λ b. n == 0 || (finds_none control q || b)) (starts-forgets control q)
+      rw (none-forgets control q, starts-forgets control q) refl
 
   went-forgets : (d : Drawn C) → none_went (map_drawn f d) ≡ none_went d
   went-forgets d =
-      ap (λ b. b && (no_cells (map f d.discarded) && no_cells (map f d.dropped))) (no-cells-forget d.given)
-      ∙ ap (λ b. no_cells d.given && (b && no_cells (map f d.dropped))) (no-cells-forget d.discarded)
-      ∙ ap (λ b. no_cells d.given && (no_cells d.discarded && b)) (no-cells-forget d.dropped)
+      rw (no-cells-forget d.given, no-cells-forget d.discarded, no-cells-forget d.dropped) refl
 
   queue_drawn-forgets : (d : Drawn C) (q : Queue C) → queue_drawn (map_drawn f d) (map_queue f q) ≡ map_queue f (queue_drawn d q)
   queue_drawn-forgets d q = ap (λ none. cond none (left_with (map_messages f d.left) (map_queue f q)) (relieved (left_with (map_messages f d.left) (map_queue f q)))) (went-forgets d) ∙ at (none_went d)
@@ -187,10 +174,7 @@ module _ {C D : Type 0} (f : C → D) where
 
   pub read_queue-forgets : (read : ReadMode) (control : ControlMode) (n : ℕ) (q : Queue C) → read_queue read control n (map_queue f q) ≡ map_queue f (read_queue read control n q)
   read_queue-forgets read control n q =
-      ap (λ d. cond (takes_none control n (map_messages f q.messages)) (map_queue f q) (queue_drawn d (map_queue f q))) (sym (head_draw-forgets read control n q.messages))
-      ∙ ap (λ none. cond none (map_queue f q) (queue_drawn (map_drawn f (head_draw read control n q.messages)) (map_queue f q))) (takes-forgets control n q.messages)
-      ∙ ap (λ behind. cond (takes_none control n q.messages) (map_queue f q) behind) (queue_drawn-forgets (head_draw read control n q.messages) q)
-      ∙ at (takes_none control n q.messages)
+      rw (← head_draw-forgets read control n q.messages, takes-forgets control n q.messages, queue_drawn-forgets (head_draw read control n q.messages) q) (at (takes_none control n q.messages))
     where
       at : (none : Bool) → cond none (map_queue f q) (map_queue f (queue_drawn (head_draw read control n q.messages) q)) ≡ map_queue f (cond none q (queue_drawn (head_draw read control n q.messages) q))
       at true = refl
@@ -198,11 +182,8 @@ module _ {C D : Type 0} (f : C → D) where
 
   writer_goes-forgets : (d : Drawn C) (q : Queue C) → writer_goes (map_drawn f d) (map_queue f q) ≡ writer_goes d q
   writer_goes-forgets d q =
-      ap (λ none. cond none false (relieves (left_with (map_messages f d.left) (map_queue f q)))) (went-forgets d)
-      ∙ ap (λ goes. cond (none_went d) false goes) (relieves_from-forgets f 0 d.left q.flows)
+      rw (went-forgets d, relieves_from-forgets f 0 d.left q.flows) refl
 
   pub read_lets_go-forgets : (read : ReadMode) (control : ControlMode) (n : ℕ) (q : Queue C) → read_lets_go read control n (map_queue f q) ≡ read_lets_go read control n q
   read_lets_go-forgets read control n q =
-      ap (λ d. cond (takes_none control n (map_messages f q.messages)) false (writer_goes d (map_queue f q))) (sym (head_draw-forgets read control n q.messages))
-      ∙ ap (λ none. cond none false (writer_goes (map_drawn f (head_draw read control n q.messages)) (map_queue f q))) (takes-forgets control n q.messages)
-      ∙ ap (λ goes. cond (takes_none control n q.messages) false goes) (writer_goes-forgets (head_draw read control n q.messages) q)
+      rw (← head_draw-forgets read control n q.messages, takes-forgets control n q.messages, writer_goes-forgets (head_draw read control n q.messages) q) refl

@@ -92,9 +92,7 @@ module _ {C D : Type 0} (f : C → D) where
   end-same Master s =
       let hung = s.ends.master.head.hung_up in
       let closed = is_closed s.ends.slave.opened in
-      ap (λ b. hung || (closed && (b && (none_waits_up (images s.ends.master.modules) && has_no_data (map_messages f s.ends.master.head.queue.messages))))) (no-data s.ends.slave.driver.queue.messages)
-      ∙ ap (λ b. hung || (closed && (has_no_data s.ends.slave.driver.queue.messages && (not b && has_no_data (map_messages f s.ends.master.head.queue.messages))))) (waits-up s.ends.master.modules)
-      ∙ ap (λ b. hung || (closed && (has_no_data s.ends.slave.driver.queue.messages && (none_waits_up s.ends.master.modules && b)))) (no-data s.ends.master.head.queue.messages)
+      rw (no-data s.ends.slave.driver.queue.messages, waits-up s.ends.master.modules, no-data s.ends.master.head.queue.messages) refl
 
   -- what the state says
   read-same : (side : Side) (n : ℕ) (s : State C) → (let h = (stream side (map_state f s)).head in read_refusal h.control_mode (at_end side (map_state f s)) n h.queue.messages) ≡ (let h = (stream side s).head in read_refusal h.control_mode (at_end side s) n h.queue.messages)
@@ -124,9 +122,7 @@ module _ {C D : Type 0} (f : C → D) where
 
   may-push : (p : Module C) (ps : List (Module C)) → may_push module_name (map_module f p) (images ps) ≡ may_push module_name p ps
   may-push p ps =
-      ap (λ n. nat_lt n MODULES && not (stands module_name (module_name (map_module f p)) (images ps))) (length-map ps (map_module f))
-      ∙ ap (λ name. nat_lt (length ps) MODULES && not (stands module_name name (images ps))) (named-same p)
-      ∙ ap (λ b. nat_lt (length ps) MODULES && not b) (stands-same (module_name p) ps)
+      rw (length-map ps (map_module f), named-same p, stands-same (module_name p) ps) refl
 
   may-same : (p : Option (Module C)) (ps : List (Module C)) → may_stand (option_map (map_module f) p) (images ps) ≡ may_stand p ps
   may-same None ps = refl

@@ -189,8 +189,7 @@ module _ (C : Type 0) (all : Stands) (here : Spot) (some : 0 < here.at) (few : h
   module _ (m : Message C) (l : Ptem) (asked : is_asked m ≡ true) where
     down-packs : here.way ≡ Down → packs all here m ≡ (suc MODULES - here.at) * line_packets_on all here.side
     down-packs way =
-        ap (λ way. way_packets all here.side way here.at m.kind (has_parts m) (asked_by m.plain).for_write) way
-        ∙ ap (λ kind. down_packets all here.side here.at kind) (asked-ioctl m asked)
+        rw (way, asked-ioctl m asked) refl
 
     ack-low : here.way ≡ Down → line_packets on before + (suc MODULES - (here.at + 1)) * line_packets_on all here.side ≤ packs all here m
     ack-low way =

@@ -75,9 +75,7 @@ module _ {C : Type 0} (blank : C → Bool) where
   chosen-same : (s t : ℕ → Bool) (at by : ℕ → Option C) (n : ℕ) → ((k : ℕ) → k < n → s k ≡ t k) → ((k : ℕ) → k < n → at k ≡ by k) → chosen s at n ≡ chosen t by n
   chosen-same s t at by zero same alike = refl
   chosen-same s t at by (suc n) same alike =
-      ap (λ l. l ++ where_stands blank (s n) (at n)) (chosen-same s t at by n (λ k low. same k (omega arith)) (λ k low. alike k (omega arith)))
-      ∙ ap (λ b. chosen t by n ++ where_stands blank b (at n)) (same n (omega arith))
-      ∙ ap (λ o. chosen t by n ++ where_stands blank (t n) o) (alike n (omega arith))
+      rw (chosen-same s t at by n (λ k low. same k (omega arith)) (λ k low. alike k (omega arith)), same n (omega arith), alike n (omega arith)) refl
 
   -- where the last number isn't chosen, or has no byte
   not-chosen : (s : ℕ → Bool) (at : ℕ → Option C) (n : ℕ) → s n ≡ false → chosen s at (suc n) ≡ chosen s at n
@@ -314,8 +312,7 @@ module _ {C : Type 0} (blank : C → Bool) where
       (λ k low. sym (typed-before (Types c) edits k low)))
     where
       room : stands blank (Types c ∷ edits) (length edits) ≡ has_room (standing edits)
-      room = ap (λ b. cond b (nat_lt (count_below (length edits) (stands blank edits)) LINE_MAX) (stands blank edits (length edits))) (eq-eqb (length edits) (length edits) refl)
-          ∙ ap (λ n. nat_lt n LINE_MAX) (counted (stands blank edits) (of_edits edits) (length edits) (all-typed edits))
+      room = rw (eq-eqb (length edits) (length edits) refl, counted (stands blank edits) (of_edits edits) (length edits) (all-typed edits)) refl
 
       added : (b : Bool) → cond b (standing edits ++ c ∷ []) (standing edits) ≡ standing edits ++ where_stands blank b (Some c)
       added true = refl

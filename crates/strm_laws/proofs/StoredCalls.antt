@@ -37,10 +37,7 @@ first-back control body more = ap (λ bytes. part_in (part_shape control) bytes)
 
 second-back : (control body : Option (List ℕ)) (more : List ℕ) → part_in (part_shape body) (drop (part_len (part_shape control)) ((part control ++ part body) ++ more)) ≡ body
 second-back control body more =
-    ap (λ n. part_in (part_shape body) (drop n ((part control ++ part body) ++ more))) (part-size control)
-    ∙ ap (λ bytes. part_in (part_shape body) (drop (length (part control)) bytes)) (append_assoc (part control) (part body) more)
-    ∙ ap (λ bytes. part_in (part_shape body) bytes) (drop-append_seam (part control) (part body ++ more))
-    ∙ part-back body more
+    rw (part-size control, append_assoc (part control) (part body) more, drop-append_seam (part control) (part body ++ more)) (part-back body more)
 
 both-size : (control body : Option (List ℕ)) → part_len (part_shape control) + part_len (part_shape body) ≡ length (part control ++ part body)
 both-size control body = omega (arith, part-size control, part-size body, length-append (part control) (part body))
@@ -48,8 +45,7 @@ both-size control body = omega (arith, part-size control, part-size body, length
 pub request-back : (asked : Request) (more : List ℕ) → request_in (shape_of asked) (payload_of asked ++ more) ≡ asked
 request-back (shapes.Write bytes) more = ap shapes.Write (take-append_seam bytes more)
 request-back (shapes.Put prio control body) more =
-    ap (λ c. shapes.Put prio c (part_in (part_shape body) (drop (part_len (part_shape control)) ((part control ++ part body) ++ more)))) (first-back control body more)
-    ∙ ap (λ d. shapes.Put prio control d) (second-back control body more)
+    rw (first-back control body more, second-back control body more) refl
 request-back (shapes.Ioctl command body) more = ap (λ xs. shapes.Ioctl command xs) (take-append_seam body more)
 request-back _ more = refl
 
@@ -60,8 +56,7 @@ request-size _ = refl
 pub reply-back : (reply : Reply) (more : List ℕ) → reply_in (told_of reply) (content_of reply ++ more) ≡ reply
 reply-back (told.Bytes bytes) more = ap told.Bytes (take-append_seam bytes more)
 reply-back (told.Msg prio control body more_control more_data) more =
-    ap (λ c. told.Msg prio c (part_in (part_shape body) (drop (part_len (part_shape control)) ((part control ++ part body) ++ more))) more_control more_data) (first-back control body more)
-    ∙ ap (λ d. told.Msg prio control d more_control more_data) (second-back control body more)
+    rw (first-back control body more, second-back control body more) refl
 reply-back (told.Signals bytes) more = ap told.Signals (take-append_seam bytes more)
 reply-back _ more = refl
 
@@ -72,6 +67,4 @@ reply-size _ = refl
 -- an entry, of an answer whose bytes stand behind those of its call
 pub entry-back : (caller : Caller) (asked : Request) (answer : Answer ℕ) (content : List ℕ) → entry_in (Called caller (shape_of asked) answer) (payload_of asked ++ content) ≡ Called caller asked (reply_in answer content)
 entry-back caller asked answer content =
-    ap (λ a. Called caller a (reply_in answer (drop (event_len (shape_of asked)) (payload_of asked ++ content)))) (request-back asked content)
-    ∙ ap (λ n. Called caller asked (reply_in answer (drop n (payload_of asked ++ content)))) (request-size asked)
-    ∙ ap (λ bytes. Called caller asked (reply_in answer bytes)) (drop-append_seam (payload_of asked) content)
+    rw (request-back asked content, request-size asked, drop-append_seam (payload_of asked) content) refl

@@ -23,9 +23,7 @@ module _ {C : Type 0} where
 
   is-data : (m : Message C) → IsData m → m ≡ data_of m.band m.body
   is-data m is =
-      ap (λ (kind : MsgKind). record m { kind = kind }) is.kind
-      ∙ ap (λ (control : Option (List C)). record { kind = kinds.Data; band = m.band; control = control; body = m.body; plain = m.plain }) is.control
-      ∙ ap (λ (plain : List ℕ). record { kind = kinds.Data; band = m.band; control = None; body = m.body; plain = plain }) is.plain
+      rw (is.kind, is.control, is.plain) refl
 
   -- what is left of one
   pub rest-same : (n band : ℕ) (body : Option (List C)) → rest_after n (data_of band body) ≡ rest_of n (data_of band body)

@@ -16,7 +16,7 @@ use Rattle.strm_types.specs.Names.{driver_of, enable_if, enable_some, is_open, o
 use Rattle.strm_types.specs.Origins.{map_carried}
 use Rattle.strm_laws.specs.Puts.{delivered}
 use Rattle.strm_types.specs.Queue.{Queue, is_none_left, left_with, relieved, relieves, map_messages, map_queue}
-use Rattle.strm_laws.specs.State.{State, stream, map_state}
+use Rattle.strm_laws.specs.State.{State, stream, map_state, map_stream, with_driver_queue}
 use Rattle.strm_laws.specs.TurnOutcomes.{TurnOutcome, map_turn_outcome, stayed_put}
 use Rattle.strm_laws.specs.Turns.{blocked_across, driver_serves, driver_turned, held_back, is_stopped_across, moved_across, turn_ended, turned_queue, up_across, with_driver}
 use Rattle.strm_laws.proofs.Earlier.{before_driver-forgets, modules_on-forgets}
@@ -55,10 +55,6 @@ module _ {C D : Type 0} (f : C → D) where
       ∙ ap (λ (at : ℕ). is_held m.kind && not (has_room_past (other side) Up at (band_of (map_message f m)) (map_state f s))) (place-forgets (other side) s)
       ∙ ap (λ (band : ℕ). is_held m.kind && not (has_room_past (other side) Up there band (map_state f s))) (band-forgets f m)
       ∙ ap (λ (room : Bool). is_held m.kind && not room) (room-forgets f (other side) Up there (band_of m) s)
-
-  with_driver-forgets : (side : Side) (q : Queue C) (s : State C) → with_driver side (map_queue f q) (map_state f s) ≡ map_state f (with_driver side q s)
-  with_driver-forgets Master q s = refl
-  with_driver-forgets Slave q s = refl
 
   ended_made-forgets : (side : Side) (q : Queue C) (more goes : Bool) (earlier : Option QueueName) (s : State C) → ended_made side (map_queue f q) more goes earlier (map_state f s) ≡ map_state f (ended_made side q more goes earlier s)
   ended_made-forgets Master q more goes earlier s = refl
@@ -109,9 +105,7 @@ module _ {C D : Type 0} (f : C → D) where
   blocked-forgets : (side : Side) (m : Message C) (s : State C) → blocked_across side (map_message f m) (map_state f s) ≡ map_state f (blocked_across side m s)
   blocked-forgets side m s =
       let there = driver_place (other side) s in
-      ap (λ (at : ℕ). writer_waits (other side) Up at (band_of (map_message f m)) (map_state f s)) (place-forgets (other side) s)
-      ∙ ap (λ (band : ℕ). writer_waits (other side) Up there band (map_state f s)) (band-forgets f m)
-      ∙ writer_waits-forgets f (other side) Up there (band_of m) s
+      rw (place-forgets (other side) s, band-forgets f m) (writer_waits-forgets f (other side) Up there (band_of m) s)
 
   served-forgets : (opened stopped : Bool) (shut waits moves : TurnOutcome C) (shut' waits' moves' : TurnOutcome D) → shut' ≡ map_turn_outcome f shut → waits' ≡ map_turn_outcome f waits → moves' ≡ map_turn_outcome f moves
       → served opened stopped shut' waits' moves' ≡ map_turn_outcome f (served opened stopped shut waits moves)
