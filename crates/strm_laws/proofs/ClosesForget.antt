@@ -1,11 +1,11 @@
 -- Forgetting the origins of cells commutes with closes.
-use Rattle.std.proofs.Common.{◌≡◌, Bool, true, false, cond, List, ◌++◌, map, sym, refl, ap, ◌∙◌}
+use Rattle.std.proofs.Common.{◌≡◌, Bool, true, false, cond, map, refl, ap, ◌∙◌}
 use Rattle.std.proofs.lemmas.List.{map-append}
 use Rattle.strm_types.specs.declared.names.Side.{Side}
 use Rattle.strm_types.specs.declared.names.Side.TheVariants.{Master, Slave}
 use Rattle.strm_types.specs.declared.rules.Rule.TheVariants.{EndClosed}
 use Rattle.strm_laws.specs.Closes.{and_then, closed_at, driver_emptied, ended, head_emptied, hung_up_at, stream_emptied}
-use Rattle.strm_types.specs.Deliver.{Carried, Fate}
+use Rattle.strm_types.specs.Deliver.{Carried}
 use Rattle.strm_types.specs.Emptied.{of_all}
 use Rattle.strm_types.specs.Names.{is_open}
 use Rattle.strm_types.specs.Origins.{map_carried, map_fate}

@@ -8,7 +8,7 @@ use Rattle.strm_types.specs.declared.names.Side.{Side}
 use Rattle.strm_types.specs.declared.names.Side.TheVariants.{Master, Slave}
 use Rattle.strm_types.specs.declared.names.Way.{Way}
 use Rattle.strm_types.specs.declared.names.Way.TheVariants.{Up, Down}
-use Rattle.strm_laws.specs.Earlier.{NoModules, before_among, before_at, before_by, before_driver, before_head, modules_on, places_of}
+use Rattle.strm_laws.specs.Earlier.{NoModules, before_among, before_at, before_driver, before_head, modules_on, places_of}
 use Rattle.strm_types.specs.ModuleQueues.{first_place, has_queue, last_place, place_before, place_past}
 use Rattle.strm_types.specs.Names.{place_of}
 use Rattle.strm_laws.specs.Stacked.{Module, OfLdterm, OfPtem, OfPckt, map_module, module_name, module_queue}

@@ -1,23 +1,18 @@
 -- Forgetting the origins of cells commutes with flushes and closes.
 use Rattle.std.proofs.Common.{ℕ, ◌≡◌, Bool, true, false, cond, List, [], ◌∷◌, ◌++◌, map, refl, sym, ap, ◌∙◌, arith}
-use Rattle.std.specs.Prelude.{◌==◌, ◌||◌, not, Option}
+use Rattle.std.specs.Prelude.{not}
 use Rattle.std.proofs.lemmas.List.{map-append}
 use Rattle.std.proofs.lemmas.List.Sums.{sum_by-cons}
 use Rattle.strm_types.specs.declared.kinds.MsgKind.{MsgKind}
-use Rattle.strm_types.specs.declared.names.QueueName.{QueueName}
 use Rattle.strm_types.specs.declared.names.Side.{Side}
 use Rattle.strm_types.specs.declared.names.Side.TheVariants.{Master, Slave}
 use Rattle.strm_types.specs.declared.rules.Rule.{Rule}
-use Rattle.strm_types.specs.Deliver.{Goes, Carried}
 use Rattle.strm_laws.specs.Closes.{head_emptied, driver_emptied}
 use Rattle.strm_types.specs.Emptied.{Choice, stayed, cells_gone, emptied, none_goes, queue_behind, writer_goes}
 use Rattle.strm_types.specs.Message.{Message, cells_of, size_of, map_message}
-use Rattle.strm_laws.specs.Earlier.{before_driver, before_head}
-use Rattle.strm_types.specs.Names.{driver_of, head_of, direction_of, enable_some}
 use Rattle.strm_types.specs.Origins.{map_carried}
 use Rattle.strm_types.specs.Queue.{Queue, bytes_of, relieved, relieves, map_messages, map_queue}
-use Rattle.strm_laws.specs.State.{State, Stream, stream, with_stream, with_head_queue, with_driver_queue, map_stream, map_state}
-use Rattle.strm_types.specs.Queue.{is_none_left}
+use Rattle.strm_laws.specs.State.{State, stream, with_head_queue, with_driver_queue, map_stream, map_state}
 use Rattle.strm_laws.proofs.Earlier.{before_driver-forgets, before_head-forgets}
 use Rattle.strm_laws.proofs.Forgetting.{kind-forgets, named_band-forgets, cells-forget, size-forgets, none-forgets, relieved-forgets, relieves_from-forgets}
 use Rattle.strm_types.proofs.BySide.{map-set}

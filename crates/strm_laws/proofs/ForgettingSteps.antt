@@ -3,7 +3,7 @@ use Rattle.std.proofs.Common.{ℕ, ◌≡◌, Bool, List, [], ◌∷◌, length,
 use Rattle.std.specs.Prelude.{min, not, Option, None, Some, option_map}
 use Rattle.std.proofs.lemmas.List.{length-map}
 use Rattle.strm_types.specs.declared.limits.TheConstants.{READ_MAX}
-use Rattle.strm_types.specs.declared.answers.Answer.TheVariants.{Done, Count, Bytes, Msg, Sizes}
+use Rattle.strm_types.specs.declared.answers.Answer.TheVariants.{Done, Count, Msg, Sizes}
 use Rattle.strm_types.specs.declared.answers.Turn.{Turn}
 use Rattle.strm_types.specs.declared.entries.Entry.TheVariants.{Called, Turned}
 use Rattle.strm_types.specs.declared.events.Caller.{Caller}
@@ -21,17 +21,16 @@ use Rattle.strm_types.specs.declared.names.Place.{Place}
 use Rattle.strm_types.specs.declared.names.Place.TheVariants as places
 use Rattle.strm_types.specs.declared.names.QueueName.{QueueName}
 use Rattle.strm_types.specs.Cells.{Cells, AreCells, plain, cells_written, bytes_of}
-use Rattle.strm_laws.specs.Earlier.{before_head}
-use Rattle.strm_types.specs.Names.{driver_of, direction_from, without, enable_if, enable_some}
+use Rattle.strm_types.specs.Names.{driver_of, direction_from, without, enable_if}
 use Rattle.strm_types.specs.Gets.{Got, prio_got, first_data, head_get, map_got}
-use Rattle.strm_types.specs.GetQueues.{get_queue, get_lets_go}
+use Rattle.strm_types.specs.GetQueues.{get_queue}
 use Rattle.strm_types.specs.Message.{Message, part, map_message}
-use Rattle.strm_types.specs.Queue.{Queue, map_messages, map_queue}
-use Rattle.strm_types.specs.Heads.{Head, new_head, map_head}
+use Rattle.strm_types.specs.Queue.{map_messages}
+use Rattle.strm_types.specs.Heads.{Head, new_head}
 use Rattle.strm_laws.specs.State.{State, stream, with_stream, with_head_queue, book, with_book, map_state, map_stream}
 use Rattle.strm_types.specs.Books.{with_written}
-use Rattle.strm_laws.specs.Writes.{Wrote, cells_sent, map_wrote}
-use Rattle.strm_types.specs.Reads.{Drawn, head_draw, read_queue, read_lets_go}
+use Rattle.strm_laws.specs.Writes.{Wrote, cells_sent}
+use Rattle.strm_types.specs.Reads.{Drawn, head_draw, read_queue}
 use Rattle.strm_laws.specs.TurnOutcomes.{TurnOutcome, map_turn_outcome}
 use Rattle.strm_laws.specs.Turns.{turned_at, turned}
 use Rattle.strm_laws.specs.Calls.{Outcome, map_outcome, done, read_at, wrote, get_at, mode_set, name_told, sizes_at, ioctl_sent, ioctl_told, called}

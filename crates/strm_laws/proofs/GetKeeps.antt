@@ -7,7 +7,7 @@ use Rattle.strm_types.specs.declared.modes.Wanted.{Wanted}
 use Rattle.strm_types.specs.declared.modes.Wanted.TheVariants.{Any, High, Band}
 use Rattle.strm_types.specs.declared.refusals.Refusal.{Refusal}
 use Rattle.strm_types.specs.declared.refusals.Refusal.TheVariants.{Eagain}
-use Rattle.strm_types.specs.Message.{Message, part, cells_of, weight_of, is_high_priority, map_message}
+use Rattle.strm_types.specs.Message.{Message, part, cells_of, weight_of, map_message}
 use Rattle.strm_types.specs.Queue.{weight, put_back, map_messages}
 use Rattle.strm_types.specs.Reads.{rest_with}
 use Rattle.strm_types.specs.Gets.{Got, is_wanted, got_none, left_behind, parts_of, head_get, get_refusal, map_got}

@@ -10,7 +10,7 @@ use Rattle.strm_types.specs.GetQueues.{gets_none, cells_got, none_got, queue_got
 use Rattle.strm_types.specs.Gets.{Got, head_get, map_got}
 use Rattle.strm_types.specs.Message.{Message, part}
 use Rattle.strm_laws.specs.Places.{weight_gone, weight_made}
-use Rattle.strm_types.specs.Queue.{Queue, weight, left_with, relieved, relieves, map_messages, map_queue}
+use Rattle.strm_types.specs.Queue.{Queue, weight, left_with, relieved, map_messages, map_queue}
 use Rattle.strm_types.specs.Reads.{no_cells}
 use Rattle.strm_types.proofs.Drawing.{count-joined}
 use Rattle.strm_laws.proofs.Forgetting.{relieved-forgets, relieves_from-forgets}

@@ -1,6 +1,6 @@
 -- An ioctl on a side's stream loses no cell, leaves a side that isn't open nothing to be read, and forgetting the origins of
 -- cells commutes with it; and so with the calls that are told an answer, or the signals.
-use Rattle.std.proofs.Common.{ℕ, ◌≡◌, ◌+◌, Bool, List, refl, sym, ap, ◌∙◌, arith}
+use Rattle.std.proofs.Common.{ℕ, ◌≡◌, ◌+◌, Bool, List, refl, arith}
 use Rattle.strm_types.specs.declared.ioctls.Ioc.{Ioc}
 use Rattle.strm_types.specs.declared.names.Side.{Side}
 use Rattle.strm_types.specs.declared.names.Side.TheVariants.{Master, Slave}

@@ -9,12 +9,12 @@ use Rattle.strm_types.specs.Cells.{Cells, AreCells, plain}
 use Rattle.strm_types.specs.Deliver.{Acted, Fate, Goes, Comes}
 use Rattle.strm_types.specs.Input.{back_on, begins_next, cells_left, finished, input_begins, is_data, left_of, made_of, next_stage, passes, stage_at, stages, stages_done, then_on, to_treat, treats, with_left}
 use Rattle.strm_laws.specs.LdtermOrigins.{map_ldterm, map_serving, map_stage}
-use Rattle.strm_types.specs.Ldterms.{Ldterm, Stage, Between, Begun, Answered, sends}
+use Rattle.strm_types.specs.Ldterms.{Ldterm, Stage, Between, Begun, Answered}
 use Rattle.strm_types.specs.Message.{Message, cells_of, map_message}
 use Rattle.strm_types.specs.Origins.{map_fate, map_parcel}
 use Rattle.strm_types.specs.Queue.{Queue, is_none_left, left_with, map_messages, map_queue, put_back}
 use Rattle.strm_types.specs.Service.{Serving}
-use Rattle.strm_types.specs.Typing.{begins, gathered_up}
+use Rattle.strm_types.specs.Typing.{begins}
 use Rattle.strm_laws.proofs.Forgetting.{cells-forget, kind-forgets, none-forgets, put_back-forgets, size-forgets}
 use Rattle.strm_laws.proofs.LdtermPutForgets.{image}
 use Rattle.strm_laws.proofs.LdtermTypingForgets.{begins-forget, echoed-forgets, gathered-forget, struck-forgets}

@@ -22,9 +22,8 @@ use Rattle.strm_laws.specs.LdtermOrigins.{map_ldterm}
 use Rattle.strm_types.specs.Ldterms.{Ldterm, Begun, Answered, onward, sends}
 use Rattle.strm_types.specs.Lines.{has_room, without_end, without_last, without_word}
 use Rattle.strm_types.specs.Message.{Message, cells_of, data_message, map_message}
-use Rattle.strm_types.specs.Names.{direction_at}
 use Rattle.strm_types.specs.Origins.{map_fate, map_parcel}
-use Rattle.strm_types.specs.Queue.{Queue, is_full, is_none_left, map_messages, map_queue, put_enables, put_on}
+use Rattle.strm_types.specs.Queue.{is_full, is_none_left, map_messages, map_queue}
 use Rattle.strm_types.specs.Service.{line_gone}
 use Rattle.strm_types.specs.Termios.{icanon, imaxbel, noflsh}
 use Rattle.strm_types.specs.Typing.{added, bare, begins, both_ways, dropped, echo_dir, echo_grows, echo_lost, echo_stands, echoed, gathered_up, goes_up, grown, is_blank_cell, is_lnext, line_sent, lost, sigint, signals, sigquit, sigtstp, stops, strikes, stroke_at, struck, up_alone}

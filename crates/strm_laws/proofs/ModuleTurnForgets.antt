@@ -7,8 +7,6 @@ use Rattle.strm_types.specs.declared.answers.Turn.TheVariants.{Moved, Blocked, I
 use Rattle.strm_types.specs.declared.limits.TheConstants.{MODULES, HOPS}
 use Rattle.strm_types.specs.declared.names.Place.{Place}
 use Rattle.strm_types.specs.declared.names.QueueName.{QueueName}
-use Rattle.strm_types.specs.declared.names.Side.{Side}
-use Rattle.strm_types.specs.declared.names.Side.TheVariants.{Master, Slave}
 use Rattle.strm_types.specs.declared.names.Way.{Way}
 use Rattle.strm_types.specs.declared.names.Way.TheVariants.{Up, Down}
 use Rattle.strm_types.specs.declared.spots.Asks.{Asks}

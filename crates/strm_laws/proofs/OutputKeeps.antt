@@ -16,7 +16,6 @@ use Rattle.strm_types.specs.Output.{given_for, made_for, map_output, post, posts
 use Rattle.strm_laws.specs.Places.{weight_gone, weight_made}
 use Rattle.strm_laws.proofs.DeliveryKeeps.{gone-append, made-append}
 use Rattle.strm_types.proofs.MadeCells.{made-forget}
-use Rattle.strm_types.proofs.Outputs.{in_front}
 use Rattle.strm_types.proofs.Weights.{count-join}
 
 -- cells are kept

@@ -1,6 +1,6 @@
 -- Room past a place is the same where the origins of cells are forgotten, and a writer that waits there changes nothing that stands.
 use Rattle.std.proofs.Common.{ℕ, zero, suc, ◌≡◌, ◌-◌, Bool, false, List, [], ◌∷◌, map, refl, ap, ◌∙◌, arith}
-use Rattle.std.specs.Prelude.{not, slice_index_or, Option, None, Some, unwrap_or}
+use Rattle.std.specs.Prelude.{not, slice_index_or, Option, None, Some}
 use Rattle.strm_types.specs.declared.names.Side.{Side}
 use Rattle.strm_types.specs.declared.names.Side.TheVariants.{Master, Slave}
 use Rattle.strm_types.specs.declared.names.Way.{Way}

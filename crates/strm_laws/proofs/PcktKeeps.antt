@@ -20,7 +20,7 @@ use Rattle.strm_laws.specs.Places.{direction_to, weight_gone, weight_made, weigh
 use Rattle.strm_laws.proofs.Forgetting.{cells-forget}
 use Rattle.strm_laws.proofs.LdtermKeeps.{onward-weighs}
 use Rattle.strm_types.proofs.MadeCells.{made-forget}
-use Rattle.strm_types.proofs.PcktPuts.{proto_made, passed_made, gone_up, packs_made, puts-each}
+use Rattle.strm_types.proofs.PcktPuts.{passed_made, packs_made, puts-each}
 use Rattle.strm_laws.proofs.PutForgets.{parts-forget}
 use Rattle.strm_laws.proofs.PutWeights.{no-parts, weight-flush}
 use Rattle.strm_types.proofs.Weights.{count-join, weight-whole}

@@ -1,6 +1,6 @@
 -- Forgetting the origins of cells commutes with pushes and pops.
 use Rattle.std.proofs.Common.{ℕ, ◌≡◌, Bool, true, false, cond, List, [], ◌∷◌, ◌++◌, map, refl, sym, ap, ◌∙◌}
-use Rattle.std.specs.Prelude.{◌&&◌, ◌||◌, not, flat_map, Option, None, Some, option_map}
+use Rattle.std.specs.Prelude.{◌||◌, not, flat_map, Option, None, Some, option_map}
 use Rattle.std.proofs.lemmas.List.{map-append}
 use Rattle.strm_types.specs.declared.modes.ReadMode.{ReadMode}
 use Rattle.strm_types.specs.declared.names.ModuleName.{ModuleName}
@@ -18,14 +18,12 @@ use Rattle.strm_types.specs.declared.rules.Rule.TheVariants.{ModulePopped}
 use Rattle.strm_types.specs.declared.slots.Slot.TheVariants.{Free, Waiting, Answered}
 use Rattle.strm_types.specs.declared.spots.Note.TheVariants.{Room}
 use Rattle.strm_types.specs.Deliver.{Acted, Carried, Fate, Goes, Took}
-use Rattle.strm_types.specs.Commands.{is_asked, is_ioctl}
-use Rattle.strm_types.specs.Dropped.{has_ioctl, has_number, is_ioctl_of, slot_dropped}
+use Rattle.strm_types.specs.Dropped.{has_ioctl, is_ioctl_of, slot_dropped}
 use Rattle.strm_laws.specs.Earlier.{before_at}
 use Rattle.strm_types.specs.Emptied.{of_all, cells_gone, queue_behind, writer_goes}
 use Rattle.strm_laws.specs.LdtermOrigins.{map_ldterm}
 use Rattle.strm_types.specs.Ldterms as ldterms
-use Rattle.strm_types.specs.Ioctls.{read_ioc}
-use Rattle.strm_types.specs.Message.{Message, has_parts, map_message}
+use Rattle.strm_types.specs.Message.{Message, map_message}
 use Rattle.strm_types.specs.ModuleQueues.{has_queue, messages_at}
 use Rattle.strm_types.specs.Modules.{top_name, without_module}
 use Rattle.strm_types.specs.Names.{direction_at, enable_if, place_of}

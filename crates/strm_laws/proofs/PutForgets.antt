@@ -12,13 +12,13 @@ use Rattle.strm_types.specs.declared.names.Side.{Side}
 use Rattle.strm_types.specs.declared.names.Way.{Way}
 use Rattle.strm_types.specs.declared.names.Way.TheVariants.{Up, Down}
 use Rattle.strm_types.specs.declared.options.Marks.{Marks}
-use Rattle.strm_types.specs.declared.rules.Rule.TheVariants.{Doubled, EndClosed, Flushed}
+use Rattle.strm_types.specs.declared.rules.Rule.TheVariants.{Doubled, EndClosed}
 use Rattle.strm_types.specs.declared.spots.Across.{Across}
-use Rattle.strm_types.specs.declared.spots.Note.TheVariants.{Enable, Room}
+use Rattle.strm_types.specs.declared.spots.Note.TheVariants.{Enable}
 use Rattle.strm_types.specs.declared.spots.Spot.{Spot}
 use Rattle.strm_types.specs.Deliver.{Acted, Parcel, toward, Goes}
 use Rattle.strm_types.specs.Drivers.{answered, bottom_across, crosses, driver_across, driver_put, freed, ioctl_put, own_flushed, put_across, put_down, reader_flush, taken_in}
-use Rattle.strm_types.specs.Emptied.{of_data, cells_gone, queue_behind, writer_goes}
+use Rattle.strm_types.specs.Emptied.{of_data}
 use Rattle.strm_types.specs.Flushing.{asked_by, flush_bytes, flush_message, read_flush}
 use Rattle.strm_types.specs.Heads.{head_flushed, head_put, is_doubled, is_pcproto, nak_down, obeyed, passed_by, turned_round, waits_for_readers, with_marks_given, Head, map_head}
 use Rattle.strm_types.specs.Ioctls.{nak_message, read_ioc}

@@ -2,13 +2,10 @@
 -- cells commutes with it.
 use Rattle.std.proofs.Common.{ℕ, ◌≡◌, ◌+◌, Bool, true, false, cond, List, [], length, map, refl, sym, ap, ◌∙◌, arith}
 use Rattle.std.specs.Prelude.{Option, None, Some, option_map, count_by}
-use Rattle.strm_types.specs.declared.books.Book.{Book}
 use Rattle.strm_types.specs.declared.modes.Prio.{Prio}
 use Rattle.strm_types.specs.declared.modes.Prio.TheVariants.{High, Band}
 use Rattle.strm_types.specs.declared.names.Dir.{Dir}
-use Rattle.strm_types.specs.declared.names.Dir.TheVariants.{MasterToSlave, SlaveToMaster}
 use Rattle.strm_types.specs.declared.names.Side.{Side}
-use Rattle.strm_types.specs.declared.names.Side.TheVariants.{Master, Slave}
 use Rattle.strm_types.specs.declared.names.Way.TheVariants.{Down}
 use Rattle.strm_types.specs.declared.spots.Spot.{Spot}
 use Rattle.strm_types.specs.Books.{with_written}

@@ -1,8 +1,6 @@
 -- Forgetting the origins of cells commutes with puts in a pair, with deliveries there, and with flushes of a stream.
 use Rattle.std.proofs.Common.{ℕ, suc, ◌≡◌, ◌-◌, Bool, true, false, cond, List, [], ◌∷◌, length, map, refl, sym, ap, ◌∙◌}
 use Rattle.std.proofs.lemmas.List.{length-map}
-use Rattle.strm_types.specs.declared.names.Dir.{Dir}
-use Rattle.strm_types.specs.declared.names.Dir.TheVariants.{MasterToSlave, SlaveToMaster}
 use Rattle.std.specs.Prelude.{◌==◌, ◌&&◌, not, nat_le, slice_index_or, Option, None, Some}
 use Rattle.strm_types.specs.declared.events.FlushQueues.{FlushQueues}
 use Rattle.strm_types.specs.declared.kinds.Band.{Band}
@@ -14,7 +12,6 @@ use Rattle.strm_types.specs.declared.names.Side.{Side}
 use Rattle.strm_types.specs.declared.names.Side.TheVariants.{Master, Slave}
 use Rattle.strm_types.specs.declared.names.Way.{Way}
 use Rattle.strm_types.specs.declared.names.Way.TheVariants.{Up, Down}
-use Rattle.strm_types.specs.declared.rules.Rule.TheVariants.{EndClosed}
 use Rattle.strm_types.specs.declared.spots.Note.{Note}
 use Rattle.strm_types.specs.declared.spots.Spot.{Spot}
 use Rattle.strm_types.specs.Books.{with_made}
@@ -23,10 +20,10 @@ use Rattle.strm_types.specs.Deliver.{Acted, Comes, Fate, Goes, Took}
 use Rattle.strm_types.specs.Drivers.{driver_put}
 use Rattle.strm_laws.specs.Earlier.{driver_place, modules_on, places_of}
 use Rattle.strm_types.specs.Flushing.{is_flush, asked_of, flush_bytes, flush_message, is_bare_flush}
-use Rattle.strm_types.specs.Heads.{head_put, Head, map_head}
-use Rattle.strm_types.specs.Message.{Message, cells_of, has_parts, map_message}
+use Rattle.strm_types.specs.Heads.{head_put}
+use Rattle.strm_types.specs.Message.{Message, has_parts, map_message}
 use Rattle.strm_types.specs.Modules.{put_among}
-use Rattle.strm_types.specs.Names.{direction_at, is_closed, is_open, other}
+use Rattle.strm_types.specs.Names.{is_closed, is_open, other}
 use Rattle.strm_types.specs.Origins.{PutsAgree, map_acted, map_carried, map_fate, map_took}
 use Rattle.strm_laws.specs.Puts.{booked, delivered, earlier_at, flushed_on, made_above, module_acted, noted, passed_up, put_at_driver, put_at_head, put_at_module, put_behind, put_below, put_in}
 use Rattle.strm_types.specs.Queue.{Queue, map_queue}

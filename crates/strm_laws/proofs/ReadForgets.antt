@@ -6,9 +6,8 @@ use Rattle.strm_types.specs.declared.modes.ReadMode.{ReadMode}
 use Rattle.strm_types.specs.declared.modes.ReadMode.TheVariants.{ByteStream, MessageKeep, MessageDiscard}
 use Rattle.strm_types.specs.declared.modes.ControlMode.{ControlMode}
 use Rattle.strm_types.specs.declared.modes.ControlMode.TheVariants.{Refuse, Data, Discard}
-use Rattle.strm_types.specs.declared.refusals.Refusal.TheVariants.{Eagain, Ebadmsg}
 use Rattle.strm_types.specs.Message.{Message, part, cells_of, band_of, map_message}
-use Rattle.strm_types.specs.Queue.{Queue, put_back, left_with, relieved, relieves, map_messages, map_queue}
+use Rattle.strm_types.specs.Queue.{Queue, put_back, left_with, relieved, map_messages, map_queue}
 use Rattle.strm_types.specs.Reads.{Drawn, is_there, part_left, no_cells, stopped, emptied_of, front_of, and_more, drawn, head_draw, shown, offered, control_gone, all_cells, rest_with, rest_after, is_refused, is_passed, wanted_after, finds_none, starts_refused, read_refusal, takes_none, none_went, queue_drawn, read_queue, writer_goes, read_lets_go, map_drawn}
 use Rattle.strm_laws.proofs.Forgetting.{cells-forget, put_back-forgets, relieved-forgets, relieves_from-forgets}
 use Rattle.strm_types.proofs.Drawing.{ended, ended-agrees}

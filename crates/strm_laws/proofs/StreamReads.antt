@@ -3,7 +3,6 @@ use Rattle.std.proofs.Common.{ℕ, zero, suc, ◌≡◌, ◌-◌, Bool, true, fa
 use Rattle.std.specs.Prelude.{◌==◌, ◌||◌, nat_lt, Option, None}
 use Rattle.std.specs.List.{AllByRecursion}
 use Rattle.std.proofs.lemmas.Bool.Decides.{nat_tests}
-use Rattle.strm_types.specs.declared.kinds.MsgKind.{MsgKind}
 use Rattle.strm_types.specs.declared.kinds.MsgKind.TheVariants as kinds
 use Rattle.strm_types.specs.declared.modes.ReadMode.TheVariants.{ByteStream}
 use Rattle.strm_types.specs.declared.modes.ControlMode.TheVariants.{Refuse}

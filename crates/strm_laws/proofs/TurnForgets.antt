@@ -16,14 +16,14 @@ use Rattle.strm_types.specs.Names.{driver_of, enable_if, enable_some, is_open, o
 use Rattle.strm_types.specs.Origins.{map_carried}
 use Rattle.strm_laws.specs.Puts.{delivered}
 use Rattle.strm_types.specs.Queue.{Queue, is_none_left, left_with, relieved, relieves, map_messages, map_queue}
-use Rattle.strm_laws.specs.State.{State, stream, map_state, map_stream, with_driver_queue}
+use Rattle.strm_laws.specs.State.{State, stream, map_state}
 use Rattle.strm_laws.specs.TurnOutcomes.{TurnOutcome, map_turn_outcome, stayed_put}
 use Rattle.strm_laws.specs.Turns.{blocked_across, driver_serves, driver_turned, held_back, is_stopped_across, moved_across, turn_ended, turned_queue, up_across, with_driver}
 use Rattle.strm_laws.proofs.Earlier.{before_driver-forgets, modules_on-forgets}
 use Rattle.strm_laws.proofs.EmptiedForgets.{stream-forgets}
 use Rattle.strm_laws.proofs.Forgetting.{band-forgets, kind-forgets, none-forgets, relieved-forgets, relieves_from-forgets, size-forgets}
 use Rattle.strm_laws.proofs.PutsForget.{delivered-forgets}
-use Rattle.strm_laws.specs.Past.{has_room_past, writer_waits}
+use Rattle.strm_laws.specs.Past.{has_room_past}
 use Rattle.strm_laws.proofs.Past.{room-forgets, writer_waits-forgets}
 
 -- the end of a turn: the queue behind it, whether more stands there, and whether a writer is let go
