@@ -31,7 +31,7 @@ pub struct ModuleSizes {
 #[derive(Clone, Copy)]
 pub enum Line {
     /// A call was answered.
-    Done(Answer<usize>),
+    Done(Answer<u32>),
     /// A turn was taken.
     Turned(Turn),
     /// So many turns were taken.
@@ -232,21 +232,21 @@ impl fmt::Display for QueueSize {
 }
 
 /// So many bytes in front, or all where there are fewer.
-fn front(bytes: &[u8], len: usize) -> &[u8]
+fn front(bytes: &[u8], len: u32) -> &[u8]
     ensures { result.now ≡ take len bytes.now }
 {
-    &bytes[..len.min(bytes.len())]
+    &bytes[..(len as usize).min(bytes.len())]
 }
 
 /// What follows so many bytes.
-fn behind(bytes: &[u8], len: usize) -> &[u8]
+fn behind(bytes: &[u8], len: u32) -> &[u8]
     ensures { result.now ≡ drop len bytes.now }
 {
-    &bytes[len.min(bytes.len())..]
+    &bytes[(len as usize).min(bytes.len())..]
 }
 
 /// A part over its bytes, which stand in front.
-fn part(stored: Option<usize>, bytes: &[u8]) -> Option<&[u8]>
+fn part(stored: Option<u32>, bytes: &[u8]) -> Option<&[u8]>
     ensures { option_map (λ bytes. bytes.now) result ≡ part_in stored bytes.now }
 {
     match stored {
@@ -351,8 +351,8 @@ impl fmt::Display for ShownSignals<'_> {
 
 /// The parts of a message, as they are printed, over its bytes: those of its control part come first.
 fn shown_parts<'a>(
-    control: Option<usize>,
-    body: Option<usize>,
+    control: Option<u32>,
+    body: Option<u32>,
     bytes: &'a [u8],
 ) -> (ShownPart<'a>, ShownPart<'a>)
     ensures control { option_map (λ part. part.now) result.0.0 ≡ part_in control bytes.now }
@@ -380,7 +380,7 @@ impl fmt::Display for ShownData<'_> {
 /// What a call was answered, with the bytes that it gave, as it is printed.
 #[derive(Drop)]
 struct ShownAnswer<'a> {
-    answer: &'a Answer<usize>,
+    answer: &'a Answer<u32>,
     bytes: &'a [u8],
 }
 

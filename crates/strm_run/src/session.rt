@@ -290,7 +290,7 @@ fn has_stopped(place: Place, size: usize, turn: Turn) -> bool
         Place::Head => false,
         Place::Driver => false,
         Place::Ldterm => match turn {
-            Turn::Moved(bytes) => bytes < size,
+            Turn::Moved(bytes) => (bytes as usize) < size,
             Turn::Blocked => false,
             Turn::Idle => false,
         },

@@ -30,7 +30,7 @@ const SIZES: Config = Config {
 
 static BYTES: [u8; 300] = [b'z'; 300];
 
-type Came = Result<Answer<usize>, Refusal>;
+type Came = Result<Answer<u32>, Refusal>;
 
 // Calls, each with what it answers. All turns that can be made are made behind each of them.
 const CALLS: [(Caller, Event<&'static [u8]>, Came); 24] = [
