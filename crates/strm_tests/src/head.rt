@@ -178,7 +178,7 @@ fn comes<B: Blocks>(
 
 // What is seen of a head behind a put: what the put handed back, how many bytes were flushed and how many went as those of a
 // second M_PCPROTO, how many messages wait, and whether the other end is gone.
-type Seen = (Came, u64, u64, usize, bool);
+type Seen = (Came, u64, u64, u32, bool);
 
 // Lets a message come up to a head at which another one stands, and looks at what is seen then.
 fn answers(
@@ -250,7 +250,7 @@ fn control_messages_are_obeyed(rt: HostRuntime) -> Result<(), Fail> {
 
 #[test]
 fn one_pcproto_waits_at_most(rt: HostRuntime) -> Result<(), Fail> {
-    let rows: [(MsgKind, MsgKind, u64, usize); 4] = [
+    let rows: [(MsgKind, MsgKind, u64, u32); 4] = [
         (MsgKind::Pcproto, MsgKind::Pcproto, 3, 1),
         (MsgKind::Pcproto, MsgKind::Data, 0, 2),
         (MsgKind::Proto, MsgKind::Pcproto, 0, 2),
@@ -289,7 +289,7 @@ fn comes_with<B: Blocks>(
 
 // What is seen of a read: what is given, how many bytes are discarded and how many dropped, how many bytes the first data part
 // that is left has and how many messages are left, and whether the first is of high priority.
-type Taken<'a> = (&'a [u8], u64, u64, (usize, usize), bool);
+type Taken<'a> = (&'a [u8], u64, u64, (u32, u32), bool);
 
 // Reads where an M_PCPROTO of "ab" and "cd" stands, an M_PROTO of "x" without a data part, and an M_DATA of "ef".
 fn reads_parts(

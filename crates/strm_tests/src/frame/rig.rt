@@ -195,7 +195,7 @@ impl Rig {
         }
         let bytes = self.serve(store, at);
         self.end_turn(store, at, true);
-        Turn::Moved(bytes)
+        Turn::Moved(u32::try_from(bytes).unwrap_or(u32::MAX))
     }
 }
 

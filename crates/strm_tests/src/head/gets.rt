@@ -82,7 +82,7 @@ fn plays(
 }
 
 // What a get hands back of a message, by how many bytes of each part it gives.
-fn got(control: Option<usize>, body: Option<usize>, prio: Prio) -> Gotten {
+fn got(control: Option<u32>, body: Option<u32>, prio: Prio) -> Gotten {
     Gotten {
         control,
         body,

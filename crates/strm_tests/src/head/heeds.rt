@@ -30,7 +30,7 @@ enum Step<'a> {
     // An ioctl of this number and command begins.
     Begins(u32, u32),
     // The caller is told this of the ioctl under way, with these bytes.
-    Told(Answer<usize>, &'a [u8]),
+    Told(Answer<u32>, &'a [u8]),
     // A call for the answer of the ioctl of this number is refused for this.
     Refuses(u32, Option<Refusal>),
 }
@@ -65,7 +65,7 @@ fn has_signals(head: &mut Head, numbers: &[u8]) -> bool
 }
 
 // Asks what became of the ioctl under way, and says whether this is told, with these bytes.
-fn tells(head: &mut Head, answer: Answer<usize>, bytes: &[u8]) -> bool
+fn tells(head: &mut Head, answer: Answer<u32>, bytes: &[u8]) -> bool
     ensures { head.new.queue ≡ head.old.queue }
 {
     let mut out = Content::new();
@@ -217,7 +217,7 @@ const EXES: &[u8] = &[b'x'; IOCTL_MAX];
 const CUT: [Step<'static>; 4] = [
     Step::Begins(7, 99),
     Step::Acks(b"\0\0\0\x01\0\0\0\x07\0\0\0\0\0\0\0\0x", EXES),
-    Step::Told(Answer::Bytes(IOCTL_MAX), EXES),
+    Step::Told(Answer::Bytes(IOCTL_MAX as u32), EXES),
     Step::Told(Answer::Done, b""),
 ];
 
