@@ -11,7 +11,7 @@ use Rattle.strm_run.specs.declared.engine.Stop.TheVariants.{Malformed, NoMemory}
 use Rattle.strm_run.proofs.Ways.{Goes-none, Goes-join, Ends-join, Ends-more, Breaks-none, Breaks-unsaid, Breaks-join, Breaks-more, goes_byte, goes_spoken, ends_malformed, ends_long, Says-none, Says-behind, Says-ended, Says-last, Shows-broken, Shows-last}
 
 -- nothing was done for want of memory
-pub fails_none : (old new : Engine) (input : List ℕ) → new.short ≡ old.short → new.answers.items ≡ old.answers.items → Fails old new input
+pub fails_none : {B : Type 0} (old new : Engine B) (input : List ℕ) → new.short ≡ old.short → new.answers.items ≡ old.answers.items → Fails old new input
 fails_none old new input short answers = record {
   text = [];
   breaks = Breaks-none (point_of old) input new.short (sym short);
@@ -19,7 +19,7 @@ fails_none old new input short answers = record {
 }
 
 -- a malformed line is refused
-pub refused_line : (old new : Engine) (stop : Stop) → Refused old new stop → reading old.line.items ≡ MalformedLine → AnswersLine old new (Err stop)
+pub refused_line : {B : Type 0} (old new : Engine B) (stop : Stop) → Refused old new stop → reading old.line.items ≡ MalformedLine → AnswersLine old new (Err stop)
 refused_line old new Malformed h line = record {
   text = printed_line (Wrong (suc old.lines));
   number = suc old.lines;
@@ -29,7 +29,7 @@ refused_line old new Malformed h line = record {
 refused_line old new NoMemory h line = fails_none old new (10 ∷ []) h.0 h.1
 
 -- so is one that goes beyond the limit
-pub refused_long : (old new : Engine) (stop : Stop) (b : ℕ) → Refused old new stop → 4096 ≤ length old.line.items → (b ≡ 10 → ⊥) → Steps old new (b ∷ []) (Err stop)
+pub refused_long : {B : Type 0} (old new : Engine B) (stop : Stop) (b : ℕ) → Refused old new stop → 4096 ≤ length old.line.items → (b ≡ 10 → ⊥) → Steps old new (b ∷ []) (Err stop)
 refused_long old new Malformed b h long ne = record {
   text = printed_line (Wrong (suc old.lines));
   number = suc old.lines;
@@ -39,7 +39,7 @@ refused_long old new Malformed b h long ne = record {
 refused_long old new NoMemory b h long ne = fails_none old new (b ∷ []) h.0 h.1
 
 -- a command is obeyed
-pub obeyed_line : (command : Command) (old new : Engine) (r : Result (Unit {0}) Stop) → Obeyed command old new r → new.lines ≡ old.lines
+pub obeyed_line : {B : Type 0} (command : Command) (old new : Engine B) (r : Result (Unit {0}) Stop) → Obeyed command old new r → new.lines ≡ old.lines
     → reading old.line.items ≡ Spoken command → AnswersLine old new r
 obeyed_line command old new (Ok _) h lines line = record {
   text = printed_line (line_of new.out.items h.0.line);
@@ -59,10 +59,10 @@ obeyed_line command old new (Err NoMemory) h lines line =
     ]
 
 -- what comes behind bytes that were taken
-pub Took-none : (e : Engine) → Took e e []
+pub Took-none : {B : Type 0} (e : Engine B) → Took e e []
 Took-none e = record { text = []; goes = Goes-none (point_of e); answers = sym (append-nil e.answers.items) }
 
-pub Took-join : (e m n : Engine) (i j : List ℕ) → Took e m i → Took m n j → Took e n (i ++ j)
+pub Took-join : {B : Type 0} (e m n : Engine B) (i j : List ℕ) → Took e m i → Took m n j → Took e n (i ++ j)
 Took-join e m n i j x y = record {
   text = x.text ++ y.text;
   goes = Goes-join (point_of e) (point_of m) (point_of n) i j x.text y.text x.goes y.goes;
@@ -70,7 +70,7 @@ Took-join e m n i j x y = record {
 }
 
 -- a stop among bytes, and more of them behind it
-pub stop_join : (e m n : Engine) (i j k : List ℕ) (stop : Stop) → Took e m i → Steps m n j (Err stop) → Steps e n ((i ++ j) ++ k) (Err stop)
+pub stop_join : {B : Type 0} (e m n : Engine B) (i j k : List ℕ) (stop : Stop) → Took e m i → Steps m n j (Err stop) → Steps e n ((i ++ j) ++ k) (Err stop)
 stop_join e m n i j k Malformed x y = record {
   text = x.text ++ y.text;
   number = y.number;
@@ -86,7 +86,7 @@ stop_join e m n i j k NoMemory x y = record {
 }
 
 -- a byte joins the line
-pub took_byte : (old new : Engine) (b : ℕ) → pair_of new ≡ pair_of old → new.lines ≡ old.lines → new.short ≡ old.short
+pub took_byte : {B : Type 0} (old new : Engine B) (b : ℕ) → pair_of new ≡ pair_of old → new.lines ≡ old.lines → new.short ≡ old.short
     → new.answers.items ≡ old.answers.items → new.line.items ≡ old.line.items ++ b ∷ [] → (b ≡ 10 → ⊥) → Took old new (b ∷ [])
 took_byte old new b pair lines short answers line ne = record {
   text = [];
@@ -95,10 +95,10 @@ took_byte old new b pair lines short answers line ne = record {
 }
 
 -- the end of the input behind a whole line, and behind a line without its LF
-pub finished_none : (e : Engine) → e.line.items ≡ [] → Finishes e e None
+pub finished_none : {B : Type 0} (e : Engine B) → e.line.items ≡ [] → Finishes e e None
 finished_none e h = record { text = []; says = Says-none (point_of e) h; answers = sym (append-nil e.answers.items) }
 
-pub finished_last : (old new : Engine) (r : Result (Unit {0}) Stop) → (old.line.items ≡ [] → ⊥) → Steps old new (10 ∷ []) r
+pub finished_last : {B : Type 0} (old new : Engine B) (r : Result (Unit {0}) Stop) → (old.line.items ≡ [] → ⊥) → Steps old new (10 ∷ []) r
     → OnOk r (new.line.items ≡ []) → EndsInput old new r
 finished_last old new (Ok _) ne x fresh = record {
   text = x.text;

@@ -133,7 +133,7 @@ run_by None r1 w0 w1 status short input h f = tt
 run_by (Some bytes) None w0 w1 status short input h f = absurd h
 run_by (Some bytes) (Some rest) w0 w1 status short input h f = subst (Outcome w0 w1 status short) (sym h) (f rest refl)
 
-pub serves_first : (r w : Option (List ℕ)) (e : Engine) → Ready e → Serves r r w w e
+pub serves_first : {B : Type 0} (r w : Option (List ℕ)) (e : Engine B) → Ready e → Serves r r w w e
 serves_first r w e x = record {
   input = [];
   written = [];
@@ -143,7 +143,7 @@ serves_first r w e x = record {
 }
 
 -- the answers are written
-pub serves_sent : (r0 r1 w0 w1 w2 : Option (List ℕ)) (e sent : Engine) → Serves r0 r1 w0 w1 e → Writes w1 w2 e.answers.items true
+pub serves_sent : {B : Type 0} (r0 r1 w0 w1 w2 : Option (List ℕ)) (e sent : Engine B) → Serves r0 r1 w0 w1 e → Writes w1 w2 e.answers.items true
     → point_of sent ≡ point_of e → sent.answers.items ≡ [] → Serves r0 r1 w0 w2 sent
 serves_sent r0 r1 w0 w1 w2 e sent x y point none = record {
   input = x.input;
@@ -158,7 +158,7 @@ serves_sent r0 r1 w0 w1 w2 e sent x y point none = record {
 }
 
 -- they aren't, or not all of them
-pub serves_cut : (r0 r1 w0 w1 w2 : Option (List ℕ)) (e : Engine) (well : Bool) (short : Option ℕ) → Serves r0 r1 w0 w1 e
+pub serves_cut : {B : Type 0} (r0 r1 w0 w1 w2 : Option (List ℕ)) (e : Engine B) (well : Bool) (short : Option ℕ) → Serves r0 r1 w0 w1 e
     → Writes w1 w2 e.answers.items well → short ≡ e.short → IsRun r0 w0 w2 ends.Broken short
 serves_cut r0 r1 w0 w1 w2 e well short x y same =
     run_by r0 r1 w0 w2 ends.Broken short x.input x.reads (λ rest left.
@@ -171,7 +171,7 @@ serves_cut r0 r1 w0 w1 w2 e well short x y same =
     ))
 
 -- the reader failed
-pub serves_failed : (r0 r1 r2 w0 w1 : Option (List ℕ)) (e : Engine) → Serves r0 r1 w0 w1 e → Keeps r1 r2 → IsRun r0 w0 w1 ends.Broken e.short
+pub serves_failed : {B : Type 0} (r0 r1 r2 w0 w1 : Option (List ℕ)) (e : Engine B) → Serves r0 r1 w0 w1 e → Keeps r1 r2 → IsRun r0 w0 w1 ends.Broken e.short
 serves_failed r0 r1 r2 w0 w1 e x k =
     run_by r0 r1 w0 w1 ends.Broken e.short x.input x.reads (λ rest left. (
       x.written,
@@ -181,7 +181,7 @@ serves_failed r0 r1 r2 w0 w1 e x k =
     ))
 
 -- more was read, and taken
-pub serves_took : (r0 r1 r2 w0 w1 : Option (List ℕ)) (e took : Engine) (bytes : List ℕ) → Serves r0 r1 w0 w1 e → Consumes r1 r2 bytes → Took e took bytes
+pub serves_took : {B : Type 0} (r0 r1 r2 w0 w1 : Option (List ℕ)) (e took : Engine B) (bytes : List ℕ) → Serves r0 r1 w0 w1 e → Consumes r1 r2 bytes → Took e took bytes
     → Serves r0 r2 w0 w1 took
 serves_took r0 r1 r2 w0 w1 e took bytes x read y = record {
   input = x.input ++ bytes;
@@ -195,7 +195,7 @@ serves_took r0 r1 r2 w0 w1 e took bytes x read y = record {
 }
 
 -- nothing was read, for once
-pub serves_again : (r0 r1 r2 w0 w1 : Option (List ℕ)) (e : Engine) → Serves r0 r1 w0 w1 e → Keeps r1 r2 → Serves r0 r2 w0 w1 e
+pub serves_again : {B : Type 0} (r0 r1 r2 w0 w1 : Option (List ℕ)) (e : Engine B) → Serves r0 r1 w0 w1 e → Keeps r1 r2 → Serves r0 r2 w0 w1 e
 serves_again r0 r1 r2 w0 w1 e x k = record {
   input = x.input;
   written = x.written;
@@ -258,7 +258,7 @@ said_text : (written old new text : List ℕ) → new ≡ old ++ text → (writt
 said_text written old new text e = append_assoc written old text ∙ ap (λ k. written ++ k) (sym e)
 
 -- a script that stops among bytes
-pub serves_stopped : (r0 r1 r2 w0 w1 w2 : Option (List ℕ)) (e done : Engine) (bytes : List ℕ) (stop : Stop) (status : ScriptStatus) (short : Option ℕ)
+pub serves_stopped : {B : Type 0} (r0 r1 r2 w0 w1 w2 : Option (List ℕ)) (e done : Engine B) (bytes : List ℕ) (stop : Stop) (status : ScriptStatus) (short : Option ℕ)
     → Serves r0 r1 w0 w1 e → Consumes r1 r2 bytes → Steps e done bytes (Err stop) → Ended w1 w2 done.answers.items status (status_of stop)
     → short ≡ done.short → IsRun r0 w0 w2 status short
 serves_stopped r0 r1 r2 w0 w1 w2 e done bytes Malformed status short x read y end same =
@@ -279,21 +279,21 @@ at_end : (r : Option (List ℕ)) (rest : List ℕ) → r ≡ Some rest → IsAtE
 at_end None rest e h = absurd cc
 at_end (Some bytes) rest e h = let same : bytes ≡ rest = cc in sym same ∙ h
 
-finish_says : (r0 r1 w0 w1 : Option (List ℕ)) (e done : Engine) (fault : Option ℕ) (x : Serves r0 r1 w0 w1 e) → Finishes e done fault
+finish_says : {B : Type 0} (r0 r1 w0 w1 : Option (List ℕ)) (e done : Engine B) (fault : Option ℕ) (x : Serves r0 r1 w0 w1 e) → Finishes e done fault
     → Says beginning (x.input ++ []) (x.written ++ done.answers.items) done.short fault
 finish_says r0 r1 w0 w1 e done fault x y =
     rw (sym (said_text x.written e.answers.items done.answers.items y.text y.answers))
     (Says-behind beginning (point_of e) x.input [] (x.written ++ e.answers.items) y.text done.short fault x.goes y.says)
 
 -- a script whose input has ended, and whose last answers are sent or not
-pub serves_finished : (r0 r1 w0 w1 w2 : Option (List ℕ)) (e done : Engine) (short : Option ℕ) → Serves r0 r1 w0 w1 e → IsAtEnd r1
+pub serves_finished : {B : Type 0} (r0 r1 w0 w1 w2 : Option (List ℕ)) (e done : Engine B) (short : Option ℕ) → Serves r0 r1 w0 w1 e → IsAtEnd r1
     → EndsInput e done (Ok tt) → Writes w1 w2 done.answers.items true → short ≡ done.short → IsRun r0 w0 w2 ends.Whole short
 serves_finished r0 r1 w0 w1 w2 e done short x none y sent same =
     run_by r0 r1 w0 w2 ends.Whole short x.input x.reads (λ rest left.
     rw (same, at_end r1 rest left none)
     (outcome_whole w0 w1 w2 done.short (x.input ++ []) x.written done.answers.items (finish_says r0 r1 w0 w1 e done None x y) x.writes sent))
 
-pub serves_unsent : (r0 r1 w0 w1 w2 : Option (List ℕ)) (e done : Engine) (well : Bool) (short : Option ℕ) → Serves r0 r1 w0 w1 e → IsAtEnd r1
+pub serves_unsent : {B : Type 0} (r0 r1 w0 w1 w2 : Option (List ℕ)) (e done : Engine B) (well : Bool) (short : Option ℕ) → Serves r0 r1 w0 w1 e → IsAtEnd r1
     → EndsInput e done (Ok tt) → Writes w1 w2 done.answers.items well → short ≡ done.short → IsRun r0 w0 w2 ends.Broken short
 serves_unsent r0 r1 w0 w1 w2 e done well short x none y sent same =
     run_by r0 r1 w0 w2 ends.Broken short x.input x.reads (λ rest left.
@@ -303,7 +303,7 @@ serves_unsent r0 r1 w0 w1 w2 e done well short x none y sent same =
     (rw (append-nil (x.written ++ done.answers.items)) (finish_says r0 r1 w0 w1 e done None x y)))
     x.writes sent.appends sent.bytes_are))
 
-pub serves_ended : (r0 r1 w0 w1 w2 : Option (List ℕ)) (e done : Engine) (stop : Stop) (status : ScriptStatus) (short : Option ℕ) → Serves r0 r1 w0 w1 e → IsAtEnd r1
+pub serves_ended : {B : Type 0} (r0 r1 w0 w1 w2 : Option (List ℕ)) (e done : Engine B) (stop : Stop) (status : ScriptStatus) (short : Option ℕ) → Serves r0 r1 w0 w1 e → IsAtEnd r1
     → EndsInput e done (Err stop) → Ended w1 w2 done.answers.items status (status_of stop) → short ≡ done.short → IsRun r0 w0 w2 status short
 serves_ended r0 r1 w0 w1 w2 e done Malformed status short x none y end same =
     run_by r0 r1 w0 w2 status short x.input x.reads (λ rest left.

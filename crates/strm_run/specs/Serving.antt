@@ -10,7 +10,7 @@ use Rattle.strm_run.specs.declared.script.ScriptStatus.{ScriptStatus}
 use Rattle.strm_run.specs.declared.script.ScriptStatus.TheVariants.{Malformed, Broken}
 
 -- what was read led to the engine's point, and what was written is the front of what its lines say
-pub record Serves (r0 r1 w0 w1 : Option (List ℕ)) (e : Engine) : Type 0 where
+pub record Serves {B : Type 0} (r0 r1 w0 w1 : Option (List ℕ)) (e : Engine B) : Type 0 where
   pub input : List ℕ
   pub written : List ℕ
   pub reads : Consumes r0 r1 input

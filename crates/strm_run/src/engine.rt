@@ -11,7 +11,7 @@ use crate::commands::{Command, Reading};
 use crate::lines::{LINE_MAX, reading};
 use crate::session::answer;
 use std::alloc::{AllocError, Global};
-use strm_blocks::TableStore;
+use strm_blocks::Reserve;
 use strm_pair::Pair;
 use strm_types::Content;
 
@@ -26,9 +26,9 @@ pub enum Stop {
 
 /// A script on its way: its pair, the line that is read, and the answers that aren't written yet.
 #[derive(Drop)]
-pub struct Engine {
+pub struct Engine<B: Reserve> {
     /// The pair, once there was an `open`.
-    pub pair: Option<Pair<TableStore>>,
+    pub pair: Option<Pair<B>>,
     /// How many lines have ended.
     pub lines: u64,
     /// The bytes so far of the next line, at most 4096.
@@ -52,11 +52,11 @@ fn say(alloc: Global, line: &Line, bytes: &[u8], answers: &mut Vec<u8>) -> Resul
     Ok(())
 }
 
-impl Engine {
+impl<B: Reserve> Engine<B> {
     ghost use Rattle.strm_run.specs.Steps.{Steps, Ready, Refused, Obeyed, AnswersLine, EndsInput};
 
     /// A script that begins.
-    pub fn new(alloc: Global) -> Engine
+    pub fn new(alloc: Global) -> Engine<B>
         ensures { Ready result }
     {
         Engine {

@@ -21,9 +21,13 @@ mod words;
 use crate::script::run_script;
 use std::io;
 use std::process::ExitCode;
+use strm_raw::RawStore;
+
+/// The store of the program's pair.
+type Store = RawStore;
 
 /// Runs the script on standard input, and ends with its status. Arguments are ignored.
 fn main(rt: HostRuntime) -> ExitCode {
-    let end = run_script(rt.alloc(), &mut rt.reader(), &mut io::writer(&rt));
+    let end = run_script::<Store, _, _>(rt.alloc(), &mut rt.reader(), &mut io::writer(&rt));
     ExitCode::from(end.status.number())
 }

@@ -10,6 +10,7 @@ use crate::engine::{Engine, Stop};
 use crate::output::send;
 use std::alloc::Global;
 use std::io::{ErrorKind, Read, Write};
+use strm_blocks::Reserve;
 
 /// How a run of a script ended.
 #[derive(Clone, Copy, Debug, PartialEq)]
@@ -48,7 +49,7 @@ pub struct ScriptEnd {
 const CHUNK: usize = 4096;
 
 /// Writes the answers that aren't written yet; whether that went well.
-fn send_answers<W: Write>(engine: &mut Engine, writer: &mut W) -> bool
+fn send_answers<B: Reserve, W: Write>(engine: &mut Engine<B>, writer: &mut W) -> bool
     ensures sent { Writes (W.contents writer.old) (W.contents writer.new) engine.old.answers.items result }
     ensures point { point_of engine.new ≡ point_of engine.old }
     ensures none_left { engine.new.answers.items ≡ [] }
@@ -59,7 +60,7 @@ fn send_answers<W: Write>(engine: &mut Engine, writer: &mut W) -> bool
 }
 
 /// The status of a script that stopped, once its answers are written.
-fn stopped<W: Write>(stop: Stop, engine: &mut Engine, writer: &mut W) -> ScriptStatus
+fn stopped<B: Reserve, W: Write>(stop: Stop, engine: &mut Engine<B>, writer: &mut W) -> ScriptStatus
     ensures ended { Ended (W.contents writer.old) (W.contents writer.new) engine.old.answers.items
         result (status_of stop) }
     ensures short { engine.new.short ≡ engine.old.short }
@@ -72,9 +73,9 @@ fn stopped<W: Write>(stop: Stop, engine: &mut Engine, writer: &mut W) -> ScriptS
 }
 
 /// Takes all input, and writes the answers to each piece of it before the next one is read; the status of the script.
-fn serve<R: Read, W: Write>(
+fn serve<B: Reserve, R: Read, W: Write>(
     alloc: Global,
-    engine: &mut Engine,
+    engine: &mut Engine<B>,
     reader: &mut R,
     writer: &mut W,
 ) -> ScriptStatus
@@ -113,7 +114,7 @@ fn serve<R: Read, W: Write>(
 }
 
 /// What a run came to, by its status and by where its engine stands.
-fn end_of(status: ScriptStatus, engine: &Engine) -> ScriptEnd
+fn end_of<B: Reserve>(status: ScriptStatus, engine: &Engine<B>) -> ScriptEnd
     ensures { result ≡ record { status = status; short = engine.now.short } }
 {
     ScriptEnd {
@@ -126,11 +127,15 @@ fn end_of(status: ScriptStatus, engine: &Engine) -> ScriptEnd
 /// text that the script's bytes say, for some account of which calls and turns the pool had enough blocks for and of how far turns of
 /// modules' queues went; before the line `short`, and where there is none in all of it, the pool had enough, and each turn went to the
 /// end of its message.
-pub fn run_script<R: Read, W: Write>(alloc: Global, reader: &mut R, writer: &mut W) -> ScriptEnd
+pub fn run_script<B: Reserve, R: Read, W: Write>(
+    alloc: Global,
+    reader: &mut R,
+    writer: &mut W,
+) -> ScriptEnd
     ensures { IsRun (R.remaining reader.old) (W.contents writer.old) (W.contents writer.new)
         result.status result.short }
 {
-    let mut engine = Engine::new(alloc);
+    let mut engine = Engine::<B>::new(alloc);
     let status = serve(alloc, &mut engine, reader, writer);
     end_of(status, &engine)
 }

@@ -21,7 +21,7 @@ use crate::answers::{Line, ModuleSizes, QueueSize};
 use crate::commands::{Command, NamedPrio, NamedWanted};
 use crate::ledgers::LedgerOf;
 use std::alloc::{AllocError, Global};
-use strm_blocks::TableStore;
+use strm_blocks::{Blocks, Reserve};
 use strm_pair::Pair;
 use strm_types::{
     Band, Caller, Config, Content, Dir, Event, FlushQueues, Place, Prio, QueueName, Refusal, Side,
@@ -73,8 +73,8 @@ fn is_short(refusal: Refusal) -> bool
 }
 
 /// A call by a command.
-fn call(
-    pair: &mut Pair<TableStore>,
+fn call<B: Blocks + Drop>(
+    pair: &mut Pair<B>,
     side: Side,
     event: &Event<&[u8]>,
     out: &mut Content,
@@ -95,8 +95,8 @@ fn call(
 }
 
 /// A flush by a command. A band above 255 is refused before any call.
-fn flush(
-    pair: &mut Pair<TableStore>,
+fn flush<B: Blocks + Drop>(
+    pair: &mut Pair<B>,
     side: Side,
     what: FlushQueues,
     band: Option<u32>,
@@ -167,8 +167,8 @@ fn lend(part: &Option<Vec<u8>>) -> Option<&[u8]>
 }
 
 /// A put by a command. A band above 255 is refused before any call.
-fn put(
-    pair: &mut Pair<TableStore>,
+fn put<B: Blocks + Drop>(
+    pair: &mut Pair<B>,
     side: Side,
     named: NamedPrio,
     control: Option<&[u8]>,
@@ -191,8 +191,8 @@ fn put(
 }
 
 /// A get by a command. A band above 255 is refused before any call.
-fn get(
-    pair: &mut Pair<TableStore>,
+fn get<B: Blocks + Drop>(
+    pair: &mut Pair<B>,
     side: Side,
     named: NamedWanted,
     cmax: u32,
@@ -209,7 +209,7 @@ fn get(
 }
 
 /// How much stands on a queue.
-fn size(pair: &Pair<TableStore>, name: QueueName) -> QueueSize
+fn size<B: Blocks + Drop>(pair: &Pair<B>, name: QueueName) -> QueueSize
     ensures { result ≡ size_at pair.now.state name }
 {
     let (messages, bytes) = pair.sizes(name);
@@ -221,7 +221,7 @@ fn size(pair: &Pair<TableStore>, name: QueueName) -> QueueSize
 }
 
 /// How much stands on the queues of the module on a side's stream that has queues.
-fn module_sizes(pair: &Pair<TableStore>, side: Side) -> Option<ModuleSizes>
+fn module_sizes<B: Blocks + Drop>(pair: &Pair<B>, side: Side) -> Option<ModuleSizes>
     ensures { result ≡ module_sizes side pair.now.state }
 {
     let place = Place::Ldterm;
@@ -247,7 +247,7 @@ fn module_sizes(pair: &Pair<TableStore>, side: Side) -> Option<ModuleSizes>
 }
 
 /// A look at what stands on a side's queues.
-fn show(pair: &Pair<TableStore>, side: Side) -> Answered
+fn show<B: Blocks + Drop>(pair: &Pair<B>, side: Side) -> Answered
     ensures { result ≡ record {
       line = Line.Sizes side (size_at pair.now.state (head_of side)) (module_sizes side pair.now.state)
           (size_at pair.now.state (driver_of side));
@@ -266,7 +266,7 @@ fn show(pair: &Pair<TableStore>, side: Side) -> Answered
 }
 
 /// A look at the ledger of a direction.
-fn ledger(pair: &Pair<TableStore>, direction: Dir) -> Answered
+fn ledger<B: Blocks + Drop>(pair: &Pair<B>, direction: Dir) -> Answered
     ensures { result ≡ record {
       line = Line.Booked (record {
         direction = direction;
@@ -298,7 +298,7 @@ fn has_stopped(place: Place, size: usize, turn: Turn) -> bool
 }
 
 /// A turn by a command.
-fn turn(pair: &mut Pair<TableStore>, name: QueueName) -> Answered
+fn turn<B: Blocks + Drop>(pair: &mut Pair<B>, name: QueueName) -> Answered
     ensures { Leads (by_turn name) result pair.old pair.new }
 {
     let size = pair.first_size(name);
@@ -322,7 +322,7 @@ fn either_short(before: bool, now: bool) -> bool
 }
 
 /// Turns of the first enabled queue, so many at most. They end where none is enabled, and where one is refused.
-fn run(pair: &mut Pair<TableStore>, turns: u32) -> Answered
+fn run<B: Blocks + Drop>(pair: &mut Pair<B>, turns: u32) -> Answered
     ensures { Leads (by_run turns) result pair.old pair.new }
 {
     let mut short = false;
@@ -353,7 +353,7 @@ fn run(pair: &mut Pair<TableStore>, turns: u32) -> Answered
 }
 
 /// A command where the pair is there.
-fn on_pair(pair: &mut Pair<TableStore>, command: &Command, out: &mut Content) -> Answered
+fn on_pair<B: Blocks + Drop>(pair: &mut Pair<B>, command: &Command, out: &mut Content) -> Answered
     ensures { LeadsTo (λ account. answered (command_of command.now) account (Some (plain pair.old)))
         result out.new.items (Some (plain pair.new)) }
 {
@@ -392,11 +392,11 @@ fn limits(blocks: u32) -> Config
     }
 }
 
-/// Makes a pair over a store of tables and opens its master, where the number of blocks is from 1 to 4096. Want of
+/// Makes a pair over a new store and opens its master, where the number of blocks is from 1 to 4096. Want of
 /// memory, for the store or for the pair, changes nothing.
-fn open(
+fn open<B: Reserve>(
     alloc: Global,
-    pair: &mut Option<Pair<TableStore>>,
+    pair: &mut Option<Pair<B>>,
     blocks: u32,
     out: &mut Content,
 ) -> Result<Answered, AllocError>
@@ -408,7 +408,7 @@ fn open(
         return Ok(refused(Refusal::Einval));
     }
     let sizes = limits(blocks);
-    let store = TableStore::new(alloc, sizes.mblks, sizes.dblks)?;
+    let store = B::reserve(alloc, sizes.mblks, sizes.dblks)?;
     let Ok(mut fresh) = Pair::new(alloc, sizes, store) else {
         return Err(AllocError);
     };
@@ -418,9 +418,9 @@ fn open(
 }
 
 /// What a command leads to, with the bytes that it gives in `out`. Want of memory changes nothing of the pair.
-pub fn answer(
+pub fn answer<B: Reserve>(
     alloc: Global,
-    pair: &mut Option<Pair<TableStore>>,
+    pair: &mut Option<Pair<B>>,
     command: &Command,
     out: &mut Content,
 ) -> Result<Answered, AllocError>

@@ -16,12 +16,14 @@ mod streams;
 mod terms;
 mod turns;
 
+use crate::Store;
 use crate::script::{ScriptEnd, ScriptStatus, run_script};
 use crate::tests::scenes::plays_scenes;
 use std::alloc::{AllocError, Global};
 use std::io::{self, Error, ErrorKind, Read, Write};
 use std::process::Abort;
 use std::test::Fail;
+use strm_blocks::{Reserve, TableStore};
 
 const WELL: ScriptEnd = ScriptEnd {
     status: ScriptStatus::Whole,
@@ -67,8 +69,8 @@ fn wrote(rt: &impl Abort, title: &str, number: usize, written: &[u8], wanted: &[
     assert!(rt; written == wanted, "{title}, {number}, answer {answer}");
 }
 
-// Runs a script and compares what it writes, its status and its first short line.
-fn plays(
+// Runs a script over a store and compares what it writes, its status and its first short line.
+fn plays_over<B: Reserve>(
     rt: &impl Abort,
     alloc: Global,
     title: &str,
@@ -78,9 +80,22 @@ fn plays(
 ) {
     let mut reader = script;
     let mut written = Vec::new(alloc);
-    let ended = run_script(alloc, &mut reader, &mut written);
+    let ended = run_script::<B, _, _>(alloc, &mut reader, &mut written);
     wrote(rt, title, script.len(), written.as_slice(), answers);
     ends_as(rt, title, script.len(), ended, end);
+}
+
+// Runs a script over the program's store, and once more over the plain one.
+fn plays(
+    rt: &impl Abort,
+    alloc: Global,
+    title: &str,
+    script: &[u8],
+    answers: &[u8],
+    end: ScriptEnd,
+) {
+    plays_over::<Store>(rt, alloc, title, script, answers, end);
+    plays_over::<TableStore>(rt, alloc, title, script, answers, end);
 }
 
 // All tables of scenes, in the order in which docs/SCENES.md has their manual pages.
@@ -330,7 +345,7 @@ fn plays_slowly(
         calls_left: usize::MAX,
         flushes: true,
     };
-    let ended = run_script(alloc, &mut reader, &mut writer);
+    let ended = run_script::<Store, _, _>(alloc, &mut reader, &mut writer);
     ends_as(rt, "interruptions", interruptions, ended, WELL);
     wrote(
         rt,
@@ -376,7 +391,7 @@ fn a_reader_that_fails_leaves_the_answers_of_whole_lines(rt: HostRuntime) {
             calls_left: calls,
         };
         let mut written = Vec::new(rt.alloc());
-        let ended = run_script(rt.alloc(), &mut reader, &mut written);
+        let ended = run_script::<Store, _, _>(rt.alloc(), &mut reader, &mut written);
         ends_as(&rt, "at call", calls, ended, BROKEN);
         wrote_whole_lines(&rt, calls, written.as_slice());
     }
@@ -392,7 +407,7 @@ fn a_writer_that_fails_has_the_front_of_the_answers(rt: HostRuntime) {
             calls_left: calls,
             flushes: true,
         };
-        let ended = run_script(rt.alloc(), &mut reader, &mut writer);
+        let ended = run_script::<Store, _, _>(rt.alloc(), &mut reader, &mut writer);
         let all = calls == FIRST_ANSWERS.len();
         ends_as(
             &rt,
@@ -415,7 +430,7 @@ fn a_flush_that_fails_is_a_write_fault(rt: HostRuntime) {
         calls_left: usize::MAX,
         flushes: false,
     };
-    let ended = run_script(rt.alloc(), &mut reader, &mut writer);
+    let ended = run_script::<Store, _, _>(rt.alloc(), &mut reader, &mut writer);
     ends_as(&rt, "a flush", 0, ended, BROKEN);
     wrote(&rt, "a flush", 0, writer.written.as_slice(), FIRST_ANSWERS);
 }

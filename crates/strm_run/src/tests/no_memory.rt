@@ -1,10 +1,11 @@
 //! Calls on a pair where all memory is taken. No allocator that counts can stand in its store, which is made with
 //! `Global`, so a test takes what there is: whatever asks for more behind that is refused.
 
+use crate::Store;
 use std::alloc::{AllocError, Global};
 use std::process::Abort;
 use std::test::Fail;
-use strm_blocks::TableStore;
+use strm_blocks::{Blocks, Reserve, TableStore};
 use strm_pair::Pair;
 use strm_types::{
     Answer, Band, Caller, Config, Content, Event, FlushQueues, Mode, Place, Prio, QueueName,
@@ -182,7 +183,7 @@ fn all_memory(alloc: Global) -> Result<Vec<Vec<u8>>, AllocError> {
 }
 
 // Makes the turns that can be made, up to a number that is more than enough here; whether none was refused.
-fn turns(pair: &mut Pair<TableStore>) -> bool {
+fn turns<B: Blocks + Drop>(pair: &mut Pair<B>) -> bool {
     for _ in 0..16 {
         let Some(queue) = pair.first_enabled() else {
             break;
@@ -195,7 +196,7 @@ fn turns(pair: &mut Pair<TableStore>) -> bool {
 }
 
 // Makes each call and the turns behind it: the first call that doesn't go as it says, if any.
-fn first_wrong(pair: &mut Pair<TableStore>, out: &mut Content) -> Option<usize> {
+fn first_wrong<B: Blocks + Drop>(pair: &mut Pair<B>, out: &mut Content) -> Option<usize> {
     for at in 0..CALLS.len() {
         let (caller, event, came) = &CALLS[at];
         if pair.call(*caller, event, out) != *came || !turns(pair) {
@@ -205,10 +206,9 @@ fn first_wrong(pair: &mut Pair<TableStore>, out: &mut Content) -> Option<usize> 
     None
 }
 
-#[test]
-fn calls_take_no_memory(rt: HostRuntime) -> Result<(), Fail> {
-    let alloc = rt.alloc();
-    let store = TableStore::new(alloc, SIZES.mblks, SIZES.dblks)?;
+// Makes the calls on a pair over a store, where all memory is taken.
+fn calls_without_memory<B: Reserve>(rt: &impl Abort, alloc: Global) -> Result<(), Fail> {
+    let store = B::reserve(alloc, SIZES.mblks, SIZES.dblks)?;
     let Ok(mut pair) = Pair::new(alloc, SIZES, store) else {
         return Err(Fail::from(AllocError));
     };
@@ -227,4 +227,10 @@ fn calls_take_no_memory(rt: HostRuntime) -> Result<(), Fail> {
     assert_eq!(rt; second, None, "once more, in a pair as new");
     assert_eq!(rt; shown, (0, 0));
     Ok(())
+}
+
+#[test]
+fn calls_take_no_memory(rt: HostRuntime) -> Result<(), Fail> {
+    calls_without_memory::<Store>(&rt, rt.alloc())?;
+    calls_without_memory::<TableStore>(&rt, rt.alloc())
 }

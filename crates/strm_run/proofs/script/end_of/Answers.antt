@@ -2,4 +2,4 @@ use Rattle.std.proofs.Common.{refl}
 use Rattle.strm_run.proofs.script.end_of.Goals as goal
 
 pub returns : goal.returns
-returns c = refl
+returns g c = refl

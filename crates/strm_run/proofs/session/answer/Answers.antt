@@ -27,7 +27,7 @@ closed (Show side) h account = refl
 closed (Ledger direction) h account = refl
 
 pub returns-in_default-command : goal.returns-in_default-command
-returns-in_default-command c = record {
+returns-in_default-command g c = record {
   ok = rw c.in_default.is
       (leads_unanswered _ (λ account. answered (command_of c.args.command.now) account None) Enxio None c.refused.result c.refused.ensures
       (closed c.args.command.now c.in_default-command.not-Open));
@@ -44,7 +44,7 @@ opens bytes command pair new blocks n found said none count h =
     (λ account. (λ i. answered (command_of (said i)) account (option_map plain (none i))) ∙ ap (λ k. by_open k account) (sym count)) h
 
 pub returns-in-Open-clause-ok : goal.returns-in-Open-clause-ok
-returns-in-Open-clause-ok c =
+returns-in-Open-clause-ok g c =
     IfOk-weaker c.open.result _ _
     (λ found h. opens _ c.args.command.now c.args.pair.now _ c.in-Open.blocks c.unwrap_or.result found c.in-Open.is c.in_default.is c.unwrap_or.ensures h)
     c.open.ensures.ok

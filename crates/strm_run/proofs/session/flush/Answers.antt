@@ -10,7 +10,7 @@ use Rattle.strm_run.proofs.session.flush.Goals.{in-None, in-Some+else-number-gt-
 use Rattle.strm_run.proofs.session.flush.Goals as goal
 
 pub returns-then-number-gt-BAND_MAX : goal.returns-then-number-gt-BAND_MAX
-returns-then-number-gt-BAND_MAX c =
+returns-then-number-gt-BAND_MAX g c =
     let p = plain c.args.pair.now in
     leads_unanswered _ (λ account. by_flush c.args.side c.args.what c.args.band account p) Einval _ _ c.refused.ensures
     (λ account. ap (λ band. by_flush c.args.side c.args.what band account p) c.in-Some.is
@@ -22,7 +22,7 @@ unfolding by_flush
 flush_all side what account p = refl
 
 pub returns : goal.returns
-returns c =
+returns g c =
     let p = plain c.args.pair.now in
     leads_same _ (λ account. by_flush c.args.side c.args.what c.args.band account p)
     (λ account. by_call (record { side = c.args.side }) (calls.Flush c.args.what c.match-band.band) account p) _ _

@@ -8,14 +8,14 @@ use Rattle.strm_run.proofs.session.get.Goals as goal
 
 pub returns-in_default : goal.returns-in_default
 unfolding by_get
-returns-in_default c =
+returns-in_default g c =
     let p = plain c.args.pair.now in
     leads_unanswered _ (λ account. by_get c.args.side c.args.named c.args.cmax c.args.dmax account p) Einval _ _ c.refused.ensures
     (λ account. named_none c.args.side (λ wanted. calls.Get wanted c.args.cmax c.args.dmax) (wanted_of c.args.named) account p (sym c.wanted.ensures ∙ c.in_default.is))
 
 pub returns : goal.returns
 unfolding by_get
-returns c =
+returns g c =
     let p = plain c.args.pair.now in
     leads_same _ (λ account. by_get c.args.side c.args.named c.args.cmax c.args.dmax account p)
     (λ account. by_call (record { side = c.args.side }) (calls.Get c.in-Some.wanted c.args.cmax c.args.dmax) account p) _ _

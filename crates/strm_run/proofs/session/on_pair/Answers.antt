@@ -31,7 +31,7 @@ known bytes command said found old new e h =
 
 pub returns-in-Open : goal.returns-in-Open
 unfolding answered
-returns-in-Open c = known _ _ _ _ _ _ c.in-Open.is (leads_unanswered _ _ Einval _ _ c.refused.ensures (λ account. refl))
+returns-in-Open g c = known _ _ _ _ _ _ c.in-Open.is (leads_unanswered _ _ Einval _ _ c.refused.ensures (λ account. refl))
 
 -- a call
 makes : (bytes : List ℕ) (side : Side) (event asked : Request) (found : Answered) (old : PlainPair) (new : Option PlainPair) → asked ≡ event
@@ -44,19 +44,19 @@ makes bytes side event asked found old new e h =
 
 pub returns-in-Call : goal.returns-in-Call
 unfolding answered
-returns-in-Call c = known _ _ _ _ _ _ c.in-Call.is (makes _ _ _ _ _ _ _ c.lend.ensures c.call.ensures)
+returns-in-Call g c = known _ _ _ _ _ _ c.in-Call.is (makes _ _ _ _ _ _ _ c.lend.ensures c.call.ensures)
 
 pub returns-in-Turn : goal.returns-in-Turn
 unfolding answered
-returns-in-Turn c = known _ _ _ _ _ _ c.in-Turn.is (c.turn.ensures _)
+returns-in-Turn g c = known _ _ _ _ _ _ c.in-Turn.is (c.turn.ensures _)
 
 pub returns-in-Run : goal.returns-in-Run
 unfolding answered
-returns-in-Run c = known _ _ _ _ _ _ c.in-Run.is (c.run.ensures _)
+returns-in-Run g c = known _ _ _ _ _ _ c.in-Run.is (c.run.ensures _)
 
 pub returns-in-Flush : goal.returns-in-Flush
 unfolding answered
-returns-in-Flush c = known _ _ _ _ _ _ c.in-Flush.is c.flush.ensures
+returns-in-Flush g c = known _ _ _ _ _ _ c.in-Flush.is c.flush.ensures
 
 -- a look, by whether a module with queues stands there
 shown : (side : Side) (s : State ℕ) → Sizes side (size_at s (head_of side) ∷ (sizes_of (module_sizes side s) ++ size_at s (driver_of side) ∷ []))
@@ -76,14 +76,14 @@ shown side s = by (is_some (place_named Ldterm (stream side s).modules))
 
 pub returns-in-Show : goal.returns-in-Show
 unfolding answered by_show
-returns-in-Show c = known _ _ _ _ _ _ c.in-Show.is
+returns-in-Show g c = known _ _ _ _ _ _ c.in-Show.is
     (leads_looked _ _ _ _ (λ account.
     ap (λ line. record { line = line; pair = Some (plain c.args.pair.now); account = account; is_short = false }) (sym (shown c.in-Show.side c.args.pair.now.state))
     ∙ ap (λ (x : Answered). record { line = line_of c.args.out.now.items x.line; pair = Some (plain c.args.pair.now); account = account; is_short = x.short }) (sym c.show.ensures)))
 
 pub returns-in-Ledger : goal.returns-in-Ledger
 unfolding answered by_ledger
-returns-in-Ledger c = known _ _ _ _ _ _ c.in-Ledger.is
+returns-in-Ledger g c = known _ _ _ _ _ _ c.in-Ledger.is
     (leads_looked _ _ _ _ (λ account.
     ap (λ (x : Answered). record { line = line_of c.args.out.now.items x.line; pair = Some (plain c.args.pair.now); account = account; is_short = x.short }) (sym c.ledger.ensures)))
 
@@ -99,8 +99,8 @@ puts bytes side prio control body asked_control asked_body found old new c d h =
 
 pub returns-in-Put : goal.returns-in-Put
 unfolding answered
-returns-in-Put c = known _ _ _ _ _ _ c.in-Put.is (puts _ _ _ _ _ _ _ _ _ _ c.lend-in-Put.ensures c.lend-in-Put-2.ensures c.put.ensures)
+returns-in-Put g c = known _ _ _ _ _ _ c.in-Put.is (puts _ _ _ _ _ _ _ _ _ _ c.lend-in-Put.ensures c.lend-in-Put-2.ensures c.put.ensures)
 
 pub returns-in-Get : goal.returns-in-Get
 unfolding answered
-returns-in-Get c = known _ _ _ _ _ _ c.in-Get.is c.get.ensures
+returns-in-Get g c = known _ _ _ _ _ _ c.in-Get.is c.get.ensures

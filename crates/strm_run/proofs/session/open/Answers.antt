@@ -1,4 +1,4 @@
-use Rattle.std.proofs.Common.{rules, ◌<◌, ◌≤◌, None, inl, inr, arith, ap, sym, ◌∙◌}
+use Rattle.std.proofs.Common.{◌<◌, ◌≤◌, None, inl, inr, arith, ap, sym, ◌∙◌}
 use Rattle.strm_blocks.specs.Blocks.{StoreValue}
 use Rattle.strm_run.specs.ScriptRun.{by_open, by_call}
 use Rattle.strm_types.specs.declared.events.Event.TheVariants.{OpenMaster}
@@ -11,13 +11,13 @@ use Rattle.strm_run.proofs.Events.{leads_unanswered, leads_same, open_refused, o
 use Rattle.strm_run.proofs.session.open.Goals as goal
 
 pub returns-then-blocks-eq0-clause-ok : goal.returns-then-blocks-eq0-clause-ok
-returns-then-blocks-eq0-clause-ok c =
+returns-then-blocks-eq0-clause-ok g c =
     rw c.requires
     (leads_unanswered _ (λ account. by_open c.args.blocks account) Einval None c.refused.result c.refused.ensures
     (λ account. open_refused c.args.blocks account (elim c.then-blocks-eq0.either [ inl e ↦ inl e | inr h ↦ inr h.1 ])))
 
 pub returns-clause-ok : goal.returns-clause-ok
-returns-clause-ok c =
+returns-clause-ok g c =
     let blocks = c.args.blocks in
     let some : 0 < blocks = omega arith in
     let most : blocks ≤ 4096 = omega arith in
@@ -26,4 +26,4 @@ returns-clause-ok c =
     leads_same _ (λ account. by_open blocks account) _ _ _
     (λ account. open_made blocks account some most
     ∙ ap (λ p. by_call (record { side = Master }) OpenMaster account (plain p)) (sym made))
-    (search rules steps 100000)
+    c.call-answered.ensures

@@ -8,7 +8,7 @@ use Rattle.strm_run.proofs.session.put.Goals as goal
 
 pub returns-in_default : goal.returns-in_default
 unfolding by_put
-returns-in_default c =
+returns-in_default g c =
     let p = plain c.args.pair.now in
     let control = option_map (λ bytes. bytes.now) c.args.control in
     let body = option_map (λ bytes. bytes.now) c.args.body in
@@ -17,7 +17,7 @@ returns-in_default c =
 
 pub returns : goal.returns
 unfolding by_put
-returns c =
+returns g c =
     let p = plain c.args.pair.now in
     let control = option_map (λ bytes. bytes.now) c.args.control in
     let body = option_map (λ bytes. bytes.now) c.args.body in

@@ -2,4 +2,4 @@ use Rattle.std.proofs.Common.{rules}
 use Rattle.strm_run.proofs.session.size.Goals as goal
 
 pub returns : goal.returns
-returns c = search rules steps 100000
+returns g c = search rules steps 100000

@@ -8,6 +8,6 @@ noted None is_short n none h = ap (λ b. line_if b n) (sym h)
 noted (Some k) is_short n none h = absurd cc
 
 pub returns-then-is_none : goal.returns-then-is_none
-returns-then-is_none c =
+returns-then-is_none g c =
     let self = c.args.self.now in
     ap (λ short. record self { short = short }) (noted self.short c.args.short (self.lines + 1) c.if-is_none.ensures c.if-short.true)

@@ -3,7 +3,7 @@ use Rattle.strm_run.specs.ScriptAnswers.{printed_line, Wrong}
 use Rattle.strm_run.proofs.engine.Engine.refuse.Goals as goal
 
 pub overflow_add-line : goal.overflow_add-line
-overflow_add-line c = omega arith
+overflow_add-line g c = omega arith
 
 -- what holds where a call went well, and where it didn't
 went_well : {T E P : Type 0} (r : Result T E) → OnOk r P → true ≡ is_ok r → P
@@ -15,16 +15,16 @@ went_wrong (Ok x) h e = absurd cc
 went_wrong (Err x) h e = h
 
 pub returns-then-is_ok-clause-refused : goal.returns-then-is_ok-clause-refused
-returns-then-is_ok-clause-refused c =
+returns-then-is_ok-clause-refused g c =
     let self = c.args.self.now in
     let said = went_well c.say.result c.say.ensures.ok c.if-is_ok.ensures.value in
     (refl, said ∙ ap (λ n. self.answers.items ++ printed_line (Wrong n)) (add-one self.lines))
 
 pub returns-then-is_ok-clause-lines : goal.returns-then-is_ok-clause-lines
-returns-then-is_ok-clause-lines c = refl
+returns-then-is_ok-clause-lines g c = refl
 
 pub returns-else-is_ok-clause-refused : goal.returns-else-is_ok-clause-refused
-returns-else-is_ok-clause-refused c = (refl, went_wrong c.say.result c.say.ensures.err c.if-is_ok.ensures.value)
+returns-else-is_ok-clause-refused g c = (refl, went_wrong c.say.result c.say.ensures.err c.if-is_ok.ensures.value)
 
 pub returns-else-is_ok-clause-lines : goal.returns-else-is_ok-clause-lines
-returns-else-is_ok-clause-lines c = refl
+returns-else-is_ok-clause-lines g c = refl

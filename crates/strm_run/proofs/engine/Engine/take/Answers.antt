@@ -5,7 +5,7 @@ use Rattle.strm_run.proofs.EngineSteps.{Took-join, stop_join}
 use Rattle.strm_run.proofs.engine.Engine.take.Goals as goal
 
 pub returns-in-Err-clause-steps : goal.returns-in-Err-clause-steps
-returns-in-Err-clause-steps c =
+returns-in-Err-clause-steps g c =
     let bytes = c.args.bytes.now in
     let i = c.loop-byte.byte-index in
     let all : (take i bytes ++ get_or bytes i 0 ∷ []) ++ drop (i + 1) bytes ≡ bytes =
@@ -15,7 +15,7 @@ returns-in-Err-clause-steps c =
     c.loop-byte.invariant.0 c.in-Err.ensures.steps)
 
 pub loop-byte-preserved : goal.loop-byte-preserved
-loop-byte-preserved c =
+loop-byte-preserved g c =
     let bytes = c.args.bytes.now in
     let i = c.loop-byte.byte-index in (
       subst (λ k. Took c.args.self.now c.take_byte.new.self k) (sym (take_more bytes i 0 c.loop-byte-test.true))
