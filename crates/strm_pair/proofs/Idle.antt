@@ -5,11 +5,11 @@ use Rattle.strm_types.specs.declared.rules.Rule.{Rule}
 use Rattle.strm_types.specs.declared.rules.Rule.TheVariants.{EndClosed}
 use Rattle.strm_types.proofs.BySide.{set-all}
 use Rattle.strm_laws.specs.Closes.{head_emptied}
-use Rattle.strm_types.specs.Emptied.{emptied, of_all}
+use Rattle.strm_types.specs.Emptied.{of_all}
 use Rattle.strm_laws.specs.Kept.{AreIdle}
 use Rattle.strm_laws.specs.Pushes.{top_taken}
 use Rattle.strm_laws.specs.Stacked.{Module}
-use Rattle.strm_laws.specs.State.{State, Stream, stream, with_head_queue, with_stream}
+use Rattle.strm_laws.specs.State.{State, Stream, stream, with_stream}
 use Rattle.strm_laws.proofs.ModulesIdle.{AllIdle}
 
 -- at the modules of a side, and where they change
@@ -24,4 +24,4 @@ pub top-idle : (rule : Rule) (side : Side) (s : State ℕ) → AreIdle s → Are
 top-idle rule side s idle = these-taken rule side (stream side s).modules s (idle side) idle
 
 pub emptied-idle : (side : Side) (s : State ℕ) → AreIdle s → AreIdle (head_emptied EndClosed of_all side s).state
-emptied-idle side s idle = idle-with side (with_head_queue (emptied of_all (stream side s).head.queue) (stream side s)) s (idle side) idle
+emptied-idle side s idle = idle-with side _ s (idle side) idle

@@ -13,7 +13,6 @@ use Rattle.strm_types.specs.declared.rules.Fates.{Fates}
 use Rattle.strm_types.specs.declared.spots.Note.{Note}
 use Rattle.strm_types.specs.declared.spots.Spot.{Spot}
 use Rattle.strm_types.specs.Cells.{plain}
-use Rattle.strm_types.specs.Books.{with_made}
 use Rattle.strm_types.specs.Deliver.{Acted, Fate, Took, tallied}
 use Rattle.strm_laws.specs.Earlier.{places_of}
 use Rattle.strm_types.specs.Input.{made_of}

@@ -6,7 +6,7 @@ use Rattle.strm_types.specs.declared.names.Side.TheVariants.{Master, Slave}
 use Rattle.strm_types.specs.declared.kinds.MsgKind.TheVariants as kinds
 use Rattle.strm_types.specs.Flush.{is_data_kind}
 use Rattle.strm_types.specs.Emptied.{of_all, emptied, none_goes, queue_behind}
-use Rattle.strm_types.specs.Both.{get, set, map_both}
+use Rattle.strm_types.specs.Both.{set, map_both}
 use Rattle.strm_types.specs.Names.{enable_some, other}
 use Rattle.strm_types.proofs.BySide.{get-map, get-set-other, get-set-same, map-set, set-all, set-same, side-and-other}
 use Rattle.strm_types.specs.Queue as state
@@ -277,7 +277,7 @@ module _ (s t : StoreValue) (p : Streams) (beside : AreBeside s p) (stays : Stay
   -- one queue of a side changed
   pub only-here : (side : Side) (q q' : Queue) → first_list side ≤ q.list → q.list < first_list side + 4 → OnlyQueue s t q q' → OtherStays s t p beside side
   only-here side q q' low high only = record {
-    lists = λ k above below. only.others k (λ eq. never-both side k (omega (arith, low)) (omega (arith, high)) above below);
+    lists = λ k above below. only.others k (λ eq. never-both side k (omega (arith, eq, low)) (omega (arith, eq, high)) above below);
     keeps = stays-at s t (other side) p stays;
   }
 

@@ -63,4 +63,4 @@ journal-idle s [] idle legal = idle
 journal-idle s (e ∷ es) idle legal = journal-idle (after plain s e) es (step-idle plain s (after plain s e) e idle legal.0) legal.1
 
 pub led-idle : (s : StoreValue) (p : Streams) (j : Journal) (limits : Config) (fates : Fates) → IsKept s p j limits fates → AreIdle (state_in s p)
-led-idle s p j limits fates kept = subst AreIdle (sym kept.replayed) (journal-idle opening (journal_of j) opening-idle kept.legal)
+led-idle s p j limits fates kept = subst AreIdle (sym kept.replayed) (journal-idle opening (journal_of j) (opening-idle ℕ) kept.legal)

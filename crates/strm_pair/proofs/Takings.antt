@@ -1,8 +1,9 @@
 -- The module on top of a side's stream, taken off it.
 use Rattle.std.proofs.Common.{ℕ, zero, suc, ◌≡◌, ◌≤◌, ◌<◌, ◌+◌, List, [], ◌∷◌, ◌++◌, length, map, refl, sym, ap, subst, ◌∙◌, arith}
-use Rattle.std.specs.Prelude.{Some}
+use Rattle.std.specs.Prelude.{None, Some}
 use Rattle.strm_types.specs.declared.names.QueueName.{QueueName}
 use Rattle.strm_types.specs.declared.names.Side.{Side}
+use Rattle.strm_types.specs.declared.names.Side.TheVariants.{Master, Slave}
 use Rattle.strm_types.specs.declared.rules.Fates.{Fates}
 use Rattle.strm_types.specs.declared.rules.Rule.{Rule}
 use Rattle.strm_types.specs.declared.spots.Note.{Note}
@@ -15,7 +16,7 @@ use Rattle.strm_laws.specs.Puts.{earlier_at, noted}
 use Rattle.strm_laws.specs.Stacked.{Module, module_name}
 use Rattle.strm_laws.specs.State.{State, Stream, stream, with_stream}
 use Rattle.strm_laws.proofs.StackOnce.{pop-once}
-use Rattle.strm_blocks.specs.Blocks.{StoreValue, list_at}
+use Rattle.strm_blocks.specs.Blocks.{StoreValue, free_d, free_m, list_at}
 use Rattle.strm_queue.specs.Stored.{queue_in, HoldsReadable}
 use Rattle.strm_queue.proofs.Placed.{ready-same}
 use Rattle.strm_pair.specs.declared.ends.StreamEnd.{StreamEnd}
@@ -25,7 +26,7 @@ use Rattle.strm_pair.specs.Framing.{stays-at, still}
 use Rattle.strm_pair.specs.Lists.{first_list}
 use Rattle.strm_pair.specs.Pairs.{state_in, end_at, with_end, AreBeside, AreHeld, kept_by}
 use Rattle.strm_pair.specs.Streams.{stream_in, IsSide, AreApart}
-use Rattle.strm_pair.specs.Taken.{TookTop, WithoutTop, let_go_of}
+use Rattle.strm_pair.specs.Taken.{TookNone, TookTop, WithoutTop, let_go_of}
 use Rattle.strm_pair.proofs.Sides.{OtherStays, modules-are, never-both, one-beside, one-state, queue-same, stream-is, stream_of}
 use Rattle.strm_pair.specs.Stacks.{modules_in, stack_owns, Stack}
 
@@ -122,6 +123,27 @@ module _ (side : Side) (rule : Rule) (s : StoreValue) (p : Streams) (held : AreH
         frees = took.frees;
         pool = record { mblks = took.hand.mblks; dblks = took.hand.dblks };
       }
+
+-- a stream that is put where it stands
+same-end : (side : Side) (p : Streams) → with_end side (end_at side p) p ≡ p
+same-end Master p = refl
+same-end Slave p = refl
+
+-- no module stood there
+pub none-went : (side : Side) (rule : Rule) (s t : StoreValue) (p q : Streams) (told told' : Fates) → AreHeld s p → q ≡ with_end side (record (end_at side p) { stack = (end_at side q).stack }) p
+    → TookNone s t (end_at side p).stack (end_at side q).stack told told' → WithoutTop side rule s t p q told told' None
+none-went side rule s t p q told told' held is took =
+    let st = state_in s p in
+    let none = modules-are s p side ∙ took.none in
+    let same : q ≡ p = is ∙ ap (λ y. with_end side (record (end_at side p) { stack = y }) p) took.stack ∙ same-end side p in
+    record {
+      name_is = sym (ap (λ ms. top_name module_name ms) none);
+      state = ap (state_in t) same ∙ ap (λ v. state_in v p) took.store ∙ sym (ap (λ ms. (top_taken rule side ms st).state) none);
+      tells = took.tells ∙ sym (ap (λ ms. tallied (top_taken rule side ms st).gone told) none);
+      held = subst (λ v. AreHeld v q) (sym took.store) (subst (AreHeld s) (sym same) held);
+      frees = record { mblks = omega (arith, ap free_m took.store); dblks = omega (arith, ap free_d took.store) };
+      pool = record { mblks = ap (λ (v : StoreValue). v.mblks) took.store; dblks = ap (λ (v : StoreValue). v.dblks) took.store };
+    }
 
 -- what all modules lead to that are taken off, by the one on top and the rest
 abbrev after_top : Rule → Side → State ℕ → Carried ℕ (State ℕ)

@@ -20,7 +20,7 @@ use Rattle.strm_types.specs.Far.{far_at, is_turned, turns_round}
 use Rattle.strm_types.specs.Queue as plain
 use Rattle.strm_types.specs.Queue.{left_with}
 use Rattle.strm_laws.specs.Spares.{spare}
-use Rattle.strm_laws.specs.State.{State, Stream, stream, with_driver_queue}
+use Rattle.strm_laws.specs.State.{State, Stream, stream}
 use Rattle.strm_laws.specs.TurnOutcomes.{stayed_put}
 use Rattle.strm_laws.specs.Turns.{is_stopped_across, held_back, with_driver, moved_across, driver_serves, driver_turned, turn_ended}
 use Rattle.strm_laws.proofs.StackSpares.{same-spare}
@@ -67,7 +67,7 @@ took-first side s t p q i beside idle d =
 
 -- nothing of a turn is under way where a message was taken off a driver's queue
 pub taken-idle : (side : Side) (q : plain.Queue ℕ) (s : State ℕ) → AreIdle s → AreIdle (with_driver side q s)
-taken-idle side q s idle = idle-with side (with_driver_queue q (stream side s)) s (idle side) idle
+taken-idle side q s idle = idle-with side _ s (idle side) idle
 
 pub took : (side : Side) (s t : StoreValue) (p : Streams) (q : Queue) (result : Option InHand) → AreBeside s p → AreIdle (state_in s p)
     → MatchOption result (messages_on s (end_at side p).driver.list ≡ []) (λ m. Dequeued s t (end_at side p).driver q (token m))

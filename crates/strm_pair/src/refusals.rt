@@ -42,6 +42,7 @@ fn needed(is_asked: bool, condition: bool, refusal: Refusal) -> Option<Refusal>
 impl Streams {
     ghost use Rattle.strm_blocks.specs.Blocks.{StoreValue};
     ghost use Rattle.strm_pair.specs.Streams.{stream_in};
+    ghost use Rattle.strm_types.specs.declared.names.Side.TheVariants.{Master, Slave};
     ghost use Rattle.strm_pair.specs.Pairs.{state_in, end_at, AreHeld};
 
     /// The stream of a side.

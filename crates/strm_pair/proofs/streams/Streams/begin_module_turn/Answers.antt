@@ -42,6 +42,15 @@ returns-then-has_room_past-clause-begins g c =
     let few = subst (λ (t : Stream ℕ). at_place (λ p. first_size (messages_at module_queue name.way p)) 0 at t.modules ≤ 16777216) (c.end.ensures.stream s) c.asks.ensures.few in
     may-move name at st found few (λ turn. turned-asks name at (asked.Room band) turn st c.requires.rests found asks ∙ turned-room name at band turn st room)
 
+pub overflow_cast-here : goal.overflow_cast-here
+overflow_cast-here g c =
+    let st = state_in (g.B.Blocks.value c.args.store.now) c.args.self.now in
+    let low = found-low c.args.name.place (stream c.args.name.side st).modules c.in-Some.at (sym (c.module_named.ensures (g.B.Blocks.value c.args.store.now)) ∙ c.in-Some.is) in
+    omega (arith, low.2)
+
+pub stay-requires-in-Room-clause-held : goal.stay-requires-in-Room-clause-held
+stay-requires-in-Room-clause-held g c = c.wait_past.ensures.held (g.B.Blocks.value c.args.store.now) c.requires.held
+
 pub stay-requires-in-Room-clause-inside : goal.stay-requires-in-Room-clause-inside
 stay-requires-in-Room-clause-inside g c =
     let s = g.B.Blocks.value c.args.store.now in

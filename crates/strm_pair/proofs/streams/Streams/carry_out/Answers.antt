@@ -1,18 +1,21 @@
 -- Plain bytes have no origin: what goes down and what comes up are the bytes themselves.
-use Rattle.std.proofs.Common.{ℕ, ◌≡◌, List, ◌∙◌, sym, ap, take, arith}
+use Rattle.std.proofs.Common.{ℕ, ◌≡◌, List, ◌∙◌, sym, ap, subst, take, arith}
 use Rattle.std.proofs.Math.Seq.{take-length}
 use denote.Ref.{Bor}
 use Rattle.std.specs.Prelude.{option_map}
 use Rattle.strm_types.specs.declared.answers.Answer.TheVariants.{Bytes}
 use Rattle.strm_types.specs.declared.events.Event.{Event}
+use Rattle.strm_types.specs.declared.names.Openness.TheVariants.{Open}
+use Rattle.strm_types.specs.declared.names.Side.TheVariants.{Master}
 use Rattle.strm_types.specs.declared.refusals.Refusal.TheVariants.{Einval}
 use Rattle.strm_types.specs.Events.{request}
 use Rattle.strm_laws.specs.Pushes.{may_stand, named_by}
 use Rattle.strm_laws.specs.Refusals.{refused_at_once, refused_by_state}
 use Rattle.strm_laws.specs.State.{stream}
 use Rattle.strm_laws.proofs.Replay.{unless-none}
-use Rattle.strm_pair.specs.Pairs.{state_in}
+use Rattle.strm_pair.specs.Pairs.{state_in, end_at, AreHeld}
 use Rattle.strm_pair.proofs.Refusing.{few-asked, number-left, put-in_range}
+use Rattle.strm_pair.proofs.Sides.{held-with}
 use Rattle.strm_pair.proofs.streams.Streams.carry_out.Goals as goal
 
 pub returns-in-Write-clause-answer : goal.returns-in-Write-clause-answer
@@ -35,6 +38,23 @@ returns-in-Ioctl-clause-answer g c = rw c.in-Ioctl.is c.ioctl.ensures.answer
 
 pub returns-in-Ioctl-clause-state : goal.returns-in-Ioctl-clause-state
 returns-in-Ioctl-clause-state g c = rw c.in-Ioctl.is c.ioctl.ensures.state
+
+pub returns-in-OpenMaster-clause-held : goal.returns-in-OpenMaster-clause-held
+returns-in-OpenMaster-clause-held g c =
+    let s = g.B.Blocks.value c.args.store.now in
+    let p = c.args.self.now in
+    let is = c.requires.held.beside Master in
+    subst (λ q. AreHeld s q) (sym c.open_master.ensures.streams)
+    (held-with s p Master (record (end_at Master p) { opened = Open }) c.requires.held (record {
+      head_list = is.head_list;
+      driver_list = is.driver_list;
+      head = is.head;
+      driver = is.driver;
+      stack = is.stack;
+      once = is.once;
+      owned = is.owned;
+      spare = is.spare;
+    }))
 
 pub returns-in-Mode-clause-held : goal.returns-in-Mode-clause-held
 returns-in-Mode-clause-held g c = c.set_mode.ensures.held (g.B.Blocks.value c.args.store.now) c.requires.held

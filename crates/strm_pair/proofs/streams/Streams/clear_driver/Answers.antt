@@ -1,13 +1,15 @@
 -- Nothing is left on the queue that was cleared.
-use Rattle.std.proofs.Common.{◌≡◌, ap, ◌∙◌, refl}
+use Rattle.std.proofs.Common.{ℕ, refl, sym, ap, ◌∙◌}
 use Rattle.strm_types.specs.declared.names.Way.TheVariants.{Down}
 use Rattle.strm_types.specs.Emptied.{of_all, queue_behind, writer_goes}
 use Rattle.strm_types.specs.Names.{enable_some}
-use Rattle.strm_laws.specs.Earlier.{before_among, before_at}
+use Rattle.strm_types.specs.Queue.{Queue}
+use Rattle.strm_laws.specs.Earlier.{before_among, before_at, before_driver}
+use Rattle.strm_laws.specs.State.{stream, with_driver_queue, with_stream}
 use Rattle.strm_queue.specs.Stored.{queue_in}
 use Rattle.strm_pair.specs.declared.streams.Streams.{Streams}
 use Rattle.strm_pair.specs.Pairs.{end_at, state_in, with_end}
-use Rattle.strm_pair.proofs.Sides.{driver-held, driver-went, modules-behind, only-changed}
+use Rattle.strm_pair.proofs.Sides.{driver-held, driver-is, driver-went, modules-behind, only-changed}
 use Rattle.strm_pair.proofs.streams.Streams.clear_driver.Goals as goal
 
 pub returns-clause-state : goal.returns-clause-state
@@ -22,10 +24,11 @@ returns-clause-state g c =
     let at = c.driver_place-at.result in
     let e = rw c.get_mut.ensures.value at c.clear_queue-gone.ensures in
     let one : Streams = with_end side (record end { driver = q }) p in
-    ap (state_in t) (rw c.get_mut.ensures.value at c.let_go.ensures s)
+    ap (state_in t) (rw c.get_mut.ensures.value at (c.let_go.ensures s))
     ∙ ap (λ ms. record (state_in t one) { enabled = enable_some room (before_among side Down at ms) p.enabled }) (modules-behind s p side (record end { driver = q }) refl)
     ∙ ap (λ n. record (state_in t one) { enabled = enable_some room (before_at side Down n (state_in s p)) p.enabled }) (c.driver_place-at.ensures.place s)
     ∙ driver-went s t p c.requires.beside end.driver q (queue_behind of_all (queue_in s end.driver)) room (writer_goes of_all (queue_in s end.driver)) e.changes side refl e.queue e.room
+    ∙ ap (λ (x : Queue ℕ). record (with_stream side (with_driver_queue (queue_behind of_all x) (stream side (state_in s p))) (state_in s p)) { enabled = enable_some (writer_goes of_all x) (before_driver side (state_in s p)) p.enabled }) (sym (driver-is s p side))
 
 pub returns-clause-held : goal.returns-clause-held
 returns-clause-held g c =

@@ -1,14 +1,16 @@
 -- Nothing is left on the queue that was cleared.
-use Rattle.std.proofs.Common.{◌≡◌, ap, ◌∙◌, refl}
+use Rattle.std.proofs.Common.{ℕ, refl, sym, ap, ◌∙◌}
 use Rattle.strm_types.specs.declared.names.Way.TheVariants.{Up}
 use Rattle.strm_types.specs.Emptied.{of_all, queue_behind, writer_goes}
+use Rattle.strm_types.specs.Heads.{Head}
 use Rattle.strm_types.specs.Names.{enable_some}
-use Rattle.strm_laws.specs.Earlier.{before_among}
+use Rattle.strm_laws.specs.Earlier.{before_among, before_head}
+use Rattle.strm_laws.specs.State.{stream, with_head_queue, with_stream}
 use Rattle.strm_queue.specs.Stored.{queue_in}
 use Rattle.strm_pair.specs.Framing.{still}
 use Rattle.strm_pair.specs.declared.streams.Streams.{Streams}
 use Rattle.strm_pair.specs.Pairs.{end_at, kept_by, state_in, with_end}
-use Rattle.strm_pair.proofs.Sides.{head-changed, head-went, modules-behind, only-changed, readable-cleared}
+use Rattle.strm_pair.proofs.Sides.{head-changed, head-is, head-went, modules-behind, only-changed, readable-cleared}
 use Rattle.strm_pair.proofs.streams.Streams.clear_head.Goals as goal
 
 pub returns-clause-held : goal.returns-clause-held
@@ -36,6 +38,7 @@ returns-clause-state g c =
     let room = c.clear_queue-gone.result.room in
     let e = rw c.get_mut.ensures.value at c.clear_queue-gone.ensures in
     let one : Streams = with_end side (record end { head = record end.head { queue = q } }) p in
-    ap (state_in t) (rw c.get_mut.ensures.value at c.let_go.ensures s)
+    ap (state_in t) (rw c.get_mut.ensures.value at (c.let_go.ensures s))
     ∙ ap (λ ms. record (state_in t one) { enabled = enable_some room (before_among side Up 0 ms) p.enabled }) (modules-behind s p side (record end { head = record end.head { queue = q } }) refl)
     ∙ head-went s t p c.requires.beside end.head.queue q (queue_behind of_all (queue_in s end.head.queue)) room (writer_goes of_all (queue_in s end.head.queue)) e.changes side refl e.queue e.room
+    ∙ ap (λ (x : Head ℕ). record (with_stream side (with_head_queue (queue_behind of_all x.queue) (stream side (state_in s p))) (state_in s p)) { enabled = enable_some (writer_goes of_all x.queue) (before_head side (state_in s p)) p.enabled }) (sym (head-is s p side))

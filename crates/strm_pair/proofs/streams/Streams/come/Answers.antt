@@ -25,5 +25,5 @@ returns g c =
     let end = record (end_at side p) { head = c.put-came.new.self } in
     came-by side s (g.B.Blocks.value c.put-came.new.store) p c.put-came.new.self i c.args.to (message_in s i) r.lets_go r.down c.args.told.now c.put-came.new.told c.let_go.new.self
     refl c.audit.ensures c.requires.can_put c.requires.beside c.requires.opened e.state e.notes e.sent e.told e.changes e.readable e.frees
-    (rw c.get_mut.ensures.value at c.let_go.ensures s
+    (rw c.get_mut.ensures.value at (c.let_go.ensures s)
     ∙ ap (λ ms. record (with_end side end p) { enabled = enable_some r.lets_go (before_among side Up 0 ms) p.enabled }) (modules-behind s p side end refl))

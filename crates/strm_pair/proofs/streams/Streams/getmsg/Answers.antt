@@ -1,5 +1,5 @@
 -- What the head of a side gives.
-use Rattle.std.proofs.Common.{ap, ◌∙◌, refl}
+use Rattle.std.proofs.Common.{refl, sym, ap, ◌∙◌}
 use Rattle.std.specs.Prelude.{min}
 use Rattle.strm_types.specs.declared.limits.TheConstants.{READ_MAX}
 use Rattle.strm_types.specs.declared.names.Way.TheVariants.{Up}
@@ -9,7 +9,7 @@ use Rattle.strm_laws.specs.Earlier.{before_among, before_head}
 use Rattle.strm_types.specs.Heads as heads
 use Rattle.strm_types.specs.Queue as plain
 use Rattle.strm_laws.specs.State.{stream, with_head_queue, with_stream}
-use Rattle.strm_queue.specs.Stored.{queue_in}
+use Rattle.strm_queue.specs.Stored.{Changes, queue_in}
 use Rattle.strm_pair.specs.declared.streams.Streams.{Streams}
 use Rattle.strm_pair.specs.Pairs.{end_at, state_in, with_end}
 use Rattle.strm_pair.proofs.Sides.{head-is, head-went, modules-behind}
@@ -75,9 +75,9 @@ returns-clause-state g c =
     let end = end_at side p in
     let was = queue_in s end.head.queue in
     let e = rw c.get_mut.ensures.value at got.ensures in
-    let changes = record { ready = e.keeps.ready; list = e.keeps.list; others = e.keeps.others; hand = e.keeps.hand; mblks = e.keeps.mblks; dblks = e.keeps.dblks } in
+    let changes : Changes s t end.head.queue q = record { ready = e.keeps.ready; list = e.keeps.list; others = e.keeps.others; hand = e.keeps.hand; mblks = e.keeps.mblks; dblks = e.keeps.dblks } in
     let one : Streams = with_end side (record end { head = record end.head { queue = q } }) p in
-    ap (state_in t) (rw c.get_mut.ensures.value at c.let_go.ensures s)
+    ap (state_in t) (rw c.get_mut.ensures.value at (c.let_go.ensures s))
     ∙ ap (λ ms. record (state_in t one) { enabled = enable_some got.result.lets_go (before_among side Up 0 ms) p.enabled }) (modules-behind s p side (record end { head = record end.head { queue = q } }) refl)
     ∙ head-went s t p c.requires.held.beside end.head.queue q (get_queue wanted most most_data was) got.result.lets_go (get_lets_go wanted most most_data was) changes side refl
     (e.queue ∙ ap (λ n. get_queue wanted n c.min-most_data.result was) c.min-most.ensures ∙ ap (λ n. get_queue wanted most n was) c.min-most_data.ensures)

@@ -1,9 +1,11 @@
 -- Streams over a store with nothing in it.
-use Rattle.std.proofs.Common.{refl}
+use Rattle.std.proofs.Common.{refl, sym, subst}
 use Rattle.strm_blocks.specs.Blocks.{empty_store}
+use Rattle.strm_types.specs.declared.both.Both.{Both}
 use Rattle.strm_types.proofs.BySide.{each-side}
+use Rattle.strm_pair.specs.declared.ends.StreamEnd.{StreamEnd}
 use Rattle.strm_pair.specs.Lists.{first_list}
-use Rattle.strm_pair.specs.Streams.{IsSide}
+use Rattle.strm_pair.specs.Streams.{IsBlank, IsSide}
 use Rattle.strm_pair.proofs.Sides.{blank}
 use Rattle.strm_pair.proofs.streams.Streams.new.Goals as goal
 
@@ -17,8 +19,10 @@ pub returns-clause-held : goal.returns-clause-held
 returns-clause-held c = λ mblks dblks.
     let s = empty_store mblks dblks in
     let b = blank mblks dblks in
+    let ends : Both StreamEnd = record { master = c.new_end.result; slave = c.new_end-2.result } in
     record {
       hand = refl;
-      beside = each-side (λ side e. IsSide s (first_list side) e) (record { master = c.new_end.result; slave = c.new_end-2.result })
-          (rw c.first_list.ensures.list at c.new_end.ensures.side s (rw c.first_list.ensures.list b.0)) (rw c.first_list-2.ensures.list at c.new_end-2.ensures.side s (rw c.first_list-2.ensures.list b.1));
+      beside = each-side (λ side e. IsSide s (first_list side) e) ends
+          (subst (λ n. IsSide s n c.new_end.result) c.first_list.ensures.list (c.new_end.ensures.side s (subst (λ n. IsBlank s n) (sym c.first_list.ensures.list) b.0)))
+          (subst (λ n. IsSide s n c.new_end-2.result) c.first_list-2.ensures.list (c.new_end-2.ensures.side s (subst (λ n. IsBlank s n) (sym c.first_list-2.ensures.list) b.1)));
     }

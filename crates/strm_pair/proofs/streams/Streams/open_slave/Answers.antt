@@ -11,6 +11,9 @@ use Rattle.strm_pair.specs.Pairs.{state_in}
 use Rattle.strm_pair.proofs.Sides.{none-left, renewed-beside, renewed-state}
 use Rattle.strm_pair.proofs.streams.Streams.open_slave.Goals as goal
 
+pub open-requires : goal.open-requires
+open-requires g c = (c.requires.beside Slave).head.ready
+
 pub returns-then-not-is_empty-clause-held : goal.returns-then-not-is_empty-clause-held
 returns-then-not-is_empty-clause-held g c =
     record { hand = c.open.ensures.keeps.hand ∙ c.requires.hand; beside = renewed-beside (g.B.Blocks.value c.args.store.now) (g.B.Blocks.value c.open.new.store) c.args.self.now c.open.new.self c.requires.beside Slave c.open.ensures.driver c.open.ensures.stack c.open.ensures.keeps }

@@ -26,6 +26,9 @@ put_mode-requires-clause-room g c =
     let room = c.requires.room in
     record { mblks = omega (arith, frees.mblks, room.mblks); dblks = omega (arith, frees.dblks, room.dblks) }
 
+pub returns-clause-held : goal.returns-clause-held
+returns-clause-held g c = c.drop_ioctl.ensures.held (g.B.Blocks.value c.put_mode.new.store) c.put_mode.ensures.held
+
 pub returns-clause-state : goal.returns-clause-state
 returns-clause-state g c =
     let side = c.args.side in

@@ -1,10 +1,17 @@
 -- The driver takes the message, and what it says of its queues is done.
-use Rattle.std.proofs.Common.{ap, ◌∙◌, refl}
+use Rattle.std.proofs.Common.{ℕ, ◌≡◌, refl, ap, subst, ◌∙◌}
 use Rattle.std.specs.Prelude.{Some}
 use Rattle.strm_types.specs.declared.names.Place.TheVariants.{Driver}
+use Rattle.strm_types.specs.Deliver.{Acted, tallied}
+use Rattle.strm_types.specs.Drivers.{driver_put}
+use Rattle.strm_types.specs.Queue.{Queue}
 use Rattle.strm_laws.specs.Earlier.{before_among}
 use Rattle.strm_laws.specs.Puts.{earlier_at, noted}
+use Rattle.strm_frame.specs.Outboxes.{message_in, parcels_in, sent_of}
 use Rattle.strm_frame.proofs.Handing.{can-in_hand}
+use Rattle.strm_pty.specs.Does.{OnlyQueue}
+use Rattle.strm_queue.specs.Stored.{queue_in}
+use Rattle.strm_pair.specs.declared.ends.StreamEnd.{StreamEnd}
 use Rattle.strm_pair.specs.Pairs.{end_at, kept_by, state_in, with_end}
 use Rattle.strm_pair.proofs.PutSteps.{driver-by, driver-room}
 use Rattle.strm_pair.proofs.Sides.{modules-behind}
@@ -24,10 +31,20 @@ returns g c =
     let side = c.args.to.side in
     let at = c.driver_place-at.result in
     let acts = c.put-acts.result in
-    let e = rw c.get_mut.ensures.value at c.put-acts.ensures in
+    let t = g.B.Blocks.value c.put-acts.new.store in
+    let f = c.args.told.now in
+    let did : StreamEnd → Acted ℕ (Queue ℕ) = λ x. driver_put side c.across-across.result (record c.args.to { at = at }) (message_in s (token c.args.message)) (queue_in s x.driver) in
+    let is = c.get_mut.ensures.value in
+    let e = c.put-acts.ensures in
     let end = record (end_at side p) { driver = c.put-acts.new.queue } in
     driver-by side s (g.B.Blocks.value c.put-acts.new.store) p c.note.new.self c.put-acts.new.queue (token c.args.message) c.args.to at c.across-across.result acts c.args.told.now c.put-acts.new.told
-    c.audit.ensures c.requires.can_put c.requires.chain refl (c.driver_place-at.ensures.place s) (c.across-across.ensures s) c.requires.beside e.state e.notes e.sent e.told e.only e.chains e.hands e.spends e.pool
-    (rw c.get_mut.ensures.value at c.note.ensures s
+    c.audit.ensures c.requires.can_put c.requires.chain refl (c.driver_place-at.ensures.place s) (c.across-across.ensures s) c.requires.beside
+    (subst (λ (x : StreamEnd). queue_in t c.put-acts.new.queue ≡ (did x).state) is e.state)
+    (subst (λ (x : StreamEnd). acts.notes.items ≡ (did x).notes) is e.notes)
+    (subst (λ (x : StreamEnd). parcels_in t (sent_of acts.sent) ≡ (did x).sent) is e.sent)
+    (subst (λ (x : StreamEnd). c.put-acts.new.told ≡ tallied (did x).gone f) is e.told)
+    (subst (λ (x : StreamEnd). OnlyQueue s t x.driver c.put-acts.new.queue) is e.only)
+    e.chains e.hands e.spends e.pool
+    (rw is at (c.note.ensures s)
     ∙ ap (λ ns. record (with_end side end p) { enabled = noted side (Some Driver) (earlier_at side at (state_in s (with_end side end p))) ns p.enabled }) c.as_slice.ensures.value
     ∙ ap (λ ms. record (with_end side end p) { enabled = noted side (Some Driver) (λ way. before_among side way at ms) acts.notes.items p.enabled }) (modules-behind s p side end refl))

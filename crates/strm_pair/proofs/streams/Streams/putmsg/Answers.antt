@@ -66,6 +66,9 @@ with_written-book-requires g c =
     let few = parts-few c.args.prio (shown c.args.control) (shown c.args.body) c.requires.allowed in
     omega (arith, book-low c.args.side old c.requires.in_range, is, sent, stays, same, few, c.len_of.ensures.value, c.len_of-2.ensures.value)
 
+pub returns-clause-held : goal.returns-clause-held
+returns-clause-held g c = c.keep_book.ensures.held (g.B.Blocks.value c.deliver_alone.new.store) c.deliver_alone.ensures.held
+
 pub returns-clause-left : goal.returns-clause-left
 returns-clause-left g c =
     let s = g.B.Blocks.value c.args.store.now in

@@ -34,7 +34,7 @@ returns-clause-state g c =
     let side = c.args.side in
     let end = record (end_at side p) { head = c.read-goes.new.self } in
     let e = rw c.get_mut.ensures.value at c.read-goes.ensures in
-    ap (state_in t) (rw c.get_mut.ensures.value at c.let_go.ensures s)
+    ap (state_in t) (rw c.get_mut.ensures.value at (c.let_go.ensures s))
     ∙ ap (λ ms. record (state_in t (with_end side end p)) { enabled = enable_some c.read-goes.result (before_among side Up 0 ms) p.enabled }) (modules-behind s p side end refl)
     ∙ read-state side s p c.min-wanted.result c.args.n c.min-wanted.ensures t c.read-goes.new.self c.read-goes.result c.requires.held.beside e.keeps e.modes e.queue e.went
 

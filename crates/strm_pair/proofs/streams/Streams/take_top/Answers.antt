@@ -4,10 +4,17 @@ use Rattle.strm_laws.proofs.Noted.{noted-same}
 use Rattle.strm_types.specs.Modules.{without_module}
 use Rattle.strm_laws.specs.Puts.{earlier_at, noted}
 use Rattle.strm_types.specs.Names.{place_of}
+use Rattle.strm_pair.specs.declared.streams.Streams.{Streams}
 use Rattle.strm_pair.specs.Nearest.{earlier_of}
 use Rattle.strm_pair.specs.Pairs.{state_in}
-use Rattle.strm_pair.proofs.Takings.{enabled-stays, top-went}
+use Rattle.strm_pair.proofs.Takings.{none-went, top-went}
 use Rattle.strm_pair.proofs.streams.Streams.take_top.Goals as goal
+
+pub returns-in_default-clause-taken : goal.returns-in_default-clause-taken
+returns-in_default-clause-taken g c =
+    let e = c.take_off.ensures in
+    none-went c.args.side c.args.rule (g.B.Blocks.value c.args.store.now) (g.B.Blocks.value c.take_off.new.store) c.args.self.now c.take_off.new.self c.args.told.now c.take_off.new.told
+    c.requires.held e.streams (rw c.in_default.is at e.took)
 
 pub returns-clause-taken : goal.returns-clause-taken
 returns-clause-taken g c =
@@ -23,4 +30,4 @@ returns-clause-taken g c =
     ∙ noted-same c.args.side c.place-place.result (earlier_of c.earlier-earlier.result) (earlier_at c.args.side 1 st) (λ way. c.earlier-earlier.ensures s way) c.as_slice.result.now c.take_off.new.self.enabled
     ∙ ap (λ ns. noted c.args.side c.place-place.result (earlier_at c.args.side 1 st) ns c.take_off.new.self.enabled) c.as_slice.ensures.value
     ∙ ap (λ pl. noted c.args.side pl (earlier_at c.args.side 1 st) taken.notes.items c.take_off.new.self.enabled) c.place-place.ensures
-    ∙ ap (λ names. noted c.args.side (place_of taken.name) (earlier_at c.args.side 1 st) taken.notes.items names) (enabled-stays p c.take_off.new.self c.args.side e.streams)))
+    ∙ ap (λ names. noted c.args.side (place_of taken.name) (earlier_at c.args.side 1 st) taken.notes.items names) (ap (λ (r : Streams). r.enabled) e.streams)))

@@ -1,0 +1,6 @@
+-- The queue of the head stays.
+use Rattle.strm_pair.proofs.Sides.{head-held}
+use Rattle.strm_pair.proofs.streams.Streams.take_signals.Goals as goal
+
+pub returns-clause-held : goal.returns-clause-held
+returns-clause-held c = λ s held. head-held s c.args.self.now c.args.side c.get_mut.result.now c.take_signals.new.self c.get_mut.ensures.value c.take_signals.ensures.queue held
