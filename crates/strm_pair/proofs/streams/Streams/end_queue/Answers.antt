@@ -31,8 +31,8 @@ returns-clause-keeps g c =
     let side = c.args.here.side in
     let r = c.get_mut.result.now in
     λ i. kept-with side (record r { stack = c.end_turn.new.self }) p i
-        ∙ ap (λ n. n + stack_keeps (end_at (other side) p).stack i) (c.end_turn.ensures.keeps i ∙ ap (λ (e : StreamEnd). stack_keeps e.stack i) c.get_mut.ensures.value)
-        ∙ sym (kept-parts side p i)
+    ∙ ap (λ n. n + stack_keeps (end_at (other side) p).stack i) (c.end_turn.ensures.keeps i ∙ ap (λ (e : StreamEnd). stack_keeps e.stack i) c.get_mut.ensures.value)
+    ∙ sym (kept-parts side p i)
 
 pub returns-clause-beside : goal.returns-clause-beside
 returns-clause-beside g c =
