@@ -3,6 +3,8 @@ use Rattle.std.specs.Prelude.{ℕ, ◌≡◌, ◌<◌, ◌≤◌, ◌*◌, ◌==
 use Rattle.std.specs.Borrow.{Bor}
 use Rattle.strm_bench.specs.Numbers.{IsNumber, number_of}
 use Rattle.strm_bench.specs.declared.plans.Plan.{Plan}
+use Rattle.strm_bench.specs.declared.plans.Store.{Store}
+use Rattle.strm_bench.specs.declared.plans.Store.TheVariants.{Linked, Tables}
 use Rattle.strm_bench.specs.declared.plans.Typed.{Typed}
 use Rattle.strm_bench.specs.declared.plans.Typed.TheVariants.{Nothing, Lines, Raw, Shown, ShownRaw}
 
@@ -19,9 +21,13 @@ abbrev pub typed_by : ℕ → Option Typed
 typed_by n = if n == 0 then Some Nothing else (if n == 1 then Some Lines else (if n == 2 then Some Raw
     else (if n == 3 then Some Shown else (if n == 4 then Some ShownRaw else None))))
 
--- eight numbers in the ranges of a plan
+-- the store that a number says
+abbrev pub store_by : ℕ → Option Store
+store_by n = if n == 0 then Some Linked else (if n == 1 then Some Tables else None)
+
+-- nine numbers in the ranges of a plan
 pub record IsPlan (words : Words) : Type 0 where
-  pub eight : length words ≡ 8
+  pub nine : length words ≡ 9
   pub pairs : IsNumber (word words 0)
   pub rounds : IsNumber (word words 1)
   pub size : IsNumber (word words 2)
@@ -30,11 +36,13 @@ pub record IsPlan (words : Words) : Type 0 where
   pub entries : IsNumber (word words 5)
   pub warm : IsNumber (word words 6)
   pub typed : IsNumber (word words 7)
+  pub store : IsNumber (word words 8)
   pub small : number_of (word words 2) ≤ 4096
   pub some_blocks : 0 < number_of (word words 4)
   pub few_blocks : number_of (word words 4) ≤ 65536
   pub warm_or_not : number_of (word words 6) ≤ 1
   pub known : number_of (word words 7) ≤ 4
+  pub known_store : number_of (word words 8) ≤ 1
   pub line : number_of (word words 7) ≡ 1 → number_of (word words 2) ≤ 256
 
 -- a plan has the numbers that the words spell
@@ -47,6 +55,7 @@ pub record Says (words : Words) (plan : Plan) : Type 0 where
   pub entries : plan.entries ≡ number_of (word words 5)
   pub warm : plan.warm ≡ (number_of (word words 6) == 1)
   pub typed : Some plan.typed ≡ typed_by (number_of (word words 7))
+  pub store : Some plan.store ≡ store_by (number_of (word words 8))
 
 -- how many bytes the rounds of a plan ask for
 abbrev pub bytes_asked : Plan → ℕ

@@ -1,5 +1,5 @@
 //! Rounds of a write, a turn and a read on a pair, for `bench/run` to time. Each line of standard input is a plan of
-//! eight numbers; the answer is how many bytes were read.
+//! nine numbers; the answer is how many bytes were read.
 #![tactic(auto)]
 
 mod plans;
@@ -15,7 +15,7 @@ fn main(rt: HostRuntime) -> io::Result<()> {
         let line = line?;
         let words: Vec<&str> = line.split_whitespace().collect(rt.alloc())?;
         let Some(plan) = read_plan(&words) else {
-            println!(rt; "a plan is: pairs rounds size standing blocks entries warm typed")?;
+            println!(rt; "a plan is: pairs rounds size standing blocks entries warm typed store")?;
             continue;
         };
         match run(rt.alloc(), &plan) {

@@ -15,6 +15,13 @@ pub enum Typed {
     ShownRaw,
 }
 
+/// The store of a plan's pairs: linked raw blocks, or tables.
+#[derive(Clone, Copy)]
+pub enum Store {
+    Linked,
+    Tables,
+}
+
 /// A plan: so many pairs one after the other, on each so many rounds of a write of `size` bytes, a turn and a read,
 /// while `standing` messages of one byte stand on the slave's head. A warm plan makes each pair as new after its rounds,
 /// and makes them again, on memory that was written before. Where lines are typed each write is one, which goes up as one, and its echo is
@@ -29,6 +36,7 @@ pub struct Plan {
     pub entries: u32,
     pub warm: bool,
     pub typed: Typed,
+    pub store: Store,
     pub ghost some_blocks: { 0 < blocks },
     pub ghost few_blocks: { blocks ≤ 65536 },
     pub ghost small: { size ≤ 4096 },

@@ -3,18 +3,29 @@
 ghost use Rattle.std.specs.Prelude.{◌↔◌, ◌≡◌, IsSome, IfSome};
 ghost use Rattle.std.specs.Option.{SomeIff};
 ghost use Rattle.strm_bench.specs.Numbers.{IsNumber, number_of};
-ghost use Rattle.strm_bench.specs.Plans.{IsPlan, Says, typed_by};
+ghost use Rattle.strm_bench.specs.Plans.{IsPlan, Says, store_by, typed_by};
 
-use crate::plans::{Plan, Typed};
+use crate::plans::{Plan, Store, Typed};
 
-/// The plan that eight words say, each a number: blocks from 1 to 65536, a size of at most 4096, then 1 for a warm plan and else 0, and
+/// The plan that nine words say, each a number: blocks from 1 to 65536, a size of at most 4096, then 1 for a warm plan and else 0, and
 /// what is typed: 0 for bytes without a line discipline, 1 for lines, whose size is at most 256, 2 for raw mode, and 3 and 4 for what the slave
 /// writes, by the first modes and in raw mode.
 pub fn read_plan(words: &[&str]) -> Option<Plan>
     ensures known { IsSome result ↔ IsPlan words.now }
     ensures numbers { IfSome result (Says words.now) }
 {
-    let [pairs, rounds, size, standing, blocks, entries, warm, typed] = *words else {
+    let [
+        pairs,
+        rounds,
+        size,
+        standing,
+        blocks,
+        entries,
+        warm,
+        typed,
+        store,
+    ] = *words
+    else {
         return None;
     };
     let pairs = number(pairs)?;
@@ -25,10 +36,12 @@ pub fn read_plan(words: &[&str]) -> Option<Plan>
     let entries = number(entries)?;
     let warm = number(warm)?;
     let typed = number(typed)?;
+    let store = number(store)?;
     if blocks == 0 || blocks > 65536 || size > 4096 || warm > 1 {
         return None;
     }
     let typed = typed_as(typed)?;
+    let store = store_as(store)?;
     if typed == Typed::Lines && size > 256 {
         return None;
     }
@@ -41,6 +54,7 @@ pub fn read_plan(words: &[&str]) -> Option<Plan>
         entries,
         warm: warm == 1,
         typed,
+        store,
     })
 }
 
@@ -54,6 +68,17 @@ fn typed_as(number: u32) -> Option<Typed>
         2 => Some(Typed::Raw),
         3 => Some(Typed::Shown),
         4 => Some(Typed::ShownRaw),
+        _ => None,
+    }
+}
+
+// The store that a number says.
+fn store_as(number: u32) -> Option<Store>
+    ensures { result ≡ store_by number }
+{
+    match number {
+        0 => Some(Store::Linked),
+        1 => Some(Store::Tables),
         _ => None,
     }
 }

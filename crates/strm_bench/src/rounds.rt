@@ -4,10 +4,11 @@ ghost use Rattle.std.specs.Prelude.{◌≤◌, ◌*◌, if◌then◌else◌, len
 ghost use Rattle.std.specs.Bool.{OnTrue};
 ghost use Rattle.strm_bench.specs.Plans.{bytes_asked};
 
-use crate::plans::{Plan, Typed};
+use crate::plans::{Plan, Store, Typed};
 use std::alloc::Global;
-use strm_blocks::TableStore;
+use strm_blocks::{Blocks, Reserve, TableStore};
 use strm_pair::Pair;
+use strm_raw::RawStore;
 use strm_types::{
     Caller, Config, Content, Event, InputModes, LocalModes, ModuleName, OutputModes, Side, TCSETS,
     Termios,
@@ -24,7 +25,7 @@ static LINE: &[u8; 256] =
     b"zzzzzzzzzzzzzzzzzzzzzzzzzzzzzzzzzzzzzzzzzzzzzzzzzzzzzzzzzzzzzzzzzzzzzzzzzzzzzzzzzzzzzzzzzzzzzzzzzzzzzzzzzzzzzzzzzzzzzzzzzzzzzzzzzzzzzzzzzzzzzzzzzzzzzzzzzzzzzzzzzzzzzzzzzzzzzzzzzzzzzzzzzzzzzzzzzzzzzzzzzzzzzzzzzzzzzzzzzzzzzzzzzzzzzzzzzzzzzzzzzzzzzzzzzzzzzzz\n";
 
 // A new pair of a plan's sizes.
-fn new_pair(alloc: Global, plan: &Plan) -> Option<Pair<TableStore>> {
+fn new_pair<B: Reserve>(alloc: Global, plan: &Plan) -> Option<Pair<B>> {
     let blocks = plan.blocks as usize;
     let sizes = Config {
         mblks: blocks,
@@ -32,7 +33,7 @@ fn new_pair(alloc: Global, plan: &Plan) -> Option<Pair<TableStore>> {
         journal_events: plan.entries as usize,
         journal_bytes: (plan.entries as usize) * 4096,
     };
-    let Ok(store) = TableStore::new(alloc, blocks, blocks) else {
+    let Ok(store) = B::reserve(alloc, blocks, blocks) else {
         return None;
     };
     match Pair::new(alloc, sizes, store) {
@@ -42,8 +43,8 @@ fn new_pair(alloc: Global, plan: &Plan) -> Option<Pair<TableStore>> {
 }
 
 // Makes a call; whether it was granted.
-fn calls(
-    pair: &mut Pair<TableStore>,
+fn calls<B: Blocks + Drop>(
+    pair: &mut Pair<B>,
     caller: Caller,
     event: &Event<&[u8]>,
     out: &mut Content,
@@ -52,19 +53,19 @@ fn calls(
 }
 
 // Opens both sides of a new pair; whether that went well.
-fn opens(pair: &mut Pair<TableStore>, out: &mut Content) -> bool {
+fn opens<B: Blocks + Drop>(pair: &mut Pair<B>, out: &mut Content) -> bool {
     calls(pair, MASTER, &Event::OpenMaster, out)
         && calls(pair, MASTER, &Event::Unlock, out)
         && calls(pair, SLAVE, &Event::OpenSlave, out)
 }
 
 // Pushes a module on the slave; whether it was granted.
-fn pushes(pair: &mut Pair<TableStore>, name: ModuleName, out: &mut Content) -> bool {
+fn pushes<B: Blocks + Drop>(pair: &mut Pair<B>, name: ModuleName, out: &mut Content) -> bool {
     calls(pair, SLAVE, &Event::Push { name: Some(name) }, out)
 }
 
 // Sets raw mode on the slave, and makes the turns that tell the master; whether all went well.
-fn makes_raw(pair: &mut Pair<TableStore>, out: &mut Content) -> bool {
+fn makes_raw<B: Blocks + Drop>(pair: &mut Pair<B>, out: &mut Content) -> bool {
     let mut raw = Termios::new();
     raw.iflag = InputModes(0);
     raw.oflag = OutputModes(0);
@@ -78,7 +79,7 @@ fn makes_raw(pair: &mut Pair<TableStore>, out: &mut Content) -> bool {
 }
 
 // What stands on the slave in a plan; whether all was granted.
-fn sets_up(pair: &mut Pair<TableStore>, plan: &Plan, out: &mut Content) -> bool {
+fn sets_up<B: Blocks + Drop>(pair: &mut Pair<B>, plan: &Plan, out: &mut Content) -> bool {
     if plan.typed == Typed::Nothing {
         return true;
     }
@@ -107,7 +108,7 @@ fn written(plan: &Plan) -> &'static [u8] {
 }
 
 // The turns of queues that are enabled, sixteen at most; whether all were made.
-fn turns(pair: &mut Pair<TableStore>) -> bool {
+fn turns<B: Blocks + Drop>(pair: &mut Pair<B>) -> bool {
     for _ in 0..16 {
         let Some(queue) = pair.first_enabled() else {
             break;
@@ -120,24 +121,29 @@ fn turns(pair: &mut Pair<TableStore>) -> bool {
 }
 
 // A write, and the turns that carry it to the head across; whether all went well.
-fn sends(pair: &mut Pair<TableStore>, writer: Caller, bytes: &[u8], out: &mut Content) -> bool {
+fn sends<B: Blocks + Drop>(
+    pair: &mut Pair<B>,
+    writer: Caller,
+    bytes: &[u8],
+    out: &mut Content,
+) -> bool {
     calls(pair, writer, &Event::Write { bytes }, out) && turns(pair)
 }
 
 // A read of what is echoed on the master, where lines are typed; whether it was granted.
-fn echoes(pair: &mut Pair<TableStore>, plan: &Plan, out: &mut Content) -> bool {
+fn echoes<B: Blocks + Drop>(pair: &mut Pair<B>, plan: &Plan, out: &mut Content) -> bool {
     plan.typed != Typed::Lines || calls(pair, MASTER, &Event::Read { n: 4096 }, out)
 }
 
 // A read of up to so many bytes; whether it was granted.
-fn reads(pair: &mut Pair<TableStore>, reader: Caller, n: u32, out: &mut Content) -> bool
+fn reads<B: Blocks + Drop>(pair: &mut Pair<B>, reader: Caller, n: u32, out: &mut Content) -> bool
     ensures { OnTrue result (length out.new.items ≤ n) }
 {
     pair.call(reader, &Event::Read { n }, out).is_ok()
 }
 
 // The rounds on a pair: how many bytes were read.
-fn rounds(pair: &mut Pair<TableStore>, plan: &Plan) -> Option<u64>
+fn rounds<B: Blocks + Drop>(pair: &mut Pair<B>, plan: &Plan) -> Option<u64>
     ensures { IfSome result (λ bytes. bytes ≤ plan.now.rounds * plan.now.size) }
 {
     let mut out = Content::new();
@@ -164,10 +170,10 @@ fn rounds(pair: &mut Pair<TableStore>, plan: &Plan) -> Option<u64>
 }
 
 // The rounds of a pair of its own, and where the plan is warm once more on the same pair, made as new.
-fn one_pair(alloc: Global, plan: &Plan) -> Option<u64>
+fn one_pair<B: Reserve>(alloc: Global, plan: &Plan) -> Option<u64>
     ensures { IfSome result (λ bytes. bytes ≤ (if plan.now.warm then 2 else 1) * (plan.now.rounds * plan.now.size)) }
 {
-    let mut pair = new_pair(alloc, plan)?;
+    let mut pair = new_pair::<B>(alloc, plan)?;
     let first = rounds(&mut pair, plan)?;
     if !plan.warm {
         return Some(first);
@@ -177,6 +183,16 @@ fn one_pair(alloc: Global, plan: &Plan) -> Option<u64>
     Some(first.saturating_add(again))
 }
 
+// The rounds of a pair over the plan's store.
+fn on_its_store(alloc: Global, plan: &Plan) -> Option<u64>
+    ensures { IfSome result (λ bytes. bytes ≤ (if plan.now.warm then 2 else 1) * (plan.now.rounds * plan.now.size)) }
+{
+    match plan.store {
+        Store::Linked => one_pair::<RawStore>(alloc, plan),
+        Store::Tables => one_pair::<TableStore>(alloc, plan),
+    }
+}
+
 /// Carries out a plan, and says how many bytes were read: no more than its rounds ask for. It says nothing where memory or
 /// a call was refused.
 pub fn run(alloc: Global, plan: &Plan) -> Option<u64>
@@ -184,7 +200,7 @@ pub fn run(alloc: Global, plan: &Plan) -> Option<u64>
 {
     let mut read = 0u64;
     for _ in 0..plan.pairs {
-        read = read.saturating_add(one_pair(alloc, plan)?);
+        read = read.saturating_add(on_its_store(alloc, plan)?);
     }
     Some(read)
 }
