@@ -1,8 +1,8 @@
 //! A first session on a pair: what the master writes is carried to the slave, and read there.
 #![tactic(auto)]
 
-use strm_blocks::TableStore;
 use strm_pair::Pair;
+use strm_raw::RawStore;
 use strm_types::{Caller, Config, Content, Event, Refusal, Side};
 
 const MASTER: Caller = Caller { side: Side::Master };
@@ -17,7 +17,7 @@ const SIZES: Config = Config {
 };
 
 // Opens both sides, writes, makes the turns, and reads. Each refusal has a name, and leaves the pair as it was.
-fn session(pair: &mut Pair<TableStore>, out: &mut Content) -> Result<(), Refusal> {
+fn session(pair: &mut Pair<RawStore>, out: &mut Content) -> Result<(), Refusal> {
     pair.call(MASTER, &Event::OpenMaster, out)?;
     pair.call(MASTER, &Event::Unlock, out)?;
     pair.call(SLAVE, &Event::OpenSlave, out)?;
@@ -33,7 +33,7 @@ fn session(pair: &mut Pair<TableStore>, out: &mut Content) -> Result<(), Refusal
 }
 
 fn main(rt: HostRuntime) -> anyhow::Result<()> {
-    let store = TableStore::new(rt.alloc(), SIZES.mblks, SIZES.dblks)?;
+    let store = RawStore::new(rt.alloc(), SIZES.mblks, SIZES.dblks)?;
     let mut pair = Pair::new(rt.alloc(), SIZES, store).map_err(|(why, _store)| why)?;
     let mut out = Content::new();
     session(&mut pair, &mut out)?;
