@@ -7,4 +7,4 @@ mod locked;
 mod tests;
 
 pub use laws::entries_are_tallied;
-pub use locked::{Locked, over_tables};
+pub use locked::{Locked, Store, unopened};

@@ -7,13 +7,17 @@ ghost use Rattle.strm_locks.specs.Books.{IsNew};
 ghost use Rattle.strm_system.specs.Known.{AreCounts, Agrees};
 
 use std::alloc::{AllocError, Global};
-use strm_blocks::{Blocks, TableStore};
+use strm_blocks::{Blocks, Reserve};
 use strm_locks::Object;
 use strm_pair::Pair;
+use strm_raw::RawStore;
 use strm_types::{
     Answer, Caller, Config, Content, Dir, Event, Ledger, QueueName, RULES, Refusal, Rule, Side,
     Turn,
 };
+
+/// The store of a system's pairs.
+pub type Store = RawStore;
 
 /// A pair over a store. It stands in a type of this crate, as the pair and what a lock asks for are of two others.
 #[derive(Drop)]
@@ -90,14 +94,14 @@ impl<B: Blocks + Drop> Object for Locked<B> {
     }
 }
 
-/// A pair over a store of tables that nobody opened, with the journal of these sizes and so many blocks of each kind, from 1 to 65536: a
+/// A pair over a new store that nobody opened, with the journal of these sizes and so many blocks of each kind, from 1 to 65536: a
 /// number beyond is as the nearest of them. It is refused for want of memory alone.
-pub fn over_tables(alloc: Global, sizes: Config) -> Result<Locked<TableStore>, AllocError>
+pub fn unopened<B: Reserve>(alloc: Global, sizes: Config) -> Result<Locked<B>, AllocError>
     ensures { IfOk result (λ l. IsNew l.pair) }
 {
     let mblks = sizes.mblks.clamp(1, 65536);
     let dblks = sizes.dblks.clamp(1, 65536);
-    let store = TableStore::new(alloc, mblks, dblks)?;
+    let store = B::reserve(alloc, mblks, dblks)?;
     match Pair::new(alloc, sizes, store) {
         Ok(pair) => Ok(Locked { pair }),
         Err(_) => Err(AllocError),

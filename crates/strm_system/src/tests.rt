@@ -7,13 +7,12 @@ use std::alloc::{AllocError, Global};
 use std::sync::Wait;
 use std::test::Fail;
 use std::thread::{Threads, join};
-use strm_blocks::TableStore;
 use strm_locks::{End, Held, Lock};
 use strm_types::{Config, Content, Event, Refusal};
 
-type TableLock = Lock<Locked<TableStore>>;
+type RawLock = Lock<Locked<Store>>;
 
-type TableEnd = End<Locked<TableStore>>;
+type RawEnd = End<Locked<Store>>;
 
 const SIZES: Config = Config {
     mblks: 64,
@@ -23,8 +22,8 @@ const SIZES: Config = Config {
 };
 
 // A new pair under a lock.
-fn lock(alloc: Global) -> Result<TableLock, AllocError> {
-    Lock::new(alloc, Held::new(over_tables(alloc, SIZES)?))
+fn lock(alloc: Global) -> Result<RawLock, AllocError> {
+    Lock::new(alloc, Held::new(unopened(alloc, SIZES)?))
 }
 
 #[test]
@@ -67,7 +66,7 @@ fn a_session_is_told_and_settles(rt: HostRuntime) -> Result<(), Fail> {
 const ALL: u64 = 80;
 
 // The master's thread: it writes until all is written. A write that is refused for want of room is made again.
-fn write_all<R: Wait>(rt: &R, lock: &TableLock, end: TableEnd) -> TableEnd
+fn write_all<R: Wait>(rt: &R, lock: &RawLock, end: RawEnd) -> RawEnd
     requires { IsOf lock.now end }
     ensures { IsOf lock.now result }
 {
@@ -84,7 +83,7 @@ fn write_all<R: Wait>(rt: &R, lock: &TableLock, end: TableEnd) -> TableEnd
 }
 
 // The slave's thread: it reads until all is read, and makes a turn before each read.
-fn read_all<R: Wait>(rt: &R, lock: &TableLock, end: TableEnd) -> TableEnd
+fn read_all<R: Wait>(rt: &R, lock: &RawLock, end: RawEnd) -> RawEnd
     requires { IsOf lock.now end }
     ensures { IsOf lock.now result }
 {
@@ -101,20 +100,20 @@ fn read_all<R: Wait>(rt: &R, lock: &TableLock, end: TableEnd) -> TableEnd
 }
 
 // A worker's thread.
-fn make_turns<R: Wait>(rt: &R, lock: &TableLock) {
+fn make_turns<R: Wait>(rt: &R, lock: &RawLock) {
     for _ in 0..1000 {
         let _ = lock.turn(rt);
     }
 }
 
 // Reads all, beside a worker.
-fn read_beside<R: Threads + Wait + Sync>(rt: &R, lock: &TableLock, end: TableEnd) -> TableEnd
+fn read_beside<R: Threads + Wait + Sync>(rt: &R, lock: &RawLock, end: RawEnd) -> RawEnd
     requires { IsOf lock.now end }
     ensures { IsOf lock.now result }
 {
     let (end, _) = join(
         rt,
-        || -> TableEnd
+        || -> RawEnd
             requires { IsOf lock.now end }
             ensures { IsOf lock.entry.now result }
         { read_all(rt, lock, end) },
@@ -139,11 +138,11 @@ fn threads_read_what_they_write(rt: HostRuntime) -> Result<(), Fail> {
     let runtime = &rt;
     let (master, slave) = join(
         runtime,
-        || -> TableEnd
+        || -> RawEnd
             requires { IsOf shared.now master }
             ensures { IsOf shared.entry.now result }
         { write_all(runtime, shared, master) },
-        || -> TableEnd
+        || -> RawEnd
             requires { IsOf shared.now slave }
             ensures { IsOf shared.entry.now result }
         { read_beside(runtime, shared, slave) },
