@@ -2,6 +2,8 @@
 ghost use Rattle.std.specs.Prelude.{true, ◌≡◌, ◌<◌, ◌≤◌, ◌-◌, ◌==◌, if◌then◌else◌, length, not};
 ghost use Rattle.strm_blocks.specs.Blocks.{IsInHand, in_hand, token};
 
+mod walk;
+
 use crate::raw::RawStore;
 use std::test::Fail;
 use strm_blocks::{Blocks, FlushWhat, InHand, NoBlocks, Peek, Summary, TableStore, Visitor};
