@@ -1,0 +1,79 @@
+//! A server: on each of eight pairs a thread has the master's end, and another the slave's.
+
+ghost use Rattle.std.specs.Prelude.{◌<◌, length};
+ghost use Rattle.strm_locks.specs.Systems.{IsOne};
+
+use crate::systems::{PairSystem, SIZES, SystemEnd, system};
+use std::sync::Wait;
+use std::test::Fail;
+use std::thread::{Threads, join};
+use strm_minors::Minor;
+use strm_types::{Content, Event, Refusal};
+
+// The master's thread writes a greeting.
+fn greet<R: Wait>(rt: &R, system: &PairSystem, end: SystemEnd) -> SystemEnd
+    requires { IsOne system.now end }
+    ensures { IsOne system.now result }
+{
+    let mut end = end;
+    let bytes = b"login: ".as_slice();
+    let _ = system.call(rt, &mut end, &Event::Write { bytes }, &mut Content::new());
+    end
+}
+
+// The slave's thread makes turns and reads, until it has the greeting.
+fn listen<R: Wait>(rt: &R, system: &PairSystem, end: SystemEnd) -> SystemEnd
+    requires { IsOne system.now end }
+    ensures { IsOne system.now result }
+{
+    let mut end = end;
+    for _ in rt.forever() {
+        if end.end().told().read.from_master == 7 {
+            return end;
+        }
+        let _ = system.turn(rt, end.pair());
+        let _ = system.call(rt, &mut end, &Event::Read { n: 64 }, &mut Content::new());
+    }
+    unreachable!()
+}
+
+// Opens a pair, gives its ends to two threads, and settles it: how many calls they made.
+fn serve<R: Threads + Wait + Sync>(
+    rt: &R,
+    system: &PairSystem,
+    minor: &Minor,
+) -> Result<u64, Refusal>
+    requires { minor.now < length system.now.locks }
+{
+    let mut master = system.open(rt, minor)?;
+    system.call(rt, &mut master, &Event::Unlock, &mut Content::new())?;
+    let slave = system.open_slave(rt, &mut master)?;
+    let (master, slave) = join(
+        rt,
+        || -> SystemEnd
+            requires { IsOne system.now master }
+            ensures { IsOne system.entry.now result }
+        { greet(rt, system, master) },
+        || -> SystemEnd
+            requires { IsOne system.now slave }
+            ensures { IsOne system.entry.now result }
+        { listen(rt, system, slave) },
+    );
+    let Ok(both) = system.join(master, slave) else {
+        return Err(Refusal::StillShared);
+    };
+    match system.settle(rt, both) {
+        Ok(settled) => Ok(settled.told.calls),
+        Err(_) => Err(Refusal::StillShared),
+    }
+}
+
+#[test]
+fn eight_pairs_are_served(rt: HostRuntime) -> Result<(), Fail> {
+    let (system, mut opener) = system(rt.alloc(), 8, SIZES)?;
+    for _ in 0..8 {
+        let minor = system.minors().claim(&mut opener)?;
+        assert!(rt; matches!(serve(&rt, &system, &minor), Ok(calls) if calls >= 5));
+    }
+    Ok(())
+}
