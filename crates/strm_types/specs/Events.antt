@@ -2,7 +2,7 @@
 use Rattle.std.specs.Prelude.{ℕ, ◌≡◌, List, [], ◌++◌, Option, None, Some, option_map, ⊤}
 use denote.Ref.{Bor}
 use Rattle.strm_types.specs.declared.answers.Answer.{Answer}
-use Rattle.strm_types.specs.declared.answers.Answer.TheVariants.{Done, Name, Count, Bytes, Msg, Sizes, Pending, Nak, Signals}
+use Rattle.strm_types.specs.declared.answers.Answer.TheVariants.{Done, Name, Count, Bytes, Msg, Sizes, Pending, Nak, Signals, Stop}
 use Rattle.strm_types.specs.declared.events.Event.{Event}
 use Rattle.strm_types.specs.declared.events.Event.TheVariants.{OpenMaster, Unlock, OpenSlave, Shut, Push, Pop, Look, Flush, Write, Read, Put, Get, Mode, Nread, Ioctl, IoctlResult}
 use Rattle.strm_types.specs.declared.events.Event.TheVariants as events
@@ -39,6 +39,7 @@ map_answer f (Sizes first messages) = Sizes first messages
 map_answer f (Pending number) = Pending number
 map_answer f (Nak refusal) = Nak refusal
 map_answer f (Signals bytes) = Signals (f bytes)
+map_answer f (Stop signal) = Stop signal
 
 module _ {A B : Type 0} (R : A → B → Type 0) where
   -- two parts that both are there and related, or both absent
@@ -80,6 +81,7 @@ module _ {A B : Type 0} (R : A → B → Type 0) where
   AnswersAlike (Pending number) (Pending number') = number ≡ number'
   AnswersAlike (Nak refusal) (Nak refusal') = refusal ≡ refusal'
   AnswersAlike (Signals x) (Signals y) = R x y
+  AnswersAlike (Stop signal) (Stop signal') = signal ≡ signal'
   AnswersAlike _ _ = ⊥
 
 -- a call with its bytes, and an answer with its bytes

@@ -30,13 +30,14 @@ use Rattle.strm_types.specs.Queue.{Queue, marked, put_on, new_queue, map_queue}
 use Rattle.strm_types.specs.Signals.{signal_in, with_signal}
 use Rattle.strm_types.specs.Slots.{slot_answered, PlainSlot}
 
--- a stream head: what it has for its readers, how they read it, TOSTOP, whether an M_HANGUP came up, as the other end is gone, the
--- signals that came up, and the ioctl that is under way
+-- a stream head: what it has for its readers, how they read it, TOSTOP and the foreground process group (0 for none), whether an M_HANGUP
+-- came up, as the other end is gone, the signals that came up, and the ioctl that is under way
 pub record Head (C : Type 0) : Type 0 where
   pub queue : Queue C
   pub read_mode : ReadMode
   pub control_mode : ControlMode
   pub tostop : Bool
+  pub group : ℕ
   pub hung_up : Bool
   pub signals : List ℕ
   pub ioctl : PlainSlot
@@ -46,9 +47,9 @@ is_pcproto Pcproto = true
 is_pcproto _ = false
 
 module _ {C : Type 0} where
-  -- a head as it is made: marks 5120 and 1024, RNORM and RPROTNORM, without TOSTOP
+  -- a head as it is made: marks 5120 and 1024, RNORM and RPROTNORM, without TOSTOP and without a group
   abbrev pub new_head : Head C
-  new_head = record { queue = new_queue 5120 1024; read_mode = ByteStream; control_mode = Refuse; tostop = false; hung_up = false; signals = []; ioctl = Free }
+  new_head = record { queue = new_queue 5120 1024; read_mode = ByteStream; control_mode = Refuse; tostop = false; group = 0; hung_up = false; signals = []; ioctl = Free }
 
   -- the head with one mode set, and the other one as it was
   abbrev pub with_mode : Mode → Head C → Head C
@@ -128,6 +129,7 @@ map_head f h = record {
   read_mode = h.read_mode;
   control_mode = h.control_mode;
   tostop = h.tostop;
+  group = h.group;
   hung_up = h.hung_up;
   signals = h.signals;
   ioctl = h.ioctl;

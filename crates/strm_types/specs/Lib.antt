@@ -31,6 +31,7 @@ pub mod Costs
 pub mod Events
 pub mod Refused
 pub mod Needs
+pub mod JobControl
 pub mod Journal
 pub mod Numbers
 pub mod Signals

@@ -10,6 +10,7 @@ use crate::limits::{CONTENT_MAX, READ_MAX};
 use crate::modes::Prio;
 use crate::names::ModuleName;
 use crate::refusals::Refusal;
+use crate::signals::StopSignal;
 use arrayvec::ArrayVec;
 
 /// The bytes that one read gives, or one part of a getmsg(2).
@@ -50,6 +51,8 @@ pub enum Answer<T> {
     Nak(Refusal),
     /// The signals that waited, a byte each.
     Signals(T),
+    /// The caller is in the background and is stopped by this signal: nothing was read or written.
+    Stop(StopSignal),
 }
 
 // So many bytes of the front.
@@ -91,6 +94,7 @@ impl<T> Answer<T> {
             Answer::Pending(number) => Answer::Pending(*number),
             Answer::Nak(refusal) => Answer::Nak(*refusal),
             Answer::Signals(bytes) => Answer::Signals(f(bytes)),
+            Answer::Stop(signal) => Answer::Stop(*signal),
         }
     }
 }

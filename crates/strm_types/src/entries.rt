@@ -6,7 +6,7 @@ use crate::names::QueueName;
 
 /// An entry of a journal, over what stands for its bytes: a call with its answer, or a turn of a queue. A journal keeps
 /// `Entry<u32>`, and the bytes apart in one buffer, in the order of the entries: of each first the bytes of its call,
-/// and then those of its answer. An `Entry<u32>` takes 48 bytes.
+/// and then those of its answer. An `Entry<u32>` takes 60 bytes.
 #[derive(Clone, Copy, PartialEq)]
 pub enum Entry<T> {
     Called {
@@ -20,4 +20,4 @@ pub enum Entry<T> {
     },
 }
 
-const _: () = prove!(size_of::<Entry<u32>>() == 48);
+const _: () = prove!(size_of::<Entry<u32>>() == 60);

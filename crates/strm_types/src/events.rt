@@ -3,16 +3,38 @@
 ghost use Rattle.std.specs.Fn.{FnReturnsAt};
 ghost use Rattle.std.specs.Prelude.{◌≡◌, ◌<◌, ◌^◌, ◌++◌, length, option_map};
 ghost use Rattle.strm_types.specs.Events.{CallsAlike, PartsAlike, map_event, payload_of, request};
+ghost use Rattle.strm_types.specs.JobControl.{caller_of};
 ghost use Rattle.strm_types.specs.Message.{part};
 
 use crate::kinds::Band;
 use crate::modes::{Mode, Prio, Wanted};
 use crate::names::{ModuleName, Side};
 
-/// Who makes a call: the side whose stream the call is on.
+/// Who makes a call: the side whose stream it is on, and what job control asks of the calling process (POSIX, General Terminal
+/// Interface: Process Groups).
 #[derive(Clone, Copy, PartialEq)]
 pub struct Caller {
     pub side: Side,
+    /// The process group; 0 is none.
+    pub group: u32,
+    /// Whether SIGTTIN and SIGTTOU are ignored or blocked.
+    pub ignores: bool,
+    /// Whether the process group is orphaned.
+    pub orphaned: bool,
+}
+
+impl Caller {
+    /// A caller on a side that has no process group, and whom job control never holds.
+    pub fn of(side: Side) -> Caller
+        ensures { result ≡ caller_of side }
+    {
+        Caller {
+            side,
+            group: 0,
+            ignores: false,
+            orphaned: false,
+        }
+    }
 }
 
 /// Which queues a flush is for: those of the read side, which bring bytes to the caller (FLUSHR), those of the write side

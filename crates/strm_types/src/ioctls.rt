@@ -32,6 +32,11 @@ pub const TIOCSWINSZ: u32 = 6;
 
 pub const TIOCSIGNAL: u32 = 7;
 
+/// The foreground process group of the slave's terminal, read or set (POSIX: `tcgetpgrp`, `tcsetpgrp`): its stream head answers.
+pub const TIOCGPGRP: u32 = 8;
+
+pub const TIOCSPGRP: u32 = 9;
+
 // The number of 32 bits that stands so many bytes on, its most significant byte first.
 pub(crate) fn word_at(bytes: &[u8], at: usize) -> u32
     requires { at + 4 ≤ length bytes.now }

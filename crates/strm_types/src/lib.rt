@@ -10,6 +10,7 @@ mod entries;
 mod events;
 mod flushing;
 mod ioctls;
+mod job_control;
 mod keys;
 mod kinds;
 mod ledger;
@@ -33,7 +34,10 @@ pub use both::Both;
 pub use entries::Entry;
 pub use events::{Caller, Event, FlushQueues};
 pub use flushing::FlushAsked;
-pub use ioctls::{Ioc, TCGETS, TCSETS, TCSETSF, TCSETSW, TIOCGWINSZ, TIOCSIGNAL, TIOCSWINSZ};
+pub use ioctls::{
+    Ioc, TCGETS, TCSETS, TCSETSF, TCSETSW, TIOCGPGRP, TIOCGWINSZ, TIOCSIGNAL, TIOCSPGRP, TIOCSWINSZ,
+};
+pub use job_control::{Verdict, held};
 pub use keys::{Key, LINE_MAX, Stroke};
 pub use kinds::{Band, MsgKind};
 pub use ledger::Ledger;
@@ -44,12 +48,12 @@ pub use limits::{
 };
 pub use modes::{ControlMode, Mode, Prio, ReadMode, Wanted};
 pub use names::{Dir, ModuleName, Openness, Place, QueueName, Side, Way};
-pub use needs::{Needs, Reach, put_refusal};
+pub use needs::{Access, Needs, Reach, put_refusal};
 pub use options::{Marks, Options};
 pub use output::{COLUMN_MAX, Given, Posted};
 pub use refusals::{NoMemory, Refusal, unless};
 pub use rules::{Fates, RULES, Rule};
-pub use signals::signal_in;
+pub use signals::{StopSignal, signal_in};
 pub use slots::Slot;
 pub use spots::{Across, Asks, Note, Spot};
 pub use termios::{ControlChar, InputModes, LocalModes, OutputModes, Termios};

@@ -28,6 +28,15 @@ pub enum Reach {
     Down,
 }
 
+/// What a call does at a terminal, for which job control may hold a caller in the background.
+#[derive(Clone, Copy, PartialEq)]
+pub enum Access {
+    /// It takes what waits there: `read(2)`, `getmsg(2)`.
+    Reads,
+    /// It sends bytes there: `write(2)`, `putmsg(2)`.
+    Writes,
+}
+
 /// What a call asks for, told by its arguments alone. It is refused for the first of these that it doesn't find, in this order.
 #[derive(Clone, Copy, PartialEq)]
 pub struct Needs {
@@ -48,6 +57,8 @@ pub struct Needs {
     pub gives: usize,
     /// How many blocks of each kind have to be free, else ENOSR.
     pub blocks: usize,
+    /// What it does at the terminal, where job control asks for that.
+    pub access: Option<Access>,
 }
 
 impl Needs {
@@ -65,6 +76,7 @@ impl Needs {
             brings: 0,
             gives: 0,
             blocks: 0,
+            access: None,
         }
     }
 
@@ -163,10 +175,12 @@ impl Event<&[u8]> {
                 makes: true,
                 brings: bytes.len(),
                 blocks: WRITE_BLOCKS + chunk_count(bytes.len()),
+                access: Some(Access::Writes),
                 ..Needs::only(Reach::Down)
             },
             Event::Read { n } => Needs {
                 gives: (*n as usize).min(READ_MAX),
+                access: Some(Access::Reads),
                 ..Needs::only(Reach::Own)
             },
             Event::Put {
@@ -178,11 +192,13 @@ impl Event<&[u8]> {
                 makes: true,
                 brings: part_bytes(*control).len() + part_bytes(*body).len(),
                 blocks: WRITE_BLOCKS + (part_blocks(*control) + part_blocks(*body)),
+                access: Some(Access::Writes),
                 ..Needs::only(Reach::Down)
             },
             Event::Get { wanted, cmax, dmax } => Needs {
                 wrong: unless(asks_a_band(*wanted), Refusal::Einval),
                 gives: (*cmax as usize).min(READ_MAX) + (*dmax as usize).min(READ_MAX),
+                access: Some(Access::Reads),
                 ..Needs::only(Reach::Own)
             },
             Event::Ioctl { body, .. } => Needs {

@@ -29,6 +29,8 @@ pub enum Refusal {
     NoMemory = 9,
     #[error("another end still has a share of the pair")]
     StillShared = 10,
+    #[error("EIO: the caller is in the background, and may not be stopped")]
+    Eio = 11,
 }
 
 /// Memory was refused: the [`Refusal::NoMemory`] of a call that takes memory and has no other refusal.
@@ -37,7 +39,7 @@ pub enum Refusal {
 pub struct NoMemory;
 
 impl Refusal {
-    /// The number of the refusal, from 1 for EINVAL to 10 for StillShared.
+    /// The number of the refusal, from 1 for EINVAL to 11 for EIO.
     pub fn number(self) -> u8
         ensures { result ≡ number_of self }
     {
@@ -58,6 +60,7 @@ impl Refusal {
             8 => Refusal::NoMinor,
             9 => Refusal::NoMemory,
             10 => Refusal::StillShared,
+            11 => Refusal::Eio,
             _ => Refusal::Einval,
         }
     }
