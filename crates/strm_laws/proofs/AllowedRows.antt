@@ -25,6 +25,7 @@ use Rattle.strm_types.specs.Books.{has_room}
 use Rattle.strm_types.specs.Events.{Request, map_event, map_answer}
 use Rattle.strm_types.specs.Cells.{plain}
 use Rattle.strm_types.specs.Flush.{is_data_kind}
+use Rattle.strm_types.specs.JobControl.{caller_of}
 use Rattle.strm_types.specs.Journal.{content_max, entries_in}
 use Rattle.strm_laws.specs.Kept.{came, gone}
 use Rattle.strm_types.specs.Deliver.{Fate, Goes, carried}
@@ -42,7 +43,7 @@ use Rattle.strm_laws.specs.State.{State, Stream, with_stream}
 use Rattle.strm_laws.proofs.Samples.{head_with, flow, queue, ordinary, proto, urgent, options}
 
 abbrev caller : Side → Caller
-caller side = record { side = side }
+caller side = caller_of side
 
 abbrev band : ℕ → Option Band
 band n = Some (record { 0 = n })

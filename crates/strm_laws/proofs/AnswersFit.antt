@@ -1,10 +1,12 @@
 -- No answer has more bytes than its call may have.
 use Rattle.std.proofs.Common.{ℕ, ◌≡◌, ◌≤◌, ◌+◌, Bool, true, false, cond, List, length, refl, arith, length-append}
-use Rattle.std.specs.Prelude.{min, Option, None, Some, option_map}
+use Rattle.std.specs.Prelude.{◌==◌, min, Option, None, Some, option_map}
 use Rattle.std.proofs.lemmas.List.{length-map}
 use Rattle.strm_types.specs.declared.events.Caller.{Caller}
 use Rattle.strm_types.specs.declared.events.Event.TheVariants.{Look, Read, Get, Ioctl, IoctlResult, Signals}
-use Rattle.strm_types.specs.declared.answers.Answer.TheVariants.{Done, Bytes}
+use Rattle.strm_types.specs.declared.answers.Answer.TheVariants.{Done, Bytes, Nak}
+use Rattle.strm_types.specs.declared.ioctls.TheConstants.{TIOCGPGRP}
+use Rattle.strm_types.specs.declared.refusals.Refusal.TheVariants.{Einval}
 use Rattle.strm_types.specs.declared.limits.TheConstants.{READ_MAX, CONTENT_MAX, IOCTL_MAX}
 use Rattle.strm_types.specs.declared.modes.Wanted.{Wanted}
 use Rattle.strm_types.specs.declared.names.ModuleName.{ModuleName}
@@ -12,10 +14,11 @@ use Rattle.strm_types.specs.declared.names.Side.{Side}
 use Rattle.strm_types.specs.declared.names.Way.TheVariants.{Down}
 use Rattle.strm_types.specs.declared.slots.Slot.TheVariants.{Free, Waiting, Answered}
 use Rattle.strm_types.specs.Events.{Request, content_of}
-use Rattle.strm_laws.specs.Calls.{called, get_at, ioctl_begun, ioctl_sent, name_told, read_at}
+use Rattle.strm_laws.specs.Calls.{Outcome, called, get_at, ioctl_begun, ioctl_sent, name_told, performed, read_at}
 use Rattle.strm_types.specs.Cells.{Cells, bytes_of}
 use Rattle.strm_types.specs.Gets.{head_get}
-use Rattle.strm_types.specs.Ioctls.{asking, ioctl_message}
+use Rattle.strm_types.specs.Ioctls.{asking, ioctl_message, word_bytes}
+use Rattle.strm_types.specs.JobControl.{asks_group, group_reply, sets_group}
 use Rattle.strm_types.specs.Journal.{content_max}
 use Rattle.strm_types.specs.Message.{part}
 use Rattle.strm_laws.specs.Pushes.{top_on}
@@ -26,6 +29,7 @@ use Rattle.strm_laws.specs.Within.{AreWithin}
 use Rattle.strm_laws.proofs.GetKeeps.{get-control, get-data}
 use Rattle.strm_types.proofs.ReadKeeps.{head_draw-most}
 use Rattle.strm_types.proofs.SignalRoom.{signals-fit}
+use Rattle.strm_laws.proofs.Stopping.{of-called}
 use Rattle.strm_laws.proofs.WithinSteps.{begun-within, delivered-within}
 
 module _ {C : Type 0} (cells : Cells C) where
@@ -68,17 +72,33 @@ module _ {C : Type 0} (cells : Cells C) where
   name-fits None = omega arith
   name-fits (Some name) = omega arith
 
-  pub content-fits : (caller : Caller) (asked : Request) (s : State C) → AreWithin s → length (content_of (called cells caller asked s).answer) ≤ content_max asked
-  content-fits caller Look s within = name-fits (top_on caller.side s)
-  content-fits caller (Read n) s within = read-fits caller.side n s
-  content-fits caller (Get wanted cmax dmax) s within = get-fits caller.side wanted cmax dmax s
-  content-fits caller (Ioctl command body) s within =
+  group-fits : (command : ℕ) (body : List ℕ) (group : ℕ) → length (content_of (group_reply command body group)) ≤ IOCTL_MAX
+  group-fits command body group = at (command == TIOCGPGRP) (sets_group command body)
+    where
+      at : (gives sets : Bool) → length (content_of (cond gives (Bytes (word_bytes group)) (cond sets Done (Nak Einval)))) ≤ IOCTL_MAX
+      at true sets = omega arith
+      at false true = omega arith
+      at false false = omega arith
+
+  performed-fits : (caller : Caller) (asked : Request) (s : State C) → AreWithin s → length (content_of (performed cells caller asked s).answer) ≤ content_max asked
+  performed-fits caller Look s within = name-fits (top_on caller.side s)
+  performed-fits caller (Read n) s within = read-fits caller.side n s
+  performed-fits caller (Get wanted cmax dmax) s within = get-fits caller.side wanted cmax dmax s
+  performed-fits caller (Ioctl command body) s within =
       let sent = (ioctl_sent cells caller.side command body s).state in
-      answer-fits (stream caller.side sent).head.ioctl
-      (delivered-within cells (record { side = caller.side; at = 1; way = Down }) (ioctl_message (asking command s.next_ioctl) body) (ioctl_begun caller.side command s) (begun-within caller.side command s within) caller.side).answer
-  content-fits caller (IoctlResult number) s within = answer-fits (stream caller.side s).head.ioctl (within caller.side).answer
-  content-fits caller Signals s within = omega (arith, signals-fit (stream caller.side s).head.signals (within caller.side).signals)
-  content-fits caller _ s within = omega arith
+      either (asks_group caller.side command) _ _ (group-fits command body (stream caller.side s).head.group)
+      (answer-fits (stream caller.side sent).head.ioctl
+      (delivered-within cells (record { side = caller.side; at = 1; way = Down }) (ioctl_message (asking command s.next_ioctl) body) (ioctl_begun caller.side command s) (begun-within caller.side command s within) caller.side).answer)
+    where
+      either : (group : Bool) (one another : Outcome C) → length (content_of one.answer) ≤ IOCTL_MAX → length (content_of another.answer) ≤ IOCTL_MAX → length (content_of (cond group one another).answer) ≤ IOCTL_MAX
+      either true one another first second = first
+      either false one another first second = second
+  performed-fits caller (IoctlResult number) s within = answer-fits (stream caller.side s).head.ioctl (within caller.side).answer
+  performed-fits caller Signals s within = omega (arith, signals-fit (stream caller.side s).head.signals (within caller.side).signals)
+  performed-fits caller _ s within = omega arith
+
+  pub content-fits : (caller : Caller) (asked : Request) (s : State C) → AreWithin s → length (content_of (called cells caller asked s).answer) ≤ content_max asked
+  content-fits caller asked s within = of-called cells caller asked s (λ outcome. length (content_of outcome.answer) ≤ content_max asked) (λ signal. omega arith) (performed-fits caller asked s within)
 
 pub content-bounded : (asked : Request) → content_max asked ≤ CONTENT_MAX
 content-bounded (Read n) = omega arith

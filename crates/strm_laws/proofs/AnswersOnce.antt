@@ -2,17 +2,20 @@
 use Rattle.std.proofs.Common.{ℕ, ◌≡◌, ◌⊎◌, inl, inr, Bool, true, false, cond, List, refl, ap, ◌∙◌, arith}
 use Rattle.std.specs.Prelude.{◌==◌, Option, None, Some}
 use Rattle.std.proofs.lemmas.Bool.Decides.{nat_tests}
-use Rattle.strm_types.specs.declared.answers.Answer.TheVariants.{Done, Bytes, Pending}
+use Rattle.strm_types.specs.declared.answers.Answer.TheVariants.{Done, Bytes, Nak, Pending}
 use Rattle.strm_types.specs.declared.events.Caller.{Caller}
 use Rattle.strm_types.specs.declared.events.Event.TheVariants.{Ioctl, IoctlResult}
+use Rattle.strm_types.specs.declared.ioctls.TheConstants.{TIOCGPGRP}
 use Rattle.strm_types.specs.declared.names.Side.{Side}
 use Rattle.strm_types.specs.declared.names.Side.TheVariants.{Master, Slave}
 use Rattle.strm_types.specs.declared.refusals.Refusal.{Refusal}
 use Rattle.strm_types.specs.declared.refusals.Refusal.TheVariants.{Einval, Eagain}
 use Rattle.strm_types.specs.declared.slots.Slot.TheVariants.{Free, Waiting, Answered}
 use Rattle.strm_types.specs.Events.{Reply}
-use Rattle.strm_laws.specs.Calls.{called, ioctl_sent, ioctl_told}
+use Rattle.strm_laws.specs.Calls.{called, group_at, ioctl_at, ioctl_sent, ioctl_told}
 use Rattle.strm_types.specs.Cells.{Cells}
+use Rattle.strm_types.specs.Ioctls.{word_bytes}
+use Rattle.strm_types.specs.JobControl.{asks_group, group_reply, sets_group}
 use Rattle.strm_laws.specs.Refusals.{refused_by_state}
 use Rattle.strm_types.specs.Refused.{unless}
 use Rattle.strm_types.specs.Slots.{PlainSlot, gives_nothing, is_free, result_refusal, slot_behind, told_of, unless_same}
@@ -51,6 +54,15 @@ free-or-waits asked Free = inl refl
 free-or-waits asked (Waiting n command) = inr (n, refl)
 free-or-waits asked (Answered n command acked error body) = inl refl
 
+-- a group that is told or set is no number
+group-told : (command : ℕ) (body : List ℕ) (group number : ℕ) → group_reply command body group ≡ Pending number → ⊥
+group-told command body group number is = at (command == TIOCGPGRP) (sets_group command body) is
+  where
+    at : (gives sets : Bool) → ◌≡◌ {A = Reply} (cond gives (Bytes (word_bytes group)) (cond sets Done (Nak Einval))) (Pending number) → ⊥
+    at true sets is = cc
+    at false true is = cc
+    at false false is = cc
+
 module _ {C : Type 0} where
   slot-there : (side : Side) (slot : PlainSlot) (s : State C) → (stream side (with_ioctl side slot s)).head.ioctl ≡ slot
   slot-there Master slot s = refl
@@ -61,6 +73,11 @@ module _ {C : Type 0} where
 
   result-behind : (asked : ℕ) (side : Side) (s : State C) → result_refusal asked (slot_of side (ioctl_told side s).state) ≡ result_refusal asked (slot_behind (slot_of side s))
   result-behind asked side s = ap (λ (slot : PlainSlot). result_refusal asked slot) (slot-there side (slot_behind (slot_of side s)) s)
+
+  -- and leaves no ioctl under way
+  group-leaves : (side : Side) (command : ℕ) (body : List ℕ) (s : State C) → slot_of side (group_at side command body s).state ≡ Free
+  group-leaves Master command body s = refl
+  group-leaves Slave command body s = refl
 
   pub told-once : (cells : Cells C) (caller : Caller) (number asked : ℕ) (s : State C) → refused_by_state s caller (IoctlResult number) ≡ None
       → refused_by_state (called cells caller (IoctlResult number) s).state caller (IoctlResult asked) ≡ Some Einval
@@ -74,9 +91,15 @@ module _ {C : Type 0} where
 
   pub told-pending : (cells : Cells C) (caller : Caller) (command number : ℕ) (body : List ℕ) (s : State C) → (called cells caller (Ioctl command body) s).answer ≡ Pending number
       → refused_by_state (called cells caller (Ioctl command body) s).state caller (IoctlResult number) ≡ Some Eagain
-  told-pending cells caller command number body s is =
-      let sent = (ioctl_sent cells caller.side command body s).state in
-      result-behind number caller.side sent ∙ waits-told number (slot_of caller.side sent) is
+  told-pending cells caller command number body s is = at (asks_group caller.side command) is
+    where
+      sent : State C
+      sent = (ioctl_sent cells caller.side command body s).state
+
+      at : (group : Bool) → (cond group (group_at caller.side command body s) (ioctl_at cells caller.side command body s)).answer ≡ Pending number
+          → result_refusal number (slot_of caller.side (cond group (group_at caller.side command body s) (ioctl_at cells caller.side command body s)).state) ≡ Some Eagain
+      at true is = absurd (group-told command body (stream caller.side s).head.group number is)
+      at false is = result-behind number caller.side sent ∙ waits-told number (slot_of caller.side sent) is
 
   told-or-waits : (asked : ℕ) (side : Side) (s : State C) → (result_refusal asked (slot_of side (ioctl_told side s).state) ≡ Some Einval) ⊎ ((number : ℕ) × ((ioctl_told side s).answer ≡ Pending number))
   told-or-waits asked side s = at (free-or-waits asked (slot_of side s))
@@ -88,4 +111,9 @@ module _ {C : Type 0} where
 
   pub told-at-once : (cells : Cells C) (caller : Caller) (command asked : ℕ) (body : List ℕ) (s : State C) → let t = called cells caller (Ioctl command body) s in
       (refused_by_state t.state caller (IoctlResult asked) ≡ Some Einval) ⊎ ((number : ℕ) × (t.answer ≡ Pending number))
-  told-at-once cells caller command asked body s = told-or-waits asked caller.side (ioctl_sent cells caller.side command body s).state
+  told-at-once cells caller command asked body s = at (asks_group caller.side command)
+    where
+      at : (group : Bool) → let t = cond group (group_at caller.side command body s) (ioctl_at cells caller.side command body s) in
+          (result_refusal asked (slot_of caller.side t.state) ≡ Some Einval) ⊎ ((number : ℕ) × (t.answer ≡ Pending number))
+      at true = inl (ap (λ (slot : PlainSlot). result_refusal asked slot) (group-leaves caller.side command body s))
+      at false = told-or-waits asked caller.side (ioctl_sent cells caller.side command body s).state

@@ -23,13 +23,14 @@ use Rattle.strm_types.specs.declared.spots.Spot.{Spot}
 use Rattle.strm_types.specs.Books as books
 use Rattle.strm_types.specs.Books.{with_written}
 use Rattle.strm_types.specs.Events.{Reply, Request}
-use Rattle.strm_laws.specs.Calls.{called, delivers, ioctl_begun, ioctl_sent, ioctl_told, message_put, put_at, write_sent}
+use Rattle.strm_laws.specs.Calls.{Outcome, called, delivers, group_at, ioctl_at, ioctl_begun, ioctl_sent, ioctl_told, message_put, performed, put_at, write_sent, wrote}
 use Rattle.strm_types.specs.Cells.{Cells, cells_written}
 use Rattle.strm_laws.specs.Closes.{closed_at, driver_emptied, ended, head_emptied, hung_up_at, stream_emptied}
 use Rattle.strm_types.specs.Deliver.{Fate, Goes, Comes}
 use Rattle.strm_types.specs.Emptied.{of_all}
 use Rattle.strm_types.specs.Flushing.{asked_of, flush_bytes, flush_message}
 use Rattle.strm_types.specs.Ioctls.{asking, ioctl_message}
+use Rattle.strm_types.specs.JobControl.{asks_group}
 use Rattle.strm_types.specs.Journal.{PlainEntry}
 use Rattle.strm_laws.specs.Kept.{count_came, gone}
 use Rattle.strm_laws.specs.Ledgers.{FewBooked}
@@ -39,7 +40,7 @@ use Rattle.strm_laws.specs.Places.{weight_made}
 use Rattle.strm_types.specs.PutMsg.{is_no_prio, is_too_long, put_refusal}
 use Rattle.strm_laws.specs.Pushes.{head_above, named_by}
 use Rattle.strm_laws.specs.Puts.{delivered, flushed_on}
-use Rattle.strm_laws.specs.Refusals.{blocks_asked, in_range, refused_at_once, refused_by_state}
+use Rattle.strm_laws.specs.Refusals.{blocks_asked, in_range, refused_at_once, refused_by_state, unfit}
 use Rattle.strm_types.specs.Refused.{or_else}
 use Rattle.strm_laws.specs.Stacked.{Module}
 use Rattle.strm_laws.specs.State.{State, book, stream, with_book, with_stream}
@@ -47,7 +48,8 @@ use Rattle.strm_laws.specs.Step.{after}
 use Rattle.strm_laws.specs.Turns.{turned}
 use Rattle.strm_types.specs.Write.{chunk_count, chunks_of}
 use Rattle.strm_laws.specs.Writes.{Wrote, below_head, cells_sent, chunks_sent, is_full_below}
-use Rattle.strm_laws.proofs.Replay.{allowed-met}
+use Rattle.strm_laws.proofs.Replay.{fitting-met}
+use Rattle.strm_laws.proofs.Stopping.{of-allowed, of-called}
 use Rattle.strm_laws.proofs.ChangesMake.{close-none, get-none, pop-none, push-none, read-none}
 use Rattle.strm_laws.proofs.InOrder.{AreNext, BooksMade, InOrder, Numbered, books-both}
 use Rattle.strm_types.proofs.MadeCells.{made-long}
@@ -97,33 +99,39 @@ module _ {C : Type 0} (cells : Cells C) where
   Books s told t = BooksMade cells s told t
 
   -- a call that delivers nothing books nothing, and makes nothing
-  pub still-same : (caller : Caller) (asked : Request) (s : State C) → delivers asked ≡ false → SameBooks s (called cells caller asked s).state
-  still-same caller Shut s still = close-books caller.side s
-  still-same caller (Push name) s still = push-holds caller.side (SameBooks s) AnyModules (books-survive s caller.side) (named_by name) s (λ q. tt) refl
-  still-same caller Pop s still = pop-holds caller.side (SameBooks s) AnyModules (books-survive s caller.side) s refl
-  still-same caller (Flush what band) s still = absurd (cc)
-  still-same caller (Write bytes) s still = absurd (cc)
-  still-same caller (Put prio control body) s still = absurd (cc)
-  still-same caller (Ioctl command body) s still = absurd (cc)
-  still-same caller _ s still = refl
+  performed-same : (caller : Caller) (asked : Request) (s : State C) → delivers asked ≡ false → SameBooks s (performed cells caller asked s).state
+  performed-same caller Shut s still = close-books caller.side s
+  performed-same caller (Push name) s still = push-holds caller.side (SameBooks s) AnyModules (books-survive s caller.side) (named_by name) s (λ q. tt) refl
+  performed-same caller Pop s still = pop-holds caller.side (SameBooks s) AnyModules (books-survive s caller.side) s refl
+  performed-same caller (Flush what band) s still = absurd (cc)
+  performed-same caller (Write bytes) s still = absurd (cc)
+  performed-same caller (Put prio control body) s still = absurd (cc)
+  performed-same caller (Ioctl command body) s still = absurd (cc)
+  performed-same caller _ s still = refl
 
-  still-none : (caller : Caller) (asked : Request) (answer : Reply) (s : State C) → delivers asked ≡ false → all_made (gone cells s (Called caller asked answer)) ≡ 0
-  still-none caller Shut answer s still = close-none (λ d c. true) caller.side s
-  still-none caller (Push name) answer s still = push-none (λ d c. true) caller.side (named_by name) s
-  still-none caller Pop answer s still = pop-none (λ d c. true) caller.side s
-  still-none caller (Read n) answer s still =
+  pub still-same : (caller : Caller) (asked : Request) (s : State C) → delivers asked ≡ false → SameBooks s (called cells caller asked s).state
+  still-same caller asked s still = of-called cells caller asked s (λ outcome. SameBooks s outcome.state) (λ signal. refl) (performed-same caller asked s still)
+
+  performed-none : (caller : Caller) (asked : Request) (s : State C) → delivers asked ≡ false → all_made (performed cells caller asked s).gone ≡ 0
+  performed-none caller Shut s still = close-none (λ d c. true) caller.side s
+  performed-none caller (Push name) s still = push-none (λ d c. true) caller.side (named_by name) s
+  performed-none caller Pop s still = pop-none (λ d c. true) caller.side s
+  performed-none caller (Read n) s still =
       let h = (stream caller.side s).head in
       read-none (λ d c. true) (direction_of (head_of caller.side)) h.read_mode h.control_mode (min n READ_MAX) h.queue.messages
-  still-none caller (Get wanted cmax dmax) answer s still = get-none (λ d c. true) (direction_of (head_of caller.side)) wanted (min cmax READ_MAX) (min dmax READ_MAX) (stream caller.side s).head.queue.messages
-  still-none caller (Flush what band) answer s still = absurd (cc)
-  still-none caller (Write bytes) answer s still = absurd (cc)
-  still-none caller (Put prio control body) answer s still = absurd (cc)
-  still-none caller (Ioctl command body) answer s still = absurd (cc)
-  still-none caller _ answer s still = refl
+  performed-none caller (Get wanted cmax dmax) s still = get-none (λ d c. true) (direction_of (head_of caller.side)) wanted (min cmax READ_MAX) (min dmax READ_MAX) (stream caller.side s).head.queue.messages
+  performed-none caller (Flush what band) s still = absurd (cc)
+  performed-none caller (Write bytes) s still = absurd (cc)
+  performed-none caller (Put prio control body) s still = absurd (cc)
+  performed-none caller (Ioctl command body) s still = absurd (cc)
+  performed-none caller _ s still = refl
 
   -- a flush and an ioctl book what their deliveries make
   flush-books : (side : Side) (what : FlushQueues) (band : Option Band) (s : State C) → let t = flushed_on cells band side what s in Books s t.gone t.state
   flush-books side what band s = delivered-books cells (record { side = side; at = 1; way = Down }) (flush_message (flush_bytes (asked_of what band))) s
+
+  group-books : (side : Side) (command : ℕ) (body : List ℕ) (s : State C) → Books s [] (group_at side command body s).state
+  group-books side command body s = nothing-booked cells s (group_at side command body s).state refl
 
   ioctl-books : (side : Side) (command : ℕ) (body : List ℕ) (s : State C) → let t = ioctl_sent cells side command body s in Books s t.gone (ioctl_told side t.state).state
   ioctl-books side command body s =
@@ -242,13 +250,11 @@ module _ {C : Type 0} (cells : Cells C) (p : Dir → C → Bool) (numbered : Num
       )
 
   -- what a call came to
-  abbrev Counts : Caller → Request → Reply → State C → Type 0
-  Counts caller asked answer s =
-      let entry = Called caller asked answer in
-      count_came cells p s entry + weight_made p (gone cells s entry) + total s ≡ total (called cells caller asked s).state
+  abbrev Counts : Caller → State C → Outcome C → Type 0
+  Counts caller s outcome = count_by (p (direction_from caller.side)) outcome.came + weight_made p outcome.gone + total s ≡ total outcome.state
 
-  write-counts : (caller : Caller) (bytes : List ℕ) (answer : Reply) (s : State C) → Counts caller (Write bytes) answer s
-  write-counts caller bytes answer s =
+  write-counts : (caller : Caller) (bytes : List ℕ) (s : State C) → Counts caller s (wrote cells caller.side bytes s)
+  write-counts caller bytes s =
       let side = caller.side in
       let dir = direction_from side in
       let n = (book dir s).written in
@@ -260,8 +266,8 @@ module _ {C : Type 0} (cells : Cells C) (p : Dir → C → Bool) (numbered : Num
       ∙ written-counts dir (take t.taken bytes) s t.state t.gone (chunks-book cells side (chunks_of (chunk_count (length xs)) xs) s)
       ∙ ap (λ k. total (with_book dir (with_written k (book dir t.state)) t.state)) long
 
-  put-counts : (caller : Caller) (prio : Prio) (control body : Option (List ℕ)) (answer : Reply) (s : State C) → Counts caller (Put prio control body) answer s
-  put-counts caller prio control body answer s =
+  put-counts : (caller : Caller) (prio : Prio) (control body : Option (List ℕ)) (s : State C) → Counts caller s (performed cells caller (Put prio control body) s)
+  put-counts caller prio control body s =
       ap (λ xs. count_by (p dir) xs + weight_made p (put_at cells side prio control body s).gone + total s) (put-written cells side prio control body s) ∙ at control body
     where
       side : Side
@@ -282,23 +288,26 @@ module _ {C : Type 0} (cells : Cells C) (p : Dir → C → Bool) (numbered : Num
       at None (Some ys) = sent-counts [] ys (message_put cells side prio None (Some ys) s)
       at (Some xs) b = sent-counts xs (part b) (message_put cells side prio (Some xs) b s)
 
-  still-counts : (caller : Caller) (asked : Request) (answer : Reply) (s : State C) → delivers asked ≡ false → weight_made p (gone cells s (Called caller asked answer)) + total s ≡ total (called cells caller asked s).state
-  still-counts caller asked answer s still =
-      let told = gone cells s (Called caller asked answer) in
-      let t = (called cells caller asked s).state in
-      books-count s t told (none-booked cells s t told (still-same cells caller asked s still) (still-none cells caller asked answer s still))
+  still-counts : (caller : Caller) (asked : Request) (s : State C) → delivers asked ≡ false → weight_made p (performed cells caller asked s).gone + total s ≡ total (performed cells caller asked s).state
+  still-counts caller asked s still =
+      let t = performed cells caller asked s in
+      books-count s t.state t.gone (none-booked cells s t.state t.gone (performed-same cells caller asked s still) (performed-none cells caller asked s still))
 
   -- a call
-  call-counts : (caller : Caller) (asked : Request) (answer : Reply) (s : State C) → Counts caller asked answer s
-  call-counts caller (Write bytes) answer s = write-counts caller bytes answer s
-  call-counts caller (Put prio control body) answer s = put-counts caller prio control body answer s
-  call-counts caller (Flush what band) answer s = omega (arith, books-count s (flushed_on cells band caller.side what s).state (flushed_on cells band caller.side what s).gone (flush-books cells caller.side what band s))
-  call-counts caller (Ioctl command body) answer s = omega (arith, books-count s (called cells caller (Ioctl command body) s).state (ioctl_sent cells caller.side command body s).gone (ioctl-books cells caller.side command body s))
-  call-counts caller asked answer s = omega (arith, still-counts caller asked answer s refl)
+  performed-counts : (caller : Caller) (asked : Request) (s : State C) → Counts caller s (performed cells caller asked s)
+  performed-counts caller (Write bytes) s = write-counts caller bytes s
+  performed-counts caller (Put prio control body) s = put-counts caller prio control body s
+  performed-counts caller (Flush what band) s = omega (arith, books-count s (flushed_on cells band caller.side what s).state (flushed_on cells band caller.side what s).gone (flush-books cells caller.side what band s))
+  performed-counts caller (Ioctl command body) s = at (asks_group caller.side command)
+    where
+      at : (group : Bool) → Counts caller s (cond group (group_at caller.side command body s) (ioctl_at cells caller.side command body s))
+      at true = omega (arith, books-count s (group_at caller.side command body s).state [] (group-books cells caller.side command body s))
+      at false = let t = ioctl_at cells caller.side command body s in omega (arith, books-count s t.state t.gone (ioctl-books cells caller.side command body s))
+  performed-counts caller asked s = omega (arith, still-counts caller asked s refl)
 
   -- a step
   pub step-counts : (s : State C) (entry : PlainEntry) → count_came cells p s entry + weight_made p (gone cells s entry) + total s ≡ total (after cells s entry)
-  step-counts s (Called caller asked answer) = call-counts caller asked answer s
+  step-counts s (Called caller asked answer) = of-called cells caller asked s (Counts caller s) (λ signal. omega arith) (performed-counts caller asked s)
   step-counts s (Turned name turn) = omega (arith, books-count s (turned cells name turn s).state (turned cells name turn s).gone (turn-books cells name turn s))
 
 pub both-true : (a b : Bool) → (a && b) ≡ true → (a ≡ true) × (b ≡ true)
@@ -364,17 +373,17 @@ module _ {C : Type 0} where
   written-few cells SlaveToMaster n s t told room less books made MasterToSlave = let low = range-low MasterToSlave s room in let same = books.written MasterToSlave in let most = made MasterToSlave in omega (arith, low.0, same, most)
   written-few cells SlaveToMaster n s t told room less books made SlaveToMaster = let low = range-low SlaveToMaster s room in let same = books.written SlaveToMaster in let most = made SlaveToMaster in omega (arith, low.0, same, most, less)
 
-  pub call-few : (cells : Cells C) (caller : Caller) (asked : Request) (s : State C) → or_else (refused_at_once s caller asked) (refused_by_state s caller asked) ≡ None → WritesFew asked → FewBooked s
-      → (in_range s ≡ true → MadeFew (called cells caller asked s).state) → FewBooked (called cells caller asked s).state
-  call-few cells caller (Write bytes) s allowed less few made =
+  performed-few : (cells : Cells C) (caller : Caller) (asked : Request) (s : State C) → or_else (refused_at_once s caller asked) (unfit s caller asked) ≡ None → WritesFew asked → FewBooked s
+      → (in_range s ≡ true → MadeFew (performed cells caller asked s).state) → FewBooked (performed cells caller asked s).state
+  performed-few cells caller (Write bytes) s allowed less few made =
       let dir = direction_from caller.side in
       let xs = cells_written cells dir (book dir s).written bytes in
       let t = write_sent cells caller.side bytes s in
-      let range = (allowed-met s caller (Write bytes) allowed).booked in
+      let range = (fitting-met s caller (Write bytes) allowed).booked in
       written-few cells dir t.taken s t.state t.gone range
       (omega (arith, sent-few cells caller.side xs s, written-long cells dir (book dir s).written bytes, less)) (chunks-book cells caller.side (chunks_of (chunk_count (length xs)) xs) s) (made range)
-  call-few cells caller (Put prio control body) s allowed less few made =
-      let may = allowed-met s caller (Put prio control body) allowed in
+  performed-few cells caller (Put prio control body) s allowed less few made =
+      let may = fitting-met s caller (Put prio control body) allowed in
       at control body may.booked (omega (arith, parts-few prio control body may.right)) (made may.booked)
     where
       sent : (n : ℕ) (m : Message C) → in_range s ≡ true → n < 2 ^ 62 → (let t = delivered cells (record { side = caller.side; at = 1; way = Down }) m s in
@@ -385,10 +394,21 @@ module _ {C : Type 0} where
       at None None room less made = few
       at None (Some ys) room less made = sent (0 + length ys) (message_put cells caller.side prio None (Some ys) s) room less made
       at (Some xs) b room less made = sent (length xs + length (part b)) (message_put cells caller.side prio (Some xs) b s) room less made
-  call-few cells caller (Flush what band) s allowed less few made =
-      let range = (allowed-met s caller (Flush what band) allowed).booked in
+  performed-few cells caller (Flush what band) s allowed less few made =
+      let range = (fitting-met s caller (Flush what band) allowed).booked in
       turn-few cells s (flushed_on cells band caller.side what s).state (flushed_on cells band caller.side what s).gone range (flush-books cells caller.side what band s) (made range)
-  call-few cells caller (Ioctl command body) s allowed less few made =
-      let range = (allowed-met s caller (Ioctl command body) allowed).booked in
-      turn-few cells s (called cells caller (Ioctl command body) s).state (ioctl_sent cells caller.side command body s).gone range (ioctl-books cells caller.side command body s) (made range)
-  call-few cells caller asked s allowed less few made = same-few s (called cells caller asked s).state (still-same cells caller asked s refl) few
+  performed-few cells caller (Ioctl command body) s allowed less few made = at (asks_group caller.side command) made
+    where
+      at : (group : Bool) → let t = cond group (group_at caller.side command body s) (ioctl_at cells caller.side command body s) in (in_range s ≡ true → MadeFew t.state) → FewBooked t.state
+      at true made = same-few s (group_at caller.side command body s).state refl few
+      at false made =
+          let range = (fitting-met s caller (Ioctl command body) allowed).booked in
+          let t = ioctl_at cells caller.side command body s in
+          turn-few cells s t.state t.gone range (ioctl-books cells caller.side command body s) (made range)
+  performed-few cells caller asked s allowed less few made = same-few s (performed cells caller asked s).state (performed-same cells caller asked s refl) few
+
+  pub call-few : (cells : Cells C) (caller : Caller) (asked : Request) (s : State C) → or_else (refused_at_once s caller asked) (refused_by_state s caller asked) ≡ None → WritesFew asked → FewBooked s
+      → (in_range s ≡ true → MadeFew (called cells caller asked s).state) → FewBooked (called cells caller asked s).state
+  call-few cells caller asked s allowed less few made =
+      of-allowed cells caller asked s (λ outcome. (in_range s ≡ true → MadeFew outcome.state) → FewBooked outcome.state) (λ signal made. few) allowed
+      (λ fits. performed-few cells caller asked s fits less few) made

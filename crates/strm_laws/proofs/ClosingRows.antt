@@ -23,6 +23,7 @@ use Rattle.strm_laws.specs.Closes.{head_emptied, driver_emptied, closed_at, hung
 use Rattle.strm_types.specs.Emptied.{of_data, of_all, stayed, cells_gone, emptied, queue_behind, writer_goes}
 use Rattle.strm_types.specs.Flush.{is_data_kind}
 use Rattle.strm_laws.specs.Puts.{flushed_on}
+use Rattle.strm_types.specs.JobControl.{caller_of}
 use Rattle.strm_types.specs.Message.{Message, is_high_priority, band_of, size_of, cells_of}
 use Rattle.strm_types.specs.Names.{driver_of}
 use Rattle.strm_types.specs.Queue.{Queue, Flow, new_queue}
@@ -96,7 +97,7 @@ writers-go-with-bytes-that-are-no-cells = refl
 -- a pair, on each queue of which one byte stands
 
 abbrev caller : Side → Caller
-caller side = record { side = side }
+caller side = caller_of side
 
 abbrev end : Openness → Queue ℕ → Queue ℕ → Stream ℕ
 end opened head driver = record { opened = opened; head = head_with head false; modules = []; driver = record { queue = driver } }
@@ -168,15 +169,15 @@ abbrev banded : Stream ℕ
 banded = end Open none (queue several [])
 
 pub flush-call : map (λ asked. called plain (caller Master) asked (pair banded (end Open none none))) (events.Flush Write (band 2) ∷ events.Flush Write None ∷ events.Flush Read (band 2) ∷ []) ≡
-    record { answer = Done; state = pair (end Open none (queue (urgent ∷ options ∷ ordinary (7 ∷ 8 ∷ []) ∷ []) [])) (end Open none none) }
-    ∷ record { answer = Done; state = pair (end Open none (queue (options ∷ []) [])) (end Open none none) }
-    ∷ record { answer = Done; state = pair banded (end Open none none) }
+    record { answer = Done; state = pair (end Open none (queue (urgent ∷ options ∷ ordinary (7 ∷ 8 ∷ []) ∷ []) [])) (end Open none none); came = []; gone = fate rules.Flushed MasterToSlave (1 ∷ 2 ∷ 3 ∷ 4 ∷ 5 ∷ []) ∷ fate rules.Flushed MasterToSlave [] ∷ [] }
+    ∷ record { answer = Done; state = pair (end Open none (queue (options ∷ []) [])) (end Open none none); came = []; gone = fate rules.Flushed MasterToSlave (9 ∷ 1 ∷ 2 ∷ 3 ∷ 4 ∷ 5 ∷ 7 ∷ 8 ∷ []) ∷ fate rules.Flushed MasterToSlave [] ∷ [] }
+    ∷ record { answer = Done; state = pair banded (end Open none none); came = []; gone = fate rules.Flushed SlaveToMaster [] ∷ fate rules.Flushed SlaveToMaster [] ∷ [] }
     ∷ []
 unfolding carried is_data_kind is_high_priority size_of cells_of
 flush-call = refl
 
 -- pops and looks where no module stands change nothing
-pub other-calls-change-nothing : map (λ asked. called plain (caller Slave) asked (ones Open Open)) (events.Pop ∷ events.Look ∷ []) ≡ replicate 2 (record { answer = Done; state = ones Open Open })
+pub other-calls-change-nothing : map (λ asked. called plain (caller Slave) asked (ones Open Open)) (events.Pop ∷ events.Look ∷ []) ≡ replicate 2 (record { answer = Done; state = ones Open Open; came = []; gone = [] })
 other-calls-change-nothing = refl
 
 -- writers that are let go
@@ -233,10 +234,10 @@ close-of-the-master-alone = refl
 pub close-forgets-a-hangup : (ended Master (hung_up_at Master (ones Open Open))).ends.master.head.hung_up ∷ (hung_up_at Master (ones Open Open)).ends.master.head.hung_up ∷ [] ≡ false ∷ true ∷ []
 close-forgets-a-hangup = refl
 
-pub close-call : called plain (caller Slave) events.Shut (ones Open Open) ≡ record { answer = Done; state = pair (end Open (one 1) (one 2)) (end Closed (new_queue 5120 1024) (one 4)) }
+pub close-call : called plain (caller Slave) events.Shut (ones Open Open) ≡ record { answer = Done; state = pair (end Open (one 1) (one 2)) (end Closed (new_queue 5120 1024) (one 4)); came = []; gone = fate rules.EndClosed MasterToSlave (3 ∷ []) ∷ [] }
 unfolding size_of cells_of
 close-call = refl
 
 -- a read of an empty head changes nothing, whether or not it wants to be read
-pub read-of-an-empty-head-changes-nothing : called plain (caller Slave) (events.Read 5) (pair (end Open none none) (end Open (rested false [] []) none)) ≡ record { answer = Bytes []; state = pair (end Open none none) (end Open (rested false [] []) none) }
+pub read-of-an-empty-head-changes-nothing : called plain (caller Slave) (events.Read 5) (pair (end Open none none) (end Open (rested false [] []) none)) ≡ record { answer = Bytes []; state = pair (end Open none none) (end Open (rested false [] []) none); came = []; gone = [] }
 read-of-an-empty-head-changes-nothing = refl

@@ -20,7 +20,7 @@ use Rattle.strm_types.specs.declared.names.Side.TheVariants.{Master, Slave}
 use Rattle.strm_types.specs.declared.names.Way.{Way}
 use Rattle.strm_types.specs.declared.names.Way.TheVariants.{Up, Down}
 use Rattle.strm_types.specs.declared.rules.Rule.TheVariants.{EndClosed}
-use Rattle.strm_types.specs.declared.slots.Slot.TheVariants.{Waiting}
+use Rattle.strm_types.specs.declared.slots.Slot.TheVariants.{Free, Waiting}
 use Rattle.strm_types.specs.declared.spots.Spot.{Spot}
 use Rattle.strm_types.specs.Both.{AllSides}
 use Rattle.strm_types.specs.Cells.{Cells, cells_written}
@@ -31,6 +31,7 @@ use Rattle.strm_types.specs.Flushing.{asked_of, flush_bytes, flush_message}
 use Rattle.strm_types.specs.GetQueues.{get_queue}
 use Rattle.strm_types.specs.Heads.{head_put, new_head}
 use Rattle.strm_types.specs.Ioctls.{asking, ioctl_message}
+use Rattle.strm_types.specs.JobControl.{asks_group, group_behind}
 use Rattle.strm_types.specs.Journal.{PlainEntry}
 use Rattle.strm_types.specs.Message.{Message}
 use Rattle.strm_types.specs.ModuleQueues.{with_waiting}
@@ -39,11 +40,11 @@ use Rattle.strm_types.specs.Queue.{Queue}
 use Rattle.strm_types.specs.Reads.{read_queue}
 use Rattle.strm_types.specs.Refused.{or_else}
 use Rattle.strm_types.specs.Slots.{PlainSlot, slot_behind}
-use Rattle.strm_laws.specs.Calls.{called, ioctl_begun, ioctl_sent, message_put, mode_set, put_at}
+use Rattle.strm_laws.specs.Calls.{Outcome, group_at, ioctl_begun, ioctl_sent, message_put, mode_set, performed, put_at}
 use Rattle.strm_laws.specs.Closes.{closed_at, driver_emptied, ended, head_emptied, hung_up_at, stream_emptied}
 use Rattle.strm_laws.specs.Pushes.{head_above, module_named, named_by, popped, pushed_named}
 use Rattle.strm_laws.specs.Puts.{delivered, put_at_head}
-use Rattle.strm_laws.specs.Refusals.{refused_at_once, refused_by_state}
+use Rattle.strm_laws.specs.Refusals.{refused_at_once, unfit}
 use Rattle.strm_laws.specs.Stacked.{Module}
 use Rattle.strm_laws.specs.State.{State, Stream, book, stream, with_driver_queue, with_head_queue, with_ioctl, with_stream}
 use Rattle.strm_laws.specs.Step.{Step}
@@ -52,7 +53,8 @@ use Rattle.strm_types.proofs.BySide.{set-all}
 use Rattle.strm_laws.proofs.EmptiedKeeps.{behind-none}
 use Rattle.strm_laws.proofs.PushHolds.{Survives, modules_emptied-holds, pop-holds, pushed-holds}
 use Rattle.strm_laws.proofs.PutParts.{Stays, waiting}
-use Rattle.strm_laws.proofs.Replay.{allowed-met}
+use Rattle.strm_laws.proofs.Replay.{fitting-met}
+use Rattle.strm_laws.proofs.Stopping.{of-allowed}
 use Rattle.strm_laws.proofs.TurnHolds.{Turns, turns-stay}
 use Rattle.strm_laws.proofs.WithinHeads.{Fits, behind-fits, dropped-fits}
 use Rattle.strm_laws.proofs.WriteSteps.{cells_sent-holds}
@@ -69,8 +71,8 @@ module _ {C : Type 0} (P : Side → Stream C → Type 0) where
   pub record Changes (Good : List (Module C) → Type 0) : Type 0 where
     pub put : (side : Side) (here : Spot) (m : Message C) (t : Stream C) → is_open t.opened ≡ true → P side t → P side (record t { head = (head_put here m t.head).state })
     pub queue : (side : Side) (q : Queue C) (t : Stream C) → (is_open t.opened ≡ false → t.head.queue.messages ≡ [] → q.messages ≡ []) → P side t → P side (with_head_queue q t)
-    pub settings : (side : Side) (read : ReadMode) (control : ControlMode) (hung_up : Bool) (t : Stream C) → P side t
-        → P side (record t { head = record t.head { read_mode = read; control_mode = control; hung_up = hung_up } })
+    pub settings : (side : Side) (read : ReadMode) (control : ControlMode) (group : ℕ) (hung_up : Bool) (t : Stream C) → P side t
+        → P side (record t { head = record t.head { read_mode = read; control_mode = control; group = group; hung_up = hung_up } })
     pub slot : (side : Side) (slot : PlainSlot) (t : Stream C) → (Fits t.head.ioctl → Fits slot) → P side t → P side (record t { head = record t.head { ioctl = slot } })
     pub handed : (side : Side) (t : Stream C) → P side t → P side (record t { head = record t.head { signals = [] } })
     pub opened : (side : Side) (t : Stream C) → P side t → P side (record t { opened = Open })
@@ -159,7 +161,7 @@ module _ {C : Type 0} (P : Side → Stream C → Type 0) where
     hung_up-each side s all = at (is_open (stream side s).opened)
       where
         at : (opened : Bool) → let t = stream side s in OfEach (cond opened (with_stream side (record t { head = record t.head { hung_up = true } }) s) s)
-        at true = let t = stream side s in changed side _ s (λ holds. changes.settings side t.head.read_mode t.head.control_mode true t holds) all
+        at true = let t = stream side s in changed side _ s (λ holds. changes.settings side t.head.read_mode t.head.control_mode t.head.group true t holds) all
         at false = all
 
     close-each : (side : Side) (s : State C) → OfEach s → OfEach (closed_at side s).state
@@ -171,8 +173,8 @@ module _ {C : Type 0} (P : Side → Stream C → Type 0) where
         hung_up-each Slave (ended Master both) (ended-each Master both (driver-each Slave _ one (driver-each Master _ heads (emptied-each Master s all))))
 
     mode-each : (side : Side) (mode : modes.Mode) (s : State C) → OfEach s → OfEach (mode_set side mode s)
-    mode-each side (chosen.Read mode) s all = let t = stream side s in changed side _ s (λ holds. changes.settings side mode t.head.control_mode t.head.hung_up t holds) all
-    mode-each side (chosen.Control mode) s all = let t = stream side s in changed side _ s (λ holds. changes.settings side t.head.read_mode mode t.head.hung_up t holds) all
+    mode-each side (chosen.Read mode) s all = let t = stream side s in changed side _ s (λ holds. changes.settings side mode t.head.control_mode t.head.group t.head.hung_up t holds) all
+    mode-each side (chosen.Control mode) s all = let t = stream side s in changed side _ s (λ holds. changes.settings side t.head.read_mode mode t.head.group t.head.hung_up t holds) all
 
     -- what a reader takes, at an open head
     taken-each : (side : Side) (q : Queue C) (s : State C) → is_open (stream side s).opened ≡ true → OfEach s → OfEach (with_stream side (with_head_queue q (stream side s)) s)
@@ -180,6 +182,12 @@ module _ {C : Type 0} (P : Side → Stream C → Type 0) where
 
     pub begun-each : (side : Side) (command : ℕ) (s : State C) → OfEach s → OfEach (ioctl_begun side command s)
     begun-each side command s all = slot-each side (Waiting s.next_ioctl command) s (λ fits. omega arith) all
+
+    -- a group that is told or set, where none is under way behind it
+    group-each : (side : Side) (command : ℕ) (body : List ℕ) (s : State C) → OfEach s → OfEach (group_at side command body s).state
+    group-each side command body s all =
+        let t = stream side s in
+        changed side _ s (λ holds. changes.slot side Free _ (λ fits. omega arith) (changes.settings side t.head.read_mode t.head.control_mode (group_behind command body t.head.group) t.head.hung_up t holds)) all
 
     told-each : (side : Side) (s : State C) → OfEach s → OfEach (with_ioctl side (slot_behind (stream side s).head.ioctl) s)
     told-each side s all = slot-each side _ s (λ fits. behind-fits (stream side s).head.ioctl) all
@@ -190,7 +198,7 @@ module _ {C : Type 0} (P : Side → Stream C → Type 0) where
       put-each side prio None (Some xs) s all = given (below side) (message_put cells side prio None (Some xs) s) s all
       put-each side prio (Some xs) body s all = given (below side) (message_put cells side prio (Some xs) body s) s all
 
-      call-each : (caller : Caller) (asked : Request) (s : State C) → or_else (refused_at_once s caller asked) (refused_by_state s caller asked) ≡ None → OfEach s → OfEach (called cells caller asked s).state
+      call-each : (caller : Caller) (asked : Request) (s : State C) → or_else (refused_at_once s caller asked) (unfit s caller asked) ≡ None → OfEach s → OfEach (performed cells caller asked s).state
       call-each caller OpenMaster s allowed all = changed Master _ s (λ holds. changes.opened Master (stream Master s) holds) all
       call-each caller OpenSlave s allowed all = changed Slave _ s (λ holds. changes.anew Slave Open (stream Slave s) holds) all
       call-each caller Shut s allowed all = close-each caller.side s all
@@ -202,20 +210,25 @@ module _ {C : Type 0} (P : Side → Stream C → Type 0) where
           cells_sent-holds cells OfEach given caller.side (cells_written cells dir (book dir s).written bytes) s all
       call-each caller (Read n) s allowed all =
           let h = (stream caller.side s).head in
-          taken-each caller.side (read_queue h.read_mode h.control_mode (min n READ_MAX) h.queue) s (allowed-met s caller (Read n) allowed).reached all
+          taken-each caller.side (read_queue h.read_mode h.control_mode (min n READ_MAX) h.queue) s (fitting-met s caller (Read n) allowed).reached all
       call-each caller (Put prio control body) s allowed all = put-each caller.side prio control body s all
       call-each caller (Get wanted cmax dmax) s allowed all =
           let q = (stream caller.side s).head.queue in
-          taken-each caller.side (get_queue wanted (min cmax READ_MAX) (min dmax READ_MAX) q) s (allowed-met s caller (Get wanted cmax dmax) allowed).reached all
+          taken-each caller.side (get_queue wanted (min cmax READ_MAX) (min dmax READ_MAX) q) s (fitting-met s caller (Get wanted cmax dmax) allowed).reached all
       call-each caller (Mode mode) s allowed all = mode-each caller.side mode s all
       call-each caller (Ioctl command body) s allowed all =
-          told-each caller.side (ioctl_sent cells caller.side command body s).state
-          (given (below caller.side) (ioctl_message (asking command s.next_ioctl) body) (ioctl_begun caller.side command s) (begun-each caller.side command s all))
+          either (asks_group caller.side command) _ _ (group-each caller.side command body s all)
+          (told-each caller.side (ioctl_sent cells caller.side command body s).state
+          (given (below caller.side) (ioctl_message (asking command s.next_ioctl) body) (ioctl_begun caller.side command s) (begun-each caller.side command s all)))
+        where
+          either : (group : Bool) (one another : Outcome C) → OfEach one.state → OfEach another.state → OfEach (cond group one another).state
+          either true one another first second = first
+          either false one another first second = second
       call-each caller (IoctlResult number) s allowed all = told-each caller.side s all
       call-each caller Signals s allowed all = changed caller.side _ s (λ holds. changes.handed caller.side (stream caller.side s) holds) all
       call-each caller _ s allowed all = all
 
       -- a step
       pub step-each : ((name : QueueName) (turn : Turn) (s : State C) → OfEach s → OfEach (turned cells name turn s).state) → (old new : State C) (entry : PlainEntry) → OfEach old → Step cells old entry new → OfEach new
-      step-each turns old new (Called caller asked answer) all step = subst (λ s. OfEach s) step.leads (call-each caller asked old step.allowed all)
+      step-each turns old new (Called caller asked answer) all step = subst (λ s. OfEach s) step.leads (of-allowed cells caller asked old (λ outcome. OfEach outcome.state) (λ signal. all) step.allowed (λ fits. call-each caller asked old fits all))
       step-each turns old new (Turned name turn) all step = subst (λ s. OfEach s) step.leads (turns name turn old all)

@@ -1,7 +1,7 @@
 -- Forgetting the origins of cells commutes with whole calls, whole turns and the replay of a journal.
-use Rattle.std.proofs.Common.{ℕ, ◌≡◌, Bool, List, [], ◌∷◌, length, map, refl, sym, ap, ◌∙◌}
+use Rattle.std.proofs.Common.{ℕ, ◌≡◌, Bool, true, false, cond, List, [], ◌∷◌, length, map, take, refl, sym, ap, ◌∙◌}
 use Rattle.std.specs.Prelude.{min, not, Option, None, Some, option_map}
-use Rattle.std.proofs.lemmas.List.{length-map}
+use Rattle.std.proofs.lemmas.List.{length-map, take-map}
 use Rattle.strm_types.specs.declared.limits.TheConstants.{READ_MAX}
 use Rattle.strm_types.specs.declared.answers.Answer.TheVariants.{Done, Count, Msg, Sizes}
 use Rattle.strm_types.specs.declared.answers.Turn.{Turn}
@@ -21,10 +21,11 @@ use Rattle.strm_types.specs.declared.names.Place.{Place}
 use Rattle.strm_types.specs.declared.names.Place.TheVariants as places
 use Rattle.strm_types.specs.declared.names.QueueName.{QueueName}
 use Rattle.strm_types.specs.Cells.{Cells, AreCells, plain, cells_written, bytes_of}
-use Rattle.strm_types.specs.Names.{driver_of, direction_from, without, enable_if}
+use Rattle.strm_types.specs.Names.{driver_of, direction_from, direction_of, head_of, without, enable_if}
 use Rattle.strm_types.specs.Gets.{Got, prio_got, first_data, head_get, map_got}
 use Rattle.strm_types.specs.GetQueues.{get_queue}
-use Rattle.strm_types.specs.Message.{Message, part, map_message}
+use Rattle.strm_types.specs.Message.{Message, cells_of, part, map_message}
+use Rattle.strm_types.specs.Origins.{map_fate}
 use Rattle.strm_types.specs.Queue.{map_messages}
 use Rattle.strm_types.specs.Heads.{Head, new_head}
 use Rattle.strm_laws.specs.State.{State, stream, with_stream, with_head_queue, book, with_book, map_state, map_stream}
@@ -33,7 +34,10 @@ use Rattle.strm_laws.specs.Writes.{Wrote, cells_sent}
 use Rattle.strm_types.specs.Reads.{Drawn, head_draw, read_queue}
 use Rattle.strm_laws.specs.TurnOutcomes.{TurnOutcome, map_turn_outcome}
 use Rattle.strm_laws.specs.Turns.{turned_at, turned}
-use Rattle.strm_laws.specs.Calls.{Outcome, map_outcome, done, read_at, wrote, get_at, mode_set, name_told, sizes_at, ioctl_sent, ioctl_told, called}
+use Rattle.strm_laws.specs.Calls.{Outcome, called, done, get_at, group_at, ioctl_at, ioctl_sent, ioctl_told, map_outcome, message_put, mode_set, name_told, or_stopped, performed, put_at, read_at, sizes_at, takes, tells, wrote}
+use Rattle.strm_laws.specs.Refusals.{stop_of}
+use Rattle.strm_types.specs.JobControl.{asks_group, stop_in}
+use Rattle.strm_types.specs.declared.signals.StopSignal.{StopSignal}
 use Rattle.strm_types.specs.Events.{Request, Reply}
 use Rattle.strm_types.specs.Journal.{PlainEntry}
 use Rattle.strm_laws.specs.Step.{after, replay}
@@ -48,16 +52,17 @@ use Rattle.strm_laws.proofs.ModuleTurnForgets.{module_turned-forgets}
 use Rattle.strm_laws.proofs.PushForgets.{pop-forgets, push-forgets, top-forgets}
 use Rattle.strm_laws.proofs.PutsForget.{flushed_on-forgets}
 use Rattle.strm_laws.proofs.GetKeeps.{get-forgets}
-use Rattle.strm_laws.proofs.GotQueues.{get_queue-forgets, get_lets_go-forgets}
-use Rattle.strm_laws.proofs.PutMessages.{put_at-forgets}
-use Rattle.strm_laws.proofs.ReadForgets.{body-forgets, head_draw-forgets, read_queue-forgets, read_lets_go-forgets}
+use Rattle.strm_laws.proofs.GotQueues.{get_gone-forgets, get_queue-forgets, get_lets_go-forgets}
+use Rattle.strm_laws.proofs.PutMessages.{put_at-forgets, put_came-forgets}
+use Rattle.strm_laws.proofs.ReadForgets.{body-forgets, head_draw-forgets, read_gone-forgets, read_queue-forgets, read_lets_go-forgets}
+use Rattle.strm_laws.proofs.Stopping.{hold-same}
 use Rattle.strm_laws.proofs.TurnForgets.{driver_turned-forgets}
 use Rattle.strm_types.proofs.BySide.{map-set}
 use Rattle.strm_laws.proofs.EmptiedForgets.{stream-forgets}
 
 -- what a write makes of what was sent
-abbrev sent_on : {C : Type 0} → Side → Wrote C → Outcome C
-sent_on side t = let dir = direction_from side in record { answer = Count t.taken; state = with_book dir (with_written t.taken (book dir t.state)) t.state }
+abbrev sent_on : {C : Type 0} → Side → List C → Wrote C → Outcome C
+sent_on side xs t = let dir = direction_from side in record { answer = Count t.taken; state = with_book dir (with_written t.taken (book dir t.state)) t.state; came = take t.taken xs; gone = t.gone }
 
 -- what a get answers
 abbrev msg_of : Prio → Option (List ℕ) → Option (List ℕ) → Bool → Bool → Reply
@@ -68,11 +73,11 @@ got_answer cells g = msg_of (prio_got g) (option_map (bytes_of cells) g.control)
 
 -- what is told of the messages at a head
 abbrev told_of : {C : Type 0} → State C → ℕ → ℕ → Outcome C
-told_of s first messages = record { answer = Sizes first messages; state = s }
+told_of s first messages = tells (Sizes first messages) s
 
 -- what a look answers
 abbrev name_answered : {C : Type 0} → Option ModuleName → State C → Outcome C
-name_answered name s = record { answer = name_told name; state = s }
+name_answered name s = tells (name_told name) s
 
 module _ {C D : Type 0} (f : C → D) where
   -- modes that are set, and what is told of a head
@@ -101,8 +106,10 @@ module _ {C : Type 0} (cells : Cells C) (are : AreCells cells) where
       let n = (book dir s).written in
       let base = map_state cells.byte s in
       let written = cells_written cells dir n bytes in
-      ap (λ (xs : List ℕ). sent_on side (cells_sent plain side xs base)) (written-plain dir (book dir base).written bytes ∙ sym (written-bytes cells are dir n bytes))
-      ∙ ap (λ (t : Wrote ℕ). sent_on side t) (cells_sent-forgets cells are side written s)
+      let t = cells_sent cells side written s in
+      ap (λ (xs : List ℕ). sent_on side xs (cells_sent plain side xs base)) (written-plain dir (book dir base).written bytes ∙ sym (written-bytes cells are dir n bytes))
+      ∙ ap (λ (t : Wrote ℕ). sent_on side (map cells.byte written) t) (cells_sent-forgets cells are side written s)
+      ∙ ap (λ (xs : List ℕ). record (map_outcome cells.byte (sent_on side written t)) { came = xs }) (take-map cells.byte t.taken written)
 
   -- a read, which gives the bytes of its cells
   given-bytes : (k : ℕ) (g : Head C) → bytes_of plain (head_draw g.read_mode g.control_mode k (map_messages cells.byte g.queue.messages)).given ≡ bytes_of cells (head_draw g.read_mode g.control_mode k g.queue.messages).given
@@ -113,7 +120,7 @@ module _ {C : Type 0} (cells : Cells C) (are : AreCells cells) where
       let t = stream side s in
       let h = t.head in
       let k = min n READ_MAX in
-      rw (before_head-forgets cells.byte side s, stream-forgets cells.byte side s, given-bytes k h, read_queue-forgets cells.byte h.read_mode h.control_mode k h.queue, read_lets_go-forgets cells.byte h.read_mode h.control_mode k h.queue, map-set (map_stream cells.byte) side (with_head_queue (read_queue h.read_mode h.control_mode k h.queue) t) s.ends)
+      rw (before_head-forgets cells.byte side s, stream-forgets cells.byte side s, given-bytes k h, read_queue-forgets cells.byte h.read_mode h.control_mode k h.queue, read_lets_go-forgets cells.byte h.read_mode h.control_mode k h.queue, read_gone-forgets cells.byte (direction_of (head_of side)) h.read_mode h.control_mode k h.queue.messages, map-set (map_stream cells.byte) side (with_head_queue (read_queue h.read_mode h.control_mode k h.queue) t) s.ends)
       refl
 
   -- a get, which gives the bytes of its cells
@@ -134,32 +141,59 @@ module _ {C : Type 0} (cells : Cells C) (are : AreCells cells) where
       let q = t.head.queue in
       let c = min cmax READ_MAX in
       let d = min dmax READ_MAX in
-      rw (before_head-forgets cells.byte side s, stream-forgets cells.byte side s, got-answer wanted c d q.messages, get_queue-forgets cells.byte wanted c d q, get_lets_go-forgets cells.byte wanted c d q, map-set (map_stream cells.byte) side (with_head_queue (get_queue wanted c d q) t) s.ends)
+      rw (before_head-forgets cells.byte side s, stream-forgets cells.byte side s, got-answer wanted c d q.messages, get_queue-forgets cells.byte wanted c d q, get_lets_go-forgets cells.byte wanted c d q, get_gone-forgets cells.byte (direction_of (head_of side)) wanted c d q.messages, map-set (map_stream cells.byte) side (with_head_queue (get_queue wanted c d q) t) s.ends)
       refl
 
-  pub call-forgets : (caller : Caller) (asked : Request) (s : State C) → called plain caller asked (map_state cells.byte s) ≡ map_outcome cells.byte (called cells caller asked s)
-  call-forgets caller OpenMaster s = refl
-  call-forgets caller Unlock s = refl
-  call-forgets caller OpenSlave s = ap (λ (none : Bool). opened-with none) (none-forgets {D = ℕ} cells.byte (map_message cells.byte) s.ends.master.driver.queue.messages)
+  group-forgets : (side : Side) (command : ℕ) (body : List ℕ) (s : State C) → group_at side command body (map_state cells.byte s) ≡ map_outcome cells.byte (group_at side command body s)
+  group-forgets Master command body s = refl
+  group-forgets Slave command body s = refl
+
+  performed-forgets : (caller : Caller) (asked : Request) (s : State C) → performed plain caller asked (map_state cells.byte s) ≡ map_outcome cells.byte (performed cells caller asked s)
+  performed-forgets caller OpenMaster s = refl
+  performed-forgets caller Unlock s = refl
+  performed-forgets caller OpenSlave s = ap (λ (none : Bool). opened-with none) (none-forgets {D = ℕ} cells.byte (map_message cells.byte) s.ends.master.driver.queue.messages)
     where
       opened-with : Bool → Outcome ℕ
-      opened-with none = record { answer = Done; state = map_state cells.byte (record (with_stream Slave (record s.ends.slave { opened = Open; head = new_head }) s) { enabled = enable_if (not none) (driver_of Master) s.enabled }) }
-  call-forgets caller Shut s = ap (λ (t : Carried ℕ (State ℕ)). done t.state) (closed_at-forgets cells.byte caller.side s)
-  call-forgets caller (Push name) s = ap (λ (t : Carried ℕ (State ℕ)). done t.state) (push-forgets cells.byte caller.side name s)
-  call-forgets caller Pop s = ap (λ (t : Carried ℕ (State ℕ)). done t.state) (pop-forgets cells.byte caller.side s)
-  call-forgets caller Look s = ap (λ (name : Option ModuleName). name_answered name (map_state cells.byte s)) (top-forgets cells.byte caller.side s)
-  call-forgets caller (Flush what band) s = ap (λ (t : Carried ℕ (State ℕ)). done t.state) (flushed_on-forgets cells are band caller.side what s)
-  call-forgets caller (Write bytes) s = write-forgets caller.side bytes s
-  call-forgets caller (Read n) s = read_at-forgets caller.side n s
-  call-forgets caller (Put prio control body) s = ap (λ (t : Carried ℕ (State ℕ)). done t.state) (put_at-forgets cells are caller.side prio control body s)
-  call-forgets caller (Get wanted cmax dmax) s = get_at-forgets caller.side wanted cmax dmax s
-  call-forgets caller (Mode mode) s = ap (λ (t : State ℕ). done t) (mode-forgets cells.byte caller.side mode s)
-  call-forgets caller Nread s = sizes-forgets cells.byte caller.side s
-  call-forgets caller (Ioctl command body) s =
-      ap (λ (t : Carried ℕ (State ℕ)). ioctl_told caller.side t.state) (sent-forgets cells are caller.side command body s)
-      ∙ ioctl_told-forgets cells.byte caller.side (ioctl_sent cells caller.side command body s).state
-  call-forgets caller (IoctlResult number) s = ioctl_told-forgets cells.byte caller.side s
-  call-forgets caller events.Signals s = signals-forget cells.byte caller.side s
+      opened-with none = done (map_state cells.byte (record (with_stream Slave (record s.ends.slave { opened = Open; head = new_head }) s) { enabled = enable_if (not none) (driver_of Master) s.enabled }))
+  performed-forgets caller Shut s = ap (λ (t : Carried ℕ (State ℕ)). takes t) (closed_at-forgets cells.byte caller.side s)
+  performed-forgets caller (Push name) s = ap (λ (t : Carried ℕ (State ℕ)). takes t) (push-forgets cells.byte caller.side name s)
+  performed-forgets caller Pop s = ap (λ (t : Carried ℕ (State ℕ)). takes t) (pop-forgets cells.byte caller.side s)
+  performed-forgets caller Look s = ap (λ (name : Option ModuleName). name_answered name (map_state cells.byte s)) (top-forgets cells.byte caller.side s)
+  performed-forgets caller (Flush what band) s = ap (λ (t : Carried ℕ (State ℕ)). takes t) (flushed_on-forgets cells are band caller.side what s)
+  performed-forgets caller (Write bytes) s = write-forgets caller.side bytes s
+  performed-forgets caller (Read n) s = read_at-forgets caller.side n s
+  performed-forgets caller (Put prio control body) s =
+      ap (λ (t : Carried ℕ (State ℕ)). record (takes t) { came = cells_of (message_put plain caller.side prio control body (map_state cells.byte s)) }) (put_at-forgets cells are caller.side prio control body s)
+      ∙ ap (λ (xs : List ℕ). record (map_outcome cells.byte (takes (put_at cells caller.side prio control body s))) { came = xs }) (put_came-forgets cells are caller.side prio control body s)
+  performed-forgets caller (Get wanted cmax dmax) s = get_at-forgets caller.side wanted cmax dmax s
+  performed-forgets caller (Mode mode) s = ap (λ (t : State ℕ). done t) (mode-forgets cells.byte caller.side mode s)
+  performed-forgets caller Nread s = sizes-forgets cells.byte caller.side s
+  performed-forgets caller (Ioctl command body) s = at (asks_group caller.side command)
+    where
+      behind : Carried ℕ (State ℕ) → Outcome ℕ
+      behind t = record (ioctl_told caller.side t.state) { gone = t.gone }
+
+      sent : Carried C (State C)
+      sent = ioctl_sent cells caller.side command body s
+
+      at : (group : Bool) → cond group (group_at caller.side command body (map_state cells.byte s)) (ioctl_at plain caller.side command body (map_state cells.byte s))
+          ≡ map_outcome cells.byte (cond group (group_at caller.side command body s) (ioctl_at cells caller.side command body s))
+      at true = group-forgets caller.side command body s
+      at false =
+          ap behind (sent-forgets cells are caller.side command body s)
+          ∙ ap (λ (o : Outcome ℕ). record o { gone = map (map_fate cells.byte) sent.gone }) (ioctl_told-forgets cells.byte caller.side sent.state)
+  performed-forgets caller (IoctlResult number) s = ioctl_told-forgets cells.byte caller.side s
+  performed-forgets caller events.Signals s = signals-forget cells.byte caller.side s
+
+  pub call-forgets : (caller : Caller) (asked : Request) (s : State C) → called plain caller asked (map_state cells.byte s) ≡ map_outcome cells.byte (called cells caller asked s)
+  call-forgets caller asked s =
+      ap (λ v. or_stopped (stop_in v) (map_state cells.byte s) (performed plain caller asked (map_state cells.byte s))) (hold-same cells.byte s caller asked)
+      ∙ ap (λ (o : Outcome ℕ). or_stopped (stop_of s caller asked) (map_state cells.byte s) o) (performed-forgets caller asked s)
+      ∙ at (stop_of s caller asked)
+    where
+      at : (stop : Option StopSignal) → or_stopped stop (map_state cells.byte s) (map_outcome cells.byte (performed cells caller asked s)) ≡ map_outcome cells.byte (or_stopped stop s (performed cells caller asked s))
+      at None = refl
+      at (Some signal) = refl
 
   pub turn-forgets : (name : QueueName) (turn : Turn) (s : State C) → turned plain name turn (map_state cells.byte s) ≡ map_turn_outcome cells.byte (turned cells name turn s)
   turn-forgets name turn s = at name.place (record s { enabled = without name s.enabled })

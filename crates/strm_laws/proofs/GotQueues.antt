@@ -2,6 +2,7 @@
 -- with it.
 use Rattle.std.proofs.Common.{ℕ, ◌≡◌, ◌+◌, Bool, true, false, cond, List, [], ◌∷◌, map, refl, sym, ap, ◌∙◌, arith}
 use Rattle.std.specs.Prelude.{not, ◌&&◌, Option, None, Some, option_map}
+use Rattle.std.proofs.lemmas.List.{map-append}
 use Rattle.strm_types.specs.declared.modes.Wanted.{Wanted}
 use Rattle.strm_types.specs.declared.names.Dir.{Dir}
 use Rattle.strm_types.specs.declared.rules.Rule.TheVariants as rules
@@ -9,6 +10,7 @@ use Rattle.strm_types.specs.Deliver.{Fate, Goes}
 use Rattle.strm_types.specs.GetQueues.{gets_none, cells_got, none_got, queue_got, get_queue, writer_let_go, get_lets_go, get_gone}
 use Rattle.strm_types.specs.Gets.{Got, head_get, map_got}
 use Rattle.strm_types.specs.Message.{Message, part}
+use Rattle.strm_types.specs.Origins.{map_fate}
 use Rattle.strm_laws.specs.Places.{weight_gone, weight_made}
 use Rattle.strm_types.specs.Queue.{Queue, weight, left_with, relieved, map_messages, map_queue}
 use Rattle.strm_types.specs.Reads.{no_cells}
@@ -64,6 +66,22 @@ module _ {C D : Type 0} (f : C → D) where
       rw (← get-forgets f wanted cmax dmax q.messages, gets-forget wanted q.messages, queue_got-forgets (head_get wanted cmax dmax q.messages) q) (at (gets_none wanted q.messages))
     where
       at : (none : Bool) → cond none (map_queue f q) (map_queue f (queue_got (head_get wanted cmax dmax q.messages) q)) ≡ map_queue f (cond none q (queue_got (head_get wanted cmax dmax q.messages) q))
+      at true = refl
+      at false = refl
+
+  -- what goes to the reader
+  part-forget : (o : Option (List C)) → part (option_map (map f) o) ≡ map f (part o)
+  part-forget None = refl
+  part-forget (Some xs) = refl
+
+  got-forgets : (g : Got C) → cells_got (map_got f g) ≡ map f (cells_got g)
+  got-forgets g = rw (part-forget g.control, part-forget g.body) (sym (map-append f (part g.control) (part g.body)))
+
+  pub get_gone-forgets : (dir : Dir) (wanted : Wanted) (cmax dmax : ℕ) (q : List (Message C)) → get_gone dir wanted cmax dmax (map_messages f q) ≡ map (map_fate f) (get_gone dir wanted cmax dmax q)
+  get_gone-forgets dir wanted cmax dmax q =
+      rw (← get-forgets f wanted cmax dmax q, gets-forget wanted q, got-forgets (head_get wanted cmax dmax q)) (at (gets_none wanted q))
+    where
+      at : (none : Bool) → let xs = cells_got (head_get wanted cmax dmax q) in cond none [] (Goes dir rules.Read (map f xs) ∷ []) ≡ map (map_fate f) (cond none [] (Goes dir rules.Read xs ∷ []))
       at true = refl
       at false = refl
 

@@ -29,6 +29,7 @@ use Rattle.strm_types.specs.Events.{Request, content_of}
 use Rattle.strm_laws.specs.Calls.{called}
 use Rattle.strm_types.specs.Cells.{plain}
 use Rattle.strm_types.specs.Deliver.{Goes}
+use Rattle.strm_types.specs.JobControl.{caller_of}
 use Rattle.strm_types.specs.Journal.{content_max, entries_in, answer_len, room_of}
 use Rattle.strm_laws.specs.Kept.{came, gone}
 use Rattle.strm_types.specs.Message.{Message, rank_of, band_of, size_of, cells_of, is_held, is_high_priority}
@@ -41,7 +42,7 @@ use Rattle.strm_laws.specs.State.{State, Stream, with_stream}
 use Rattle.strm_laws.proofs.Samples.{flow, queue, ordinary, proto, urgent}
 
 abbrev caller : Side → Caller
-caller side = record { side = side }
+caller side = caller_of side
 
 abbrev banded : ℕ → Prio
 banded n = prios.Band (record { 0 = n })
@@ -50,7 +51,7 @@ abbrev of_band : ℕ → Wanted
 of_band n = Band (record { 0 = n })
 
 abbrev head : Queue ℕ → ReadMode → ControlMode → Bool → Head ℕ
-head q read control hung_up = record { queue = q; read_mode = read; control_mode = control; tostop = false; hung_up = hung_up; signals = []; ioctl = Free }
+head q read control hung_up = record { queue = q; read_mode = read; control_mode = control; tostop = false; group = 0; hung_up = hung_up; signals = []; ioctl = Free }
 
 abbrev end : Head ℕ → Stream ℕ
 end h = record { opened = Open; head = h; modules = []; driver = record { queue = queue [] [] } }
@@ -82,18 +83,18 @@ one_waits = pair (at_head (proto ∷ []) (waiting 0) true false) []
 
 -- all of it: both parts, and writers of both bands are let go
 pub get-of-a-whole-message : called plain (caller Slave) (Get Any 9 9) one_waits
-    ≡ record { answer = Msg (banded 2) (Some (1 ∷ 2 ∷ [])) (Some (3 ∷ 4 ∷ 5 ∷ [])) false false; state = pair (at_head [] (flow 9 0 false ∷ flow 9 1 false ∷ flow 9 2 false ∷ []) false false) (driver_of Master ∷ []) }
+    ≡ record { answer = Msg (banded 2) (Some (1 ∷ 2 ∷ [])) (Some (3 ∷ 4 ∷ 5 ∷ [])) false false; state = pair (at_head [] (flow 9 0 false ∷ flow 9 1 false ∷ flow 9 2 false ∷ []) false false) (driver_of Master ∷ []); came = []; gone = Goes MasterToSlave rules.Read (1 ∷ 2 ∷ 3 ∷ 4 ∷ 5 ∷ []) ∷ [] }
 unfolding band_of size_of cells_of is_high_priority
 get-of-a-whole-message = refl
 
 -- one byte of each part: three are left, above the low mark of two
 pub get-of-a-front : called plain (caller Slave) (Get (of_band 2) 1 1) (pair (at_head (proto ∷ []) (flow 9 0 false ∷ flow 9 1 false ∷ flow 9 2 true ∷ []) true false) [])
-    ≡ record { answer = Msg (banded 2) (Some (1 ∷ [])) (Some (3 ∷ [])) true true; state = pair (at_head (record proto { control = Some (2 ∷ []); body = Some (4 ∷ 5 ∷ []) } ∷ []) (flow 9 0 false ∷ flow 9 1 false ∷ flow 9 2 true ∷ []) false false) [] }
+    ≡ record { answer = Msg (banded 2) (Some (1 ∷ [])) (Some (3 ∷ [])) true true; state = pair (at_head (record proto { control = Some (2 ∷ []); body = Some (4 ∷ 5 ∷ []) } ∷ []) (flow 9 0 false ∷ flow 9 1 false ∷ flow 9 2 true ∷ []) false false) []; came = []; gone = Goes MasterToSlave rules.Read (1 ∷ 3 ∷ []) ∷ [] }
 unfolding rank_of band_of size_of cells_of is_high_priority
 get-of-a-front = refl
 
 -- sizes of 0: both parts are given as empty, all bytes stay, and nobody is let go, though writers wait
-pub get-of-no-byte : called plain (caller Slave) (Get Any 0 0) one_waits ≡ record { answer = Msg (banded 2) (Some []) (Some []) true true; state = pair (at_head (proto ∷ []) (waiting 0) false false) [] }
+pub get-of-no-byte : called plain (caller Slave) (Get Any 0 0) one_waits ≡ record { answer = Msg (banded 2) (Some []) (Some []) true true; state = pair (at_head (proto ∷ []) (waiting 0) false false) []; came = []; gone = Goes MasterToSlave rules.Read [] ∷ [] }
 unfolding rank_of band_of size_of cells_of is_high_priority
 get-of-no-byte = refl
 
@@ -117,7 +118,7 @@ get-of-a-band-takes-high-priority = refl
 abbrev ended : List (Message ℕ) → Bool → State ℕ
 ended messages hung_up = pair (at_head messages (waiting 9) true hung_up) []
 
-pub get-at-the-end-of-input : map (λ wanted. called plain (caller Slave) (Get wanted 9 9) (ended [] true)) (Any ∷ High ∷ of_band 3 ∷ []) ≡ replicate 3 (record { answer = Msg (banded 0) None None false false; state = ended [] true })
+pub get-at-the-end-of-input : map (λ wanted. called plain (caller Slave) (Get wanted 9 9) (ended [] true)) (Any ∷ High ∷ of_band 3 ∷ []) ≡ replicate 3 (record { answer = Msg (banded 0) None None false false; state = ended [] true; came = []; gone = [] })
 get-at-the-end-of-input = refl
 
 pub get-waits-before-the-end : map (λ wanted. asks (Get wanted 9 9) (ended [] true)) (Any ∷ High ∷ of_band 3 ∷ []) ∷ map (λ wanted. asks (Get wanted 9 9) (ended [] false)) (Any ∷ High ∷ of_band 3 ∷ []) ∷ map (λ wanted. asks (Get wanted 9 9) (ended (proto ∷ []) true)) (Any ∷ High ∷ of_band 3 ∷ []) ∷ []
@@ -175,7 +176,7 @@ abbrev moded : ReadMode → ControlMode → State ℕ
 moded read control = pair (head (queue (proto ∷ []) []) read control true) (driver_of Slave ∷ [])
 
 pub mode-leaves-the-other-mode : map (λ mode. called plain (caller Slave) (Mode mode) (moded MessageKeep controls.Discard)) (modes.Read MessageDiscard ∷ modes.Control controls.Data ∷ [])
-    ≡ record { answer = Done; state = moded MessageDiscard controls.Discard } ∷ record { answer = Done; state = moded MessageKeep controls.Data } ∷ []
+    ≡ record { answer = Done; state = moded MessageDiscard controls.Discard; came = []; gone = [] } ∷ record { answer = Done; state = moded MessageKeep controls.Data; came = []; gone = [] } ∷ []
 mode-leaves-the-other-mode = refl
 
 pub mode-is-of-its-own-side : (called plain (caller Master) (Mode (modes.Read MessageKeep)) (moded ByteStream controls.Refuse)).state.ends.slave ≡ (moded ByteStream controls.Refuse).ends.slave
@@ -184,7 +185,7 @@ mode-is-of-its-own-side = refl
 -- what stands at a head: the data bytes of the first message, and how many messages there are
 
 pub sizes-of-what-stands : map (λ messages. called plain (caller Slave) Nread (ended messages true)) ([] ∷ (proto ∷ ordinary (7 ∷ []) ∷ []) ∷ (urgent ∷ proto ∷ proto ∷ []) ∷ [])
-    ≡ record { answer = Sizes 0 0; state = ended [] true } ∷ record { answer = Sizes 3 2; state = ended (proto ∷ ordinary (7 ∷ []) ∷ []) true } ∷ record { answer = Sizes 0 3; state = ended (urgent ∷ proto ∷ proto ∷ []) true } ∷ []
+    ≡ record { answer = Sizes 0 0; state = ended [] true; came = []; gone = [] } ∷ record { answer = Sizes 3 2; state = ended (proto ∷ ordinary (7 ∷ []) ∷ []) true; came = []; gone = [] } ∷ record { answer = Sizes 0 3; state = ended (urgent ∷ proto ∷ proto ∷ []) true; came = []; gone = [] } ∷ []
 sizes-of-what-stands = refl
 
 pub head-calls-ask-for-no-block : map blocks_asked (Get Any 9 9 ∷ Mode (modes.Read ByteStream) ∷ Nread ∷ []) ∷ [] ≡ (0 ∷ 0 ∷ 0 ∷ []) ∷ []

@@ -24,6 +24,7 @@ use Rattle.strm_laws.specs.Calls.{called}
 use Rattle.strm_types.specs.Cells.{plain}
 use Rattle.strm_types.specs.Deliver.{carried}
 use Rattle.strm_types.specs.Drivers.{crosses}
+use Rattle.strm_types.specs.JobControl.{caller_of}
 use Rattle.strm_types.specs.Journal.{PlainEntry, content_max, entries_in, room_of}
 use Rattle.strm_laws.specs.Kept.{came, gone}
 use Rattle.strm_types.specs.Message.{Message, band_of, cells_of, is_high_priority, is_held, rank_of, size_of}
@@ -58,26 +59,26 @@ abbrev slots : List PlainSlot
 slots = Free ∷ Waiting 7 5 ∷ Answered 7 5 true 0 (200 ∷ []) ∷ Answered 7 5 false 3 [] ∷ []
 
 abbrev caller : Side → Caller
-caller side = record { side = side }
+caller side = caller_of side
 
 abbrev asks : Request
 asks = Ioctl TIOCGWINSZ (200 ∷ [])
 
 -- Nobody below the slave knows the command, so its driver answers in the call. The number is used all the same.
-pub slave-is-answered-at-once : called plain (caller Slave) asks (pair none none [] 1) ≡ record { answer = Nak Einval; state = pair none none [] 2 }
+pub slave-is-answered-at-once : called plain (caller Slave) asks (pair none none [] 1) ≡ record { answer = Nak Einval; state = pair none none [] 2; came = []; gone = [] }
 unfolding carried
 slave-is-answered-at-once = refl
 
 -- nor is there anybody where the slave isn't open
 pub master-is-answered-at-once : map (λ opened. called plain (caller Master) asks (pair none (end opened Free []) [] 1)) (Never ∷ Closed ∷ [])
-    ≡ record { answer = Nak Einval; state = pair none (end Never Free []) [] 2 } ∷ record { answer = Nak Einval; state = pair none (end Closed Free []) [] 2 } ∷ []
+    ≡ record { answer = Nak Einval; state = pair none (end Never Free []) [] 2; came = []; gone = [] } ∷ record { answer = Nak Einval; state = pair none (end Closed Free []) [] 2; came = []; gone = [] } ∷ []
 unfolding carried
 master-is-answered-at-once = refl
 
 -- else it waits on the master's driver, behind data of band 0, and the driver is enabled
 pub master-waits : map (λ ms. called plain (caller Master) asks (pair (end Open Free ms) none [] 3)) ([] ∷ (ordinary (7 ∷ []) ∷ []) ∷ [])
-    ≡ record { answer = Pending 3; state = pair (end Open (Waiting 3 5) (without_parts kinds.Ioctl (header 5 3 0 ++ 200 ∷ []) ∷ [])) none (driver_of Master ∷ []) 4 }
-    ∷ record { answer = Pending 3; state = pair (end Open (Waiting 3 5) (ordinary (7 ∷ []) ∷ without_parts kinds.Ioctl (header 5 3 0 ++ 200 ∷ []) ∷ [])) none (driver_of Master ∷ []) 4 } ∷ []
+    ≡ record { answer = Pending 3; state = pair (end Open (Waiting 3 5) (without_parts kinds.Ioctl (header 5 3 0 ++ 200 ∷ []) ∷ [])) none (driver_of Master ∷ []) 4; came = []; gone = [] }
+    ∷ record { answer = Pending 3; state = pair (end Open (Waiting 3 5) (ordinary (7 ∷ []) ∷ without_parts kinds.Ioctl (header 5 3 0 ++ 200 ∷ []) ∷ [])) none (driver_of Master ∷ []) 4; came = []; gone = [] } ∷ []
 unfolding carried rank_of band_of is_high_priority
 master-waits = refl
 
@@ -106,7 +107,7 @@ abbrev both : PlainSlot → State ℕ
 both slot = pair (end Open slot []) (end Open (Answered 2 1 true 0 (9 ∷ [])) []) [] 3
 
 pub answer-is-told : map (λ slot. called plain (caller Master) (IoctlResult 1) (both slot)) (Answered 1 5 true 0 (200 ∷ []) ∷ Answered 1 6 true 0 (200 ∷ []) ∷ Answered 1 5 false 3 [] ∷ [])
-    ≡ record { answer = Bytes (200 ∷ []); state = both Free } ∷ record { answer = Done; state = both Free } ∷ record { answer = Nak Enxio; state = both Free } ∷ []
+    ≡ record { answer = Bytes (200 ∷ []); state = both Free; came = []; gone = [] } ∷ record { answer = Done; state = both Free; came = []; gone = [] } ∷ record { answer = Nak Enxio; state = both Free; came = []; gone = [] } ∷ []
 answer-is-told = refl
 
 -- From the call to its answer: `ioctl m TIOCGWINSZ`, two turns, `poll m 1`, and then `ioctl s TIOCGWINSZ`. A second ioctl finds the

@@ -3,7 +3,7 @@
 use Rattle.std.proofs.Common.{ℕ, ◌≡◌, true, false, List, [], ◌∷◌, ◌++◌, length, map, take, refl, replicate}
 use Rattle.std.specs.Prelude.{None, Some}
 use Rattle.strm_types.specs.declared.answers.Answer.TheVariants.{Done, Bytes, Pending, Nak}
-use Rattle.strm_types.specs.declared.ioctls.TheConstants.{TCGETS, TCSETS, TCSETSW, TCSETSF, TIOCGWINSZ, TIOCSWINSZ, TIOCSIGNAL}
+use Rattle.strm_types.specs.declared.ioctls.TheConstants.{TCGETS, TCSETS, TCSETSW, TCSETSF, TIOCGWINSZ, TIOCSWINSZ, TIOCSIGNAL, TIOCGPGRP, TIOCSPGRP}
 use Rattle.strm_types.specs.declared.kinds.MsgKind.{MsgKind}
 use Rattle.strm_types.specs.declared.kinds.MsgKind.TheVariants as kinds
 use Rattle.strm_types.specs.declared.names.Side.{Side}
@@ -11,7 +11,7 @@ use Rattle.strm_types.specs.declared.names.Side.TheVariants.{Slave}
 use Rattle.strm_types.specs.declared.names.Way.{Way}
 use Rattle.strm_types.specs.declared.names.Way.TheVariants.{Up, Down}
 use Rattle.strm_types.specs.declared.refusals.Refusal.{Refusal}
-use Rattle.strm_types.specs.declared.refusals.Refusal.TheVariants.{Einval, Eagain, Enxio, Ebadmsg, Enosr, Erange, JournalFull, NoMinor, NoMemory, StillShared}
+use Rattle.strm_types.specs.declared.refusals.Refusal.TheVariants.{Einval, Eagain, Enxio, Ebadmsg, Enosr, Erange, JournalFull, NoMinor, NoMemory, StillShared, Eio}
 use Rattle.strm_types.specs.declared.slots.Slot.TheVariants.{Free, Waiting, Answered}
 use Rattle.strm_types.specs.declared.spots.Spot.{Spot}
 use Rattle.strm_types.specs.Deliver.{Acted}
@@ -24,7 +24,7 @@ use Rattle.strm_laws.proofs.Samples.{flow, head_with, header, proto, queue, with
 
 -- the numbers of commands
 
-pub commands-have-numbers : TCGETS ∷ TCSETS ∷ TCSETSW ∷ TCSETSF ∷ TIOCGWINSZ ∷ TIOCSWINSZ ∷ TIOCSIGNAL ∷ [] ≡ 1 ∷ 2 ∷ 3 ∷ 4 ∷ 5 ∷ 6 ∷ 7 ∷ []
+pub commands-have-numbers : TCGETS ∷ TCSETS ∷ TCSETSW ∷ TCSETSF ∷ TIOCGWINSZ ∷ TIOCSWINSZ ∷ TIOCSIGNAL ∷ TIOCGPGRP ∷ TIOCSPGRP ∷ [] ≡ 1 ∷ 2 ∷ 3 ∷ 4 ∷ 5 ∷ 6 ∷ 7 ∷ 8 ∷ 9 ∷ []
 commands-have-numbers = refl
 
 -- an M_IOCTL has what is sent behind its header; an M_IOCNAK has the command and the number, EINVAL, and no result
@@ -36,8 +36,8 @@ naks-are-made = refl
 
 -- refusals by their numbers, of which those that none has are EINVAL
 
-pub refusals-have-numbers : map refusal_numbered (0 ∷ 1 ∷ 2 ∷ 3 ∷ 4 ∷ 5 ∷ 6 ∷ 7 ∷ 8 ∷ 9 ∷ 10 ∷ 11 ∷ 255 ∷ [])
-    ≡ Einval ∷ Einval ∷ Eagain ∷ Enxio ∷ Ebadmsg ∷ Enosr ∷ Erange ∷ JournalFull ∷ NoMinor ∷ NoMemory ∷ StillShared ∷ Einval ∷ Einval ∷ []
+pub refusals-have-numbers : map refusal_numbered (0 ∷ 1 ∷ 2 ∷ 3 ∷ 4 ∷ 5 ∷ 6 ∷ 7 ∷ 8 ∷ 9 ∷ 10 ∷ 11 ∷ 12 ∷ 255 ∷ [])
+    ≡ Einval ∷ Einval ∷ Eagain ∷ Enxio ∷ Ebadmsg ∷ Enosr ∷ Erange ∷ JournalFull ∷ NoMinor ∷ NoMemory ∷ StillShared ∷ Eio ∷ Einval ∷ Einval ∷ []
 refusals-have-numbers = refl
 
 pub refusals-read-back : (refusal : Refusal) → refusal_numbered (number_of refusal) ≡ refusal
@@ -51,6 +51,7 @@ refusals-read-back JournalFull = refl
 refusals-read-back NoMinor = refl
 refusals-read-back NoMemory = refl
 refusals-read-back StillShared = refl
+refusals-read-back Eio = refl
 
 -- The ioctl under way: number 7, command 5.
 
@@ -90,7 +91,7 @@ pub callers-are-told : map told_of slots ≡ Done ∷ Pending 7 ∷ Bytes (200 �
 callers-are-told = refl
 
 -- of an M_IOCNAK its refusal alone: the error's, and EINVAL where no refusal has that number
-pub refusals-are-told : map told_of (nacked 2 (200 ∷ []) ∷ nacked 3 [] ∷ nacked 10 [] ∷ nacked 0 [] ∷ nacked 11 [] ∷ nacked 4294967295 [] ∷ []) ≡ Nak Eagain ∷ Nak Enxio ∷ Nak StillShared ∷ replicate 3 (Nak Einval)
+pub refusals-are-told : map told_of (nacked 2 (200 ∷ []) ∷ nacked 3 [] ∷ nacked 10 [] ∷ nacked 0 [] ∷ nacked 12 [] ∷ nacked 4294967295 [] ∷ []) ≡ Nak Eagain ∷ Nak Enxio ∷ Nak StillShared ∷ replicate 3 (Nak Einval)
 refusals-are-told = refl
 
 pub commands-that-give-something : map (λ command. told_of (Answered 7 command true 0 (200 ∷ []))) (TCGETS ∷ TCSETS ∷ TCSETSW ∷ TCSETSF ∷ TIOCGWINSZ ∷ TIOCSWINSZ ∷ TIOCSIGNAL ∷ 99 ∷ [])

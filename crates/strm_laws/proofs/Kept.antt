@@ -14,6 +14,7 @@ use Rattle.strm_types.specs.declared.names.Dir.{Dir}
 use Rattle.strm_types.specs.declared.names.Side.{Side}
 use Rattle.strm_types.specs.declared.names.Side.TheVariants.{Slave}
 use Rattle.strm_types.specs.declared.refusals.Refusal.TheVariants.{Einval}
+use Rattle.strm_types.specs.declared.slots.Slot.TheVariants.{Free}
 use Rattle.strm_types.specs.declared.names.Way.TheVariants.{Up}
 use Rattle.strm_types.specs.Cells.{Cells, cells_written}
 use Rattle.strm_types.specs.Names.{direction_from, direction_of, head_of, is_open, direction_at}
@@ -22,15 +23,16 @@ use Rattle.strm_types.specs.Queue.{Queue, weight, left_with, relieved}
 use Rattle.strm_laws.specs.State.{State, stream, book, with_head_queue}
 use Rattle.strm_types.specs.Reads.{Drawn, head_draw, none_went, queue_drawn, read_fates, read_gone, read_queue, takes_none}
 use Rattle.strm_types.specs.Events.{Request, Reply}
-use Rattle.strm_laws.specs.Calls.{read_at, write_sent, wrote, get_at, mode_set, called}
+use Rattle.strm_laws.specs.Calls.{Outcome, called, get_at, group_at, ioctl_at, mode_set, performed, read_at, write_sent, wrote}
 use Rattle.strm_types.specs.GetQueues.{get_queue, get_gone}
+use Rattle.strm_types.specs.JobControl.{asks_group, group_behind}
 use Rattle.strm_types.specs.Journal.{PlainEntry}
 use Rattle.strm_types.specs.Refused.{or_else}
-use Rattle.strm_laws.specs.Refusals.{refused_at_once, refused_by_state}
+use Rattle.strm_laws.specs.Refusals.{refused_at_once, unfit}
 use Rattle.strm_laws.specs.Step.{Step}
 use Rattle.strm_laws.specs.Turns.{turned}
 use Rattle.strm_laws.specs.Places.{weight_gone, weight_made}
-use Rattle.strm_laws.specs.Kept.{state_weight, NothingUnread, AreIdle, MayTest, cells_taken, gone, count_came}
+use Rattle.strm_laws.specs.Kept.{state_weight, NothingUnread, AreIdle, MayTest, gone, count_came}
 use Rattle.strm_laws.proofs.ClosesKeep.{closed_at-keeps}
 use Rattle.strm_laws.proofs.PushKeeps.{pop-keeps, push-keeps}
 use Rattle.strm_laws.proofs.Deliveries.{flushed_on-keeps}
@@ -41,6 +43,7 @@ use Rattle.strm_laws.proofs.PutMessages.{put_at-keeps}
 use Rattle.strm_types.proofs.ReadKeeps.{head_draw-keeps}
 use Rattle.strm_laws.proofs.TurnKeeps.{turn-keeps}
 use Rattle.strm_laws.proofs.Replay.{unless-none, or_else-none}
+use Rattle.strm_laws.proofs.Stopping.{of-allowed}
 use Rattle.strm_laws.proofs.StreamWeights.{same-weighs, stream-weighs}
 
 closed-of : (b : Bool) → not b ≡ true → b ≡ false
@@ -57,7 +60,7 @@ module _ {C : Type 0} where
 
   module _ (p : Dir → C → Bool) where
     write-keeps : (cells : Cells C) (side : Side) (bytes : List ℕ) (s : State C) → let t = write_sent cells side bytes s in
-        state_weight p (wrote cells side bytes s).state + weight_gone p t.gone ≡ state_weight p s + (count_by (p (direction_from side)) (cells_taken cells side bytes s) + weight_made p t.gone)
+        state_weight p (wrote cells side bytes s).state + weight_gone p t.gone ≡ state_weight p s + (count_by (p (direction_from side)) (wrote cells side bytes s).came + weight_made p t.gone)
     write-keeps cells side bytes s =
         let dir = direction_from side in
         let t = write_sent cells side bytes s in
@@ -73,10 +76,10 @@ module _ {C : Type 0} where
             let d = head_draw read control n q.messages in
             omega (arith, head_draw-keeps (p dir) read control n q.messages, ap (λ (ms : List (Message C)). weight (p dir) ms) (left-drawn d q))
 
-    read-keeps : (cells : Cells C) (side : Side) (n : ℕ) (answer : Reply) (s : State C) → let h = (stream side s).head in
+    read-keeps : (cells : Cells C) (side : Side) (n : ℕ) (s : State C) → let h = (stream side s).head in
         let gone = read_gone (direction_of (head_of side)) h.read_mode h.control_mode (min n READ_MAX) h.queue.messages in
         state_weight p (read_at cells side n s).state + weight_gone p gone ≡ state_weight p s + weight_made p gone
-    read-keeps cells side n answer s =
+    read-keeps cells side n s =
         let t = stream side s in
         let h = t.head in
         omega (
@@ -100,33 +103,45 @@ module _ {C : Type 0} where
     mode-keeps side (chosen.Read mode) s = same-weighs p side (record (stream side s) { head = record (stream side s).head { read_mode = mode } }) s refl
     mode-keeps side (chosen.Control mode) s = same-weighs p side (record (stream side s) { head = record (stream side s).head { control_mode = mode } }) s refl
 
-    call-keeps : (cells : Cells C) (caller : Caller) (asked : Request) (answer : Reply) (s : State C) → NothingUnread s → AreIdle s → or_else (refused_at_once s caller asked) (refused_by_state s caller asked) ≡ None
-        → let entry = Called caller asked answer in
-        state_weight p (called cells caller asked s).state + weight_gone p (gone cells s entry) ≡ state_weight p s + (count_came cells p s entry + weight_made p (gone cells s entry))
-    call-keeps cells caller Shut answer s unread idle allowed = omega (arith, closed_at-keeps p caller.side s (idle caller.side))
-    call-keeps cells caller (Push name) answer s unread idle allowed = omega (arith, push-keeps p caller.side name s)
-    call-keeps cells caller Pop answer s unread idle allowed = omega (arith, pop-keeps p caller.side s (idle caller.side))
-    call-keeps cells caller (Flush what band) answer s unread idle allowed = omega (arith, flushed_on-keeps cells p band caller.side what s)
-    call-keeps cells caller OpenSlave answer s unread idle allowed =
+    -- what stands behind a call, with what has gone, is what stood before, with what came and was made
+    abbrev Keeps : Caller → State C → Outcome C → Type 0
+    Keeps caller s outcome = state_weight p outcome.state + weight_gone p outcome.gone ≡ state_weight p s + (count_by (p (direction_from caller.side)) outcome.came + weight_made p outcome.gone)
+
+    group-keeps : (side : Side) (command : ℕ) (body : List ℕ) (s : State C) → state_weight p (group_at side command body s).state ≡ state_weight p s
+    group-keeps side command body s =
+        let t = stream side s in
+        same-weighs p side (record t { head = record t.head { group = group_behind command body t.head.group; ioctl = Free } }) s refl
+
+    performed-keeps : (cells : Cells C) (caller : Caller) (asked : Request) (s : State C) → NothingUnread s → AreIdle s → or_else (refused_at_once s caller asked) (unfit s caller asked) ≡ None → Keeps caller s (performed cells caller asked s)
+    performed-keeps cells caller Shut s unread idle allowed = omega (arith, closed_at-keeps p caller.side s (idle caller.side))
+    performed-keeps cells caller (Push name) s unread idle allowed = omega (arith, push-keeps p caller.side name s)
+    performed-keeps cells caller Pop s unread idle allowed = omega (arith, pop-keeps p caller.side s (idle caller.side))
+    performed-keeps cells caller (Flush what band) s unread idle allowed = omega (arith, flushed_on-keeps cells p band caller.side what s)
+    performed-keeps cells caller OpenSlave s unread idle allowed =
         let by_state = or_else-none _ _ (or_else-none (refused_at_once s caller OpenSlave) _ allowed).1 in
         let closed = closed-of (is_open s.ends.slave.opened) (unless-none (not (is_open s.ends.slave.opened)) Einval by_state.0) in
         let nothing = ap (λ (q : List (Message C)). weight (p (direction_at Up Slave)) q) (unread Slave closed) in
         omega (arith, nothing)
-    call-keeps cells caller (Write bytes) answer s unread idle allowed = write-keeps cells caller.side bytes s
-    call-keeps cells caller (Read n) answer s unread idle allowed = omega (arith, read-keeps cells caller.side n answer s)
-    call-keeps cells caller (Put prio control body) answer s unread idle allowed = put_at-keeps p cells caller.side prio control body s
-    call-keeps cells caller (Get wanted cmax dmax) answer s unread idle allowed = omega (arith, get-keeps cells caller.side wanted cmax dmax s)
-    call-keeps cells caller (Mode mode) answer s unread idle allowed = omega (arith, mode-keeps caller.side mode s)
-    call-keeps cells caller (Ioctl command body) answer s unread idle allowed = omega (arith, sent-keeps p cells caller.side command body s)
-    call-keeps cells caller (IoctlResult number) answer s unread idle allowed = omega (arith, told-keeps p caller.side s)
-    call-keeps cells caller Signals answer s unread idle allowed = omega (arith, signals-keep p caller.side [] s)
-    call-keeps cells caller _ answer s unread idle allowed = refl
+    performed-keeps cells caller (Write bytes) s unread idle allowed = write-keeps cells caller.side bytes s
+    performed-keeps cells caller (Read n) s unread idle allowed = omega (arith, read-keeps cells caller.side n s)
+    performed-keeps cells caller (Put prio control body) s unread idle allowed = put_at-keeps p cells caller.side prio control body s
+    performed-keeps cells caller (Get wanted cmax dmax) s unread idle allowed = omega (arith, get-keeps cells caller.side wanted cmax dmax s)
+    performed-keeps cells caller (Mode mode) s unread idle allowed = omega (arith, mode-keeps caller.side mode s)
+    performed-keeps cells caller (Ioctl command body) s unread idle allowed = at (asks_group caller.side command)
+      where
+        at : (group : Bool) → Keeps caller s (cond group (group_at caller.side command body s) (ioctl_at cells caller.side command body s))
+        at true = omega (arith, group-keeps caller.side command body s)
+        at false = omega (arith, sent-keeps p cells caller.side command body s)
+    performed-keeps cells caller (IoctlResult number) s unread idle allowed = omega (arith, told-keeps p caller.side s)
+    performed-keeps cells caller Signals s unread idle allowed = omega (arith, signals-keep p caller.side [] s)
+    performed-keeps cells caller _ s unread idle allowed = refl
 
     -- what stands on the queues after a step, and what it took away, is what stood there before, what it brought, and what was
     -- made on the way
     pub step-keeps : (cells : Cells C) (old new : State C) (entry : PlainEntry) → MayTest cells p entry → NothingUnread old → AreIdle old → Step cells old entry new
         → state_weight p new + weight_gone p (gone cells old entry) ≡ state_weight p old + (count_came cells p old entry + weight_made p (gone cells old entry))
     step-keeps cells old new (Called caller asked answer) tests unread idle step =
-        ap (λ (s : State C). state_weight p s + weight_gone p (gone cells old (Called caller asked answer))) (sym step.leads) ∙ call-keeps cells caller asked answer old unread idle step.allowed
+        ap (λ (s : State C). state_weight p s + weight_gone p (gone cells old (Called caller asked answer))) (sym step.leads)
+        ∙ of-allowed cells caller asked old (Keeps caller old) (λ signal. refl) step.allowed (λ fits. performed-keeps cells caller asked old unread idle fits)
     step-keeps cells old new (Turned name turn) tests unread idle step =
         ap (λ (s : State C). state_weight p s + weight_gone p (gone cells old (Turned name turn))) (sym step.leads) ∙ turn-keeps p cells name tests turn old idle ∙ (let same : state_weight p old + weight_made p (turned cells name turn old).gone ≡ state_weight p old + (0 + weight_made p (turned cells name turn old).gone) = omega arith in same)

@@ -1,3 +1,4 @@
+pub mod JobControlRows
 pub mod JournalEntries
 pub mod StoredCalls
 pub mod Replay
@@ -57,6 +58,7 @@ pub mod WithinSteps
 pub mod AnswersOnce
 pub mod AnswersFit
 pub mod Standing
+pub mod Stopping
 pub mod Prefixes
 pub mod LdtermKeeps
 pub mod LdtermStages

@@ -22,6 +22,7 @@ use Rattle.strm_laws.specs.Puts.{delivered}
 use Rattle.strm_laws.specs.State.{State, book, with_book, map_state}
 use Rattle.strm_laws.proofs.Deliveries.{delivered-keeps}
 use Rattle.strm_types.proofs.PlainCells.{written-plain, written-bytes}
+use Rattle.strm_laws.proofs.Forgetting.{cells-forget}
 use Rattle.strm_laws.proofs.PutsForget.{delivered-forgets}
 use Rattle.strm_types.proofs.Weights.{weight-whole}
 
@@ -72,6 +73,13 @@ module _ {C : Type 0} (cells : Cells C) (are : AreCells cells) where
   message-forgets dir n prio control body =
       rw (written-forgets dir n control, written-forgets dir (n + length (part control)) body)
       (put-forgets cells.byte prio (option_map (cells_written cells dir n) control) (option_map (cells_written cells dir (n + length (part control))) body))
+
+  -- what it brings
+  pub put_came-forgets : (side : Side) (prio : Prio) (control body : Option (List ℕ)) (s : State C) → cells_of (message_put plain side prio control body (map_state cells.byte s)) ≡ map cells.byte (cells_of (message_put cells side prio control body s))
+  put_came-forgets side prio control body s =
+      let dir = direction_from side in
+      let n = (book dir s).written in
+      ap (λ m. cells_of m) (message-forgets dir n prio control body) ∙ cells-forget cells.byte (message_of cells dir n prio control body)
 
   pub put_at-forgets : (side : Side) (prio : Prio) (control body : Option (List ℕ)) (s : State C) → put_at plain side prio control body (map_state cells.byte s) ≡ map_carried cells.byte (map_state cells.byte) (put_at cells side prio control body s)
   put_at-forgets side prio control body s = at (no_parts control body)

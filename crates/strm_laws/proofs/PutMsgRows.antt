@@ -27,6 +27,7 @@ use Rattle.strm_types.specs.Events.{Request, payload_of}
 use Rattle.strm_laws.specs.Calls.{called}
 use Rattle.strm_types.specs.Cells.{Tagged, plain, tagged, cells_written}
 use Rattle.strm_types.specs.Deliver.{carried, Goes}
+use Rattle.strm_types.specs.JobControl.{caller_of}
 use Rattle.strm_types.specs.Journal.{content_max, entries_in, room_of}
 use Rattle.strm_laws.specs.Kept.{came, gone}
 use Rattle.strm_types.specs.Message.{Message, rank_of, band_of, size_of, cells_of, is_high_priority}
@@ -38,7 +39,7 @@ use Rattle.strm_laws.specs.State.{State, Stream, opening}
 use Rattle.strm_laws.proofs.Samples.{head_with, flow, queue, ordinary}
 
 abbrev caller : Side → Caller
-caller side = record { side = side }
+caller side = caller_of side
 
 abbrev banded : ℕ → Prio
 banded n = Band (record { 0 = n })
@@ -117,8 +118,8 @@ put-waits-at-the-mark = refl
 -- what is sent goes to the driver, which is enabled, and is booked as written
 
 pub put-goes-to-the-driver : called plain (caller Master) (Put (banded 1) (Some (97 ∷ 98 ∷ [])) (Some (99 ∷ []))) full
-    ≡ record { answer = Done; state = pair (end Open false (queue (message Proto 1 (Some (97 ∷ 98 ∷ [])) (Some (99 ∷ [])) ∷ ordinary (7 ∷ 8 ∷ []) ∷ []) marks)) (end Open false (queue [] [])) (record { written = 3; made = 0 }) (driver_of Master ∷ []) }
-unfolding carried rank_of band_of is_high_priority
+    ≡ record { answer = Done; state = pair (end Open false (queue (message Proto 1 (Some (97 ∷ 98 ∷ [])) (Some (99 ∷ [])) ∷ ordinary (7 ∷ 8 ∷ []) ∷ []) marks)) (end Open false (queue [] [])) (record { written = 3; made = 0 }) (driver_of Master ∷ []); came = 97 ∷ 98 ∷ 99 ∷ []; gone = [] }
+unfolding cells_of carried rank_of band_of is_high_priority
 put-goes-to-the-driver = refl
 
 -- the control part is written first, behind what was written before
@@ -134,7 +135,8 @@ unfolding carried rank_of band_of cells_of is_high_priority
 puts-are-booked = refl
 
 -- neither part: nothing is sent
-pub put-of-nothing : called plain (caller Master) (Put (banded 0) None None) full ≡ record { answer = Done; state = full }
+pub put-of-nothing : called plain (caller Master) (Put (banded 0) None None) full ≡ record { answer = Done; state = full; came = []; gone = [] }
+unfolding cells_of
 put-of-nothing = refl
 
 -- two empty parts: a zero-length message

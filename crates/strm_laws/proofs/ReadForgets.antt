@@ -6,9 +6,11 @@ use Rattle.strm_types.specs.declared.modes.ReadMode.{ReadMode}
 use Rattle.strm_types.specs.declared.modes.ReadMode.TheVariants.{ByteStream, MessageKeep, MessageDiscard}
 use Rattle.strm_types.specs.declared.modes.ControlMode.{ControlMode}
 use Rattle.strm_types.specs.declared.modes.ControlMode.TheVariants.{Refuse, Data, Discard}
+use Rattle.strm_types.specs.declared.names.Dir.{Dir}
 use Rattle.strm_types.specs.Message.{Message, part, cells_of, band_of, map_message}
+use Rattle.strm_types.specs.Origins.{map_fate}
 use Rattle.strm_types.specs.Queue.{Queue, put_back, left_with, relieved, map_messages, map_queue}
-use Rattle.strm_types.specs.Reads.{Drawn, is_there, part_left, no_cells, stopped, emptied_of, front_of, and_more, drawn, head_draw, shown, offered, control_gone, all_cells, rest_with, rest_after, is_refused, is_passed, wanted_after, finds_none, starts_refused, read_refusal, takes_none, none_went, queue_drawn, read_queue, writer_goes, read_lets_go, map_drawn}
+use Rattle.strm_types.specs.Reads.{Drawn, is_there, part_left, no_cells, stopped, emptied_of, front_of, and_more, drawn, head_draw, shown, offered, control_gone, all_cells, rest_with, rest_after, is_refused, is_passed, wanted_after, finds_none, starts_refused, read_refusal, takes_none, none_went, queue_drawn, read_fates, read_gone, read_queue, writer_goes, read_lets_go, map_drawn}
 use Rattle.strm_laws.proofs.Forgetting.{cells-forget, put_back-forgets, relieved-forgets, relieves_from-forgets}
 use Rattle.strm_types.proofs.Drawing.{ended, ended-agrees}
 
@@ -176,6 +178,15 @@ module _ {C D : Type 0} (f : C → D) where
       rw (← head_draw-forgets read control n q.messages, takes-forgets control n q.messages, queue_drawn-forgets (head_draw read control n q.messages) q) (at (takes_none control n q.messages))
     where
       at : (none : Bool) → cond none (map_queue f q) (map_queue f (queue_drawn (head_draw read control n q.messages) q)) ≡ map_queue f (cond none q (queue_drawn (head_draw read control n q.messages) q))
+      at true = refl
+      at false = refl
+
+  -- what goes by its rules
+  pub read_gone-forgets : (dir : Dir) (read : ReadMode) (control : ControlMode) (n : ℕ) (q : List (Message C)) → read_gone dir read control n (map_messages f q) ≡ map (map_fate f) (read_gone dir read control n q)
+  read_gone-forgets dir read control n q =
+      rw (← head_draw-forgets read control n q, takes-forgets control n q) (at (takes_none control n q))
+    where
+      at : (none : Bool) → cond none [] (read_fates dir (map_drawn f (head_draw read control n q))) ≡ map (map_fate f) (cond none [] (read_fates dir (head_draw read control n q)))
       at true = refl
       at false = refl
 

@@ -20,6 +20,7 @@ use Rattle.strm_types.specs.Events.{Request}
 use Rattle.strm_types.specs.Cells.{AreCells, Cells, plain}
 use Rattle.strm_types.specs.Message.{is_held}
 use Rattle.strm_types.specs.Gets.{get_refusal}
+use Rattle.strm_types.specs.JobControl.{refusal_behind}
 use Rattle.strm_types.specs.Journal.{PlainEntry}
 use Rattle.strm_types.specs.Message.{Message}
 use Rattle.strm_types.specs.ModuleQueues.{messages_at}
@@ -30,7 +31,7 @@ use Rattle.strm_laws.specs.Pushes.{may_stand, named_by}
 use Rattle.strm_types.specs.Queue.{map_messages}
 use Rattle.strm_types.specs.Reads.{read_refusal}
 use Rattle.strm_types.specs.Needs.{needs}
-use Rattle.strm_laws.specs.Refusals.{at_end, goes_down, in_range, is_numbered, is_reached, refused_at_once, refused_by_state}
+use Rattle.strm_laws.specs.Refusals.{at_end, goes_down, in_range, is_numbered, is_reached, hold, refused_at_once, refused_by_state, unfit}
 use Rattle.strm_types.specs.Refused.{has_no_data, or_else, unless}
 use Rattle.strm_types.specs.Slots.{is_free, result_refusal}
 use Rattle.strm_laws.specs.Stacked.{Module, OfLdterm, OfPtem, OfPckt, map_module, module_name, module_queue}
@@ -43,6 +44,7 @@ use Rattle.strm_laws.proofs.GetKeeps.{wanted-forgets}
 use Rattle.strm_laws.proofs.Past.{room-forgets}
 use Rattle.strm_laws.proofs.PushForgets.{named_by-forgets, top-forgets}
 use Rattle.strm_laws.proofs.ReadForgets.{refusal-forgets}
+use Rattle.strm_laws.proofs.Stopping.{hold-same}
 
 module _ {C D : Type 0} (f : C → D) where
   abbrev images : List (Module C) → List (Module D)
@@ -135,17 +137,20 @@ module _ {C D : Type 0} (f : C → D) where
   slot-same Master s = refl
   slot-same Slave s = refl
 
+  fits-same : (s : State C) (caller : Caller) (asked : Request) → unfit (map_state f s) caller asked ≡ unfit s caller asked
+  fits-same s caller (Write bytes) = ap (λ b. unless (not b) Eagain) (full-same caller.side 0 s)
+  fits-same s caller (Read n) = read-same caller.side n s
+  fits-same s caller (Put prio control body) = ap (λ b. unless (not b) Eagain) (put-same prio control body caller.side s)
+  fits-same s caller (Get wanted cmax dmax) = get-same caller.side wanted s
+  fits-same s caller (Ioctl command body) = ap (λ slot. unless (is_free slot) Eagain) (slot-same caller.side s)
+  fits-same s caller (IoctlResult number) = ap (λ slot. result_refusal number slot) (slot-same caller.side s)
+  fits-same s caller (Push name) = ap (λ b. unless b Einval) (push-same caller.side name s)
+  fits-same s caller Pop = ap (λ name. unless (is_some name) Einval) (top-forgets f caller.side s)
+  fits-same s caller Look = ap (λ name. unless (is_some name) Einval) (top-forgets f caller.side s)
+  fits-same s caller _ = refl
+
   by-state : (s : State C) (caller : Caller) (asked : Request) → refused_by_state (map_state f s) caller asked ≡ refused_by_state s caller asked
-  by-state s caller (Write bytes) = ap (λ b. unless (not b) Eagain) (full-same caller.side 0 s)
-  by-state s caller (Read n) = read-same caller.side n s
-  by-state s caller (Put prio control body) = ap (λ b. unless (not b) Eagain) (put-same prio control body caller.side s)
-  by-state s caller (Get wanted cmax dmax) = get-same caller.side wanted s
-  by-state s caller (Ioctl command body) = ap (λ slot. unless (is_free slot) Eagain) (slot-same caller.side s)
-  by-state s caller (IoctlResult number) = ap (λ slot. result_refusal number slot) (slot-same caller.side s)
-  by-state s caller (Push name) = ap (λ b. unless b Einval) (push-same caller.side name s)
-  by-state s caller Pop = ap (λ name. unless (is_some name) Einval) (top-forgets f caller.side s)
-  by-state s caller Look = ap (λ name. unless (is_some name) Einval) (top-forgets f caller.side s)
-  by-state s caller _ = refl
+  by-state s caller asked = ap (λ v. refusal_behind v (unfit (map_state f s) caller asked)) (hold-same f s caller asked) ∙ ap (λ r. refusal_behind (hold s caller asked) r) (fits-same s caller asked)
 
   pub refusals-forget : (s : State C) (caller : Caller) (asked : Request) → or_else (refused_at_once (map_state f s) caller asked) (refused_by_state (map_state f s) caller asked) ≡ or_else (refused_at_once s caller asked) (refused_by_state s caller asked)
   refusals-forget s caller asked = ap (λ r. or_else r (refused_by_state (map_state f s) caller asked)) (at-once s caller asked) ∙ ap (λ r. or_else (refused_at_once s caller asked) r) (by-state s caller asked)

@@ -16,6 +16,7 @@ use Rattle.strm_types.specs.declared.names.Side.TheVariants.{Master, Slave}
 use Rattle.strm_types.specs.declared.names.Way.TheVariants.{Up}
 use Rattle.strm_types.specs.declared.refusals.Refusal.{Refusal}
 use Rattle.strm_types.specs.declared.refusals.Refusal.TheVariants.{Einval, Eagain, Enxio, Enosr, JournalFull}
+use Rattle.strm_types.specs.JobControl.{caller_of}
 use Rattle.strm_types.specs.Message.{Message, data_message, band_of, size_of, cells_of, is_high_priority}
 use Rattle.strm_types.specs.Names.{driver_of}
 use Rattle.strm_types.specs.Queue.{new_queue}
@@ -71,7 +72,7 @@ pub reads-give-4096-at-most : map content_max (Read 4095 ∷ Read 4096 ∷ Read 
 reads-give-4096-at-most = refl
 
 abbrev caller : Side → Caller
-caller side = record { side = side }
+caller side = caller_of side
 
 abbrev wrote_three : PlainEntry
 wrote_three = Called (caller Master) (Write (97 ∷ 98 ∷ 99 ∷ [])) (Count 2)

@@ -15,7 +15,7 @@ use Rattle.strm_types.specs.Events.{Request, payload_of}
 use Rattle.strm_types.specs.declared.entries.Entry.TheVariants.{Called, Turned}
 use Rattle.strm_types.specs.Cells.{Cells}
 use Rattle.strm_types.specs.Journal.{PlainEntry, content_max}
-use Rattle.strm_laws.specs.Refusals.{in_range, is_numbered, is_reached, has_room, refused, refused_at_once, refused_by_state, turn_refused, unmet}
+use Rattle.strm_laws.specs.Refusals.{in_range, is_numbered, is_reached, has_room, refused, refused_at_once, refused_by_state, turn_refused, unfit, unmet}
 use Rattle.strm_types.specs.Refused.{or_else, unless}
 use Rattle.strm_laws.specs.Step.{Step, after, replay, IsLegal}
 
@@ -69,9 +69,12 @@ module _ {C : Type 0} where
       let fourth = or_else-none (unless (not n.numbered || is_numbered s) Erange) _ third.1 in
       record { reached = unless-none _ _ first.0; right = third.0; numbered = unless-none _ _ fourth.0; booked = unless-none _ _ fourth.1 }
 
-  -- and so of a call that isn't refused
+  -- and so of a call that isn't refused, whatever is asked behind that
   pub allowed-met : (s : State C) (caller : Caller) (asked : Request) → or_else (refused_at_once s caller asked) (refused_by_state s caller asked) ≡ None → Met s caller.side (needs asked)
   allowed-met s caller asked allowed = met s caller.side (needs asked) (or_else-none (refused_at_once s caller asked) _ allowed).0
+
+  pub fitting-met : (s : State C) (caller : Caller) (asked : Request) → or_else (refused_at_once s caller asked) (unfit s caller asked) ≡ None → Met s caller.side (needs asked)
+  fitting-met s caller asked allowed = met s caller.side (needs asked) (or_else-none (refused_at_once s caller asked) _ allowed).0
 
   -- a call that isn't refused: nothing refuses it at once or by the state, the journal has room, blocks are free
   pub call-allowed : (s : State C) (es : List PlainEntry) (limits : Config) (has_blocks : Bool) (caller : Caller) (asked : Request) → refused s es limits has_blocks caller asked ≡ None

@@ -15,18 +15,19 @@ use Rattle.strm_laws.specs.Turns.{turned}
 use Rattle.strm_types.specs.declared.events.Event.TheVariants.{OpenMaster, Unlock, OpenSlave, Write, Read}
 use Rattle.strm_types.specs.declared.answers.Answer.TheVariants.{Count, Bytes}
 use Rattle.strm_types.specs.Cells.{plain}
+use Rattle.strm_types.specs.JobControl.{caller_of}
 use Rattle.strm_laws.specs.Calls.{called}
 use Rattle.strm_laws.specs.Refusals.{refused_by_state, refused_at_once}
 
 -- the state after the master was opened, the slave unlocked and opened
 abbrev opened : State ℕ
-opened = (called plain (record { side = Master }) OpenSlave (called plain (record { side = Master }) Unlock (called plain (record { side = Master }) OpenMaster opening).state).state).state
+opened = (called plain (caller_of Master) OpenSlave (called plain (caller_of Master) Unlock (called plain (caller_of Master) OpenMaster opening).state).state).state
 
 -- a write, a turn and a read: `write m "abc"` takes 3, the turn moves 3, `read s 10` gives "abc"
 abbrev after-write : State ℕ
-after-write = (called plain (record { side = Master }) (Write (97 ∷ 98 ∷ 99 ∷ [])) opened).state
+after-write = (called plain (caller_of Master) (Write (97 ∷ 98 ∷ 99 ∷ [])) opened).state
 
-pub write-takes : (called plain (record { side = Master }) (Write (97 ∷ 98 ∷ 99 ∷ [])) opened).answer ≡ Count 3
+pub write-takes : (called plain (caller_of Master) (Write (97 ∷ 98 ∷ 99 ∷ [])) opened).answer ≡ Count 3
 unfolding chunk_count data_message rank_of band_of size_of cells_of is_high_priority
 write-takes = refl
 
@@ -38,7 +39,7 @@ pub turn-moves : (turned plain (driver_of Master) Idle after-write).turn ≡ Mov
 unfolding carried chunk_count data_message rank_of band_of size_of cells_of is_high_priority is_held
 turn-moves = refl
 
-pub read-gives : (called plain (record { side = Slave }) (Read 10) (turned plain (driver_of Master) Idle after-write).state).answer ≡ Bytes (97 ∷ 98 ∷ 99 ∷ [])
+pub read-gives : (called plain (caller_of Slave) (Read 10) (turned plain (driver_of Master) Idle after-write).state).answer ≡ Bytes (97 ∷ 98 ∷ 99 ∷ [])
 unfolding carried chunk_count data_message rank_of band_of size_of cells_of is_high_priority is_held
 read-gives = refl
 
@@ -48,13 +49,13 @@ second-turn-is-refused = refl
 
 -- 600 bytes: two chunks of 256 go, the third finds the band full; after a turn one more chunk may go
 abbrev after-long : State ℕ
-after-long = (called plain (record { side = Master }) (Write (replicate 600 122)) opened).state
+after-long = (called plain (caller_of Master) (Write (replicate 600 122)) opened).state
 
-pub long-write-stops : (called plain (record { side = Master }) (Write (replicate 600 122)) opened).answer ≡ Count 512
+pub long-write-stops : (called plain (caller_of Master) (Write (replicate 600 122)) opened).answer ≡ Count 512
 unfolding carried chunk_count data_message rank_of band_of size_of cells_of is_high_priority
 long-write-stops = refl
 
-pub full-is-refused : refused_by_state after-long (record { side = Master }) (Write (122 ∷ [])) ≡ Some Eagain
+pub full-is-refused : refused_by_state after-long (caller_of Master) (Write (122 ∷ [])) ≡ Some Eagain
 unfolding carried chunk_count data_message rank_of band_of size_of cells_of is_high_priority
 full-is-refused = refl
 
@@ -62,7 +63,7 @@ pub turn-makes-room : (turned plain (driver_of Master) Idle after-long).turn ≡
 unfolding carried chunk_count data_message rank_of band_of size_of cells_of is_high_priority is_held
 turn-makes-room = refl
 
-pub write-goes-on : (called plain (record { side = Master }) (Write (122 ∷ [])) (turned plain (driver_of Master) Idle after-long).state).answer ≡ Count 1
+pub write-goes-on : (called plain (caller_of Master) (Write (122 ∷ [])) (turned plain (driver_of Master) Idle after-long).state).answer ≡ Count 1
 unfolding carried chunk_count data_message rank_of band_of size_of cells_of is_high_priority is_held
 write-goes-on = refl
 
@@ -83,14 +84,14 @@ unfolding rank_of is_high_priority
 put-back-is-first = refl
 
 -- the slave is refused before it is unlocked, and the master's second opening
-pub locked-slave-waits : refused_by_state {C = ℕ} (called plain (record { side = Master }) OpenMaster opening).state (record { side = Master }) OpenSlave ≡ Some Eagain
+pub locked-slave-waits : refused_by_state {C = ℕ} (called plain (caller_of Master) OpenMaster opening).state (caller_of Master) OpenSlave ≡ Some Eagain
 locked-slave-waits = refl
 
-pub master-opens-once : refused_by_state {C = ℕ} opened (record { side = Master }) OpenMaster ≡ Some Einval
+pub master-opens-once : refused_by_state {C = ℕ} opened (caller_of Master) OpenMaster ≡ Some Einval
 master-opens-once = refl
 
-pub unlock-is-the-masters : refused_at_once {C = ℕ} opened (record { side = Slave }) Unlock ≡ Some Einval
+pub unlock-is-the-masters : refused_at_once {C = ℕ} opened (caller_of Slave) Unlock ≡ Some Einval
 unlock-is-the-masters = refl
 
-pub nothing-before-open : refused_at_once {C = ℕ} opening (record { side = Master }) (Read 1) ≡ Some Enxio
+pub nothing-before-open : refused_at_once {C = ℕ} opening (caller_of Master) (Read 1) ≡ Some Enxio
 nothing-before-open = refl

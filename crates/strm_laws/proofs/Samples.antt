@@ -40,4 +40,4 @@ queue messages flows = record { messages = messages; flows = flows; want_read = 
 
 -- a head in the modes of a new one
 abbrev pub head_with : Queue ℕ → Bool → Head ℕ
-head_with q hung_up = record { queue = q; read_mode = ByteStream; control_mode = Refuse; tostop = false; hung_up = hung_up; signals = []; ioctl = Free }
+head_with q hung_up = record { queue = q; read_mode = ByteStream; control_mode = Refuse; tostop = false; group = 0; hung_up = hung_up; signals = []; ioctl = Free }

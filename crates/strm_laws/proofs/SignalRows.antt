@@ -29,6 +29,7 @@ use Rattle.strm_types.specs.Events.{content_of, map_answer, map_event, payload_o
 use Rattle.strm_types.specs.Cells.{plain}
 use Rattle.strm_types.specs.Deliver.{Acted}
 use Rattle.strm_types.specs.Heads.{head_put, with_options, Head}
+use Rattle.strm_types.specs.JobControl.{caller_of}
 use Rattle.strm_types.specs.Journal.{content_max, entries_in, room_of}
 use Rattle.strm_laws.specs.Kept.{came, gone}
 use Rattle.strm_types.specs.Message.{cells_of, size_of}
@@ -73,6 +74,7 @@ head signals = record {
   read_mode = MessageDiscard;
   control_mode = Discard;
   tostop = true;
+  group = 0;
   hung_up = false;
   signals = signals;
   ioctl = Waiting 7 5;
@@ -170,7 +172,7 @@ pair master slave = record {
 }
 
 abbrev caller : Side → Caller
-caller side = record { side = side }
+caller side = caller_of side
 
 -- a side that isn't open has nobody for signals, and no cell goes with one
 pub signals-want-an-open-side : map (λ opened. let t = put_in plain here (without_parts Sig (3 ∷ [])) (pair (end Open two) (end opened two)) in t.state) (Open ∷ Never ∷ Closed ∷ [])
@@ -182,11 +184,11 @@ abbrev handed : Side → State ℕ → State ℕ
 handed side s = (called plain (caller side) Signals s).state
 
 pub signals-are-handed-out : map (λ side. called plain (caller side) Signals (pair (end Open (9 ∷ 1 ∷ [])) (end Open two))) (Master ∷ Slave ∷ [])
-    ≡ record { answer = answers.Signals (9 ∷ 1 ∷ []); state = pair (end Open []) (end Open two) } ∷ record { answer = answers.Signals two; state = pair (end Open (9 ∷ 1 ∷ [])) (end Open []) } ∷ []
+    ≡ record { answer = answers.Signals (9 ∷ 1 ∷ []); state = pair (end Open []) (end Open two); came = []; gone = [] } ∷ record { answer = answers.Signals two; state = pair (end Open (9 ∷ 1 ∷ [])) (end Open []); came = []; gone = [] } ∷ []
 signals-are-handed-out = refl
 
 pub signals-are-handed-out-once : map (λ side. called plain (caller Slave) Signals (handed side (pair (end Open (9 ∷ [])) (end Open two)))) (Slave ∷ Master ∷ [])
-    ≡ record { answer = answers.Signals []; state = pair (end Open (9 ∷ [])) (end Open []) } ∷ record { answer = answers.Signals two; state = pair (end Open []) (end Open []) } ∷ []
+    ≡ record { answer = answers.Signals []; state = pair (end Open (9 ∷ [])) (end Open []); came = []; gone = [] } ∷ record { answer = answers.Signals two; state = pair (end Open []) (end Open []); came = []; gone = [] } ∷ []
 signals-are-handed-out-once = refl
 
 -- ENXIO where the side isn't open; a hang-up refuses nobody, and blocks aren't asked for
@@ -230,10 +232,10 @@ stored-signals = refl
 -- a side that is closed, and a slave that is opened anew, have a new head: no signal, no ioctl, and the modes and marks of a new one
 
 abbrev new : Head ℕ
-new = record { queue = queue [] (replicate 8 (flow 5120 1024 false)); read_mode = ByteStream; control_mode = Refuse; tostop = false; hung_up = false; signals = []; ioctl = Free }
+new = record { queue = queue [] (replicate 8 (flow 5120 1024 false)); read_mode = ByteStream; control_mode = Refuse; tostop = false; group = 0; hung_up = false; signals = []; ioctl = Free }
 
 pub nothing-waits-at-a-slave-opened-anew : called plain (caller Master) OpenSlave (pair (end Open two) (end Closed two))
-    ≡ record { answer = Done; state = record (pair (end Open two) (record (end Open two) { head = new })) { enabled = driver_of Master ∷ [] } }
+    ≡ record { answer = Done; state = record (pair (end Open two) (record (end Open two) { head = new })) { enabled = driver_of Master ∷ [] }; came = []; gone = [] }
 nothing-waits-at-a-slave-opened-anew = refl
 
 pub nothing-waits-at-a-closed-side : (called plain (caller Slave) Shut (pair (end Open two) (end Open two))).state.ends.slave ≡ record (end Closed two) { head = new }

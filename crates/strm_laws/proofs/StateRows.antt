@@ -5,7 +5,9 @@ use Rattle.strm_types.specs.declared.answers.Turn.{Turn}
 use Rattle.strm_types.specs.declared.answers.Turn.TheVariants.{Moved, Blocked, Idle}
 use Rattle.strm_types.specs.declared.events.Caller.{Caller}
 use Rattle.strm_types.specs.declared.events.Event.TheVariants.{OpenMaster, Unlock, OpenSlave, Write, Read}
-use Rattle.strm_types.specs.declared.names.Dir.TheVariants.{SlaveToMaster}
+use Rattle.strm_types.specs.declared.names.Dir.{Dir}
+use Rattle.strm_types.specs.declared.names.Dir.TheVariants.{MasterToSlave, SlaveToMaster}
+use Rattle.strm_types.specs.declared.rules.Rule.TheVariants as rules
 use Rattle.strm_types.specs.declared.names.Openness.{Openness}
 use Rattle.strm_types.specs.declared.names.Openness.TheVariants.{Never, Open, Closed}
 use Rattle.strm_types.specs.declared.names.Place.TheVariants.{Ldterm}
@@ -14,6 +16,7 @@ use Rattle.strm_types.specs.declared.names.Side.{Side}
 use Rattle.strm_types.specs.declared.names.Side.TheVariants.{Master, Slave}
 use Rattle.strm_types.specs.declared.names.Way.TheVariants.{Down}
 use Rattle.strm_types.specs.Cells.{Tagged, Written, plain, tagged, cells_written}
+use Rattle.strm_types.specs.JobControl.{caller_of}
 use Rattle.strm_types.specs.Message.{Message, data_message, is_held, rank_of, band_of, size_of, cells_of, is_high_priority}
 use Rattle.strm_types.specs.Names.{driver_of, head_of}
 use Rattle.strm_types.specs.Queue.{Queue, Flow}
@@ -22,13 +25,13 @@ use Rattle.strm_laws.specs.State.{State, Stream, opening, new_stream, messages_i
 use Rattle.strm_types.specs.Write.{chunk_count}
 use Rattle.strm_laws.specs.TurnOutcomes.{TurnOutcome}
 use Rattle.strm_laws.specs.Turns.{driver_serves, turned, whole_turn}
-use Rattle.strm_types.specs.Deliver.{carried}
+use Rattle.strm_types.specs.Deliver.{Fate, Goes, carried}
 use Rattle.strm_types.specs.Events.{content_of}
 use Rattle.strm_laws.specs.Calls.{called}
 use Rattle.strm_laws.proofs.Samples.{head_with, flow, queue, ordinary, proto, urgent}
 
 abbrev caller : Side → Caller
-caller side = record { side = side }
+caller side = caller_of side
 
 -- a queue that nobody wants to read, as one is whose last turn left messages there
 abbrev busy : List (Message ℕ) → List Flow → Queue ℕ
@@ -63,7 +66,7 @@ messages-are-counted = refl
 
 -- opening and unlocking
 
-pub master-opens : called plain (caller Master) OpenMaster opening ≡ record { answer = Done; state = pair (record new_stream { opened = Open }) new_stream [] }
+pub master-opens : called plain (caller Master) OpenMaster opening ≡ record { answer = Done; state = pair (record new_stream { opened = Open }) new_stream []; came = []; gone = [] }
 master-opens = refl
 
 pub unlocked : (called plain (caller Master) Unlock opening).state.locked ∷ (called plain (caller Master) OpenSlave opening).state.locked ∷ [] ≡ false ∷ true ∷ []
@@ -73,7 +76,7 @@ unlocked = refl
 abbrev waiting : List (Message ℕ) → Stream ℕ
 waiting messages = end Open (queue [] []) (busy messages [])
 
-pub slave-opens-anew : called plain (caller Slave) OpenSlave (pair (waiting (proto ∷ [])) (end Closed (queue (proto ∷ []) []) (busy (proto ∷ []) [])) []) ≡ record { answer = Done; state = pair (waiting (proto ∷ [])) (end Open (queue [] (replicate 8 (flow 5120 1024 false))) (busy (proto ∷ []) [])) (driver_of Master ∷ []) }
+pub slave-opens-anew : called plain (caller Slave) OpenSlave (pair (waiting (proto ∷ [])) (end Closed (queue (proto ∷ []) []) (busy (proto ∷ []) [])) []) ≡ record { answer = Done; state = pair (waiting (proto ∷ [])) (end Open (queue [] (replicate 8 (flow 5120 1024 false))) (busy (proto ∷ []) [])) (driver_of Master ∷ []); came = []; gone = [] }
 slave-opens-anew = refl
 
 pub slave-opens-on-nothing : (called plain (caller Slave) OpenSlave (pair (waiting []) (waiting (proto ∷ [])) [])).state.enabled ≡ []
@@ -202,13 +205,17 @@ whole-turns = refl
 abbrev above : ℕ → Bool → State ℕ
 above low want_write = pair (waiting []) (end Open (queue (ordinary (97 ∷ 98 ∷ 99 ∷ []) ∷ []) (flow 9 low want_write ∷ [])) (queue [] [])) []
 
+-- what goes by a read that gives these bytes
+abbrev given : Dir → List ℕ → List (Fate ℕ)
+given dir bytes = Goes dir rules.Read bytes ∷ Goes dir rules.RestDiscarded [] ∷ Goes dir rules.ControlDropped [] ∷ []
+
 -- a read of one byte leaves two: at the low mark the other side's driver is enabled
-pub read-down-to-the-low-mark : called plain (caller Slave) (Read 1) (above 2 true) ≡ record { answer = Bytes (97 ∷ []); state = pair (waiting []) (end Open (busy (ordinary (98 ∷ 99 ∷ []) ∷ []) (flow 9 2 false ∷ [])) (queue [] [])) (driver_of Master ∷ []) }
+pub read-down-to-the-low-mark : called plain (caller Slave) (Read 1) (above 2 true) ≡ record { answer = Bytes (97 ∷ []); state = pair (waiting []) (end Open (busy (ordinary (98 ∷ 99 ∷ []) ∷ []) (flow 9 2 false ∷ [])) (queue [] [])) (driver_of Master ∷ []); came = []; gone = given MasterToSlave (97 ∷ []) }
 unfolding rank_of band_of size_of cells_of is_high_priority
 read-down-to-the-low-mark = refl
 
 -- and one above it nothing is
-pub read-to-one-above-the-low-mark : called plain (caller Slave) (Read 1) (above 1 true) ≡ record { answer = Bytes (97 ∷ []); state = pair (waiting []) (end Open (busy (ordinary (98 ∷ 99 ∷ []) ∷ []) (flow 9 1 true ∷ [])) (queue [] [])) [] }
+pub read-to-one-above-the-low-mark : called plain (caller Slave) (Read 1) (above 1 true) ≡ record { answer = Bytes (97 ∷ []); state = pair (waiting []) (end Open (busy (ordinary (98 ∷ 99 ∷ []) ∷ []) (flow 9 1 true ∷ [])) (queue [] [])) []; came = []; gone = given MasterToSlave (97 ∷ []) }
 unfolding rank_of band_of size_of cells_of is_high_priority
 read-to-one-above-the-low-mark = refl
 
@@ -216,11 +223,11 @@ pub read-where-nobody-waits : (called plain (caller Slave) (Read 3) (above 2 fal
 unfolding rank_of band_of size_of cells_of is_high_priority
 read-where-nobody-waits = refl
 
-pub read-of-nothing-changes-nothing : called plain (caller Slave) (Read 0) (above 9 true) ≡ record { answer = Bytes []; state = above 9 true }
+pub read-of-nothing-changes-nothing : called plain (caller Slave) (Read 0) (above 9 true) ≡ record { answer = Bytes []; state = above 9 true; came = []; gone = [] }
 read-of-nothing-changes-nothing = refl
 
 -- a read that removes a zero-length message gives no bytes, and lets nobody go
-pub empty-read-relieves-nobody : called plain (caller Master) (Read 4) (pair (end Open (queue (ordinary [] ∷ []) (flow 9 2 true ∷ [])) (queue [] [])) (waiting []) []) ≡ record { answer = Bytes []; state = pair (end Open (busy [] (flow 9 2 true ∷ [])) (queue [] [])) (waiting []) [] }
+pub empty-read-relieves-nobody : called plain (caller Master) (Read 4) (pair (end Open (queue (ordinary [] ∷ []) (flow 9 2 true ∷ [])) (queue [] [])) (waiting []) []) ≡ record { answer = Bytes []; state = pair (end Open (busy [] (flow 9 2 true ∷ [])) (queue [] [])) (waiting []) []; came = []; gone = given SlaveToMaster [] }
 unfolding size_of cells_of
 empty-read-relieves-nobody = refl
 

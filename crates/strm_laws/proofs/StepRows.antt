@@ -11,6 +11,7 @@ use Rattle.strm_types.specs.declared.names.Side.{Side}
 use Rattle.strm_types.specs.declared.names.Side.TheVariants.{Master}
 use Rattle.strm_types.specs.declared.names.Dir.{Dir}
 use Rattle.strm_types.specs.Cells.{Cells, Made, Base, plain, tagged}
+use Rattle.strm_types.specs.JobControl.{caller_of}
 use Rattle.strm_types.specs.Message.{data_message, rank_of, band_of, size_of, cells_of, is_high_priority}
 use Rattle.strm_types.specs.Names.{driver_of}
 use Rattle.strm_laws.specs.State.{State, opening}
@@ -23,7 +24,7 @@ use Rattle.strm_laws.specs.Kept.{MayTest}
 use Rattle.strm_laws.specs.Step.{Step, replay, IsLegal}
 
 abbrev caller : Side → Caller
-caller side = record { side = side }
+caller side = caller_of side
 
 -- a cell with another byte keeps its origin; one that is made has one of its own
 pub mapped-cells-keep-their-origin : tagged.mapped 98 (record { byte = 97; origin = Base MasterToSlave 4 }) ≡ record { byte = 98; origin = Base MasterToSlave 4 }

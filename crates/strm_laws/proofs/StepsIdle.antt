@@ -30,7 +30,7 @@ module _ {C : Type 0} where
   changes = record {
     put = λ side here m t is idle. idle;
     queue = λ side q t so idle. idle;
-    settings = λ side read control hung_up t idle. idle;
+    settings = λ side read control group hung_up t idle. idle;
     slot = λ side slot t fits idle. idle;
     handed = λ side t idle. idle;
     opened = λ side t idle. idle;

@@ -30,7 +30,7 @@ module _ {C : Type 0} where
   changes = record {
     put = λ side here m t is none closed. absurd (cc);
     queue = λ side q t so none closed. so closed (none closed);
-    settings = λ side read control hung_up t none. none;
+    settings = λ side read control group hung_up t none. none;
     slot = λ side slot t fits none. none;
     handed = λ side t none. none;
     opened = λ side t none closed. absurd (cc);

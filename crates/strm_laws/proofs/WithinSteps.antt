@@ -33,7 +33,7 @@ module _ {C : Type 0} where
   changes = record {
     put = λ side here m t is within. put-within here m t.head within;
     queue = λ side q t so within. record { signals = within.signals; answer = within.answer };
-    settings = λ side read control hung_up t within. record { signals = within.signals; answer = within.answer };
+    settings = λ side read control group hung_up t within. record { signals = within.signals; answer = within.answer };
     slot = λ side slot t fits within. record { signals = within.signals; answer = fits within.answer };
     handed = λ side t within. record { signals = new-within.signals; answer = within.answer };
     opened = λ side t within. within;

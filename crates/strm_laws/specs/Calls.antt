@@ -1,10 +1,11 @@
 -- The calls on a pair: what each one does where nothing refuses it.
-use Rattle.std.specs.Prelude.{ℕ, suc, ◌+◌, Bool, true, false, not, min, if◌then◌else◌, List, [], length, Option, None, Some, option_map}
+use Rattle.std.specs.Prelude.{ℕ, suc, ◌+◌, Bool, true, false, not, min, if◌then◌else◌, List, [], length, map, take, Option, None, Some, option_map}
 use Rattle.strm_types.specs.declared.limits.TheConstants.{READ_MAX}
-use Rattle.strm_types.specs.declared.answers.Answer.TheVariants.{Done, Name, Count, Bytes, Msg, Sizes, Signals}
+use Rattle.strm_types.specs.declared.answers.Answer.TheVariants.{Done, Name, Count, Bytes, Msg, Sizes, Signals, Stop}
 use Rattle.strm_types.specs.declared.events.Event.TheVariants.{OpenMaster, Unlock, OpenSlave, Shut, Push, Pop, Look, Flush, Write, Read, Put, Get, Mode, Nread, Ioctl, IoctlResult}
 use Rattle.strm_types.specs.declared.events.Event.TheVariants as events
-use Rattle.strm_types.specs.declared.slots.Slot.TheVariants.{Waiting}
+use Rattle.strm_types.specs.declared.signals.StopSignal.{StopSignal}
+use Rattle.strm_types.specs.declared.slots.Slot.TheVariants.{Free, Waiting}
 use Rattle.strm_types.specs.declared.events.Caller.{Caller}
 use Rattle.strm_types.specs.declared.modes.Mode as modes
 use Rattle.strm_types.specs.declared.modes.Prio.{Prio}
@@ -16,23 +17,26 @@ use Rattle.strm_types.specs.declared.names.Openness.TheVariants.{Open}
 use Rattle.strm_types.specs.declared.names.Way.TheVariants.{Down}
 use Rattle.strm_types.specs.Cells.{Cells, cells_written, bytes_of}
 use Rattle.strm_laws.specs.Earlier.{before_head}
-use Rattle.strm_types.specs.Names.{driver_of, direction_from, enable_if, enable_some}
+use Rattle.strm_types.specs.JobControl.{asks_group, group_behind, group_reply}
+use Rattle.strm_types.specs.Names.{driver_of, direction_from, direction_of, enable_if, enable_some, head_of}
 use Rattle.strm_laws.specs.State.{State, stream, with_stream, with_head_queue, with_ioctl, with_signals, book, with_book, map_state}
 use Rattle.strm_types.specs.Heads.{new_head, with_mode}
 use Rattle.strm_types.specs.Books.{with_written}
-use Rattle.strm_types.specs.Reads.{head_draw, read_queue, read_lets_go}
+use Rattle.strm_types.specs.Reads.{head_draw, read_gone, read_queue, read_lets_go}
 use Rattle.strm_laws.specs.Writes.{Wrote, cells_sent}
 use Rattle.strm_types.specs.Queue.{is_none_left}
 use Rattle.strm_laws.specs.Closes.{closed_at}
-use Rattle.strm_types.specs.Deliver.{Carried}
+use Rattle.strm_types.specs.Deliver.{Carried, Fate}
 use Rattle.strm_types.specs.Events.{Request, Reply}
-use Rattle.strm_types.specs.GetQueues.{get_queue, get_lets_go}
+use Rattle.strm_types.specs.GetQueues.{get_gone, get_queue, get_lets_go}
 use Rattle.strm_types.specs.Gets.{head_get, prio_got, first_data}
 use Rattle.strm_types.specs.Ioctls.{asking, ioctl_message}
-use Rattle.strm_types.specs.Message.{Message, part}
+use Rattle.strm_types.specs.Message.{Message, cells_of, part}
+use Rattle.strm_types.specs.Origins.{map_fate}
 use Rattle.strm_types.specs.PutMsg.{put_message, no_parts}
 use Rattle.strm_laws.specs.Pushes.{named_by, popped, pushed_named, top_on}
 use Rattle.strm_laws.specs.Puts.{delivered, flushed_on}
+use Rattle.strm_laws.specs.Refusals.{stop_of}
 use Rattle.strm_types.specs.Slots.{told_of, slot_behind}
 
 -- the name of the module on top is told; there is one where a look isn't refused
@@ -40,14 +44,16 @@ abbrev pub name_told : Option ModuleName → Reply
 name_told None = Done
 name_told (Some name) = Name name
 
--- what a call leads to
+-- What a call leads to: its answer, the state behind it, the cells that it brought, and what it took away by its rules or made on the way.
 pub record Outcome (C : Type 0) : Type 0 where
   pub answer : Reply
   pub state : State C
+  pub came : List C
+  pub gone : List (Fate C)
 
--- the same with a state of other cells
+-- the same of other cells
 abbrev pub map_outcome : {C D : Type 0} → (C → D) → Outcome C → Outcome D
-map_outcome f outcome = record { answer = outcome.answer; state = map_state f outcome.state }
+map_outcome f outcome = record { answer = outcome.answer; state = map_state f outcome.state; came = map f outcome.came; gone = map (map_fate f) outcome.gone }
 
 -- whether a call delivers messages, which modules may make more of
 abbrev pub delivers : Request → Bool
@@ -58,9 +64,16 @@ delivers (Ioctl command body) = true
 delivers _ = false
 
 module _ {C : Type 0} where
-  -- a call that has nothing to tell
+  -- a call that brings and takes no byte
+  abbrev pub tells : Reply → State C → Outcome C
+  tells reply s = record { answer = reply; state = s; came = []; gone = [] }
+
+  -- one that has nothing to tell either, and one that brings nothing and takes something away
   abbrev pub done : State C → Outcome C
-  done s = record { answer = Done; state = s }
+  done s = tells Done s
+
+  abbrev pub takes : Carried C (State C) → Outcome C
+  takes t = record { answer = Done; state = t.state; came = []; gone = t.gone }
 
   -- the master is opened
   abbrev pub opened_master : State C → State C
@@ -83,7 +96,12 @@ module _ {C : Type 0} where
   wrote cells side bytes s =
       let dir = direction_from side in
       let t = write_sent cells side bytes s in
-      record { answer = Count t.taken; state = with_book dir (with_written t.taken (book dir t.state)) t.state }
+      record {
+        answer = Count t.taken;
+        state = with_book dir (with_written t.taken (book dir t.state)) t.state;
+        came = take t.taken (cells_written cells dir (book dir s).written bytes);
+        gone = t.gone;
+      }
 
   -- a read of up to n bytes on a side's stream, in the modes of its head
   abbrev pub read_at : Cells C → Side → ℕ → State C → Outcome C
@@ -96,6 +114,8 @@ module _ {C : Type 0} where
         state = record (with_stream side (with_head_queue (read_queue h.read_mode h.control_mode most h.queue) above) s) {
           enabled = enable_some (read_lets_go h.read_mode h.control_mode most h.queue) (before_head side s) s.enabled;
         };
+        came = [];
+        gone = read_gone (direction_of (head_of side)) h.read_mode h.control_mode most h.queue.messages;
       }
 
   -- a get of up to these sizes on a side's stream
@@ -111,6 +131,8 @@ module _ {C : Type 0} where
         state = record (with_stream side (with_head_queue (get_queue wanted most_control most_data q) above) s) {
           enabled = enable_some (get_lets_go wanted most_control most_data q) (before_head side s) s.enabled;
         };
+        came = [];
+        gone = get_gone (direction_of (head_of side)) wanted most_control most_data q.messages;
       }
 
   -- the message that a putmsg on a side's stream sends: the bytes of its control part are written before those of its data part
@@ -135,7 +157,7 @@ module _ {C : Type 0} where
 
   -- what stands at a side's head
   abbrev pub sizes_at : Side → State C → Outcome C
-  sizes_at side s = let q = (stream side s).head.queue.messages in record { answer = Sizes (first_data q) (length q); state = s }
+  sizes_at side s = let q = (stream side s).head.queue.messages in tells (Sizes (first_data q) (length q)) s
 
   -- an ioctl begins on a side's stream: it has the next number of the pair, and waits for its answer
   abbrev pub ioctl_begun : Side → ℕ → State C → State C
@@ -150,31 +172,55 @@ module _ {C : Type 0} where
   abbrev pub ioctl_told : Side → State C → Outcome C
   ioctl_told side s =
       let slot = (stream side s).head.ioctl in
-      record { answer = told_of slot; state = with_ioctl side (slot_behind slot) s }
+      tells (told_of slot) (with_ioctl side (slot_behind slot) s)
+
+  -- an ioctl, whose M_IOCTL goes down, and whose caller is told what became of it so far
+  abbrev pub ioctl_at : Cells C → Side → ℕ → List ℕ → State C → Outcome C
+  ioctl_at cells side command body s =
+      let t = ioctl_sent cells side command body s in
+      record (ioctl_told side t.state) { gone = t.gone }
+
+  -- one that the head answers itself: it takes a number, and tells or sets the foreground process group; none is under way behind it
+  abbrev pub group_at : Side → ℕ → List ℕ → State C → Outcome C
+  group_at side command body s =
+      let above = stream side s in
+      let h = above.head in
+      tells (group_reply command body h.group)
+      (record (with_stream side (record above { head = record h { group = group_behind command body h.group; ioctl = Free } }) s) { next_ioctl = suc s.next_ioctl })
 
   -- the signals that wait at a side's head are handed out
   abbrev pub signals_told : Side → State C → Outcome C
-  signals_told side s = record { answer = Signals (stream side s).head.signals; state = with_signals side [] s }
+  signals_told side s = tells (Signals (stream side s).head.signals) (with_signals side [] s)
 
   abbrev pub looked : Side → State C → Outcome C
-  looked side s = record { answer = name_told (top_on side s); state = s }
+  looked side s = tells (name_told (top_on side s)) s
 
-  -- what a call leads to where nothing refuses it
+  -- what a call leads to that is carried out
+  abbrev pub performed : Cells C → Caller → Request → State C → Outcome C
+  performed cells caller OpenMaster s = done (opened_master s)
+  performed cells caller Unlock s = done (record s { locked = false })
+  performed cells caller OpenSlave s = done (opened_slave s)
+  performed cells caller Shut s = takes (closed_at caller.side s)
+  performed cells caller (Push name) s = takes (pushed_named caller.side (named_by name) s)
+  performed cells caller Pop s = takes (popped caller.side s)
+  performed cells caller Look s = looked caller.side s
+  performed cells caller (Flush what band) s = takes (flushed_on cells band caller.side what s)
+  performed cells caller (Write bytes) s = wrote cells caller.side bytes s
+  performed cells caller (Read n) s = read_at cells caller.side n s
+  performed cells caller (Put prio control body) s = record (takes (put_at cells caller.side prio control body s)) { came = cells_of (message_put cells caller.side prio control body s) }
+  performed cells caller (Get wanted cmax dmax) s = get_at cells caller.side wanted cmax dmax s
+  performed cells caller (Mode mode) s = done (mode_set caller.side mode s)
+  performed cells caller Nread s = sizes_at caller.side s
+  performed cells caller (Ioctl command body) s =
+      if asks_group caller.side command then group_at caller.side command body s else ioctl_at cells caller.side command body s
+  performed cells caller (IoctlResult number) s = ioctl_told caller.side s
+  performed cells caller events.Signals s = signals_told caller.side s
+
+  -- the caller is stopped by a signal, and nothing changes
+  abbrev pub or_stopped : Option StopSignal → State C → Outcome C → Outcome C
+  or_stopped None s outcome = outcome
+  or_stopped (Some signal) s outcome = tells (Stop signal) s
+
+  -- what a call leads to where nothing refuses it: its caller is stopped, or it is carried out
   abbrev pub called : Cells C → Caller → Request → State C → Outcome C
-  called cells caller OpenMaster s = done (opened_master s)
-  called cells caller Unlock s = done (record s { locked = false })
-  called cells caller OpenSlave s = done (opened_slave s)
-  called cells caller Shut s = done (closed_at caller.side s).state
-  called cells caller (Push name) s = done (pushed_named caller.side (named_by name) s).state
-  called cells caller Pop s = done (popped caller.side s).state
-  called cells caller Look s = looked caller.side s
-  called cells caller (Flush what band) s = done (flushed_on cells band caller.side what s).state
-  called cells caller (Write bytes) s = wrote cells caller.side bytes s
-  called cells caller (Read n) s = read_at cells caller.side n s
-  called cells caller (Put prio control body) s = done (put_at cells caller.side prio control body s).state
-  called cells caller (Get wanted cmax dmax) s = get_at cells caller.side wanted cmax dmax s
-  called cells caller (Mode mode) s = done (mode_set caller.side mode s)
-  called cells caller Nread s = sizes_at caller.side s
-  called cells caller (Ioctl command body) s = ioctl_told caller.side (ioctl_sent cells caller.side command body s).state
-  called cells caller (IoctlResult number) s = ioctl_told caller.side s
-  called cells caller events.Signals s = signals_told caller.side s
+  called cells caller asked s = or_stopped (stop_of s caller asked) s (performed cells caller asked s)

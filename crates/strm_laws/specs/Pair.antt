@@ -2,12 +2,14 @@
 use Rattle.std.specs.Prelude.{◌≡◌, ℕ, List, [], ◌∷◌, ◌++◌, Option}
 use Rattle.strm_types.specs.declared.limits.Config.{Config}
 use Rattle.strm_types.specs.declared.events.Caller.{Caller}
+use Rattle.strm_types.specs.declared.job_control.Verdict.{Verdict}
 use Rattle.strm_types.specs.declared.names.QueueName.{QueueName}
 use Rattle.strm_types.specs.declared.refusals.Refusal.{Refusal}
 use Rattle.strm_laws.specs.State.{State, opening}
 use Rattle.strm_types.specs.Events.{Request}
+use Rattle.strm_types.specs.JobControl.{judged}
 use Rattle.strm_types.specs.Journal.{PlainEntry}
-use Rattle.strm_laws.specs.Refusals.{Free, enough, blocks_asked, refused, turn_refused}
+use Rattle.strm_laws.specs.Refusals.{Free, enough, blocks_asked, refused, stop_of, turn_refused}
 use Rattle.strm_types.specs.Refused.{turn_blocks}
 use Rattle.strm_types.specs.Cells.{plain}
 use Rattle.strm_laws.specs.Step.{Step}
@@ -40,6 +42,10 @@ new_pair limits = record {
 -- the refusal of a call on a pair, if any
 abbrev pub call_refused : PairState → Caller → Request → Option Refusal
 call_refused p caller asked = refused p.state p.journal p.limits (enough (blocks_asked asked) p.free) caller asked
+
+-- the verdict on a call on a pair: it is refused, its caller is stopped, or it is carried out
+abbrev pub call_verdict : PairState → Caller → Request → Verdict
+call_verdict p caller asked = judged (call_refused p caller asked) (stop_of p.state caller asked)
 
 -- the refusal of a turn of a pair's queue, if any
 abbrev pub queue_refused : PairState → QueueName → Option Refusal

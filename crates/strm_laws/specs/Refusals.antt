@@ -1,7 +1,10 @@
 -- Which refusal a call or a turn meets: the first whose condition holds, in this order. A side that isn't open; an
--- argument; a book that is full; a full journal; too few free blocks; what the state says.
+-- argument; a book that is full; a full journal; too few free blocks; what the state says: job control, and what is there.
 use Rattle.std.specs.Prelude.{ℕ, Bool, true, not, ◌&&◌, ◌||◌, nat_lt, nat_le, ◌+◌, ◌-◌, List, length, Option, None, is_some}
 use Rattle.strm_types.specs.declared.limits.Config.{Config}
+use Rattle.strm_types.specs.declared.job_control.Verdict.{Verdict}
+use Rattle.strm_types.specs.declared.signals.StopSignal.{StopSignal}
+use Rattle.strm_types.specs.JobControl.{foreground, held, refusal_behind, stop_in}
 use Rattle.strm_types.specs.declared.events.Caller.{Caller}
 use Rattle.strm_types.specs.declared.names.QueueName.{QueueName}
 use Rattle.strm_types.specs.declared.refusals.Refusal.{Refusal}
@@ -111,23 +114,36 @@ module _ {C : Type 0} where
   abbrev pub refused_at_once : State C → Caller → Request → Option Refusal
   refused_at_once s caller asked = unmet s caller.side (needs asked)
 
-  -- what a call is refused for after all else: what the state says
-  abbrev pub refused_by_state : State C → Caller → Request → Option Refusal
-  refused_by_state s caller OpenMaster = unless (is_never (stream Master s).opened) Einval
-  refused_by_state s caller OpenSlave =
+  -- what job control makes of a call, by its caller and what it does at the terminal
+  abbrev pub hold : State C → Caller → Request → Verdict
+  hold s caller asked = let h = (stream caller.side s).head in held (needs asked).access h.tostop (foreground h.hung_up h.group) caller
+
+  -- what a call that isn't held is refused for, as it doesn't fit what is there
+  abbrev pub unfit : State C → Caller → Request → Option Refusal
+  unfit s caller OpenMaster = unless (is_never (stream Master s).opened) Einval
+  unfit s caller OpenSlave =
       or_else (unless (not (is_open (stream Slave s).opened)) Einval) (unless (not s.locked) Eagain)
-  refused_by_state s caller (Write bytes) = unless (not (is_full_below 0 caller.side s)) Eagain
-  refused_by_state s caller (Read n) =
+  unfit s caller (Write bytes) = unless (not (is_full_below 0 caller.side s)) Eagain
+  unfit s caller (Read n) =
       let h = (stream caller.side s).head in
       read_refusal h.control_mode (at_end caller.side s) n h.queue.messages
-  refused_by_state s caller (Put prio control body) = unless (not (put_waits prio control body (λ band. is_full_below band caller.side s))) Eagain
-  refused_by_state s caller (Get wanted cmax dmax) = get_refusal wanted (at_end caller.side s) (stream caller.side s).head.queue.messages
-  refused_by_state s caller (Ioctl command body) = unless (is_free (stream caller.side s).head.ioctl) Eagain
-  refused_by_state s caller (IoctlResult number) = result_refusal number (stream caller.side s).head.ioctl
-  refused_by_state s caller (Push name) = unless (may_stand (named_by name) (stream caller.side s).modules) Einval
-  refused_by_state s caller Pop = unless (is_some (top_on caller.side s)) Einval
-  refused_by_state s caller Look = unless (is_some (top_on caller.side s)) Einval
-  refused_by_state s caller _ = None
+  unfit s caller (Put prio control body) = unless (not (put_waits prio control body (λ band. is_full_below band caller.side s))) Eagain
+  unfit s caller (Get wanted cmax dmax) = get_refusal wanted (at_end caller.side s) (stream caller.side s).head.queue.messages
+  unfit s caller (Ioctl command body) = unless (is_free (stream caller.side s).head.ioctl) Eagain
+  unfit s caller (IoctlResult number) = result_refusal number (stream caller.side s).head.ioctl
+  unfit s caller (Push name) = unless (may_stand (named_by name) (stream caller.side s).modules) Einval
+  unfit s caller Pop = unless (is_some (top_on caller.side s)) Einval
+  unfit s caller Look = unless (is_some (top_on caller.side s)) Einval
+  unfit s caller _ = None
+
+  -- What a call is refused for after all else: what the state says. Job control comes first, so that a caller in the background isn't told
+  -- what waits.
+  abbrev pub refused_by_state : State C → Caller → Request → Option Refusal
+  refused_by_state s caller asked = refusal_behind (hold s caller asked) (unfit s caller asked)
+
+  -- the signal by which a call stops its caller, where it isn't refused
+  abbrev pub stop_of : State C → Caller → Request → Option StopSignal
+  stop_of s caller asked = stop_in (hold s caller asked)
 
   -- the refusal of a call, if any, where the pool has enough blocks for it or not
   abbrev pub refused : State C → List PlainEntry → Config → Bool → Caller → Request → Option Refusal

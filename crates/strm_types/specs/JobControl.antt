@@ -54,16 +54,23 @@ abbrev pub held : Option Access → Bool → ℕ → Caller → Verdict
 held None tostop foreground caller = Allowed
 held (Some access) tostop foreground caller = of_access access tostop foreground caller
 
--- what a verdict refuses for, where a call that is let go on is refused for something else; and the signal that stops the caller
-abbrev pub refusal_in : Verdict → Option Refusal → Option Refusal
-refusal_in (Refused refusal) other = Some refusal
-refusal_in (Stopped signal) other = None
-refusal_in Allowed other = other
+-- what a call is refused for: by job control, or else, where it isn't held, for what follows
+abbrev pub refusal_behind : Verdict → Option Refusal → Option Refusal
+refusal_behind (Refused refusal) next = Some refusal
+refusal_behind (Stopped signal) next = None
+refusal_behind Allowed next = next
 
+-- the signal by which a verdict stops the caller
 abbrev pub stop_in : Verdict → Option StopSignal
 stop_in (Refused refusal) = None
 stop_in (Stopped signal) = Some signal
 stop_in Allowed = None
+
+-- the verdict on a call by its refusal, if there is one, and else by the signal that stops its caller, if one does
+abbrev pub judged : Option Refusal → Option StopSignal → Verdict
+judged (Some refusal) stop = Refused refusal
+judged None (Some signal) = Stopped signal
+judged None None = Allowed
 
 -- the commands by which the slave's head is asked for its foreground group, or given one
 abbrev pub asks_group : Side → ℕ → Bool
