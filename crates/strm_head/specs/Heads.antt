@@ -29,6 +29,7 @@ head_in s h = record {
   read_mode = h.read_mode;
   control_mode = h.control_mode;
   tostop = h.tostop;
+  group = h.group;
   hung_up = h.hung_up;
   signals = h.signals;
   ioctl = plain_slot h.ioctl;

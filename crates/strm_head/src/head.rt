@@ -14,7 +14,8 @@ use strm_queue::Queue;
 use strm_queue::lengths::first_data;
 use strm_queue::standing::sizes;
 use strm_types::{
-    Content, ControlMode, Dir, Fates, Mode, READ_MAX, ReadMode, Refusal, SIGNALS_MAX, Slot, Wanted,
+    Access, Caller, Content, ControlMode, Dir, Fates, Mode, READ_MAX, ReadMode, Refusal,
+    SIGNALS_MAX, Slot, Verdict, Wanted, held,
 };
 
 /// A stream head: the queue of what waits for its readers, how they read it, and what it keeps of what came up.
@@ -25,6 +26,8 @@ pub struct Head {
     pub control_mode: ControlMode,
     /// Whether a write of a caller in the background is stopped: TOSTOP of `termio(7I)`, told by an M_SETOPTS.
     pub tostop: bool,
+    /// The foreground process group of the terminal, 0 for none: set by TIOCSPGRP on the slave.
+    pub group: u32,
     /// Whether an M_HANGUP came up, as the other end is gone.
     pub hung_up: bool,
     /// The signals that came up and that nobody took yet.
@@ -44,15 +47,18 @@ pub struct Waiting {
 impl Head {
     ghost use Rattle.strm_blocks.specs.Blocks.{StoreValue};
     ghost use Rattle.strm_types.specs.Heads.{with_mode};
+    ghost use Rattle.strm_types.specs.JobControl as job_control;
+    ghost use Rattle.strm_types.specs.JobControl.{foreground};
     ghost use Rattle.strm_head.specs.Leaving.{Frees};
     ghost use Rattle.strm_head.specs.Heads.{head_in};
 
-    /// A head on an empty queue: RNORM and RPROTNORM, without TOSTOP. No signal waits, and no ioctl is under way.
+    /// A head on an empty queue: RNORM and RPROTNORM, without TOSTOP and without a foreground group. No signal waits, and no ioctl is under way.
     pub fn new(queue: Queue) -> Head
         ensures queue { result.queue ≡ queue }
         ensures read_mode { result.read_mode ≡ ByteStream }
         ensures control_mode { result.control_mode ≡ Refuse }
         ensures tostop { result.tostop ≡ false }
+        ensures group { result.group ≡ 0 }
         ensures hung_up { result.hung_up ≡ false }
         ensures signals { result.signals ≡ [] }
         ensures ioctl { result.ioctl ≡ Free }
@@ -62,6 +68,7 @@ impl Head {
             read_mode: ReadMode::ByteStream,
             control_mode: ControlMode::Refuse,
             tostop: false,
+            group: 0,
             hung_up: false,
             signals: Signals::new(),
             ioctl: Slot::Free,
@@ -71,6 +78,15 @@ impl Head {
     ghost use Rattle.strm_types.specs.declared.modes.ReadMode.TheVariants.{ByteStream};
     ghost use Rattle.strm_types.specs.declared.modes.ControlMode.TheVariants.{Refuse};
     ghost use Rattle.strm_types.specs.declared.slots.Slot.TheVariants.{Free};
+
+    /// What job control makes of a caller's call, by what that does at the terminal: nothing, where the other end is gone.
+    #[inline(always)]
+    pub fn held(&self, access: Option<Access>, caller: Caller) -> Verdict
+        ensures { result ≡ job_control.held access self.now.tostop (foreground self.now.hung_up self.now.group) caller }
+    {
+        let foreground = if self.hung_up { 0 } else { self.group };
+        held(access, self.tostop, foreground, caller)
+    }
 
     /// Sets how reads treat the ends of messages. The control mode stays.
     pub fn set_read_mode(&mut self, mode: ReadMode)

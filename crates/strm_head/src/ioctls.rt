@@ -18,7 +18,7 @@ use arrayvec::ArrayVec;
 use strm_blocks::{Blocks, InHand};
 use strm_types::{
     Answer, Band, Content, IOCTL_MAX, Ioc, MsgKind, Refusal, Slot, TCSETS, TCSETSF, TCSETSW,
-    TIOCSIGNAL, TIOCSWINSZ,
+    TIOCGPGRP, TIOCSIGNAL, TIOCSWINSZ, sets_group, word_at,
 };
 
 /// The bytes of an answer, behind its header.
@@ -144,7 +144,8 @@ pub fn make_ioctl<B: Blocks>(store: &mut B, ioc: Ioc, body: &[u8]) -> InHand
 }
 
 impl Head {
-    ghost use Rattle.strm_types.specs.declared.slots.Slot.TheVariants.{Waiting};
+    ghost use Rattle.strm_types.specs.declared.slots.Slot.TheVariants.{Free, Waiting};
+    ghost use Rattle.strm_types.specs.JobControl.{group_behind, group_reply};
 
     /// Whether no ioctl is under way on the stream.
     pub fn is_idle(&self) -> bool
@@ -221,6 +222,30 @@ impl Head {
         let answer = tell(&self.ioctl, out);
         leave(&mut self.ioctl);
         answer
+    }
+
+    /// Answers TIOCGPGRP with the foreground process group, four bytes in `out`, and TIOCSPGRP with four bytes by setting it; with any other
+    /// number of bytes that is EINVAL. No ioctl is under way behind it.
+    pub fn tell_group(&mut self, command: u32, body: &[u8], out: &mut Content) -> Answer<u32>
+        requires fresh { out.old.items ≡ [] }
+        ensures told { reply_in result out.new.items ≡ group_reply command body.now self.old.group }
+        ensures len { answer_len result ≡ length out.new.items }
+        ensures few { length out.new.items ≤ IOCTL_MAX }
+        ensures state { (s : StoreValue) → head_in s self.new
+            ≡ record (head_in s self.old) { group = group_behind command body.now self.old.group; ioctl = Free } }
+        ensures queue { self.new.queue ≡ self.old.queue }
+    {
+        self.ioctl = Slot::Free;
+        if command == TIOCGPGRP {
+            out.try_extend_from_slice(&self.group.to_be_bytes())
+                .unwrap();
+            return Answer::Bytes(4);
+        }
+        if !sets_group(command, body) {
+            return Answer::Nak(Refusal::Einval);
+        }
+        self.group = word_at(body, 0);
+        Answer::Done
     }
 
     // Takes an M_IOCACK or an M_IOCNAK of these bytes.

@@ -188,6 +188,10 @@ module _ {C : Type 0} where
       tells (group_reply command body h.group)
       (record (with_stream side (record above { head = record h { group = group_behind command body h.group; ioctl = Free } }) s) { next_ioctl = suc s.next_ioctl })
 
+  -- the slave's head answers what asks for its group, and all else is sent down
+  abbrev pub ioctl_called : Cells C → Side → ℕ → List ℕ → State C → Outcome C
+  ioctl_called cells side command body s = if asks_group side command then group_at side command body s else ioctl_at cells side command body s
+
   -- the signals that wait at a side's head are handed out
   abbrev pub signals_told : Side → State C → Outcome C
   signals_told side s = tells (Signals (stream side s).head.signals) (with_signals side [] s)
@@ -211,8 +215,7 @@ module _ {C : Type 0} where
   performed cells caller (Get wanted cmax dmax) s = get_at cells caller.side wanted cmax dmax s
   performed cells caller (Mode mode) s = done (mode_set caller.side mode s)
   performed cells caller Nread s = sizes_at caller.side s
-  performed cells caller (Ioctl command body) s =
-      if asks_group caller.side command then group_at caller.side command body s else ioctl_at cells caller.side command body s
+  performed cells caller (Ioctl command body) s = ioctl_called cells caller.side command body s
   performed cells caller (IoctlResult number) s = ioctl_told caller.side s
   performed cells caller events.Signals s = signals_told caller.side s
 

@@ -4,7 +4,7 @@ use Rattle.strm_types.specs.declared.answers.Answer.TheVariants.{Count}
 use Rattle.strm_types.specs.declared.names.Side.{Side}
 use Rattle.strm_types.specs.declared.rules.Fates.{Fates}
 use Rattle.strm_types.specs.Books.{with_written}
-use Rattle.strm_types.specs.Cells.{plain}
+use Rattle.strm_types.specs.Cells.{cells_written, plain}
 use Rattle.strm_types.specs.Names.{direction_from}
 use Rattle.strm_laws.specs.Calls.{Outcome, wrote, write_sent}
 use Rattle.strm_types.specs.Deliver.{tallied}
@@ -60,8 +60,8 @@ module _ (side : Side) (s : State ℕ) where
       two ∙ ap (λ (f : Fates). tallied more.gone f) one ∙ sym (tallied-append (chunk_goes plain side chunk s).gone more.gone old)
 
 -- what a write makes of what was sent
-abbrev booked : Side → Wrote ℕ → Outcome ℕ
-booked side t = let dir = direction_from side in record { answer = Count t.taken; state = with_book dir (with_written t.taken (book dir t.state)) t.state }
+abbrev booked : Side → List ℕ → Wrote ℕ → Outcome ℕ
+booked side xs t = let dir = direction_from side in record { answer = Count t.taken; state = with_book dir (with_written t.taken (book dir t.state)) t.state; came = take t.taken xs; gone = t.gone }
 
 -- the chunks of a write
 abbrev pub chunks-written : Side → ℕ → List ℕ → State ℕ → Wrote ℕ
@@ -73,5 +73,9 @@ module _ (side : Side) (bytes : List ℕ) (s : State ℕ) (n : ℕ) (count : n �
       ap (λ (xs : List ℕ). cells_sent plain side xs s) (written-plain (direction_from side) (book (direction_from side) s).written bytes)
       ∙ ap (λ k. chunks-written side k bytes s) (sym count)
 
-  pub wrote-chunks : wrote plain side bytes s ≡ booked side (chunks-written side n bytes s)
-  wrote-chunks = ap (λ (t : Wrote ℕ). booked side t) chunks-are
+  -- the bytes of it, as they are written
+  abbrev cells : List ℕ
+  cells = cells_written plain (direction_from side) (book (direction_from side) s).written bytes
+
+  pub wrote-chunks : wrote plain side bytes s ≡ booked side cells (chunks-written side n bytes s)
+  wrote-chunks = ap (λ (t : Wrote ℕ). booked side cells t) chunks-are

@@ -19,7 +19,6 @@ use Rattle.strm_pair.specs.declared.streams.Streams.{Streams}
 use Rattle.strm_pair.specs.Framing.{still}
 use Rattle.strm_pair.specs.Pairs.{state_in, end_at, with_end, AreBeside, kept_by}
 use Rattle.strm_laws.specs.Calls.{read_at}
-use Rattle.strm_laws.specs.Kept.{read_loses}
 use Rattle.strm_types.specs.Cells.{plain}
 use Rattle.strm_types.proofs.PlainCells.{bytes-plain}
 use Rattle.strm_pair.proofs.Sides.{head-changed, head-state, head-is, only-kept}
@@ -36,7 +35,7 @@ module _ (side : Side) (s : StoreValue) (p : Streams) (most n : ℕ) (most_is : 
       ∙ ap (λ (h : heads.Head ℕ). Bytes (head_draw h.read_mode h.control_mode (min n READ_MAX) h.queue.messages).given) (sym (head-is s p side))
       ∙ ap Bytes (sym (bytes-plain (head_draw there.read_mode there.control_mode (min n READ_MAX) there.queue.messages).given))
 
-  pub read-told : (old new : Fates) → new ≡ tallied (read_gone (direction_of (head_of side)) here.read_mode here.control_mode most here.queue.messages) old → new ≡ tallied (read_loses side n (state_in s p)) old
+  pub read-told : (old new : Fates) → new ≡ tallied (read_gone (direction_of (head_of side)) here.read_mode here.control_mode most here.queue.messages) old → new ≡ tallied (read_at plain side n (state_in s p)).gone old
   read-told old new told =
       told ∙ ap (λ m. tallied (read_gone (direction_of (head_of side)) here.read_mode here.control_mode m here.queue.messages) old) most_is
       ∙ ap (λ (h : heads.Head ℕ). tallied (read_gone (direction_of (head_of side)) h.read_mode h.control_mode (min n READ_MAX) h.queue.messages) old) (sym (head-is s p side))

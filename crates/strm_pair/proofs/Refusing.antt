@@ -4,19 +4,29 @@ use Rattle.std.proofs.lemmas.Bool.Decides.{nat_tests}
 use Rattle.std.specs.Prelude.{nat_le, nat_lt, Option, None, Some, Result, Ok, Err, MatchOption}
 use Rattle.strm_types.specs.declared.events.Caller.{Caller}
 use Rattle.strm_types.specs.declared.events.Event.TheVariants.{Put, Ioctl}
+use Rattle.strm_types.specs.declared.answers.Answer.TheVariants.{Stop}
+use Rattle.strm_types.specs.declared.job_control.Verdict.{Verdict}
+use Rattle.strm_types.specs.declared.job_control.Verdict.TheVariants.{Allowed, Refused, Stopped}
 use Rattle.strm_types.specs.declared.refusals.Refusal.{Refusal}
+use Rattle.strm_types.specs.declared.signals.StopSignal.{StopSignal}
 use Rattle.strm_types.specs.declared.modes.Prio.{Prio}
 use Rattle.strm_types.specs.declared.modes.Prio.TheVariants.{High, Band}
 use Rattle.strm_types.specs.declared.refusals.Refusal.TheVariants.{Einval, Enosr, Erange, JournalFull}
 use Rattle.strm_types.specs.declared.limits.TheConstants.{IOCTL_END, IOCTL_MAX}
+use Rattle.strm_types.specs.Cells.{plain}
 use Rattle.strm_types.specs.Events.{Request}
+use Rattle.strm_types.specs.JobControl.{judged, refusal_behind, stop_in}
+use Rattle.strm_laws.specs.Calls.{called, or_stopped, performed, tells}
 use Rattle.strm_laws.specs.Pair.{PairState, call_refused}
 use Rattle.strm_types.specs.Needs.{needs}
-use Rattle.strm_laws.specs.Refusals.{enough, has_room, in_range, refused_at_once, refused_by_state}
+use Rattle.strm_laws.specs.Refusals.{enough, has_room, in_range, refused_at_once, refused_by_state, stop_of}
 use Rattle.strm_types.specs.Refused.{or_else, unless}
 use Rattle.strm_laws.specs.State.{State}
 use Rattle.strm_types.specs.PutMsg.{is_too_long, put_refusal}
 use Rattle.strm_laws.proofs.Replay.{met, unless-none}
+use Rattle.strm_laws.proofs.Balances.{both-true}
+use Rattle.strm_blocks.specs.Blocks.{StoreValue, free_d, free_m}
+use Rattle.strm_pair.specs.Pairs.{free_in}
 use Rattle.strm_pair.specs.Parts.{IsLow}
 
 -- an ioctl that isn't refused at once sends few bytes, and a number is left for it
@@ -29,6 +39,41 @@ pub number-left : (s : State ℕ) (caller : Caller) (command : ℕ) (body : List
 number-left s caller command body at_once =
     let left : nat_lt s.next_ioctl IOCTL_END ≡ true = (met s caller.side (needs (Ioctl command body)) at_once).numbered in
     grind (arith, nat_tests, left)
+
+-- a store has as many free blocks as are asked for
+pub asked-free : (need : ℕ) (s : StoreValue) → enough need (free_in s) ≡ true → (need ≤ free_m s) × (need ≤ free_d s)
+asked-free need s is =
+    let both = both-true (nat_le need (free_m s)) (nat_le need (free_d s)) is in
+    (let first = both.0 in grind (arith, nat_tests), let second = both.1 in grind (arith, nat_tests))
+
+-- what a verdict says of the refusal and of the signal
+pub judged-allowed : (r : Option Refusal) (s : Option StopSignal) → judged r s ≡ Allowed → (r ≡ None) × (s ≡ None)
+judged-allowed None None is = (refl, refl)
+judged-allowed None (Some signal) is = absurd (cc)
+judged-allowed (Some refusal) s is = absurd (cc)
+
+pub judged-stopped : (signal : StopSignal) (r : Option Refusal) (s : Option StopSignal) → judged r s ≡ Stopped signal → (r ≡ None) × (s ≡ Some signal)
+judged-stopped signal None None is = absurd (cc)
+judged-stopped signal None (Some other) is = (refl, (let same : other ≡ signal = cc in ap (λ x. Some x) same))
+judged-stopped signal (Some refusal) s is = absurd (cc)
+
+pub judged-refused : (refusal : Refusal) (r : Option Refusal) (s : Option StopSignal) → judged r s ≡ Refused refusal → r ≡ Some refusal
+judged-refused refusal None None is = absurd (cc)
+judged-refused refusal None (Some signal) is = absurd (cc)
+judged-refused refusal (Some other) s is = let same : other ≡ refusal = cc in ap (λ x. Some x) same
+
+-- a call that neither the state refuses nor job control stops fits what is there
+pub free-fits : (hold : Verdict) (unfit : Option Refusal) → refusal_behind hold unfit ≡ None → stop_in hold ≡ None → unfit ≡ None
+free-fits Allowed unfit is free = is
+free-fits (Stopped signal) unfit is free = absurd (cc)
+free-fits (Refused refusal) unfit is free = absurd (cc)
+
+-- a call that isn't stopped leads to what it does, and one that is to nothing
+pub as-performed : (caller : Caller) (asked : Request) (s : State ℕ) → stop_of s caller asked ≡ None → performed plain caller asked s ≡ called plain caller asked s
+as-performed caller asked s free = sym (ap (λ stop. or_stopped stop s (performed plain caller asked s)) free)
+
+pub as-stopped : (caller : Caller) (asked : Request) (s : State ℕ) (signal : StopSignal) → stop_of s caller asked ≡ Some signal → tells (Stop signal) s ≡ called plain caller asked s
+as-stopped caller asked s signal is = sym (ap (λ stop. or_stopped stop s (performed plain caller asked s)) is)
 
 module _ (v : PairState) (caller : Caller) (asked : Request) (at_once : refused_at_once v.state caller asked ≡ None) where
   -- what is told by the answers of the three questions that come after

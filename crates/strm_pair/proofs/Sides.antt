@@ -86,7 +86,7 @@ queue-same s t q same = ap (λ l. record { messages = map message_of l; flows = 
 abbrev pub stream_of : StreamEnd → state.Queue ℕ → List (stacked.Module ℕ) → state.Queue ℕ → streams.Stream ℕ
 stream_of e h ms d = record {
   opened = e.opened;
-  head = record { queue = h; read_mode = e.head.read_mode; control_mode = e.head.control_mode; tostop = e.head.tostop; hung_up = e.head.hung_up; signals = e.head.signals; ioctl = plain_slot e.head.ioctl };
+  head = record { queue = h; read_mode = e.head.read_mode; control_mode = e.head.control_mode; tostop = e.head.tostop; group = e.head.group; hung_up = e.head.hung_up; signals = e.head.signals; ioctl = plain_slot e.head.ioctl };
   modules = ms;
   driver = record { queue = d };
 }

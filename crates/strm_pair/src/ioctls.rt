@@ -3,7 +3,7 @@
 ghost use Rattle.std.specs.Prelude.{ℕ, ◌≡◌, ◌+◌, ◌≤◌, ◌<◌, List, [], true, length};
 ghost use Rattle.strm_types.specs.declared.limits.TheConstants.{IOCTL_BLOCKS, IOCTL_END, IOCTL_MAX, READ_MAX, SIGNALS_MAX};
 ghost use Rattle.strm_types.specs.Cells.{plain};
-ghost use Rattle.strm_laws.specs.Calls.{ioctl_begun, ioctl_sent, ioctl_told, signals_told};
+ghost use Rattle.strm_laws.specs.Calls.{group_at, ioctl_begun, ioctl_called, ioctl_sent, ioctl_told, signals_told};
 ghost use Rattle.strm_types.specs.Deliver.{tallied};
 ghost use Rattle.strm_types.specs.Dropped.{is_met, number_sought};
 ghost use Rattle.strm_types.specs.Journal.{answer_len, reply_in};
@@ -20,7 +20,7 @@ ghost use Rattle.strm_pair.specs.Parts.{longest_part};
 use crate::streams::Streams;
 use strm_blocks::Blocks;
 use strm_head::make_ioctl;
-use strm_types::{Answer, Content, Fates, Ioc, Side, Spot, Way};
+use strm_types::{Answer, Content, Fates, Ioc, Side, Spot, Way, asks_group};
 
 impl Streams {
     ghost use Rattle.strm_pair.specs.Pairs.{state_in, AreHeld, SamePool};
@@ -91,8 +91,31 @@ impl Streams {
         self.ends.get_mut(side).head.tell_ioctl(out)
     }
 
-    /// Sends a command down from a side's head, with these bytes, and tells the answer if it came at once, else the number of the
-    /// ioctl.
+    // The slave's head tells or sets the foreground process group, under the next number.
+    fn tell_group(
+        &mut self,
+        side: Side,
+        command: u32,
+        body: &[u8],
+        out: &mut Content,
+    ) -> Answer<u32>
+        requires numbered { self.old.next_ioctl < IOCTL_END }
+        requires fresh { out.old.items ≡ [] }
+        ensures answer { (s : StoreValue) → reply_in result out.new.items ≡ (group_at side command body.now (state_in s self.old)).answer }
+        ensures filled { answer_len result ≡ length out.new.items }
+        ensures content { length out.new.items ≤ IOCTL_MAX }
+        ensures state { (s : StoreValue) → state_in s self.new ≡ (group_at side command body.now (state_in s self.old)).state }
+        ensures held { (s : StoreValue) → AreHeld s self.old → AreHeld s self.new }
+    {
+        self.next_ioctl += 1;
+        self.ends
+            .get_mut(side)
+            .head
+            .tell_group(command, body, out)
+    }
+
+    /// An ioctl of the next number: the slave's head answers those of the foreground process group. Else the command is sent down from the
+    /// side's head, with these bytes, and its answer is told if it came at once, else its number.
     #[inline(never)]
     pub fn ioctl<B: Blocks>(
         &mut self,
@@ -111,16 +134,19 @@ impl Streams {
         requires range { in_range (state_in (B.value store.old) self.old) ≡ true }
         requires fresh { out.old.items ≡ [] }
         ensures answer { reply_in result out.new.items
-            ≡ (ioctl_told side (ioctl_sent plain side command body.now (state_in (B.value store.old) self.old)).state).answer }
+            ≡ (ioctl_called plain side command body.now (state_in (B.value store.old) self.old)).answer }
         ensures filled { answer_len result ≡ length out.new.items }
         ensures content { length out.new.items ≤ IOCTL_MAX }
         ensures state { state_in (B.value store.new) self.new
-            ≡ (ioctl_told side (ioctl_sent plain side command body.now (state_in (B.value store.old) self.old)).state).state }
+            ≡ (ioctl_called plain side command body.now (state_in (B.value store.old) self.old)).state }
         ensures held { AreHeld (B.value store.new) self.new }
         ensures pool { SamePool (B.value store.old) (B.value store.new) }
-        ensures told { told.new ≡ tallied (ioctl_sent plain side command body.now (state_in (B.value store.old) self.old)).gone told.old }
+        ensures told { told.new ≡ tallied (ioctl_called plain side command body.now (state_in (B.value store.old) self.old)).gone told.old }
         ensures left { spare (state_in (B.value store.old) self.old) ≤ spare (state_in (B.value store.new) self.new) + 30 }
     {
+        if asks_group(side, command) {
+            return self.tell_group(side, command, body, out);
+        }
         self.send_ioctl(store, side, command, body, told);
         self.tell_ioctl(side, out)
     }

@@ -5,7 +5,8 @@ ghost use Rattle.strm_types.specs.Events.{request, map_answer};
 ghost use Rattle.strm_types.specs.Cells.{Origin, plain, tagged};
 ghost use Rattle.strm_types.specs.declared.entries.Entry.TheVariants.{Called, Turned};
 ghost use Rattle.strm_laws.specs.Earlier.{modules_on};
-ghost use Rattle.strm_laws.specs.Pair.{new_pair, call_refused, queue_refused, AddsEntry};
+ghost use Rattle.strm_types.specs.declared.job_control.Verdict.TheVariants.{Allowed, Stopped};
+ghost use Rattle.strm_laws.specs.Pair.{new_pair, call_refused, call_verdict, queue_refused, AddsEntry};
 ghost use Rattle.strm_types.specs.Journal.{entries_in, reply_in, answer_len};
 ghost use Rattle.strm_laws.specs.Refusals.{enough, has_room};
 ghost use Rattle.strm_laws.specs.Step.{replay, IsLegal};
@@ -30,7 +31,8 @@ use std::marker::Model;
 use strm_blocks::Blocks;
 use strm_types::{
     Answer, BANDS, Band, Caller, Config, Content, Dir, Entry, Event, Fates, LISTS, Ledger,
-    NoMemory, Place, QueueName, READ_MAX, ReadBytes, Refusal, Side, Turn, turn_blocks, unless,
+    NoMemory, Place, QueueName, READ_MAX, ReadBytes, Refusal, Side, StopSignal, Turn, Verdict,
+    turn_blocks, unless,
 };
 
 /// A pair of a master and a slave, whose messages stand in a store of its own. Contracts see it as its plain state, its
@@ -231,22 +233,23 @@ impl<B: Blocks + Drop> Pair<B> {
         self.journal.has_room(bytes)
     }
 
-    // The refusal of a call, if any.
+    // The verdict on a call.
     #[inline(always)]
-    fn refusal(&self, caller: Caller, event: &Event<&[u8]>) -> Option<Refusal>
-        ensures { result ≡ call_refused self.now caller (request event.now) }
+    fn verdict(&self, caller: Caller, event: &Event<&[u8]>) -> Verdict
+        ensures { result ≡ call_verdict self.now caller (request event.now) }
     {
         let needs = event.needs();
         if let Some(refusal) = self.streams.unmet(caller.side, &needs) {
-            return Some(refusal);
+            return Verdict::Refused(refusal);
         }
         if !self.has_room(needs.brings + needs.gives) {
-            return Some(Refusal::JournalFull);
+            return Verdict::Refused(Refusal::JournalFull);
         }
         if !self.has_blocks(needs.blocks) {
-            return Some(Refusal::Enosr);
+            return Verdict::Refused(Refusal::Enosr);
         }
-        self.streams.refused_by_state(&self.store, caller, event)
+        self.streams
+            .verdict(&self.store, caller, event, needs.access)
     }
 
     // The refusal of a turn, if any.
@@ -284,6 +287,43 @@ impl<B: Blocks + Drop> Pair<B> {
         }
     }
 
+    // Enters a call that stops its caller.
+    fn stop(
+        &mut self,
+        caller: Caller,
+        event: &Event<&[u8]>,
+        signal: StopSignal,
+        out: &mut Content,
+    ) -> Answer<u32>
+        requires { call_verdict self.old caller (request event.now) ≡ Stopped signal }
+        ensures adds { AddsEntry self.old self.new (Called caller (request event.now) (reply_in result out.new.items)) }
+        ensures filled { answer_len result ≡ length out.new.items }
+        ensures parts { longest_part result ≤ READ_MAX }
+    {
+        self.store.audit();
+        out.clear();
+        let answer = Answer::Stop(signal);
+        self.journal.add_call(caller, event, answer, &[]);
+        answer
+    }
+
+    // Carries a call out, and enters it with its answer.
+    #[inline(always)]
+    fn perform(&mut self, caller: Caller, event: &Event<&[u8]>, out: &mut Content) -> Answer<u32>
+        requires { call_verdict self.old caller (request event.now) ≡ Allowed }
+        ensures adds { AddsEntry self.old self.new (Called caller (request event.now) (reply_in result out.new.items)) }
+        ensures filled { answer_len result ≡ length out.new.items }
+        ensures parts { longest_part result ≤ READ_MAX }
+    {
+        self.store.audit();
+        let told = &mut self.fates;
+        let answer = self
+            .streams
+            .carry_out(&mut self.store, caller, event, out, told);
+        self.journal.add_call(caller, event, answer, out.as_slice());
+        answer
+    }
+
     // Makes a call as `call` says. Inlined, so that where the kind of the call is known nothing asks for it again.
     #[inline(always)]
     fn make(
@@ -299,21 +339,16 @@ impl<B: Blocks + Drop> Pair<B> {
         ensures filled { IfOk result (λ answer. answer_len answer ≡ length out.new.items) }
         ensures parts { IfOk result (λ answer. longest_part answer ≤ READ_MAX) }
     {
-        if let Some(refusal) = self.refusal(caller, event) {
-            return Err(refusal);
+        match self.verdict(caller, event) {
+            Verdict::Refused(refusal) => Err(refusal),
+            Verdict::Stopped(signal) => Ok(self.stop(caller, event, signal, out)),
+            Verdict::Allowed => Ok(self.perform(caller, event, out)),
         }
-        self.store.audit();
-        let told = &mut self.fates;
-        let answer = self
-            .streams
-            .carry_out(&mut self.store, caller, event, out, told);
-        self.journal.add_call(caller, event, answer, out.as_slice());
-        Ok(answer)
     }
 
     /// Makes a call. It is refused for the first of: its side isn't open, or is hung up where the call sends something down
-    /// (ENXIO); an argument is wrong (EINVAL); a book is full (ERANGE); the journal is full; too few blocks are free (ENOSR);
-    /// the state doesn't allow it (EAGAIN, EINVAL). A refused call changes nothing, and `out` stays. Else the call is carried out, and the journal gains it with its answer;
+    /// (ENXIO); an argument is wrong (EINVAL); a book is full (ERANGE); the journal is full; too few blocks are free (ENOSR); its caller
+    /// is in the background and may not be stopped (EIO); the state doesn't allow it (EAGAIN, EBADMSG, EINVAL). A refused call changes nothing, and `out` stays. Else the call is carried out, and the journal gains it with its answer;
     /// `out` has the bytes that it gives, which are none for any call but a read and a get: a get gives those of the control part
     /// first. No part has more than 4096 bytes.
     ///

@@ -3,7 +3,9 @@
 ghost use Rattle.std.specs.Prelude.{◌≡◌, ◌||◌, not, None};
 ghost use Rattle.strm_types.specs.Events.{request};
 ghost use Rattle.strm_laws.specs.Pushes.{may_stand, named_by};
-ghost use Rattle.strm_laws.specs.Refusals.{at_end, in_range, is_reached, refused_at_once, refused_by_state, unmet};
+ghost use Rattle.strm_laws.specs.Refusals.{at_end, in_range, is_reached, refused_at_once, refused_by_state, stop_of, unfit, unmet};
+ghost use Rattle.strm_types.specs.JobControl.{foreground, held, judged};
+ghost use Rattle.strm_types.specs.Needs.{needs};
 ghost use Rattle.strm_types.specs.Refused.{unless, or_else};
 ghost use Rattle.strm_laws.specs.Writes.{is_full_below};
 ghost use Rattle.strm_pair.specs.Parts.{IsLow, is_held_back};
@@ -17,8 +19,8 @@ use crate::streams::Streams;
 use strm_blocks::Blocks;
 use strm_queue::standing::has_no_data;
 use strm_types::{
-    Band, Caller, Event, IOCTL_END, MODULES, ModuleName, Needs, Openness, Prio, Reach, Refusal,
-    Side, unless,
+    Access, Band, Caller, Event, IOCTL_END, MODULES, ModuleName, Needs, Openness, Prio, Reach,
+    Refusal, Side, Verdict, unless,
 };
 
 /// The first refusal, else the second.
@@ -154,9 +156,43 @@ impl Streams {
         module_count(stack) < MODULES && !stack.has(kind)
     }
 
-    /// What a call that isn't refused at once is refused for after all else: what the state says.
+    // What job control makes of a caller's call that does this at the terminal.
     #[inline(always)]
-    pub fn refused_by_state<B: Blocks>(
+    fn hold(&self, caller: Caller, access: Option<Access>) -> Verdict
+        ensures { (s : StoreValue) → let h = (stream caller.side (state_in s self.now)).head in
+            result ≡ held access h.tostop (foreground h.hung_up h.group) caller }
+    {
+        self.end(caller.side).head.held(access, caller)
+    }
+
+    /// The verdict of the state on a call that isn't refused at once, and that does this at the terminal: job control's, and then whether
+    /// the call fits what is there.
+    #[inline(always)]
+    pub fn verdict<B: Blocks>(
+        &self,
+        store: &B,
+        caller: Caller,
+        event: &Event<&[u8]>,
+        access: Option<Access>,
+    ) -> Verdict
+        requires held { AreHeld (B.value store.now) self.now }
+        requires allowed { refused_at_once (state_in (B.value store.now) self.now) caller (request event.now) ≡ None }
+        requires access { access ≡ (needs (request event.now)).access }
+        ensures { let state = state_in (B.value store.now) self.now in
+            result ≡ judged (refused_by_state state caller (request event.now)) (stop_of state caller (request event.now)) }
+    {
+        match self.hold(caller, access) {
+            Verdict::Allowed => match self.unfit(store, caller, event) {
+                Some(refusal) => Verdict::Refused(refusal),
+                None => Verdict::Allowed,
+            },
+            held => held,
+        }
+    }
+
+    // What a call that isn't held is refused for, as it doesn't fit what is there.
+    #[inline(always)]
+    fn unfit<B: Blocks>(
         &self,
         store: &B,
         caller: Caller,
@@ -164,7 +200,7 @@ impl Streams {
     ) -> Option<Refusal>
         requires held { AreHeld (B.value store.now) self.now }
         requires allowed { refused_at_once (state_in (B.value store.now) self.now) caller (request event.now) ≡ None }
-        ensures { result ≡ refused_by_state (state_in (B.value store.now) self.now) caller (request event.now) }
+        ensures { result ≡ unfit (state_in (B.value store.now) self.now) caller (request event.now) }
     {
         match event {
             Event::OpenMaster => self.opened_before(),

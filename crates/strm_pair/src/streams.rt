@@ -7,15 +7,14 @@ ghost use Rattle.strm_types.specs.Cells.{plain};
 ghost use Rattle.strm_laws.specs.State.{opening, new_stream};
 ghost use Rattle.strm_types.specs.declared.answers.Answer.TheVariants.{Done, Bytes};
 ghost use Rattle.strm_types.specs.declared.names.Openness.TheVariants.{Open};
-ghost use Rattle.strm_types.specs.Events.{Reply, request};
-ghost use Rattle.strm_laws.specs.Calls.{called, delivers, mode_set, opened_slave, read_at};
-ghost use Rattle.strm_types.specs.declared.entries.Entry.TheVariants.{Called};
+ghost use Rattle.strm_types.specs.Events.{request};
+ghost use Rattle.strm_laws.specs.Calls.{delivers, mode_set, opened_slave, performed, read_at};
 ghost use Rattle.strm_types.specs.Deliver.{tallied};
-ghost use Rattle.strm_laws.specs.Kept.{AreIdle, gone, read_loses};
+ghost use Rattle.strm_laws.specs.Kept.{AreIdle};
 ghost use Rattle.strm_laws.specs.Turns.{turned};
 ghost use Rattle.strm_types.specs.declared.limits.TheConstants.{READ_MAX};
 ghost use Rattle.strm_frame.specs.Hands.{HasRoom};
-ghost use Rattle.strm_laws.specs.Refusals.{blocks_asked, in_range, refused_at_once, refused_by_state};
+ghost use Rattle.strm_laws.specs.Refusals.{blocks_asked, in_range, refused_at_once, unfit};
 ghost use Rattle.strm_types.specs.Refused.{turn_blocks};
 ghost use Rattle.strm_laws.specs.Spares.{spare};
 ghost use Rattle.strm_types.specs.Journal.{reply_in, answer_len, content_max};
@@ -144,7 +143,7 @@ impl Streams {
             ≡ (read_at plain side n (state_in (B.value store.old) self.old)).state }
         ensures held { AreHeld (B.value store.new) self.new }
         ensures pool { SamePool (B.value store.old) (B.value store.new) }
-        ensures told { told.new ≡ tallied (read_loses side n (state_in (B.value store.old) self.old)) told.old }
+        ensures told { told.new ≡ tallied (read_at plain side n (state_in (B.value store.old) self.old)).gone told.old }
     {
         let wanted = (n as usize).min(READ_MAX);
         let direction = side.head().direction();
@@ -156,7 +155,7 @@ impl Streams {
         self.let_go(side, Way::Up, 0, goes);
     }
 
-    /// Carries out a call that nothing refuses. What a read or a get gives stands in `out`, which is empty else.
+    /// Carries out a call that nothing refuses, and that doesn't stop its caller. What a read or a get gives stands in `out`, which is empty else.
     #[inline(always)]
     pub fn carry_out<B: Blocks>(
         &mut self,
@@ -168,20 +167,20 @@ impl Streams {
     ) -> Answer<u32>
         requires held { AreHeld (B.value store.old) self.old }
         requires allowed { refused_at_once (state_in (B.value store.old) self.old) caller (request event.now) ≡ None }
-        requires allowed_by_state { refused_by_state (state_in (B.value store.old) self.old) caller (request event.now) ≡ None }
+        requires fits { unfit (state_in (B.value store.old) self.old) caller (request event.now) ≡ None }
         requires idle { AreIdle (state_in (B.value store.old) self.old) }
         requires room_m { blocks_asked (request event.now) ≤ free_m (B.value store.old) }
         requires room_d { blocks_asked (request event.now) ≤ free_d (B.value store.old) }
         ensures answer { reply_in result out.new.items
-            ≡ (called plain caller (request event.now) (state_in (B.value store.old) self.old)).answer }
+            ≡ (performed plain caller (request event.now) (state_in (B.value store.old) self.old)).answer }
         ensures filled { answer_len result ≡ length out.new.items }
         ensures content { length out.new.items ≤ content_max (request event.now) }
         ensures parts { longest_part result ≤ READ_MAX }
         ensures state { state_in (B.value store.new) self.new
-            ≡ (called plain caller (request event.now) (state_in (B.value store.old) self.old)).state }
+            ≡ (performed plain caller (request event.now) (state_in (B.value store.old) self.old)).state }
         ensures held { AreHeld (B.value store.new) self.new }
-        ensures told { (answer : Reply) → told.new ≡ tallied (gone plain (state_in (B.value store.old) self.old)
-            (Called caller (request event.now) answer)) told.old }
+        ensures told { told.new
+            ≡ tallied (performed plain caller (request event.now) (state_in (B.value store.old) self.old)).gone told.old }
         ensures left { OnTrue (delivers (request event.now))
             (spare (state_in (B.value store.old) self.old) ≤ spare (state_in (B.value store.new) self.new) + 30) }
         ensures pool { SamePool (B.value store.old) (B.value store.new) }

@@ -37,8 +37,8 @@ pub const TIOCGPGRP: u32 = 8;
 
 pub const TIOCSPGRP: u32 = 9;
 
-// The number of 32 bits that stands so many bytes on, its most significant byte first.
-pub(crate) fn word_at(bytes: &[u8], at: usize) -> u32
+/// The number of 32 bits that stands so many bytes on, its most significant byte first.
+pub fn word_at(bytes: &[u8], at: usize) -> u32
     requires { at + 4 ≤ length bytes.now }
     ensures { result ≡ word_at at bytes.now }
 {

@@ -5,6 +5,8 @@ ghost use Rattle.strm_types.specs.JobControl as job_control;
 ghost use Rattle.strm_types.specs.JobControl.{from_background, is_background, of_access};
 
 use crate::events::Caller;
+use crate::ioctls::{TIOCGPGRP, TIOCSPGRP};
+use crate::names::Side;
 use crate::needs::Access;
 use crate::refusals::Refusal;
 use crate::signals::StopSignal;
@@ -64,4 +66,22 @@ pub fn held(access: Option<Access>, tostop: bool, foreground: u32, caller: Calle
         Some(access) => of_access(access, tostop, foreground, caller),
         None => Verdict::Allowed,
     }
+}
+
+/// Whether a command on a side's stream is one that the slave's head answers itself: TIOCGPGRP or TIOCSPGRP.
+#[inline(always)]
+pub fn asks_group(side: Side, command: u32) -> bool
+    ensures { result ≡ job_control.asks_group side command }
+{
+    match side {
+        Side::Master => false,
+        Side::Slave => command == TIOCGPGRP || command == TIOCSPGRP,
+    }
+}
+
+/// Whether a command sets the foreground group: TIOCSPGRP with four bytes.
+pub fn sets_group(command: u32, body: &[u8]) -> bool
+    ensures { result ≡ job_control.sets_group command body.now }
+{
+    command == TIOCSPGRP && body.len() == 4
 }

@@ -36,8 +36,9 @@ pub use events::{Caller, Event, FlushQueues};
 pub use flushing::FlushAsked;
 pub use ioctls::{
     Ioc, TCGETS, TCSETS, TCSETSF, TCSETSW, TIOCGPGRP, TIOCGWINSZ, TIOCSIGNAL, TIOCSPGRP, TIOCSWINSZ,
+    word_at,
 };
-pub use job_control::{Verdict, held};
+pub use job_control::{Verdict, asks_group, held, sets_group};
 pub use keys::{Key, LINE_MAX, Stroke};
 pub use kinds::{Band, MsgKind};
 pub use ledger::Ledger;

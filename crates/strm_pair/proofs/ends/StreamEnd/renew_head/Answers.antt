@@ -17,7 +17,7 @@ returns-clause-head g c =
     let h = c.new-self.ensures in
     let within : q.list < length s.lists = let low = q.on_list in omega (arith, low, c.audit.ensures.eight) in
     let l = cleared s new q.list within c.flushq.ensures.flushed in
-    rw (h.queue, h.read_mode, h.control_mode, h.tostop, h.hung_up, h.signals, h.ioctl) (ap (λ x. record { queue = x; read_mode = ByteStream; control_mode = Refuse; tostop = false; hung_up = false; signals = []; ioctl = Free })
+    rw (h.queue, h.read_mode, h.control_mode, h.tostop, h.group, h.hung_up, h.signals, h.ioctl) (ap (λ x. record { queue = x; read_mode = ByteStream; control_mode = Refuse; tostop = false; group = 0; hung_up = false; signals = []; ioctl = Free })
     (fresh-queue new c.new.result 5120 1024 (ap (list_at new) (e.list ∙ c.flushq.ensures.list) ∙ l.here) e.flows e.want_read e.no_enable))
 
 pub returns-clause-keeps : goal.returns-clause-keeps

@@ -10,7 +10,7 @@ use Rattle.strm_types.specs.declared.names.Side.TheVariants.{Master}
 use Rattle.strm_types.specs.declared.refusals.Refusal.TheVariants.{Einval}
 use Rattle.strm_types.specs.Events.{request}
 use Rattle.strm_laws.specs.Pushes.{may_stand, named_by}
-use Rattle.strm_laws.specs.Refusals.{refused_at_once, refused_by_state}
+use Rattle.strm_laws.specs.Refusals.{refused_at_once, unfit}
 use Rattle.strm_laws.specs.State.{stream}
 use Rattle.strm_laws.proofs.Replay.{unless-none}
 use Rattle.strm_pair.specs.Pairs.{state_in, end_at, AreHeld}
@@ -25,7 +25,7 @@ pub returns-in-Write-clause-state : goal.returns-in-Write-clause-state
 returns-in-Write-clause-state g c = rw c.in-Write.is c.write.ensures.state
 
 pub returns-in-Write-clause-told : goal.returns-in-Write-clause-told
-returns-in-Write-clause-told g c = λ answer. rw c.in-Write.is c.write.ensures.told
+returns-in-Write-clause-told g c = rw c.in-Write.is c.write.ensures.told
 
 pub returns-in-Read-clause-answer : goal.returns-in-Read-clause-answer
 returns-in-Read-clause-answer g c =
@@ -38,6 +38,9 @@ returns-in-Ioctl-clause-answer g c = rw c.in-Ioctl.is c.ioctl.ensures.answer
 
 pub returns-in-Ioctl-clause-state : goal.returns-in-Ioctl-clause-state
 returns-in-Ioctl-clause-state g c = rw c.in-Ioctl.is c.ioctl.ensures.state
+
+pub returns-in-Ioctl-clause-told : goal.returns-in-Ioctl-clause-told
+returns-in-Ioctl-clause-told g c = rw c.in-Ioctl.is c.ioctl.ensures.told
 
 pub returns-in-OpenMaster-clause-held : goal.returns-in-OpenMaster-clause-held
 returns-in-OpenMaster-clause-held g c =
@@ -88,7 +91,7 @@ pub push-requires-clause-may_stand : goal.push-requires-clause-may_stand
 push-requires-clause-may_stand g c =
     let old = state_in (g.B.Blocks.value c.args.store.now) c.args.self.now in
     unless-none (may_stand (named_by c.in-Push.name) (stream c.args.caller.side old).modules) Einval
-    (ap (λ (e : Event (Bor (List ℕ))). refused_by_state old c.args.caller (request e)) (sym c.in-Push.is) ∙ c.requires.allowed_by_state)
+    (ap (λ (e : Event (Bor (List ℕ))). unfit old c.args.caller (request e)) (sym c.in-Push.is) ∙ c.requires.fits)
 
 pub returns-in-Look-clause-answer : goal.returns-in-Look-clause-answer
 returns-in-Look-clause-answer g c = rw c.in-Look.is (c.look.ensures.answer (g.B.Blocks.value c.args.store.now) c.clear.new.self.items)

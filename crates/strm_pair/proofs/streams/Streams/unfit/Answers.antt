@@ -7,7 +7,7 @@ use Rattle.strm_types.specs.Events.{request}
 use Rattle.strm_laws.specs.Refusals.{refused_at_once}
 use Rattle.strm_pair.specs.Pairs.{state_in}
 use Rattle.strm_pair.proofs.Refusing.{put-low}
-use Rattle.strm_pair.proofs.streams.Streams.refused_by_state.Goals as goal
+use Rattle.strm_pair.proofs.streams.Streams.unfit.Goals as goal
 
 pub returns-in-Unlock : goal.returns-in-Unlock
 returns-in-Unlock g c = search rules steps 100000

@@ -3,11 +3,12 @@ use Rattle.std.proofs.Common.{◌≡◌, ◌+◌, sym, ap, ◌∙◌}
 use Rattle.std.specs.Prelude.{None}
 use Rattle.strm_types.specs.declared.needs.Needs.{Needs}
 use Rattle.strm_types.specs.Events.{request}
+use Rattle.strm_types.specs.JobControl.{judged}
 use Rattle.strm_laws.specs.Pair.{PairState}
-use Rattle.strm_laws.specs.Refusals.{enough, has_room, refused_at_once, refused_by_state, unmet}
+use Rattle.strm_laws.specs.Refusals.{enough, has_room, refused_at_once, refused_by_state, stop_of, unmet}
 use Rattle.strm_pair.specs.Pairs.{state_in}
 use Rattle.strm_pair.proofs.Refusing.{first-told, full-told, few-told, state-told}
-use Rattle.strm_pair.proofs.pair.Pair.refusal.Goals as goal
+use Rattle.strm_pair.proofs.pair.Pair.verdict.Goals as goal
 
 pub returns-then-not-has_room : goal.returns-then-not-has_room
 returns-then-not-has_room g c =
@@ -16,8 +17,8 @@ returns-then-not-has_room g c =
     let at_once : refused_at_once v.state c.args.caller asked ≡ None =
     ap (λ (n : Needs). unmet v.state c.args.caller.side n) (sym c.needs-needs.ensures.value)
     ∙ ap (λ (x : PairState). unmet x.state c.args.caller.side c.needs-needs.result) (sym c.self.view_is) ∙ sym (c.unmet.ensures (g.B.Blocks.value c.self.inside.store)) ∙ c.in_default.is in
-    full-told v c.args.caller asked at_once
-    (ap (λ (n : Needs). has_room v.journal v.limits (n.brings + n.gives)) (sym c.needs-needs.ensures.value) ∙ sym c.has_room.ensures ∙ c.if-not-has_room.true)
+    ap (λ told. judged told (stop_of v.state c.args.caller asked)) (full-told v c.args.caller asked at_once
+    (ap (λ (n : Needs). has_room v.journal v.limits (n.brings + n.gives)) (sym c.needs-needs.ensures.value) ∙ sym c.has_room.ensures ∙ c.if-not-has_room.true))
 
 pub returns-then-not-has_blocks : goal.returns-then-not-has_blocks
 returns-then-not-has_blocks g c =
@@ -26,9 +27,9 @@ returns-then-not-has_blocks g c =
     let at_once : refused_at_once v.state c.args.caller asked ≡ None =
     ap (λ (n : Needs). unmet v.state c.args.caller.side n) (sym c.needs-needs.ensures.value)
     ∙ ap (λ (x : PairState). unmet x.state c.args.caller.side c.needs-needs.result) (sym c.self.view_is) ∙ sym (c.unmet.ensures (g.B.Blocks.value c.self.inside.store)) ∙ c.in_default.is in
-    few-told v c.args.caller asked at_once
+    ap (λ told. judged told (stop_of v.state c.args.caller asked)) (few-told v c.args.caller asked at_once
     (ap (λ (n : Needs). has_room v.journal v.limits (n.brings + n.gives)) (sym c.needs-needs.ensures.value) ∙ sym c.has_room.ensures ∙ c.if-not-has_room.false)
-    (ap (λ (n : Needs). enough n.blocks v.free) (sym c.needs-needs.ensures.value) ∙ sym c.has_blocks.ensures ∙ c.if-not-has_blocks.true)
+    (ap (λ (n : Needs). enough n.blocks v.free) (sym c.needs-needs.ensures.value) ∙ sym c.has_blocks.ensures ∙ c.if-not-has_blocks.true))
 
 pub returns : goal.returns
 returns g c =
@@ -37,13 +38,13 @@ returns g c =
     let at_once : refused_at_once v.state c.args.caller asked ≡ None =
     ap (λ (n : Needs). unmet v.state c.args.caller.side n) (sym c.needs-needs.ensures.value)
     ∙ ap (λ (x : PairState). unmet x.state c.args.caller.side c.needs-needs.result) (sym c.self.view_is) ∙ sym (c.unmet.ensures (g.B.Blocks.value c.self.inside.store)) ∙ c.in_default.is in
-    c.refused_by_state.ensures ∙ ap (λ (x : PairState). refused_by_state x.state c.args.caller asked) c.self.view_is
-    ∙ state-told v c.args.caller asked at_once
+    c.verdict.ensures ∙ ap (λ (x : PairState). judged (refused_by_state x.state c.args.caller asked) (stop_of x.state c.args.caller asked)) c.self.view_is
+    ∙ ap (λ told. judged told (stop_of v.state c.args.caller asked)) (state-told v c.args.caller asked at_once
     (ap (λ (n : Needs). has_room v.journal v.limits (n.brings + n.gives)) (sym c.needs-needs.ensures.value) ∙ sym c.has_room.ensures ∙ c.if-not-has_room.false)
-    (ap (λ (n : Needs). enough n.blocks v.free) (sym c.needs-needs.ensures.value) ∙ sym c.has_blocks.ensures ∙ c.if-not-has_blocks.false)
+    (ap (λ (n : Needs). enough n.blocks v.free) (sym c.needs-needs.ensures.value) ∙ sym c.has_blocks.ensures ∙ c.if-not-has_blocks.false))
 
-pub refused_by_state-requires-clause-allowed : goal.refused_by_state-requires-clause-allowed
-refused_by_state-requires-clause-allowed g c =
+pub verdict-requires-clause-allowed : goal.verdict-requires-clause-allowed
+verdict-requires-clause-allowed g c =
     ap (λ (n : Needs). unmet (state_in (g.B.Blocks.value c.self.inside.store) c.self.inside.streams) c.args.caller.side n) (sym c.needs-needs.ensures.value)
     ∙ sym (c.unmet.ensures (g.B.Blocks.value c.self.inside.store)) ∙ c.in_default.is
 
@@ -53,4 +54,7 @@ returns-in-Some g c =
     let asked = request c.args.event.now in
     let at_once = sym c.in-Some.is ∙ c.unmet.ensures (g.B.Blocks.value c.self.inside.store) ∙ ap (λ (x : PairState). unmet x.state c.args.caller.side c.needs-needs.result) c.self.view_is
     ∙ ap (λ (n : Needs). unmet v.state c.args.caller.side n) c.needs-needs.ensures.value in
-    first-told c.in-Some.refusal (refused_at_once v.state c.args.caller asked) _ at_once
+    ap (λ told. judged told (stop_of v.state c.args.caller asked)) (first-told c.in-Some.refusal (refused_at_once v.state c.args.caller asked) _ at_once)
+
+pub verdict-requires-clause-access : goal.verdict-requires-clause-access
+verdict-requires-clause-access g c = ap (λ (n : Needs). n.access) c.needs-needs.ensures.value

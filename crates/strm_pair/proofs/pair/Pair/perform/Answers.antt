@@ -1,0 +1,159 @@
+-- A call that isn't refused is a step, and the journal gains it with its answer.
+use Rattle.std.proofs.Common.{ℕ, true, ◌≡◌, ◌≤◌, ◌+◌, ◌∙◌, ◌++◌, ◌∷◌, [], length, ap, sym, refl, subst, rules, arith}
+use Rattle.std.specs.Bool.{OnTrue}
+use Rattle.std.specs.Prelude.{nat_le, None}
+use Rattle.std.proofs.lemmas.Bool.Decides.{nat_tests}
+use Rattle.strm_types.specs.declared.entries.Entry.TheVariants.{Called}
+use Rattle.strm_types.specs.Cells.{plain}
+use Rattle.strm_laws.specs.Calls.{Outcome, delivers}
+use Rattle.strm_types.specs.Deliver.{tallied}
+use Rattle.strm_types.specs.Events.{payload_of, request}
+use Rattle.strm_types.specs.Journal.{PlainEntry, content_max, reply_in}
+use Rattle.strm_laws.specs.Spares.{spare}
+use Rattle.strm_laws.specs.Ledgers.{FewBooked}
+use Rattle.strm_laws.specs.Step.{IsCall, after}
+use Rattle.strm_laws.specs.Refusals.{enough, blocks_asked, hold, refused_at_once, refused_by_state, stop_of, unfit}
+use Rattle.strm_laws.specs.Pair.{PairState, AddsEntry, call_refused}
+use Rattle.strm_laws.proofs.Balances.{both-true, call-few, written-by-blocks}
+use Rattle.strm_laws.proofs.StackSpares.{call-low}
+use Rattle.strm_laws.proofs.Replay.{call-allowed, or_else-none}
+use Rattle.strm_blocks.specs.Blocks.{StoreValue, free_d, free_m}
+use Rattle.strm_blocks.proofs.Laws.{free_m-is}
+use Rattle.strm_pair.specs.Pairs.{state_in, journal_of, free_in}
+use Rattle.strm_pair.specs.PairViews.{pair_of}
+use Rattle.strm_pair.proofs.JournalLemmas.{room-less}
+use Rattle.strm_pair.proofs.FewBytes.{few-kept}
+use Rattle.strm_pair.proofs.Refusing.{as-performed, asked-free, free-fits, judged-allowed}
+use Rattle.strm_pair.proofs.Steps.{kept-step, led-idle, step-shown}
+use Rattle.strm_pair.proofs.pair.Pair.perform.Goals as goal
+
+pub invariant_of-self : goal.invariant_of-self
+invariant_of-self g c =
+    let p = c.self.inside in
+    let s = g.B.Blocks.value p.store in
+    let new = g.B.Blocks.value c.carry_out-answer.new.store in
+    let asked = request c.args.event.now in
+    let out = c.carry_out-answer.new.out.items in
+    let old = state_in s p.streams in
+    let entry : PlainEntry = Called c.args.caller asked (reply_in c.carry_out-answer.result out) in
+    let allowed : call_refused (pair_of s p.streams p.journal p.limits p.fates) c.args.caller asked ≡ None = ap (λ (v : PairState). call_refused v c.args.caller asked) c.self.view_is ∙ (judged-allowed _ (stop_of c.args.self.now.state c.args.caller asked) c.requires).0 in
+    let free : stop_of old c.args.caller asked ≡ None = ap (λ (v : PairState). stop_of v.state c.args.caller asked) c.self.view_is ∙ (judged-allowed (call_refused c.args.self.now c.args.caller asked) _ c.requires).1 in
+    let same = as-performed c.args.caller asked old free in
+    let stands = c.carry_out-answer.ensures.state ∙ ap (λ (o : Outcome ℕ). o.state) same in
+    let told = c.carry_out-answer.ensures.told ∙ ap (λ (o : Outcome ℕ). tallied o.gone p.fates) same in
+    let added : journal_of c.add_call.new.self ≡ journal_of p.journal ++ entry ∷ [] = c.add_call.ensures.added ∙ ap (λ b. journal_of p.journal ++ Called c.args.caller asked (reply_in c.carry_out-answer.result b) ∷ []) c.as_slice.ensures.value in
+    let may = (call-allowed old (journal_of p.journal) p.limits (enough (blocks_asked asked) (free_in s)) c.args.caller asked allowed).0 in
+    let blocks : blocks_asked asked ≤ free_m s = (asked-free (blocks_asked asked) s (call-allowed old (journal_of p.journal) p.limits (enough (blocks_asked asked) (free_in s)) c.args.caller asked allowed).2).0 in
+    let store = c.audit.ensures in
+    let less : blocks_asked asked ≤ 65536 = omega (arith, blocks, store.few_mblks, free_m-is s) in
+    let left = subst (λ v. OnTrue (delivers asked) (spare old ≤ spare v + 30)) stands c.carry_out-answer.ensures.left in
+    let few = call-few plain c.args.caller asked old may (written-by-blocks asked 65536 (omega arith) less) c.self.invariant.few (λ room. call-low plain c.args.caller asked old room left) in
+    kept-step s new p.streams c.carry_out-answer.new.self p.journal c.add_call.new.self p.limits p.fates c.carry_out-answer.new.told entry c.self.invariant
+    (record {
+      allowed = (call-allowed old (journal_of p.journal) p.limits (enough (blocks_asked asked) (free_in s)) c.args.caller asked allowed).0;
+      answered = sym (c.carry_out-answer.ensures.answer ∙ ap (λ (o : Outcome ℕ). o.answer) same);
+      leads = refl;
+    })
+    stands c.carry_out-answer.ensures.held c.carry_out-answer.ensures.pool (subst FewBooked (sym stands) few) told added c.add_call.ensures.most_entries c.add_call.ensures.most_bytes
+
+pub returns-clause-adds : goal.returns-clause-adds
+returns-clause-adds g c =
+    let p = c.self.inside in
+    let s = g.B.Blocks.value p.store in
+    let new = g.B.Blocks.value c.carry_out-answer.new.store in
+    let q = c.carry_out-answer.new.self in
+    let k = c.add_call.new.self in
+    let asked = request c.args.event.now in
+    let out = c.carry_out-answer.new.out.items in
+    let old = state_in s p.streams in
+    let entry : PlainEntry = Called c.args.caller asked (reply_in c.carry_out-answer.result out) in
+    let allowed : call_refused (pair_of s p.streams p.journal p.limits p.fates) c.args.caller asked ≡ None = ap (λ (v : PairState). call_refused v c.args.caller asked) c.self.view_is ∙ (judged-allowed _ (stop_of c.args.self.now.state c.args.caller asked) c.requires).0 in
+    let free : stop_of old c.args.caller asked ≡ None = ap (λ (v : PairState). stop_of v.state c.args.caller asked) c.self.view_is ∙ (judged-allowed (call_refused c.args.self.now c.args.caller asked) _ c.requires).1 in
+    let same = as-performed c.args.caller asked old free in
+    let stands = c.carry_out-answer.ensures.state ∙ ap (λ (o : Outcome ℕ). o.state) same in
+    let added : journal_of k ≡ journal_of p.journal ++ entry ∷ [] = c.add_call.ensures.added ∙ ap (λ b. journal_of p.journal ++ Called c.args.caller asked (reply_in c.carry_out-answer.result b) ∷ []) c.as_slice.ensures.value in
+    let taken : IsCall plain old c.args.caller asked (reply_in c.carry_out-answer.result out) (after plain old entry) = record {
+      allowed = (call-allowed old (journal_of p.journal) p.limits (enough (blocks_asked asked) (free_in s)) c.args.caller asked allowed).0;
+      answered = sym (c.carry_out-answer.ensures.answer ∙ ap (λ (o : Outcome ℕ). o.answer) same);
+      leads = refl;
+    } in
+    subst (λ (v : PairState). AddsEntry v (pair_of new q k p.limits c.carry_out-answer.new.told) entry) c.self.view_is
+    (record {
+      journal = added;
+      step = step-shown s new p.streams q entry stands taken;
+      fates = c.carry_out-answer.ensures.told ∙ ap (λ (o : Outcome ℕ). tallied o.gone p.fates) same;
+      base = refl;
+      limits = refl;
+    })
+
+pub carry_out-answer-requires-clause-held : goal.carry_out-answer-requires-clause-held
+carry_out-answer-requires-clause-held g c = search rules steps 100000
+
+pub carry_out-answer-requires-clause-allowed : goal.carry_out-answer-requires-clause-allowed
+carry_out-answer-requires-clause-allowed g c =
+    let p = c.self.inside in
+    let s = g.B.Blocks.value p.store in
+    let asked = request c.args.event.now in
+    let old = state_in s p.streams in
+    let allowed : call_refused (pair_of s p.streams p.journal p.limits p.fates) c.args.caller asked ≡ None = ap (λ (v : PairState). call_refused v c.args.caller asked) c.self.view_is ∙ (judged-allowed _ (stop_of c.args.self.now.state c.args.caller asked) c.requires).0 in
+    (or_else-none (refused_at_once old c.args.caller asked) (refused_by_state old c.args.caller asked) (call-allowed old (journal_of p.journal) p.limits (enough (blocks_asked asked) (free_in s)) c.args.caller asked allowed).0).0
+
+pub carry_out-answer-requires-clause-fits : goal.carry_out-answer-requires-clause-fits
+carry_out-answer-requires-clause-fits g c =
+    let p = c.self.inside in
+    let s = g.B.Blocks.value p.store in
+    let asked = request c.args.event.now in
+    let old = state_in s p.streams in
+    let allowed : call_refused (pair_of s p.streams p.journal p.limits p.fates) c.args.caller asked ≡ None = ap (λ (v : PairState). call_refused v c.args.caller asked) c.self.view_is ∙ (judged-allowed _ (stop_of c.args.self.now.state c.args.caller asked) c.requires).0 in
+    let free : stop_of old c.args.caller asked ≡ None = ap (λ (v : PairState). stop_of v.state c.args.caller asked) c.self.view_is ∙ (judged-allowed (call_refused c.args.self.now c.args.caller asked) _ c.requires).1 in
+    free-fits (hold old c.args.caller asked) (unfit old c.args.caller asked) (or_else-none (refused_at_once old c.args.caller asked) (refused_by_state old c.args.caller asked) (call-allowed old (journal_of p.journal) p.limits (enough (blocks_asked asked) (free_in s)) c.args.caller asked allowed).0).1 free
+
+pub carry_out-answer-requires-clause-idle : goal.carry_out-answer-requires-clause-idle
+carry_out-answer-requires-clause-idle g c = led-idle (g.B.Blocks.value c.self.inside.store) c.self.inside.streams c.self.inside.journal c.self.inside.limits c.self.inside.fates c.self.invariant
+
+pub carry_out-answer-requires-clause-room_m : goal.carry_out-answer-requires-clause-room_m
+carry_out-answer-requires-clause-room_m g c =
+    let p = c.self.inside in
+    let s = g.B.Blocks.value p.store in
+    let asked = request c.args.event.now in
+    let old = state_in s p.streams in
+    let allowed : call_refused (pair_of s p.streams p.journal p.limits p.fates) c.args.caller asked ≡ None = ap (λ (v : PairState). call_refused v c.args.caller asked) c.self.view_is ∙ (judged-allowed _ (stop_of c.args.self.now.state c.args.caller asked) c.requires).0 in
+    (asked-free (blocks_asked asked) s (call-allowed old (journal_of p.journal) p.limits (enough (blocks_asked asked) (free_in s)) c.args.caller asked allowed).2).0
+
+pub carry_out-answer-requires-clause-room_d : goal.carry_out-answer-requires-clause-room_d
+carry_out-answer-requires-clause-room_d g c =
+    let p = c.self.inside in
+    let s = g.B.Blocks.value p.store in
+    let asked = request c.args.event.now in
+    let old = state_in s p.streams in
+    let allowed : call_refused (pair_of s p.streams p.journal p.limits p.fates) c.args.caller asked ≡ None = ap (λ (v : PairState). call_refused v c.args.caller asked) c.self.view_is ∙ (judged-allowed _ (stop_of c.args.self.now.state c.args.caller asked) c.requires).0 in
+    (asked-free (blocks_asked asked) s (call-allowed old (journal_of p.journal) p.limits (enough (blocks_asked asked) (free_in s)) c.args.caller asked allowed).2).1
+
+pub as_slice-requires : goal.as_slice-requires
+as_slice-requires g c = search rules steps 30000
+
+pub add_call-requires-clause-filled : goal.add_call-requires-clause-filled
+add_call-requires-clause-filled g c = c.carry_out-answer.ensures.filled ∙ ap length (sym c.as_slice.ensures.value)
+
+pub add_call-requires-clause-small : goal.add_call-requires-clause-small
+add_call-requires-clause-small g c =
+    let p = c.self.inside in
+    let s = g.B.Blocks.value p.store in
+    let asked = request c.args.event.now in
+    let old = state_in s p.streams in
+    let allowed : call_refused (pair_of s p.streams p.journal p.limits p.fates) c.args.caller asked ≡ None = ap (λ (v : PairState). call_refused v c.args.caller asked) c.self.view_is ∙ (judged-allowed _ (stop_of c.args.self.now.state c.args.caller asked) c.requires).0 in
+    let parts = call-allowed old (journal_of p.journal) p.limits (enough (blocks_asked asked) (free_in s)) c.args.caller asked allowed in
+    let at_once = (or_else-none (refused_at_once old c.args.caller asked) (refused_by_state old c.args.caller asked) parts.0).0 in
+    let blocks : blocks_asked asked ≤ free_m s = (asked-free (blocks_asked asked) s parts.2).0 in
+    few-kept old c.args.caller asked at_once (omega (arith, blocks, c.audit.ensures.few_mblks, free_m-is s))
+
+pub add_call-requires-clause-room : goal.add_call-requires-clause-room
+add_call-requires-clause-room g c =
+    let p = c.self.inside in
+    let s = g.B.Blocks.value p.store in
+    let asked = request c.args.event.now in
+    let old = state_in s p.streams in
+    let allowed : call_refused (pair_of s p.streams p.journal p.limits p.fates) c.args.caller asked ≡ None = ap (λ (v : PairState). call_refused v c.args.caller asked) c.self.view_is ∙ (judged-allowed _ (stop_of c.args.self.now.state c.args.caller asked) c.requires).0 in
+    let room = (call-allowed old (journal_of p.journal) p.limits (enough (blocks_asked asked) (free_in s)) c.args.caller asked allowed).1 in
+    room-less (journal_of p.journal) p.limits p.journal.most_entries p.journal.most_bytes (length (payload_of asked) + content_max asked) (length (payload_of asked) + length c.as_slice.result.now)
+    c.self.invariant.events c.self.invariant.bytes (omega (arith, c.carry_out-answer.ensures.content, ap length c.as_slice.ensures.value)) room
