@@ -14,9 +14,9 @@ use strm_types::{
     Termios,
 };
 
-const MASTER: Caller = Caller { side: Side::Master };
+const MASTER: Caller = Caller::of(Side::Master);
 
-const SLAVE: Caller = Caller { side: Side::Slave };
+const SLAVE: Caller = Caller::of(Side::Slave);
 
 static BYTES: [u8; 4096] = [b'z'; 4096];
 

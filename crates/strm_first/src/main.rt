@@ -5,9 +5,9 @@ use strm_pair::Pair;
 use strm_raw::RawStore;
 use strm_types::{Caller, Config, Content, Event, Refusal, Side};
 
-const MASTER: Caller = Caller { side: Side::Master };
+const MASTER: Caller = Caller::of(Side::Master);
 
-const SLAVE: Caller = Caller { side: Side::Slave };
+const SLAVE: Caller = Caller::of(Side::Slave);
 
 const SIZES: Config = Config {
     mblks: 256,

@@ -108,10 +108,7 @@ impl Streams {
         ensures held { (s : StoreValue) → AreHeld s self.old → AreHeld s self.new }
     {
         self.next_ioctl += 1;
-        self.ends
-            .get_mut(side)
-            .head
-            .tell_group(command, body, out)
+        self.ends.get_mut(side).head.tell_group(command, body, out)
     }
 
     /// An ioctl of the next number: the slave's head answers those of the foreground process group. Else the command is sent down from the

@@ -192,12 +192,7 @@ impl Streams {
 
     // What a call that isn't held is refused for, as it doesn't fit what is there.
     #[inline(always)]
-    fn unfit<B: Blocks>(
-        &self,
-        store: &B,
-        caller: Caller,
-        event: &Event<&[u8]>,
-    ) -> Option<Refusal>
+    fn unfit<B: Blocks>(&self, store: &B, caller: Caller, event: &Event<&[u8]>) -> Option<Refusal>
         requires held { AreHeld (B.value store.now) self.now }
         requires allowed { refused_at_once (state_in (B.value store.now) self.now) caller (request event.now) ≡ None }
         ensures { result ≡ unfit (state_in (B.value store.now) self.now) caller (request event.now) }

@@ -16,9 +16,9 @@ use strm_types::{
     QueueName, Refusal, Rule, Side, Turn, Way,
 };
 
-const MASTER: Caller = Caller { side: Side::Master };
+const MASTER: Caller = Caller::of(Side::Master);
 
-const SLAVE: Caller = Caller { side: Side::Slave };
+const SLAVE: Caller = Caller::of(Side::Slave);
 
 const MASTER_DRIVER: QueueName = QueueName {
     side: Side::Master,

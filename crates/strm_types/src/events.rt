@@ -25,7 +25,7 @@ pub struct Caller {
 
 impl Caller {
     /// A caller on a side that has no process group, and whom job control never holds.
-    pub fn of(side: Side) -> Caller
+    pub const fn of(side: Side) -> Caller
         ensures { result ≡ caller_of side }
     {
         Caller {

@@ -35,8 +35,8 @@ pub use entries::Entry;
 pub use events::{Caller, Event, FlushQueues};
 pub use flushing::FlushAsked;
 pub use ioctls::{
-    Ioc, TCGETS, TCSETS, TCSETSF, TCSETSW, TIOCGPGRP, TIOCGWINSZ, TIOCSIGNAL, TIOCSPGRP, TIOCSWINSZ,
-    word_at,
+    Ioc, TCGETS, TCSETS, TCSETSF, TCSETSW, TIOCGPGRP, TIOCGWINSZ, TIOCSIGNAL, TIOCSPGRP,
+    TIOCSWINSZ, word_at,
 };
 pub use job_control::{Verdict, asks_group, held, sets_group};
 pub use keys::{Key, LINE_MAX, Stroke};

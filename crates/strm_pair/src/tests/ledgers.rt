@@ -158,7 +158,7 @@ impl<B: Blocks + Drop> Walk<B> {
 
     // A call, which may be refused.
     fn calls(&mut self, side: Side, event: &Event<&[u8]>) {
-        if let Ok(answer) = self.pair.call(Caller { side }, event, &mut self.out) {
+        if let Ok(answer) = self.pair.call(Caller::of(side), event, &mut self.out) {
             self.note(side, event, answer);
         }
     }

@@ -212,7 +212,7 @@ impl<B: Blocks + Drop> Walk<B> {
 
     // Whether a call is answered as the model says, and adds one entry that tells so, or none where it is refused.
     fn calls(&mut self, side: Side, event: &Event<&[u8]>) -> Result<bool, AllocError> {
-        let caller = Caller { side };
+        let caller = Caller::of(side);
         let wanted = self.model.refusal(caller, event);
         match self.pair.call(caller, event, &mut self.out) {
             Err(met) => Ok(self.is_refused(wanted, met)),
