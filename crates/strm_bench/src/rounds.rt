@@ -14,9 +14,19 @@ use strm_types::{
     Termios,
 };
 
-const MASTER: Caller = Caller::of(Side::Master);
+const MASTER: Caller = Caller {
+    side: Side::Master,
+    group: 0,
+    ignores: false,
+    orphaned: false,
+};
 
-const SLAVE: Caller = Caller::of(Side::Slave);
+const SLAVE: Caller = Caller {
+    side: Side::Slave,
+    group: 0,
+    ignores: false,
+    orphaned: false,
+};
 
 static BYTES: [u8; 4096] = [b'z'; 4096];
 

@@ -5,10 +5,6 @@ use strm_pair::Pair;
 use strm_raw::RawStore;
 use strm_types::{Caller, Config, Content, Event, Refusal, Side};
 
-const MASTER: Caller = Caller::of(Side::Master);
-
-const SLAVE: Caller = Caller::of(Side::Slave);
-
 const SIZES: Config = Config {
     mblks: 256,
     dblks: 256,
@@ -18,17 +14,18 @@ const SIZES: Config = Config {
 
 // Opens both sides, writes, makes the turns, and reads. Each refusal has a name, and leaves the pair as it was.
 fn session(pair: &mut Pair<RawStore>, out: &mut Content) -> Result<(), Refusal> {
-    pair.call(MASTER, &Event::OpenMaster, out)?;
-    pair.call(MASTER, &Event::Unlock, out)?;
-    pair.call(SLAVE, &Event::OpenSlave, out)?;
-    pair.call(MASTER, &Event::Write { bytes: b"abc" }, out)?; // Answer::Count(3)
+    let (master, slave) = (Caller::of(Side::Master), Caller::of(Side::Slave));
+    pair.call(master, &Event::OpenMaster, out)?;
+    pair.call(master, &Event::Unlock, out)?;
+    pair.call(slave, &Event::OpenSlave, out)?;
+    pair.call(master, &Event::Write { bytes: b"abc" }, out)?; // Answer::Count(3)
     for _ in 0..16 {
         let Some(queue) = pair.first_enabled() else {
             break;
         };
         pair.turn(queue)?; // Turn::Moved(3): the driver carries them to the slave's head
     }
-    pair.call(SLAVE, &Event::Read { n: 10 }, out)?; // Answer::Bytes(3), and out holds them
+    pair.call(slave, &Event::Read { n: 10 }, out)?; // Answer::Bytes(3), and out holds them
     Ok(())
 }
 

@@ -16,9 +16,19 @@ use strm_types::{
     QueueName, Refusal, Rule, Side, Turn, Way,
 };
 
-const MASTER: Caller = Caller::of(Side::Master);
+const MASTER: Caller = Caller {
+    side: Side::Master,
+    group: 0,
+    ignores: false,
+    orphaned: false,
+};
 
-const SLAVE: Caller = Caller::of(Side::Slave);
+const SLAVE: Caller = Caller {
+    side: Side::Slave,
+    group: 0,
+    ignores: false,
+    orphaned: false,
+};
 
 const MASTER_DRIVER: QueueName = QueueName {
     side: Side::Master,
