@@ -2,6 +2,7 @@ mod Columns
 mod EchoBytes
 mod LineEnds
 mod PlainBytes
+pub mod Unmarked
 pub mod FreeBefore
 pub mod PlainRuns
 mod Runs

@@ -18,24 +18,24 @@ use Rattle.strm_types.specs.declared.spots.Spot.{Spot}
 use Rattle.strm_types.specs.declared.termios.Termios.{Termios}
 use Rattle.strm_types.specs.Cells.{plain}
 use Rattle.strm_types.specs.Deliver.{Comes, tallied}
-use Rattle.strm_types.specs.Echo.{echo_of, is_control}
+use Rattle.strm_types.specs.Echo.{echo_byte, echo_of, is_control, shown_control, tab, typed_echo}
 use Rattle.strm_types.specs.Input.{begins_next, cells_left, left_of, next_stage, with_left}
-use Rattle.strm_types.specs.Keys.{carriage_return, lowered, newline, stripped, stroke_of}
+use Rattle.strm_types.specs.Keys.{carriage_return, lowered, newline, stripped, stroke_of, taken_as}
 use Rattle.strm_types.specs.Ldterms.{Ldterm, Between, Begun, sends}
 use Rattle.strm_types.specs.Lines.{has_room}
 use Rattle.strm_types.specs.Message.{Message, band_of, cells_of, data_message, is_high_priority, rank_of, size_of}
 use Rattle.strm_types.specs.Queue.{count_of, flow_of, is_full, is_none_left, put, put_enables}
 use Rattle.strm_types.specs.Rules.{made_more}
-use Rattle.strm_types.specs.Termios.{echo, icanon}
+use Rattle.strm_types.specs.Termios.{echo, echoctl, echonl, icanon, imaxbel}
 use Rattle.strm_types.specs.Typing.{added, echo_dir, echo_grows, echo_stands, echoed, grown}
 use Rattle.strm_ldterm.specs.FreeBefore.{blocks_grown, echo_size, last_size}
-use Rattle.strm_ldterm.specs.PlainRuns.{is_plain, run_done, run_echoed, typed_run}
+use Rattle.strm_ldterm.specs.PlainRuns.{has_keys, is_plain, run_done, run_echoed, turns_ends, typed_run}
 use Rattle.strm_ldterm.specs.Turns.{ahead, one_after}
 use Rattle.strm_ldterm.proofs.EchoStands.{data-enables, data-rank, echoed-room, grown-last}
 use Rattle.strm_ldterm.proofs.FreeBefore.{all-front, grown-none, grown-two, last-size}
 use Rattle.strm_ldterm.proofs.Grows.{cells-data}
 use Rattle.strm_ldterm.proofs.Last.{count-last, zero-last}
-use Rattle.strm_ldterm.proofs.PlainBytes.{or-left, stroke_of-plain}
+use Rattle.strm_ldterm.proofs.PlainBytes.{no-line-end, taken_as-plain}
 use Rattle.strm_ldterm.proofs.Strikes.{added-raw, added-room, told-append}
 use Rattle.strm_ldterm.proofs.Struck.{struck-echoed}
 use Rattle.strm_ldterm.proofs.Turning.{Acts, ahead-more, ahead-two}
@@ -52,34 +52,57 @@ not-true : (x : Bool) → not x ≡ true → x ≡ false
 not-true true e = sym e
 not-true false e = refl
 
+-- A byte is echoed as itself where no control byte is echoed, or not at all where there is no echo; a newline is no line end then.
+shown-plain : (loud control ends always lines : Bool) (b : ℕ) (shown : List ℕ) → (loud && control) ≡ false → (ends ≡ true → control ≡ true) → (lines && ends) ≡ false → (control ≡ false → shown ≡ b ∷ [])
+    → cond loud (b ∷ []) [] ≡ cond (ends && true) (cond (loud || (always && lines)) (newline ∷ []) []) (cond loud shown [])
+shown-plain true true ends always lines b shown none low free is = absurd (false≢true (sym none))
+shown-plain true false true always lines b shown none low free is = absurd (false≢true (low refl))
+shown-plain true false false always lines b shown none low free is = sym (is refl)
+shown-plain false control true always true b shown none low free is = absurd (false≢true (sym free))
+shown-plain false control true true false b shown none low free is = refl
+shown-plain false control true false false b shown none low free is = refl
+shown-plain false control false always lines b shown none low free is = refl
+
 -- a plain byte is taken as itself
 module _ (t : Termios) (b : ℕ) (is : is_plain t b ≡ true) where
-  no-control : is_control b ≡ false
-  no-control = not-true (is_control b) (and-left (not (is_control b)) (lowered t (stripped t b) == b && not (list_any (λ c. c == b) t.control)) is)
+  abbrev hit : Bool
+  hit = list_any (λ c. c == b) t.control
 
-  others : (lowered t (stripped t b) == b && not (list_any (λ c. c == b) t.control)) ≡ true
-  others = and-right (not (is_control b)) (lowered t (stripped t b) == b && not (list_any (λ c. c == b) t.control)) is
+  abbrev end : Bool
+  end = b == newline || b == carriage_return
+
+  abbrev same-byte : Bool
+  same-byte = lowered t (stripped t b) == b
+
+  behind : (not (turns_ends t && end) && (not (has_keys t && hit) && same-byte)) ≡ true
+  behind = and-right (not (echo t && is_control b)) (not (turns_ends t && end) && (not (has_keys t && hit) && same-byte)) is
+
+  others : (not (has_keys t && hit) && same-byte) ≡ true
+  others = and-right (not (turns_ends t && end)) (not (has_keys t && hit) && same-byte) behind
+
+  quiet : (echo t && is_control b) ≡ false
+  quiet = not-true (echo t && is_control b) (and-left (not (echo t && is_control b)) (not (turns_ends t && end) && (not (has_keys t && hit) && same-byte)) is)
+
+  ends : (turns_ends t && end) ≡ false
+  ends = not-true (turns_ends t && end) (and-left (not (turns_ends t && end)) (not (has_keys t && hit) && same-byte) behind)
+
+  keys : (has_keys t && hit) ≡ false
+  keys = not-true (has_keys t && hit) (and-left (not (has_keys t && hit)) same-byte others)
 
   same : lowered t (stripped t b) ≡ b
-  same = (let e = and-left (lowered t (stripped t b) == b) (not (list_any (λ c. c == b) t.control)) others in grind (arith, nat_tests))
-
-  none : list_any (λ c. c == b) t.control ≡ false
-  none = not-true (list_any (λ c. c == b) t.control) (and-right (lowered t (stripped t b) == b) (not (list_any (λ c. c == b) t.control)) others)
-
-  no-newline : (b == newline) ≡ false
-  no-newline = (let high = or-left (nat_lt b 32) (b == 127) no-control in grind (arith, nat_tests))
-
-  no-return : (b == carriage_return) ≡ false
-  no-return = (let high = or-left (nat_lt b 32) (b == 127) no-control in grind (arith, nat_tests))
-
-  no-key : (b == newline || (b == carriage_return || list_any (λ c. c == b) t.control)) ≡ false
-  no-key = rw (no-newline, no-return) none
+  same = (let e = and-right (not (has_keys t && hit)) same-byte others in grind (arith, nat_tests))
 
   plain-stroke : record { key = Ordinary; byte = b; literal = false } ≡ stroke_of t false b
-  plain-stroke = stroke_of-plain t false b (stripped t b) b false refl refl (sym same) (sym no-key) refl
+  plain-stroke = sym (taken_as-plain t b keys ends) ∙ ap (λ c. taken_as false t c) (sym same)
+
+  ends-low : (b == newline) ≡ true → is_control b ≡ true
+  ends-low e = (let n : b ≡ newline = grind (arith, nat_tests) in ap is_control n)
 
   plain-echo : (before after : List ℕ) → (icanon t && not (has_room before)) ≡ false → cond (echo t) (b ∷ []) [] ≡ echo_of t before after (record { key = Ordinary; byte = b; literal = false })
-  plain-echo before after room = sym (rw (room, no-newline, no-control) refl)
+  plain-echo before after room =
+      shown-plain (echo t) (is_control b) (b == newline) (echonl t) (icanon t) b (echo_byte t b) quiet ends-low
+      (no-line-end t b keys ends) (λ printed. ap (λ c. cond (c && (not (b == tab) && echoctl t)) (94 ∷ shown_control b ∷ []) (b ∷ [])) printed)
+      ∙ sym (ap (λ full. cond full (cond (imaxbel t) (7 ∷ []) []) (typed_echo t (record { key = Ordinary; byte = b; literal = false }))) room)
 
 -- the last message of a queue is an ordinary one
 pub record EndsPlain (ms : List (Message ℕ)) : Type 0 where

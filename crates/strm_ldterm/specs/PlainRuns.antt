@@ -1,6 +1,6 @@
 -- Runs of plain bytes: they stand in the line, or wait to go up, and are echoed as themselves, and do nothing else (termio(7I): "Canonical
 -- Mode Input Processing", "Non-Canonical Mode Input Processing", ECHO).
-use Rattle.std.specs.Prelude.{ℕ, ◌≡◌, ◌≤◌, ◌+◌, Bool, true, false, not, ◌&&◌, ◌==◌, if◌then◌else◌, List, [], ◌++◌, length, drop}
+use Rattle.std.specs.Prelude.{ℕ, ◌≡◌, ◌≤◌, ◌+◌, Bool, true, false, not, ◌&&◌, ◌||◌, ◌==◌, if◌then◌else◌, List, [], ◌++◌, length, drop}
 use Rattle.std.specs.List.{list_any}
 use Rattle.strm_types.specs.declared.keys.TheConstants.{LINE_MAX}
 use Rattle.strm_types.specs.declared.spots.Spot.{Spot}
@@ -9,15 +9,27 @@ use Rattle.strm_types.specs.Cells.{plain}
 use Rattle.strm_types.specs.Deliver.{Acted}
 use Rattle.strm_types.specs.Echo.{is_control}
 use Rattle.strm_types.specs.Input.{cells_left, with_left}
-use Rattle.strm_types.specs.Keys.{lowered, stripped}
+use Rattle.strm_types.specs.Keys.{carriage_return, lowered, newline, stripped}
 use Rattle.strm_types.specs.Ldterms.{Ldterm, sends}
 use Rattle.strm_types.specs.Queue.{count_of, flow_of}
-use Rattle.strm_types.specs.Termios.{echo, icanon}
+use Rattle.strm_types.specs.Termios.{echo, icanon, icrnl, igncr, inlcr, isig, ixon}
 use Rattle.strm_types.specs.Typing.{echo_grows, echo_stands}
 
--- A byte that is no key in any mode, is taken as itself, and is echoed as itself.
+-- the modes in which a control byte of the termios may be a key: ICANON, ISIG and IXON
+abbrev pub has_keys : Termios → Bool
+has_keys t = icanon t || (isig t || ixon t)
+
+-- the modes in which a newline or a carriage return may be taken as another byte, or as a key: ICANON, IGNCR, ICRNL and INLCR
+abbrev pub turns_ends : Termios → Bool
+turns_ends t = icanon t || (igncr t || (icrnl t || inlcr t))
+
+-- A byte that is no key in this mode, is taken as itself, and is echoed as itself where there is an echo.
 abbrev pub is_plain : Termios → ℕ → Bool
-is_plain t b = not (is_control b) && (lowered t (stripped t b) == b && not (list_any (λ c. c == b) t.control))
+is_plain t b =
+    not (echo t && is_control b)
+    && (not (turns_ends t && (b == newline || b == carriage_return))
+    && (not (has_keys t && list_any (λ c. c == b) t.control)
+    && lowered t (stripped t b) == b))
 
 -- it stands in the line, or waits to go up where no lines are made
 abbrev pub typed_run : List ℕ → Ldterm ℕ → Ldterm ℕ

@@ -1,7 +1,7 @@
 //! Runs of plain bytes in a turn, which are treated at once: lines that are pasted, or sent by a program (termio(7I): "Canonical Mode
 //! Input Processing", "Non-Canonical Mode Input Processing", ECHO).
 
-ghost use Rattle.std.specs.Prelude.{ℕ, ◌≡◌, ◌<◌, ◌≤◌, ◌+◌, ◌*◌, ◌++◌, ◌==◌, [], true, false, length, drop, take, slice_index_or, IfSome};
+ghost use Rattle.std.specs.Prelude.{ℕ, ◌≡◌, ◌<◌, ◌≤◌, ◌+◌, ◌*◌, ◌++◌, ◌==◌, ◌&&◌, [], true, false, length, drop, take, slice_index_or, IfSome};
 ghost use Rattle.std.specs.List.{AllByRecursion, list_any};
 ghost use Rattle.strm_types.specs.declared.keys.TheConstants.{LINE_MAX};
 ghost use Rattle.strm_types.specs.declared.limits.TheConstants.{STOP_BLOCKS};
@@ -16,7 +16,7 @@ ghost use Rattle.strm_frame.specs.Outboxes.{message_in};
 ghost use Rattle.strm_ldterm.specs.Becoming.{Becomes, IsFronted};
 ghost use Rattle.strm_ldterm.specs.Does.{Proceeds};
 ghost use Rattle.strm_ldterm.specs.FreeBefore.{blocks_grown};
-ghost use Rattle.strm_ldterm.specs.PlainRuns.{MayRun, is_plain, run_echoed, typed_run};
+ghost use Rattle.strm_ldterm.specs.PlainRuns.{MayRun, has_keys, is_plain, run_echoed, turns_ends, typed_run};
 ghost use Rattle.strm_ldterm.specs.Stands.{IsData, IsHeld, keeps, ldterm_in, stage_in};
 ghost use Rattle.strm_ldterm.specs.Turns.{ahead, bytes_on, stages_left};
 
@@ -66,14 +66,48 @@ fn mark_each(odd: &mut [bool; 256], bytes: &[u8])
     }
 }
 
-// The bytes that aren't plain: those that may be keys, are taken as other ones, or are echoed as other ones. One pass over the control
-// bytes.
+// Whether a control byte of the termios may be a key.
+fn has_keys(termios: &Termios) -> bool
+    ensures { result ≡ has_keys termios.now }
+{
+    termios.lflag.contains(LocalModes::ICANON)
+        || termios.lflag.contains(LocalModes::ISIG)
+        || termios.iflag.contains(InputModes::IXON)
+}
+
+// Whether a newline or a carriage return may be taken as another byte, or as a key.
+fn turns_ends(termios: &Termios) -> bool
+    ensures { result ≡ turns_ends termios.now }
+{
+    termios.lflag.contains(LocalModes::ICANON)
+        || termios.iflag.contains(InputModes::IGNCR)
+        || termios.iflag.contains(InputModes::ICRNL)
+        || termios.iflag.contains(InputModes::INLCR)
+}
+
+// Marks the bytes that may be keys, where there are keys. One pass over the control bytes.
+fn mark_keys(odd: &mut [bool; 256], termios: &Termios)
+    ensures stays { (b : ℕ) → slice_index_or odd.new b true ≡ false → slice_index_or odd.old b true ≡ false }
+    ensures none { (b : ℕ) → slice_index_or odd.new b true ≡ false →
+        (has_keys termios.now && list_any (λ c. c == b) termios.now.control) ≡ false }
+{
+    if has_keys(termios) {
+        mark_each(odd, &termios.control);
+    }
+}
+
+// The bytes that aren't plain: those that may be keys, are taken as other ones, or are echoed as other ones. In raw mode without echo there
+// are none.
 fn odd_bytes(termios: &Termios) -> [bool; 256]
     ensures { (b : ℕ) → slice_index_or result b true ≡ false → is_plain termios.now b ≡ true }
 {
     let mut odd = [false; 256];
-    mark(&mut odd, true, 0, 32);
-    mark(&mut odd, true, 127, 128);
+    let echo = termios.lflag.contains(LocalModes::ECHO);
+    let ends = turns_ends(termios);
+    mark(&mut odd, echo, 0, 32);
+    mark(&mut odd, echo, 127, 128);
+    mark(&mut odd, ends, 10, 11);
+    mark(&mut odd, ends, 13, 14);
     mark(
         &mut odd,
         termios.iflag.contains(InputModes::ISTRIP),
@@ -81,7 +115,7 @@ fn odd_bytes(termios: &Termios) -> [bool; 256]
         256,
     );
     mark(&mut odd, termios.iflag.contains(InputModes::IUCLC), 65, 91);
-    mark_each(&mut odd, &termios.control);
+    mark_keys(&mut odd, termios);
     odd
 }
 
