@@ -62,7 +62,7 @@ module _ (here : Spot) (p : ldterms.Ldterm ℕ) where
 
 module _ (s s' : StoreValue) (here : Spot) (x x' : Ldterm) (t t' : Fates) where
   -- what a call did, where the definition comes to this
-  treats-as : (served : Served) (v : Serving ℕ (ldterms.Ldterm ℕ)) → treated_by s s' here x x' (stop_of served) ≡ v
+  pub treats-as : (served : Served) (v : Serving ℕ (ldterms.Ldterm ℕ)) → treated_by s s' here x x' (stop_of served) ≡ v
       → Proceeds s s' x x' (all_free s) served.acts.notes.items (sent_of served.acts.sent) t t' v.acted → served.bytes ≡ v.bytes → served.again ≡ v.again → (served.stopped ≡ true → (least_free s' < STOP_BLOCKS) × (served.again ≡ false))
       → ((byte : ℕ) → byte < begun_in served.bytes served.again (under_way (stage_in x.stage)) → IsFreeBefore s x t (bytes_on here) (ldterm_in s x) byte)
       → (served.stopped ≡ true → EndsAt s s' here x x' served.bytes) → to_treat (ldterm_in s' x') ≤ to_treat (ldterm_in s x) → HasRoom s' (leaves (stage_in x'.stage)) → TreatsAs s s' here x x' served t t'

@@ -47,6 +47,7 @@ pub mod Falls
 pub mod Spending
 pub mod Spared
 pub mod Pouring
+pub mod Whole
 pub mod Poured
 pub mod Outgone
 pub mod TakenCosts

@@ -142,7 +142,7 @@ module _ (here : Spot) where
     gone = cond echoes (Comes (echo_dir plain here) run ∷ []) [];
   }
 
-  abbrev done_as : Bool → Bool → List ℕ → Ldterm ℕ → Acts
+  abbrev pub done_as : Bool → Bool → List ℕ → Ldterm ℕ → Acts
   done_as lines echoes run p = echoed_as echoes run (typed_as lines run (with_left (drop (length run) (cells_left p)) p))
 
   typed-as : (lines : Bool) (run : List ℕ) (p : Ldterm ℕ) → icanon p.termios ≡ lines → typed_run run p ≡ typed_as lines run p
@@ -407,7 +407,7 @@ module _ (here : Spot) where
       runs-on lines echoes c (d ∷ more) rest p r (runs-done lines echoes (d ∷ more) rest (done_as lines echoes (c ∷ []) p).state (omega arith) (next-runs lines echoes c (d ∷ more) rest p r))
 
   -- So many bytes at its front are a run too.
-  front-runs : (lines echoes : Bool) (run rest : List ℕ) (p : Ldterm ℕ) (n : ℕ) → Runs lines echoes run rest p → n ≤ length run → Runs lines echoes (take n run) (drop n run ++ rest) p
+  pub front-runs : (lines echoes : Bool) (run rest : List ℕ) (p : Ldterm ℕ) (n : ℕ) → Runs lines echoes run rest p → n ≤ length run → Runs lines echoes (take n run) (drop n run ++ rest) p
   front-runs lines echoes run rest p n r few = record {
     canonical = r.canonical;
     under = r.under;

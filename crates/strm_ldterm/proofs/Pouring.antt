@@ -110,7 +110,7 @@ all-printed t odd (b ∷ run) is all = (is b all.0, all-printed t odd run is all
 
 -- bytes go out one after the other
 
-left-cells : (rest : List ℕ) (m : Message ℕ) → cells_of (left_of rest m) ≡ rest
+pub left-cells : (rest : List ℕ) (m : Message ℕ) → cells_of (left_of rest m) ≡ rest
 unfolding cells_of
 left-cells rest m = refl
 

@@ -1,10 +1,11 @@
--- M_DATA in hand that is given another band, and goes down.
-use Rattle.std.proofs.Common.{ℕ, ◌≡◌, ◌<◌, eqb, cond, List, [], ◌∷◌, length, map, refl, sym, ap, subst, ◌∙◌, arith}
+-- M_DATA in hand that is given another band, and goes on.
+use Rattle.std.proofs.Common.{ℕ, ◌≡◌, ◌≤◌, ◌<◌, ◌+◌, eqb, cond, List, [], ◌∷◌, length, map, refl, sym, ap, subst, ◌∙◌, arith}
 use Rattle.std.proofs.lemmas.Bool.{false≢true}
 use Rattle.std.specs.Prelude.{None, Some}
 use Rattle.std.proofs.lemmas.List.Sums.{sum_by-cons}
 use Rattle.strm_types.specs.declared.kinds.MsgKind.TheVariants as kinds
 use Rattle.strm_types.specs.declared.limits.TheConstants.{BANDS}
+use Rattle.strm_types.specs.declared.names.Way.{Way}
 use Rattle.strm_types.specs.declared.names.Way.TheVariants.{Down}
 use Rattle.strm_types.specs.declared.rules.Fates.{Fates}
 use Rattle.strm_types.specs.declared.spots.Spot.{Spot}
@@ -29,8 +30,8 @@ use Rattle.strm_ldterm.specs.Does.{Proceeds}
 use Rattle.strm_ldterm.specs.Frames.{ldterm-frame}
 use Rattle.strm_ldterm.specs.Freeing.{FreesNone}
 use Rattle.strm_ldterm.specs.Outgone.{data_of}
-use Rattle.strm_ldterm.specs.Stands.{IsData, IsHeld, cells_kept, kept_in, keeps, ldterm_in}
-use Rattle.strm_ldterm.proofs.Finished.{gathered-held, gathered-splits}
+use Rattle.strm_ldterm.specs.Stands.{IsData, IsHeld, cells_kept, kept_in, keeps, ldterm_in, owns}
+use Rattle.strm_ldterm.proofs.Finished.{gathered-held, gathered-splits, work-held, work-splits}
 use Rattle.strm_ldterm.proofs.Passed.{stays}
 use Rattle.strm_ldterm.proofs.Skipped.{shown-bytes}
 
@@ -127,40 +128,51 @@ nothing-down s x here band f sent none there held =
     (subst (λ (l : List ℕ). Proceeds s s x x 0 [] sent f f (sends (map (onward Down here) (with_given l (data_of band []))) (record p { gathered = [] }))) (sym empty)
     (subst (λ (l : List ℕ). Proceeds s s x x 0 [] sent f f (sends [] (record p { gathered = l }))) empty (stays s x sent f held none)))
 
--- what was gathered, under another band
-module _ (s t : StoreValue) (x : Ldterm) (m : InHand) (there : x.gathered ≡ Some m) (held : IsHeld s x) (kept : AreIn s (λ _. 0) (keeps x)) (new : Message ℕ) (b : Becomes s t (token m) (token m) new) where
-  abbrev y : Ldterm
-  y = record x { gathered = None }
-
+-- a message that the module kept, under another band
+module _ (s t : StoreValue) (x y : Ldterm) (m : InHand) (splits : (j : ℕ) → keeps x j ≡ once (token m) j + keeps y j) (same : (k : ℕ) → owns y k ≡ owns x k) (once_each : (j : ℕ) → keeps x j ≤ 1)
+    (held : IsHeld s y) (kept : AreIn s (λ _. 0) (keeps x)) (new : Message ℕ) (b : Becomes s t (token m) (token m) new) where
   apart : (j : ℕ) → 0 < keeps y j → once (token m) j ≡ 0
-  apart j some = let few = held.once_each j in let e = gathered-splits s x m there j in omega arith
+  apart j some = let few = once_each j in let e = splits j in omega arith
 
   framed : (ldterm_in t y ≡ ldterm_in s y) × IsHeld t y
   framed = ldterm-frame s t y (record {
     lists = λ k some. ap (λ ls. list_at (record t { lists = ls }) k) b.lists;
     mblks = b.hands.pool.mblks;
     dblks = b.hands.pool.dblks;
-    kept = λ j some. let e = gathered-splits s x m there j in let a = kept.apart j in b.hands.others j (apart j some) (omega arith);
-  }) (gathered-held s x m there held)
+    kept = λ j some. let e = splits j in let a = kept.apart j in b.hands.others j (apart j some) (omega arith);
+  }) held
 
-  pub goes-down : (here to : Spot) (f : Fates) (sent : List Sent) → sent ≡ record { to = to; message = m } ∷ [] → to ≡ toward Down here
-      → Proceeds s t x y 0 [] sent f f (sends (onward Down here new ∷ []) (record (ldterm_in s x) { gathered = [] }))
+  pub goes-on : (way : Way) (here to : Spot) (f : Fates) (sent : List Sent) → sent ≡ record { to = to; message = m } ∷ [] → to ≡ toward way here → Proceeds s t x y 0 [] sent f f (sends (onward way here new ∷ []) (ldterm_in s y))
   unfolding times_sent
-  goes-down here to f sent one place =
+  goes-on way here to f sent one place =
       let z : Sent = record { to = to; message = m } in
       record {
         state = framed.0;
         noted = refl;
-        parcels = one-parts t z sent one ∙ ap (λ (spot : Spot). record { to = spot; message = message_in t (token m) } ∷ []) place ∙ ap (λ (w : Message ℕ). onward Down here w ∷ []) b.shows;
+        parcels = one-parts t z sent one ∙ ap (λ (spot : Spot). record { to = spot; message = message_in t (token m) } ∷ []) place ∙ ap (λ (w : Message ℕ). onward way here w ∷ []) b.shows;
         told = refl;
         held = framed.1;
-        own = record { lists = λ k none. ap (λ ls. list_at (record t { lists = ls }) k) b.lists; owns_same = λ k. refl };
+        own = record { lists = λ k none. ap (λ ls. list_at (record t { lists = ls }) k) b.lists; owns_same = same };
         chains = one-chains t z sent one b.is.chain;
         hands = record {
-          counts = λ j. let c = b.hands.counts j in let e = gathered-splits s x m there j in let w = ap (times_sent j) one in omega arith;
-          others = λ j gone none some. let e = gathered-splits s x m there j in b.hands.others j (omega arith) some;
+          counts = λ j. let c = b.hands.counts j in let e = splits j in let w = ap (times_sent j) one in omega arith;
+          others = λ j gone none some. let e = splits j in b.hands.others j (omega arith) some;
         };
         mblks = (let a = b.hands.mblks in omega arith);
         dblks = (let a = b.hands.dblks in omega arith);
         pool = record { mblks = b.hands.pool.mblks; dblks = b.hands.pool.dblks };
       }
+
+-- what was gathered
+pub goes-down : (s t : StoreValue) (x : Ldterm) (m : InHand) → x.gathered ≡ Some m → IsHeld s x → AreIn s (λ _. 0) (keeps x) → (new : Message ℕ) → Becomes s t (token m) (token m) new
+    → (here to : Spot) (f : Fates) (sent : List Sent) → sent ≡ record { to = to; message = m } ∷ [] → to ≡ toward Down here
+    → Proceeds s t x (record x { gathered = None }) 0 [] sent f f (sends (onward Down here new ∷ []) (record (ldterm_in s x) { gathered = [] }))
+goes-down s t x m there held kept new b here to f sent one place =
+    goes-on s t x (record x { gathered = None }) m (gathered-splits s x m there) (λ k. refl) held.once_each (gathered-held s x m there held) kept new b Down here to f sent one place
+
+-- what is left of the message in work
+pub work-goes : (s t : StoreValue) (x : Ldterm) (m : InHand) → x.in_work ≡ Some m → IsHeld s x → AreIn s (λ _. 0) (keeps x) → (new : Message ℕ) → Becomes s t (token m) (token m) new
+    → (way : Way) (here to : Spot) (f : Fates) (sent : List Sent) → sent ≡ record { to = to; message = m } ∷ [] → to ≡ toward way here
+    → Proceeds s t x (record x { in_work = None }) 0 [] sent f f (sends (onward way here new ∷ []) (record (ldterm_in s x) { in_work = None }))
+work-goes s t x m there held kept new b way here to f sent one place =
+    goes-on s t x (record x { in_work = None }) m (work-splits s x m there) (λ k. refl) held.once_each (work-held s x m there held) kept new b way here to f sent one place

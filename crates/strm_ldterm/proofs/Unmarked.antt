@@ -1,15 +1,15 @@
--- A byte that isn't marked is plain.
+-- A byte that isn't marked is plain, and each byte in raw mode.
 use Rattle.std.proofs.Common.{ℕ, ◌≡◌, ◌≤◌, ◌<◌, ◌+◌, ◌%◌, Bool, true, false, cond, List, get_or, length, refl, sym, ap, ◌∙◌, arith}
-use Rattle.std.proofs.lemmas.Bool.{false≢true}
+use Rattle.std.proofs.lemmas.Bool.{and_parts, false≢true}
 use Rattle.std.proofs.lemmas.Bool.Decides.{nat_tests}
 use Rattle.std.proofs.lemmas.List.{get_or_past}
 use Rattle.std.specs.List.{list_any}
-use Rattle.std.specs.Prelude.{◌&&◌, ◌||◌, ◌==◌, nat_le, nat_lt}
+use Rattle.std.specs.Prelude.{◌&&◌, ◌||◌, ◌==◌, nat_le, nat_lt, not}
 use Rattle.strm_types.specs.declared.termios.Termios.{Termios}
 use Rattle.strm_types.specs.Echo.{is_control}
 use Rattle.strm_types.specs.Keys.{carriage_return, lowered, newline, stripped}
-use Rattle.strm_types.specs.Termios.{echo, istrip, iuclc}
-use Rattle.strm_ldterm.specs.PlainRuns.{has_keys, is_plain, turns_ends}
+use Rattle.strm_types.specs.Termios.{echo, icanon, isig, istrip, iuclc, ixon}
+use Rattle.strm_ldterm.specs.PlainRuns.{has_keys, is_plain, is_raw, turns_ends}
 
 -- it stands outside of what a mode marks
 pub outside : (now : List Bool) (b from to : ℕ) (mode : Bool) → get_or now b true ≡ false → (mode ≡ true → from ≤ b → b < to → get_or now b true ≡ true) → (mode && (nat_le from b && nat_lt b to)) ≡ false
@@ -55,3 +55,42 @@ plain-is t b few low high feed return strips lowers keys =
     let same : lowered t (stripped t b) ≡ b = ap (lowered t) (strips-none (istrip t) b few strips) ∙ lowers-none (iuclc t) b lowers in
     let is : (lowered t (stripped t b) == b) ≡ true = grind (arith, nat_tests) in
     rw (one, two, keys) is
+
+not-false : (b : Bool) → not b ≡ true → b ≡ false
+not-false true is = absurd (false≢true is)
+not-false false is = refl
+
+-- in raw mode
+module _ (t : Termios) (is : is_raw t ≡ true) where
+  first : (not (has_keys t) ≡ true) × ((not (turns_ends t) && (not (echo t) && (not (istrip t) && not (iuclc t)))) ≡ true)
+  first = and_parts (not (has_keys t)) (not (turns_ends t) && (not (echo t) && (not (istrip t) && not (iuclc t)))) is
+
+  second : (not (turns_ends t) ≡ true) × ((not (echo t) && (not (istrip t) && not (iuclc t))) ≡ true)
+  second = and_parts (not (turns_ends t)) (not (echo t) && (not (istrip t) && not (iuclc t))) first.1
+
+  third : (not (echo t) ≡ true) × ((not (istrip t) && not (iuclc t)) ≡ true)
+  third = and_parts (not (echo t)) (not (istrip t) && not (iuclc t)) second.1
+
+  fourth : (not (istrip t) ≡ true) × (not (iuclc t) ≡ true)
+  fourth = and_parts (not (istrip t)) (not (iuclc t)) third.1
+
+  keyless : has_keys t ≡ false
+  keyless = not-false (has_keys t) first.0
+
+  pub raw-quiet : echo t ≡ false
+  raw-quiet = not-false (echo t) third.0
+
+  pub raw-lineless : icanon t ≡ false
+  raw-lineless = at (icanon t) (isig t || ixon t) keyless
+    where
+      at : (lines others : Bool) → (lines || others) ≡ false → lines ≡ false
+      at true others none = none
+      at false others none = refl
+
+pub raw-plain : (t : Termios) (b : ℕ) → is_raw t ≡ true → is_plain t b ≡ true
+raw-plain t b is =
+    let same : lowered t (stripped t b) ≡ b =
+    ap (lowered t) (ap (λ v. cond v (b % 128) b) (not-false (istrip t) (fourth t is).0))
+    ∙ ap (λ v. cond (v && (nat_le 65 b && nat_le b 90)) (b + 32) b) (not-false (iuclc t) (fourth t is).1) in
+    let equal : (lowered t (stripped t b) == b) ≡ true = grind (arith, nat_tests) in
+    rw (raw-quiet t is, not-false (turns_ends t) (second t is).0, keyless t is) equal

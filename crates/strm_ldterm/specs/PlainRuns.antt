@@ -12,7 +12,7 @@ use Rattle.strm_types.specs.Input.{cells_left, with_left}
 use Rattle.strm_types.specs.Keys.{carriage_return, lowered, newline, stripped}
 use Rattle.strm_types.specs.Ldterms.{Ldterm, sends}
 use Rattle.strm_types.specs.Queue.{count_of, flow_of}
-use Rattle.strm_types.specs.Termios.{echo, icanon, icrnl, igncr, inlcr, isig, ixon}
+use Rattle.strm_types.specs.Termios.{echo, icanon, icrnl, igncr, inlcr, isig, istrip, iuclc, ixon}
 use Rattle.strm_types.specs.Typing.{echo_grows, echo_stands}
 
 -- the modes in which a control byte of the termios may be a key: ICANON, ISIG and IXON
@@ -30,6 +30,10 @@ is_plain t b =
     && (not (turns_ends t && (b == newline || b == carriage_return))
     && (not (has_keys t && list_any (λ c. c == b) t.control)
     && lowered t (stripped t b) == b))
+
+-- raw mode without an echo: each byte is plain
+abbrev pub is_raw : Termios → Bool
+is_raw t = not (has_keys t) && (not (turns_ends t) && (not (echo t) && (not (istrip t) && not (iuclc t))))
 
 -- it stands in the line, or waits to go up where no lines are made
 abbrev pub typed_run : List ℕ → Ldterm ℕ → Ldterm ℕ
@@ -50,3 +54,12 @@ pub record MayRun (bytes : ℕ) (p : Ldterm ℕ) : Type 0 where
   pub free : p.after_lnext ≡ false
   pub line : icanon p.termios ≡ true → length p.line + bytes ≤ LINE_MAX
   pub room : echo p.termios ≡ true → count_of 0 p.write_queue.messages + bytes ≤ (flow_of 0 p.write_queue).high
+
+-- What is left of the message in work goes up as it is: each of its bytes is plain in raw mode, output isn't stopped, no LNEXT stands before them,
+-- nothing waits to go up before them, and no echo of the turn stands.
+pub record MayPass (p : Ldterm ℕ) : Type 0 where
+  pub raw : is_raw p.termios ≡ true
+  pub running : p.stopped ≡ false
+  pub free : p.after_lnext ≡ false
+  pub first : p.gathered ≡ []
+  pub quiet : p.echoing ≡ false

@@ -30,6 +30,7 @@ mod striking;
 mod strokes;
 mod taking_up;
 mod typing;
+mod wholes;
 
 pub use clearing::clear;
 pub use echoes::{ECHO_MAX, Echo, RUN_MAX, echo_of};

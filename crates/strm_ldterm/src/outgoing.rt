@@ -48,8 +48,8 @@ fn return_output<B: Blocks>(ldterm: &mut Ldterm, store: &mut B)
     return_rest(store, &mut ldterm.write_queue, message);
 }
 
-// Gives a message of data in hand another band.
-fn reband<B: Blocks>(store: &mut B, message: &InHand, band: Band)
+/// Gives a message of data in hand another band.
+pub(crate) fn reband<B: Blocks>(store: &mut B, message: &InHand, band: Band)
     requires in_hand { IsInHand (B.value store.old) (token message.now) }
     requires is { IsData (B.value store.old) (token message.now) }
     requires low { band.0 < BANDS }

@@ -66,8 +66,8 @@ fn mark_each(odd: &mut [bool; 256], bytes: &[u8])
     }
 }
 
-// Whether a control byte of the termios may be a key.
-fn has_keys(termios: &Termios) -> bool
+/// Whether a control byte of the termios may be a key.
+pub(crate) fn has_keys(termios: &Termios) -> bool
     ensures { result ≡ has_keys termios.now }
 {
     termios.lflag.contains(LocalModes::ICANON)
@@ -75,8 +75,8 @@ fn has_keys(termios: &Termios) -> bool
         || termios.iflag.contains(InputModes::IXON)
 }
 
-// Whether a newline or a carriage return may be taken as another byte, or as a key.
-fn turns_ends(termios: &Termios) -> bool
+/// Whether a newline or a carriage return may be taken as another byte, or as a key.
+pub(crate) fn turns_ends(termios: &Termios) -> bool
     ensures { result ≡ turns_ends termios.now }
 {
     termios.lflag.contains(LocalModes::ICANON)

@@ -18,11 +18,12 @@ use crate::opening::{InputBegun, Passed, begin_input};
 use crate::outgoing::serve_output;
 use crate::pasting::treat_run;
 use crate::striking::{join, resume, treat_byte};
+use crate::wholes::{goes_up, pass_work};
 use arrayvec::ArrayVec;
 use strm_blocks::Blocks;
 use strm_frame::{Acts, Outbox, Served};
 use strm_msg::booked_size;
-use strm_types::{Fates, Note, STOP_BLOCKS, Spot, Way};
+use strm_types::{Band, Fates, Note, STOP_BLOCKS, Spot, Way};
 
 /// What became of bytes that were treated one after the other, and how many are left: nothing was sent, and they are at their end or
 /// blocks are few; or the next one has sent something.
@@ -104,7 +105,7 @@ fn treat_bytes<B: Blocks>(
     Run::Out { notes, left }
 }
 
-// A call that stands between two bytes.
+// A call that stands between two bytes. Bytes that would be gathered unchanged, and nothing else, go up in their own message.
 fn treat_on<B: Blocks>(ldterm: &mut Ldterm, store: &mut B, here: Spot, told: &mut Fates) -> Served
     requires held { IsHeld (B.value store.old) ldterm.old }
     requires kept { AreIn (B.value store.old) (λ _. 0) (keeps ldterm.old) }
@@ -118,6 +119,18 @@ fn treat_on<B: Blocks>(ldterm: &mut Ldterm, store: &mut B, here: Spot, told: &mu
     ensures noted { length result.acts.notes.items ≤ 2 }
 {
     let bytes = work_left(ldterm, store);
+    if goes_up(ldterm, store, bytes) {
+        let sent = pass_work(ldterm, store, here, Way::Up, Band(0));
+        return Served {
+            acts: Acts {
+                notes: ArrayVec::new(),
+                sent,
+            },
+            bytes,
+            stopped: false,
+            again: false,
+        };
+    }
     match treat_bytes(ldterm, store, here, bytes, told) {
         Run::Into { acts, left } => Served {
             acts,

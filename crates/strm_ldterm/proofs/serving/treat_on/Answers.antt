@@ -2,8 +2,15 @@ use Rattle.std.proofs.Common.{◌∙◌}
 use Rattle.strm_frame.specs.Outboxes.{sent_of}
 use Rattle.strm_ldterm.proofs.Bytes.{kept-some}
 use Rattle.strm_ldterm.proofs.Calls.{into-short, into-treats, out-short, out-treats}
+use Rattle.strm_ldterm.proofs.Whole.{whole-treats}
 use Rattle.strm_ldterm.proofs.serving.treat_on.Goals as goal
 use Rattle.strm_blocks.specs.Blocks.{token}
+
+pub returns-then-goes_up-clause-does : goal.returns-then-goes_up-clause-does
+returns-then-goes_up-clause-does g c =
+    let up = c.if-goes_up.true in
+    whole-treats (g.B.Blocks.value c.args.store.now) (g.B.Blocks.value c.pass_work-sent.new.store) c.args.here c.args.ldterm.now c.pass_work-sent.new.ldterm c.args.told.now c.work_left-bytes.result c.new.result c.pass_work-sent.result
+    c.requires.held c.requires.stage c.work_left-bytes.ensures.bytes (c.goes_up.ensures.some up) (c.goes_up.ensures.may up) (c.goes_up.ensures.room up) c.new.ensures (c.pass_work-sent.ensures c.args.told.now)
 
 pub returns-in-Into-clause-does : goal.returns-in-Into-clause-does
 returns-in-Into-clause-does g c =
