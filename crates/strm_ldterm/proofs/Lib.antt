@@ -48,6 +48,7 @@ pub mod Spending
 pub mod Spared
 pub mod Pouring
 pub mod Whole
+pub mod WholeOut
 pub mod Poured
 pub mod Outgone
 pub mod TakenCosts

@@ -97,37 +97,25 @@ module _ (here : Spot) (p : ldterms.Ldterm ℕ) (m : Message ℕ) (rest : List (
       ∙ ap (λ messages. ended n None [] messages t.column t.told n) (given-same t.given band cells m is ∙ ap (λ (l : List ℕ). with_given (l ++ t.given) (data_of band [])) (sym none))
       ∙ ap (λ told. ended n None [] (with_given (p.gathered ++ t.given) (data_of band [])) t.column told n) (sym (append-nil t.told))
 
--- A call in which bytes went out.
-module _ (s s1 s2 s3 : StoreValue) (here : Spot) (x x1 x2 x3 : Ldterm) (bytes left band : ℕ) (notes : ArrayVec Note) (sent : Outbox) (t t' : Fates) (way : here.way ≡ Down)
-    (between : stages_left (stage_in x.stage) ≡ 0) (b : BeganOutput s s1 here x x1 bytes band) (pours : PoursAs s1 s2 here x1 x2 bytes left t t')
-    (go : Proceeds s2 s3 x2 x3 0 [] (sent_of sent) t' t' (let_go here band (ldterm_in s2 x2))) (frees : 0 < length (cells_left (ldterm_in s2 x2)) → FreesNone s2 s3)
-    (st1 : IsStore s1) (st2 : IsStore s2) (quiet : notes.items ≡ []) where
+-- A call in which so many bytes went out, and so many are left.
+module _ (s s1 s3 : StoreValue) (here : Spot) (x x1 x3 : Ldterm) (bytes n left band : ℕ) (notes : ArrayVec Note) (sent : Outbox) (t t' : Fates) (way : here.way ≡ Down)
+    (between : stages_left (stage_in x.stage) ≡ 0) (b : BeganOutput s s1 here x x1 bytes band) (count : n + left ≡ bytes) (st1 : IsStore s1) (quiet : notes.items ≡ []) where
   abbrev p : ldterms.Ldterm ℕ
   p = ldterm_in s x
-
-  abbrev p1 : ldterms.Ldterm ℕ
-  p1 = ldterm_in s1 x1
-
-  abbrev n : ℕ
-  n = bytes - left
 
   abbrev cells : List ℕ
   cells = cells_of b.message
 
-  in-work : p1 ≡ begun here p b.message b.rest band b.first b.is b.output (let z = b.some in let y = b.size in omega arith) b.idle b.none
+  pub some-there : 0 < length cells
+  some-there = let z = b.some in let y = b.size in omega arith
+
+  abbrev pub start : ldterms.Ldterm ℕ
+  start = begun here p b.message b.rest band b.first b.is b.output some-there b.idle b.none
+
+  pub in-work : ldterm_in s1 x1 ≡ start
   in-work = (b.works t).state
 
-  pub out-left : length (cells_left (ldterm_in s2 x2)) ≡ left
-  out-left =
-      let few = pours.fewer in
-      let size = b.size in
-      ap (λ (q : ldterms.Ldterm ℕ). length (cells_left q)) pours.does.state
-      ∙ ap length (pours-left here n p1 (ap (λ (q : ldterms.Ldterm ℕ). is_some q.in_work) in-work))
-      ∙ ap (λ (q : ldterms.Ldterm ℕ). length (drop n (cells_left q))) in-work
-      ∙ length-drop n cells
-      ∙ omega arith
-
-  abbrev served : Served
+  abbrev pub served : Served
   served = record { acts = record { notes = notes; sent = sent }; bytes = n; stopped = nat_lt 0 left; again = false }
 
   stops-at : unwrap_or (stop_of served) (length cells) ≡ n
@@ -137,36 +125,29 @@ module _ (s s1 s2 s3 : StoreValue) (here : Spot) (x x1 x2 x3 : Ldterm) (bytes le
       at true is = refl
       at false is = let zero : left ≡ 0 = grind (arith, nat_tests) in let size = b.size in omega arith
 
-  some-there : 0 < length cells
-  some-there = let z = b.some in let y = b.size in omega arith
-
-  pub out-serves : (again : Bool) → ServesAs s s3 here x x3 again served t t'
-  out-serves again =
-      let few = pours.fewer in
+  pub bytes-serve : Proceeds s s3 x x3 (all_free s) [] (sent_of sent) t t' (one_after (poured here n start) (let_go here band)) → (0 < left → least_free s3 < STOP_BLOCKS)
+      → ((byte : ℕ) → byte < n → IsFreeBefore s1 x1 t (poured here) (ldterm_in s1 x1) byte) → (again : Bool) → ServesAs s s3 here x x3 again served t t'
+  bytes-serve all low begins again =
       let size = b.size in
-      let start = begun here p b.message b.rest band b.first b.is b.output some-there b.idle b.none in
-      let one = proceeds-joined s s1 x x1 0 [] t t (sends [] start) st1 (b.works t) s2 x2 (all_free s1) [] [] t' (poured here n) pours.does in
-      let all = proceeds-joined s s2 x x2 (0 + all_free s1) [] t t' (poured here n start) st2 one s3 x3 0 [] (sent_of sent) t' (let_go here band) go in
       let whole = down-serves here again (stop_of served) p way ∙ out-is here p b.message b.rest band b.first b.is b.output some-there b.idle b.none (stop_of served) n stops-at (omega arith) in
-      let low : 0 < left → least_free s3 < STOP_BLOCKS = λ more. let l = out-left in stays-few s2 s3 STOP_BLOCKS (frees (omega arith)) (pours.stops more) in
       record {
         does =
             subst (λ (v : Serving ℕ (ldterms.Ldterm ℕ)). Proceeds s s3 x x3 (all_free s) notes.items (sent_of sent) t t' v.acted) (sym whole)
-            (subst (λ ns. Proceeds s s3 x x3 (all_free s) ns (sent_of sent) t t' (one_after (poured here n start) (let_go here band))) (sym quiet) (takes-any s s3 x x3 (0 + all_free s1 + 0) [] (sent_of sent) t t' _ all));
+            (subst (λ ns. Proceeds s s3 x x3 (all_free s) ns (sent_of sent) t t' (one_after (poured here n start) (let_go here band))) (sym quiet) all);
         bytes = sym (ap (λ (v : Serving ℕ (ldterms.Ldterm ℕ)). v.bytes) whole);
         again_is = sym (ap (λ (v : Serving ℕ (ldterms.Ldterm ℕ)). v.again) whole);
         begun = λ goes byte within.
             let none = none-begun (stage_in x.stage) between in
-            let begins : at_work Down again p ≡ start = ap (λ ms. at_work Down again (record p { write_queue = record p.write_queue { messages = ms } })) b.first in
-            let same : at_work here.way again p ≡ start = ap (λ w. at_work w again p) way ∙ begins in
+            let opens : at_work Down again p ≡ start = ap (λ ms. at_work Down again (record p { write_queue = record p.write_queue { messages = ms } })) b.first in
+            let same : at_work here.way again p ≡ start = ap (λ w. at_work w again p) way ∙ opens in
             subst (λ m. IsFreeBefore s x t m (at_work here.way again p) byte) (sym (ap (bytes_of_way here) way))
             (subst (λ (q : ldterms.Ldterm ℕ). IsFreeBefore s x t (poured here) q byte) (sym same)
-            (begun-later s s1 x x1 t (poured here) start byte st1 (b.works t) (pours.begun byte (omega (arith, within, none)))));
+            (begun-later s s1 x x1 t (poured here) start byte st1 (b.works t) (begins byte (omega (arith, within, none)))));
         stops = λ v. (low (lower 0 left v), refl);
         ends = λ v.
             let most : bytes_left here.way again p ≡ size_of b.message = ap (λ w. bytes_left w again p) way ∙ ap first_size b.first in
             let none = none-done (stage_in x.stage) between in
-            record { treat = omega (arith, most, size, few, cells-within b.message); done = omega arith };
+            record { treat = omega (arith, most, size, cells-within b.message); done = omega arith };
         room = λ e. absurd (false≢true e);
         over = λ up. absurd (down≢up (sym way ∙ up));
         whole = λ e.
@@ -178,3 +159,37 @@ module _ (s s1 s2 s3 : StoreValue) (here : Spot) (x x1 x2 x3 : Ldterm) (bytes le
       some-left : (xs : List ℕ) → 0 < length xs → is_none_left xs ≡ false
       some-left [] some = absurd (omega arith)
       some-left (x ∷ xs) some = refl
+
+-- where they went out one after the other
+module _ (s s1 s2 s3 : StoreValue) (here : Spot) (x x1 x2 x3 : Ldterm) (bytes left band : ℕ) (notes : ArrayVec Note) (sent : Outbox) (t t' : Fates) (way : here.way ≡ Down)
+    (between : stages_left (stage_in x.stage) ≡ 0) (b : BeganOutput s s1 here x x1 bytes band) (pours : PoursAs s1 s2 here x1 x2 bytes left t t')
+    (go : Proceeds s2 s3 x2 x3 0 [] (sent_of sent) t' t' (let_go here band (ldterm_in s2 x2))) (frees : 0 < length (cells_left (ldterm_in s2 x2)) → FreesNone s2 s3)
+    (st1 : IsStore s1) (st2 : IsStore s2) (quiet : notes.items ≡ []) where
+  abbrev m : ℕ
+  m = bytes - left
+
+  all-told : m + left ≡ bytes
+  all-told = let few = pours.fewer in omega arith
+
+  abbrev from : ldterms.Ldterm ℕ
+  from = start s s1 s3 here x x1 x3 bytes m left band notes sent t t' way between b all-told st1 quiet
+
+  is-in-work : ldterm_in s1 x1 ≡ from
+  is-in-work = in-work s s1 s3 here x x1 x3 bytes m left band notes sent t t' way between b all-told st1 quiet
+
+  out-left : length (cells_left (ldterm_in s2 x2)) ≡ left
+  out-left =
+      let size = b.size in
+      ap (λ (q : ldterms.Ldterm ℕ). length (cells_left q)) pours.does.state
+      ∙ ap length (pours-left here m (ldterm_in s1 x1) (ap (λ (q : ldterms.Ldterm ℕ). is_some q.in_work) is-in-work))
+      ∙ ap (λ (q : ldterms.Ldterm ℕ). length (drop m (cells_left q))) is-in-work
+      ∙ length-drop m (cells_of b.message)
+      ∙ omega (arith, size, all-told)
+
+  pub out-serves : (again : Bool) → ServesAs s s3 here x x3 again (record { acts = record { notes = notes; sent = sent }; bytes = m; stopped = nat_lt 0 left; again = false }) t t'
+  out-serves again =
+      let one = proceeds-joined s s1 x x1 0 [] t t (sends [] from) st1 (b.works t) s2 x2 (all_free s1) [] [] t' (poured here m) pours.does in
+      let all = proceeds-joined s s2 x x2 (0 + all_free s1) [] t t' (poured here m from) st2 one s3 x3 0 [] (sent_of sent) t' (let_go here band) go in
+      bytes-serve s s1 s3 here x x1 x3 bytes m left band notes sent t t' way between b all-told st1 quiet
+      (takes-any s s3 x x3 (0 + all_free s1 + 0) [] (sent_of sent) t t' _ all)
+      (λ more. let l = out-left in stays-few s2 s3 STOP_BLOCKS (frees (omega arith)) (pours.stops more)) pours.begun again

@@ -4,7 +4,7 @@ use Rattle.std.proofs.lemmas.Bool.{false≢true}
 use Rattle.std.proofs.lemmas.Bool.Decides.{nat_tests}
 use Rattle.std.proofs.lemmas.List.Sums.{sum_by-cons}
 use Rattle.std.specs.List.{AllByRecursion, list_any}
-use Rattle.std.specs.Prelude.{not, ◌&&◌, ◌||◌, ◌==◌, nat_lt, Option, None, Some, option_map}
+use Rattle.std.specs.Prelude.{not, ◌&&◌, ◌||◌, ◌==◌, Option, None, Some, option_map}
 use Rattle.strm_types.specs.declared.keys.Key.TheVariants.{Ordinary}
 use Rattle.strm_types.specs.declared.keys.Stroke.{Stroke}
 use Rattle.strm_types.specs.declared.keys.TheConstants.{LINE_MAX}

@@ -16,6 +16,7 @@ use Rattle.strm_types.specs.Ldterms.{sends}
 use Rattle.strm_types.specs.Output.{Output, post, posts, told_for, wrapped}
 use Rattle.strm_types.specs.OutputTurns.{output_dir}
 use Rattle.strm_blocks.specs.Blocks.{StoreValue, IsStore}
+use Rattle.strm_frame.specs.declared.parcels.Sent.{Sent}
 use Rattle.strm_frame.specs.Hands.{HasRoom}
 use Rattle.strm_ldterm.specs.declared.ldterm.Ldterm.{Ldterm}
 use Rattle.strm_ldterm.specs.FreeBefore.{IsFreeBefore, all_free, blocks_grown}
@@ -30,9 +31,9 @@ use Rattle.strm_ldterm.proofs.Pouring.{byte-out, pours-both, pours-left, pours-w
 use Rattle.strm_ldterm.proofs.RunsDone.{left-whole}
 
 -- the column behind a stage is another one, and more has gone
-turned : (s t : StoreValue) (x y : Ldterm) (n column : ℕ) (f f' : Fates) (gone : List (Fate ℕ)) (is : Acted ℕ (ldterms.Ldterm ℕ)) → Proceeds s t x y n [] [] f f is → f' ≡ tallied gone f
-    → Proceeds s t x (record y { column = column }) n [] [] f f' (record is { state = record is.state { column = column }; gone = gone })
-turned s t x y n column f f' gone is did counts = record {
+pub turned : (s t : StoreValue) (x y : Ldterm) (n column : ℕ) (sent : List Sent) (f f' : Fates) (gone : List (Fate ℕ)) (is : Acted ℕ (ldterms.Ldterm ℕ)) → Proceeds s t x y n [] sent f f is → f' ≡ tallied gone f
+    → Proceeds s t x (record y { column = column }) n [] sent f f' (record is { state = record is.state { column = column }; gone = gone })
+turned s t x y n column sent f f' gone is did counts = record {
   state = ap (λ (p : ldterms.Ldterm ℕ). record p { column = column }) did.state;
   noted = did.noted;
   parcels = did.parcels;
@@ -71,7 +72,7 @@ module _ (here : Spot) (s s1 s2 : StoreValue) (x x1 x2 : Ldterm) (n : ℕ) (u : 
       let did = proceeds-joined s s1 x x1 0 [] f f (sends [] rest) st front s2 x2 1 [] [] f next gathers in
       subst (λ (w : Output ℕ). Proceeds s s2 x (record x2 { column = u.column }) 1 [] [] f f'
       (record { state = record rest { gathered = p.gathered ++ w.given; column = w.column }; notes = []; sent = []; gone = w.told })) (sym is)
-      (turned s s2 x x2 1 u.column f f' u.told (one_after (sends [] rest) next) did counts)
+      (turned s s2 x x2 1 u.column [] f f' u.told (one_after (sends [] rest) next) did counts)
 
 -- nothing was taken
 pub pours-zero : (here : Spot) (s s1 : StoreValue) (x x1 : Ldterm) (f : Fates) (run : List ℕ) → run ≡ []

@@ -1,38 +1,38 @@
--- What is left of the message in work goes up as it is: the same as if its bytes were treated one after the other.
+-- What is left of the message in work goes up as it is: as if its bytes were treated one after the other.
 use Rattle.std.proofs.Common.{ℕ, zero, suc, ◌≡◌, ◌≤◌, ◌<◌, ◌+◌, ◌*◌, Bool, true, false, cond, List, [], ◌∷◌, ◌++◌, length, drop, take, refl, sym, ap, subst, ◌∙◌, arith, append-nil, length-append, length-drop, length-take}
-use Rattle.std.proofs.lemmas.Bool.{and_parts, false≢true}
+use Rattle.std.proofs.lemmas.Bool.{false≢true}
 use Rattle.std.specs.List.{AllByRecursion}
-use Rattle.std.specs.Prelude.{◌&&◌, not, None, Option, Some, is_some, option_map}
+use Rattle.std.specs.Prelude.{None, Option, Some, option_map}
 use Rattle.arrayvec.specs.ArrayVec.{ArrayVec}
 use Rattle.strm_types.specs.declared.limits.TheConstants.{STOP_BLOCKS}
 use Rattle.strm_types.specs.declared.names.Way.TheVariants.{Up}
 use Rattle.strm_types.specs.declared.rules.Fates.{Fates}
 use Rattle.strm_types.specs.declared.spots.Note.{Note}
 use Rattle.strm_types.specs.declared.spots.Spot.{Spot}
-use Rattle.strm_types.specs.declared.termios.Termios.{Termios}
 use Rattle.strm_types.specs.Cells.{plain}
 use Rattle.strm_types.specs.Deliver.{Parcel, tallied}
 use Rattle.strm_types.specs.Input.{back_on, cells_left, finished, left_of, to_treat, treats}
 use Rattle.strm_types.specs.Ldterms as ldterms
 use Rattle.strm_types.specs.Ldterms.{Between, onward, sends}
-use Rattle.strm_types.specs.Message.{Message, cells_of, data_message}
+use Rattle.strm_types.specs.Message.{Message, data_message}
 use Rattle.strm_types.specs.Queue as queues
 use Rattle.strm_types.specs.Queue.{is_none_left}
-use Rattle.strm_types.specs.Termios.{echo, icanon, isig, istrip, iuclc, ixon}
+use Rattle.strm_types.specs.Termios.{echo}
 use Rattle.strm_types.specs.Typing.{gathered_up}
 use Rattle.strm_blocks.specs.Blocks.{StoreValue}
 use Rattle.strm_frame.specs.declared.parcels.Outbox.{Outbox}
 use Rattle.strm_frame.specs.declared.parcels.Sent.{Sent}
+use Rattle.strm_frame.specs.declared.service.Served.{Served}
 use Rattle.strm_frame.specs.Hands.{HasRoom}
 use Rattle.strm_frame.specs.Outboxes.{sent_of}
 use Rattle.strm_ldterm.specs.declared.ldterm.Ldterm.{Ldterm}
 use Rattle.strm_ldterm.specs.Called.{TreatsAs}
 use Rattle.strm_ldterm.specs.Does.{Proceeds}
-use Rattle.strm_ldterm.specs.FreeBefore.{all_free, blocks_for, blocks_grown}
+use Rattle.strm_ldterm.specs.FreeBefore.{all_free, blocks_for, blocks_grown, echo_size}
 use Rattle.strm_ldterm.specs.Outgone.{data_of}
-use Rattle.strm_ldterm.specs.PlainRuns.{MayPass, has_keys, is_plain, is_raw, turns_ends}
+use Rattle.strm_ldterm.specs.PlainRuns.{MayPass, is_plain}
 use Rattle.strm_ldterm.specs.Stands.{IsHeld, ldterm_in, stage_in}
-use Rattle.strm_ldterm.specs.Turns.{ahead, bytes_on, leaves, one_after, stages_left, under_way}
+use Rattle.strm_ldterm.specs.Turns.{ahead, leaves, one_after, stages_left}
 use Rattle.strm_ldterm.proofs.Bytes.{all-left, begun-on, none-begun, none-done, ran-none, takes-any}
 use Rattle.strm_ldterm.proofs.Calls.{treats-as, treats-ended}
 use Rattle.strm_ldterm.proofs.Finished.{back-none, up-some}
@@ -59,6 +59,17 @@ data-is cells = refl
 
 fewer-fill : (n m : ℕ) → n ≤ m → blocks_for n ≤ blocks_for m
 fewer-fill n m few = omega arith
+
+-- so many bytes are gathered where none were
+pub grown-from-none : (p q : ldterms.Ldterm ℕ) (k m : ℕ) → length q.gathered ≡ k → length p.gathered ≡ 0 → echo_size q ≡ echo_size p → k ≤ m → blocks_grown p q ≤ blocks_for m
+grown-from-none p q k m long none echo few = omega (arith, fewer-fill k m few, ap blocks_for long, ap blocks_for none, ap blocks_for echo)
+
+-- what a call says in which a message went on itself
+pub whole-is : (served : Served) (sent : Outbox) (bytes : ℕ) → served.acts.sent ≡ sent → served.bytes ≡ bytes → served.stopped ≡ false → served.again ≡ false
+    → served ≡ record { acts = record { notes = served.acts.notes; sent = sent }; bytes = bytes; stopped = false; again = false }
+whole-is served sent bytes goes size on last =
+    let with : Outbox → ℕ → Bool → Bool → Served = λ o n stopped again. record { acts = record { notes = served.acts.notes; sent = o }; bytes = n; stopped = stopped; again = again } in
+    ap (λ o. with o served.bytes served.stopped served.again) goes ∙ ap (λ n. with sent n served.stopped served.again) size ∙ ap (λ v. with sent bytes v served.again) on ∙ ap (with sent bytes false) last
 
 module _ (here : Spot) (p : ldterms.Ldterm ℕ) (between : stages_left p.stage ≡ 0) (may : MayPass p) (some : 0 < length (cells_left p)) where
   abbrev cells : List ℕ
@@ -118,11 +129,8 @@ module _ (here : Spot) (p : ldterms.Ldterm ℕ) (between : stages_left p.stage �
       let long : length front ≡ suc k = omega (arith, length-take (suc k) cells, few) in
       let so = runs-done here false false front (drop (suc k) cells ++ []) p (omega arith) (front-runs here false false cells [] p (suc k) runs few) in
       let q = (done_as here false false front p).state in
-      let all = length-append p.gathered front in
-      let none = ap length may.first in
-      let fill = fewer-fill (suc k) n few in
-      let same : length (p.gathered ++ front) ≡ suc k = omega arith in
-      let grown : blocks_grown p q ≤ blocks_for n = omega (arith, same, none, fill) in
+      let same : length (p.gathered ++ front) ≡ suc k = omega (arith, length-append p.gathered front, ap length may.first, long) in
+      let grown : blocks_grown p q ≤ blocks_for n = grown-from-none p q (suc k) n same (ap length may.first) refl few in
       subst (λ j. blocks_grown p (ahead here (3 * j) p).state ≤ blocks_for n) long (subst (λ (w : ldterms.Ldterm ℕ). blocks_grown p w ≤ blocks_for n) (sym so.state) grown)
 
   pub whole-done : (s s' : StoreValue) (x x' : Ldterm) (sent : List Sent) (t : Fates) → Proceeds s s' x x' 0 [] sent t t ends → Proceeds s s' x x' 0 [] sent t t (one_after (ahead here (3 * n) p) (finished plain here))

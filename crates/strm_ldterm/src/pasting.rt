@@ -119,8 +119,8 @@ fn odd_bytes(termios: &Termios) -> [bool; 256]
     odd
 }
 
-// How many bytes at the front aren't marked.
-fn plain_len(odd: &[bool; 256], bytes: &[u8]) -> usize
+/// How many bytes at the front aren't marked.
+pub(crate) fn plain_len(odd: &[bool; 256], bytes: &[u8]) -> usize
     ensures within { result ≤ length bytes.now }
     ensures plain { AllByRecursion (λ b. slice_index_or odd.now b true ≡ false) (take result bytes.now) }
 {

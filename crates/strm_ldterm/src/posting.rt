@@ -31,9 +31,9 @@ use strm_types::{Fates, Given, OutputModes, Rule, Spot, Termios, Way};
 // The most spaces that a TAB gives.
 const SPACES: [u8; 8] = [b' '; 8];
 
-// The bytes that don't go out as themselves, or don't move the carriage on by a column: control bytes, and lower-case letters under
-// OLCUC.
-fn odd_output(termios: &Termios) -> [bool; 256]
+/// The bytes that don't go out as themselves, or don't move the carriage on by a column: control bytes, and lower-case letters under
+/// OLCUC.
+pub(crate) fn odd_output(termios: &Termios) -> [bool; 256]
     ensures { (b : ℕ) → slice_index_or result b true ≡ false → is_printed termios.now b ≡ true }
 {
     let mut odd = [false; 256];
@@ -146,26 +146,26 @@ fn post_run<B: Blocks>(ldterm: &mut Ldterm, store: &mut B, odd: &[bool; 256]) ->
 }
 
 /// Bytes of the message in work go out, as long as blocks aren't few before the next one, and says how many are left. What they give is
-/// gathered in blocks of 256 bytes. The cost is in proportion to the bytes that go out and to what they give, and a pass over a table of 256
-/// bytes.
+/// gathered in blocks of 256 bytes. The cost is in proportion to the bytes that go out and to what they give.
 pub(crate) fn post_bytes<B: Blocks>(
     ldterm: &mut Ldterm,
     store: &mut B,
     here: Spot,
+    odd: &[bool; 256],
     bytes: usize,
     told: &mut Fates,
 ) -> usize
     requires held { IsHeld (B.value store.old) ldterm.old }
     requires kept { AreIn (B.value store.old) (λ _. 0) (keeps ldterm.old) }
+    requires odd { (b : ℕ) → slice_index_or odd.now b true ≡ false → is_printed ldterm.old.termios b ≡ true }
     requires work { is_some ldterm.old.in_work ≡ true }
     requires bytes { bytes ≡ length (cells_left (ldterm_in (B.value store.old) ldterm.old)) }
     ensures { PoursAs (B.value store.old) (B.value store.new) here ldterm.old ldterm.new bytes result told.old told.new }
 {
-    let odd = odd_output(&ldterm.termios);
     let mut left = bytes;
     while left > 0 && !are_few(store) {
         store.audit();
-        let run = post_run(ldterm, store, &odd);
+        let run = post_run(ldterm, store, odd);
         left -= run;
         if left == 0 || are_few(store) {
             return left;

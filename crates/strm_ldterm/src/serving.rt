@@ -121,15 +121,7 @@ fn treat_on<B: Blocks>(ldterm: &mut Ldterm, store: &mut B, here: Spot, told: &mu
     let bytes = work_left(ldterm, store);
     if goes_up(ldterm, store, bytes) {
         let sent = pass_work(ldterm, store, here, Way::Up, Band(0));
-        return Served {
-            acts: Acts {
-                notes: ArrayVec::new(),
-                sent,
-            },
-            bytes,
-            stopped: false,
-            again: false,
-        };
+        return of_whole(Passed { sent, bytes });
     }
     match treat_bytes(ldterm, store, here, bytes, told) {
         Run::Into { acts, left } => Served {
@@ -254,7 +246,8 @@ fn serve_input<B: Blocks>(
 /// goes down whole. On the read queue M_DATA is treated byte by byte, and all else goes up whole. `again` is for one more call in the same turn
 /// of the read queue, once all is delivered that the last one sent: a call ends where something is sent. It begins a byte only where
 /// `STOP_BLOCKS` blocks of each kind are free, and stops within the message only where, before a byte begins, they aren't; the rest of
-/// the message goes back to the front of its queue then. The cost is in proportion to the bytes that are treated, and a step for each block of the message.
+/// the message goes back to the front of its queue then. Where blocks are many, a message of which no byte would be changed, echoed or acted upon
+/// goes on in its own blocks. The cost is in proportion to the bytes that are treated, and a step for each block of the message.
 pub fn serve<B: Blocks>(
     ldterm: &mut Ldterm,
     store: &mut B,

@@ -1,8 +1,10 @@
 //! A message in work goes on itself where none of its bytes would be changed, echoed or acted upon (ldterm(7M); termio(7I): "Non-Canonical
 //! Mode Input Processing"; putnext(9F)).
 
-ghost use Rattle.std.specs.Prelude.{ℕ, ◌≡◌, ◌<◌, ◌≤◌, ◌+◌, [], ◌∷◌, true, is_some, None};
+ghost use Rattle.std.specs.Prelude.{ℕ, ◌≡◌, ◌<◌, ◌≤◌, ◌+◌, [], ◌∷◌, true, false, is_some, length, slice_index_or, None};
+ghost use Rattle.std.specs.List.{AllByRecursion};
 ghost use Rattle.strm_types.specs.declared.limits.TheConstants.{BANDS, MODULES, STOP_BLOCKS};
+ghost use Rattle.strm_types.specs.declared.output.TheConstants.{COLUMN_MAX};
 ghost use Rattle.strm_types.specs.declared.rules.Fates.{Fates};
 ghost use Rattle.strm_types.specs.Input.{cells_left};
 ghost use Rattle.strm_types.specs.Ldterms.{onward, sends};
@@ -11,13 +13,16 @@ ghost use Rattle.strm_frame.specs.Hands.{AreIn, HasRoom};
 ghost use Rattle.strm_frame.specs.Outboxes.{sent_of};
 ghost use Rattle.strm_ldterm.specs.Does.{Proceeds};
 ghost use Rattle.strm_ldterm.specs.FreeBefore.{blocks_for};
-ghost use Rattle.strm_ldterm.specs.Outgone.{data_of};
+ghost use Rattle.strm_ldterm.specs.Outgone.{data_of, let_go};
 ghost use Rattle.strm_ldterm.specs.PlainRuns.{MayPass, is_raw};
+ghost use Rattle.strm_ldterm.specs.Posting.{is_printed, poured};
 ghost use Rattle.strm_ldterm.specs.Stands.{IsHeld, keeps, ldterm_in};
+ghost use Rattle.strm_ldterm.specs.Turns.{one_after};
 
 use crate::ldterm::Ldterm;
 use crate::outgoing::reband;
-use crate::pasting::{has_keys, turns_ends};
+use crate::pasting::{has_keys, plain_len, turns_ends};
+use crate::posts::moved_on;
 use bitflags::Flags;
 use strm_blocks::{Blocks, InHand};
 use strm_frame::{Outbox, Sent};
@@ -96,4 +101,67 @@ pub(crate) fn pass_work<B: Blocks>(
         to: here.toward(way),
         message,
     })
+}
+
+/// Whether the message in work, so many bytes, goes down as it is: all of them stand in its first block, and none is marked. The cost is a
+/// step for each byte up to the first one that is.
+pub(crate) fn goes_down<B: Blocks>(
+    ldterm: &Ldterm,
+    store: &B,
+    odd: &[bool; 256],
+    bytes: usize,
+) -> bool
+    requires held { IsHeld (B.value store.now) ldterm.now }
+    requires bytes { bytes ≡ length (cells_left (ldterm_in (B.value store.now) ldterm.now)) }
+    requires some { 0 < bytes }
+    ensures plain { result ≡ true → AllByRecursion (λ b. slice_index_or odd.now b true ≡ false) (cells_left (ldterm_in (B.value store.now) ldterm.now)) }
+    ensures short { result ≡ true → bytes ≤ 256 }
+    ensures room { result ≡ true → HasRoom (B.value store.now) (STOP_BLOCKS + blocks_for bytes) }
+{
+    let Some(message) = &ldterm.in_work else {
+        return false;
+    };
+    store.audit();
+    let first = store.bytes_at(message, 0);
+    if first.len() < bytes {
+        return false;
+    }
+    // Most output that has a newline ends with one, and so isn't walked twice.
+    if odd[usize::from(first[bytes - 1])] {
+        return false;
+    }
+    if plain_len(odd, first) < bytes {
+        return false;
+    }
+    is_free_for(store, message, bytes)
+}
+
+/// The message in work goes down as it is, where each of its bytes goes out as itself, and the carriage moves on.
+pub(crate) fn post_whole<B: Blocks>(
+    ldterm: &mut Ldterm,
+    store: &mut B,
+    here: Spot,
+    band: Band,
+    bytes: usize,
+) -> Outbox
+    requires held { IsHeld (B.value store.old) ldterm.old }
+    requires kept { AreIn (B.value store.old) (λ _. 0) (keeps ldterm.old) }
+    requires inside { 0 < here.at }
+    requires small { here.at ≤ MODULES }
+    requires low { band.0 < BANDS }
+    requires work { is_some ldterm.old.in_work ≡ true }
+    requires none { (ldterm_in (B.value store.old) ldterm.old).gathered ≡ [] }
+    requires bytes { bytes ≡ length (cells_left (ldterm_in (B.value store.old) ldterm.old)) }
+    requires some { 0 < bytes }
+    requires short { bytes ≤ 256 }
+    requires printed { AllByRecursion (λ b. is_printed ldterm.old.termios b ≡ true) (cells_left (ldterm_in (B.value store.old) ldterm.old)) }
+    ensures column { ldterm.old.column ≤ COLUMN_MAX }
+    ensures did { (f : Fates) → let s = B.value store.old in
+        Proceeds s (B.value store.new) ldterm.old ldterm.new 0 [] (sent_of result) f f
+        (one_after (poured here bytes (ldterm_in s ldterm.old)) (let_go here band.0)) }
+{
+    let column = moved_on(ldterm.column, bytes);
+    let sent = pass_work(ldterm, store, here, Way::Down, band);
+    ldterm.column = column;
+    sent
 }

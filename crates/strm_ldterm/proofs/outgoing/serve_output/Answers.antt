@@ -1,17 +1,79 @@
 -- A message passes whole, or its bytes go out.
-use Rattle.std.proofs.Common.{ℕ, [], length, sym, ap, ◌∙◌}
+use Rattle.std.proofs.Common.{ℕ, [], length, sym, ap, subst, ◌∙◌}
 use Rattle.std.specs.Prelude.{None, is_some}
 use Rattle.strm_types.specs.Input.{cells_left}
 use Rattle.strm_types.specs.Ldterms as ldterms
 use Rattle.strm_ldterm.specs.Bounds.{passes_whole}
+use Rattle.strm_ldterm.specs.Called.{ServesAs}
 use Rattle.strm_ldterm.specs.Outgone.{output_of}
 use Rattle.strm_ldterm.specs.Stands.{ldterm_in}
 use Rattle.strm_ldterm.proofs.Bytes.{kept-some}
 use Rattle.strm_ldterm.proofs.Joining.{still-kept}
 use Rattle.strm_ldterm.proofs.Outgone.{out-serves}
+use Rattle.strm_ldterm.proofs.Pouring.{all-printed}
+use Rattle.strm_ldterm.proofs.Whole.{whole-is}
+use Rattle.strm_ldterm.proofs.WholeOut.{whole-serves-out}
 use Rattle.strm_ldterm.proofs.Turned.{down≢up, down-serves, whole-serves}
 use Rattle.strm_ldterm.proofs.outgoing.serve_output.Goals as goal
-use Rattle.strm_blocks.specs.Blocks.{token}
+
+pub goes_down-requires-clause-held : goal.goes_down-requires-clause-held
+goes_down-requires-clause-held g c = (c.in-InWork.ensures.works c.args.told.now).held
+
+pub goes_down-requires-clause-bytes : goal.goes_down-requires-clause-bytes
+goes_down-requires-clause-bytes g c = c.in-InWork.ensures.size ∙ sym (ap (λ (q : ldterms.Ldterm ℕ). length (cells_left q)) (c.in-InWork.ensures.works c.args.told.now).state)
+
+pub goes_down-requires-clause-some : goal.goes_down-requires-clause-some
+goes_down-requires-clause-some g c = c.in-InWork.ensures.some
+
+pub post_whole-sent-requires-clause-held : goal.post_whole-sent-requires-clause-held
+post_whole-sent-requires-clause-held g c = (c.in-InWork.ensures.works c.args.told.now).held
+
+pub post_whole-sent-requires-clause-kept : goal.post_whole-sent-requires-clause-kept
+post_whole-sent-requires-clause-kept g c =
+    still-kept (g.B.Blocks.value c.args.store.now) (g.B.Blocks.value c.begin_output.new.store) c.args.ldterm.now c.begin_output.new.ldterm 0 [] c.args.told.now c.args.told.now _ c.audit.ensures
+    (c.in-InWork.ensures.works c.args.told.now) c.requires.kept
+
+pub post_whole-sent-requires-clause-low : goal.post_whole-sent-requires-clause-low
+post_whole-sent-requires-clause-low g c = c.in-InWork.ensures.low
+
+pub post_whole-sent-requires-clause-work : goal.post_whole-sent-requires-clause-work
+post_whole-sent-requires-clause-work g c =
+    sym (kept-some (g.B.Blocks.value c.begin_output.new.store) c.begin_output.new.ldterm.in_work) ∙ ap (λ (q : ldterms.Ldterm ℕ). is_some q.in_work) (c.in-InWork.ensures.works c.args.told.now).state
+
+pub post_whole-sent-requires-clause-none : goal.post_whole-sent-requires-clause-none
+post_whole-sent-requires-clause-none g c = ap (λ (q : ldterms.Ldterm ℕ). q.gathered) (c.in-InWork.ensures.works c.args.told.now).state ∙ c.in-InWork.ensures.none
+
+pub post_whole-sent-requires-clause-bytes : goal.post_whole-sent-requires-clause-bytes
+post_whole-sent-requires-clause-bytes g c = c.in-InWork.ensures.size ∙ sym (ap (λ (q : ldterms.Ldterm ℕ). length (cells_left q)) (c.in-InWork.ensures.works c.args.told.now).state)
+
+pub post_whole-sent-requires-clause-some : goal.post_whole-sent-requires-clause-some
+post_whole-sent-requires-clause-some g c = c.in-InWork.ensures.some
+
+pub post_whole-sent-requires-clause-short : goal.post_whole-sent-requires-clause-short
+post_whole-sent-requires-clause-short g c = c.goes_down.ensures.short c.if-goes_down.true
+
+pub post_whole-sent-requires-clause-printed : goal.post_whole-sent-requires-clause-printed
+post_whole-sent-requires-clause-printed g c =
+    all-printed c.begin_output.new.ldterm.termios c.odd_output-odd.result (cells_left (ldterm_in (g.B.Blocks.value c.begin_output.new.store) c.begin_output.new.ldterm)) c.odd_output-odd.ensures (c.goes_down.ensures.plain c.if-goes_down.true)
+
+pub returns-then-goes_down : goal.returns-then-goes_down
+returns-then-goes_down g c = λ again.
+    let s = g.B.Blocks.value c.args.store.now in
+    let s1 = g.B.Blocks.value c.begin_output.new.store in
+    let s3 = g.B.Blocks.value c.post_whole-sent.new.store in
+    let x = c.args.ldterm.now in
+    let x1 = c.begin_output.new.ldterm in
+    let x3 = c.post_whole-sent.new.ldterm in
+    let told = c.args.told.now in
+    let bytes = c.in-InWork.bytes in
+    let sent = c.post_whole-sent.result in
+    let down = c.if-goes_down.true in
+    let whole = c.of_whole-then-goes_down in
+    let works = (c.in-InWork.ensures.works told).state in
+    subst (λ v. ServesAs s s3 c.args.here x x3 again v told told) (sym (whole-is whole.result sent bytes whole.ensures.sent whole.ensures.bytes whole.ensures.stopped whole.ensures.again))
+    (whole-serves-out s s1 s3 c.args.here x x1 x3 bytes c.in-InWork.band.0 whole.result.acts.notes sent told c.requires.way c.requires.stage c.in-InWork.ensures c.audit.ensures whole.ensures.notes
+    (c.in-InWork.ensures.works told).held c.post_whole-sent.ensures.column (c.goes_down.ensures.short down) (c.in-InWork.ensures.size ∙ sym (ap (λ (q : ldterms.Ldterm ℕ). length (cells_left q)) works))
+    (all-printed x1.termios c.odd_output-odd.result (cells_left (ldterm_in s1 x1)) c.odd_output-odd.ensures (c.goes_down.ensures.plain down)) (c.goes_down.ensures.room down) (c.post_whole-sent.ensures.did told) again)
 
 pub post_bytes-left-requires-clause-held : goal.post_bytes-left-requires-clause-held
 post_bytes-left-requires-clause-held g c = (c.in-InWork.ensures.works c.args.told.now).held
@@ -55,8 +117,8 @@ returns-in-Whole g c = λ again.
     (down-serves c.args.here again None (ldterm_in s x) c.requires.way) (whole.passes None c.args.told.now) (whole.size None) (whole.again None) (λ up. absurd (down≢up (sym c.requires.way ∙ up)))
     (ap (λ w. passes_whole w again (ldterm_in s x)) c.requires.way ∙ whole.whole again)
 
-pub returns-in-InWork : goal.returns-in-InWork
-returns-in-InWork g c = λ again.
+pub returns-else-goes_down : goal.returns-else-goes_down
+returns-else-goes_down g c = λ again.
     let s = g.B.Blocks.value c.args.store.now in
     let told = c.post_bytes-left.new.told in
     out-serves s (g.B.Blocks.value c.begin_output.new.store) (g.B.Blocks.value c.post_bytes-left.new.store) (g.B.Blocks.value c.let_go-sent.new.store) c.args.here

@@ -1,5 +1,5 @@
 -- What isn't marked at the end was marked by none.
-use Rattle.std.proofs.Common.{sym, ◌∙◌}
+use Rattle.std.proofs.Common.{◌∙◌}
 use Rattle.strm_ldterm.proofs.Unmarked.{in-table, outside, plain-is}
 use Rattle.strm_ldterm.proofs.pasting.odd_bytes.Goals as goal
 

@@ -8,7 +8,6 @@ use Rattle.strm_ldterm.proofs.Joining.{still-kept}
 use Rattle.strm_ldterm.proofs.Poured.{byte-begins, pours-are, pours-more, pours-none, pours-some, pours-termios}
 use Rattle.strm_ldterm.proofs.posting.post_bytes.Goals as goal
 use Rattle.strm_ldterm.proofs.posting.post_bytes.Goals.{then-left-eq0-via-then-left-eq0, then-left-eq0-via-else-left-eq0+then-are_few}
-use Rattle.strm_blocks.specs.Blocks.{token}
 
 pub loop-left-init : goal.loop-left-init
 loop-left-init g c = pours-none (g.B.Blocks.value c.args.store.now) c.args.here c.args.ldterm.now c.args.bytes c.args.told.now c.requires.held
@@ -24,7 +23,7 @@ post_run-run-requires-clause-kept g c =
 pub post_run-run-requires-clause-odd : goal.post_run-run-requires-clause-odd
 post_run-run-requires-clause-odd g c = λ b free.
     subst (λ t. is_printed t b ≡ true) (sym (pours-termios (g.B.Blocks.value c.args.store.now) (g.B.Blocks.value c.loop-left.store) c.args.here c.args.ldterm.now c.loop-left.ldterm c.args.bytes c.loop-left.left c.args.told.now c.loop-left.told
-    c.requires.work c.requires.bytes c.loop-left.invariant)) (c.odd_output-odd.ensures b free)
+    c.requires.work c.requires.bytes c.loop-left.invariant)) (c.requires.odd b free)
 
 pub post_run-run-requires-clause-work : goal.post_run-run-requires-clause-work
 post_run-run-requires-clause-work g c =

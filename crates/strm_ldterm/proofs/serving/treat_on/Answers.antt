@@ -1,16 +1,25 @@
-use Rattle.std.proofs.Common.{◌∙◌}
+use Rattle.std.proofs.Common.{sym, subst, ◌∙◌}
 use Rattle.strm_frame.specs.Outboxes.{sent_of}
+use Rattle.strm_ldterm.specs.Called.{TreatsAs}
 use Rattle.strm_ldterm.proofs.Bytes.{kept-some}
 use Rattle.strm_ldterm.proofs.Calls.{into-short, into-treats, out-short, out-treats}
-use Rattle.strm_ldterm.proofs.Whole.{whole-treats}
+use Rattle.strm_ldterm.proofs.Whole.{whole-is, whole-treats}
 use Rattle.strm_ldterm.proofs.serving.treat_on.Goals as goal
-use Rattle.strm_blocks.specs.Blocks.{token}
 
 pub returns-then-goes_up-clause-does : goal.returns-then-goes_up-clause-does
 returns-then-goes_up-clause-does g c =
+    let s = g.B.Blocks.value c.args.store.now in
+    let s' = g.B.Blocks.value c.pass_work-sent.new.store in
+    let x = c.args.ldterm.now in
+    let x' = c.pass_work-sent.new.ldterm in
+    let t = c.args.told.now in
     let up = c.if-goes_up.true in
-    whole-treats (g.B.Blocks.value c.args.store.now) (g.B.Blocks.value c.pass_work-sent.new.store) c.args.here c.args.ldterm.now c.pass_work-sent.new.ldterm c.args.told.now c.work_left-bytes.result c.new.result c.pass_work-sent.result
-    c.requires.held c.requires.stage c.work_left-bytes.ensures.bytes (c.goes_up.ensures.some up) (c.goes_up.ensures.may up) (c.goes_up.ensures.room up) c.new.ensures (c.pass_work-sent.ensures c.args.told.now)
+    let done = c.of_whole.ensures in
+    let bytes = c.work_left-bytes.result in
+    let sent = c.pass_work-sent.result in
+    subst (λ v. TreatsAs s s' c.args.here x x' v t t) (sym (whole-is c.of_whole.result sent bytes done.sent done.bytes done.stopped done.again))
+    (whole-treats s s' c.args.here x x' t bytes c.of_whole.result.acts.notes sent
+    c.requires.held c.requires.stage c.work_left-bytes.ensures.bytes (c.goes_up.ensures.some up) (c.goes_up.ensures.may up) (c.goes_up.ensures.room up) done.notes (c.pass_work-sent.ensures t))
 
 pub returns-in-Into-clause-does : goal.returns-in-Into-clause-does
 returns-in-Into-clause-does g c =

@@ -1,5 +1,5 @@
 -- It leaves the module under its band.
-use Rattle.std.proofs.Common.{sym, subst, [], ◌∷◌, ◌∙◌, ◌≡◌, ap}
+use Rattle.std.proofs.Common.{sym, subst, [], ◌∷◌, ◌∙◌, ◌≡◌}
 use Rattle.std.specs.Prelude.{None, Some}
 use Rattle.strm_types.specs.Input.{cells_left}
 use Rattle.strm_types.specs.Ldterms.{onward, sends}
