@@ -147,30 +147,6 @@ last-number {v = v} is {s = s} view l here {n = n} name most same k last =
     let len : length (ids (found is l here)) ≡ length (in_hand s n) = sym (found-len is l here) ∙ (λ j. length (in_hand (view j) (name j))) in
     last (ids (found is l here)) (found-linked is l here) (omega arith) ∙ ap (λ i. get_or (ids (found is l here)) (i - 1) 0) len
 
--- the link from a block of a chain to the next one
-pub next-in : (rows : List Row) (i : ℕ) (is : List ℕ) (k : ℕ) → IsChain rows i is → k + 1 < length is → next_of rows (get_or is k 0) ≡ Some (get_or is (k + 1) 0)
-unfolding breaks
-next-in rows i [] k c within = absurd (omega arith)
-next-in rows i (j ∷ []) k c within = absurd (omega arith)
-next-in rows i (j ∷ l ∷ is) zero c within = gap-same (next_of rows j) (Some l) (omega arith)
-next-in rows i (j ∷ l ∷ is) (suc k) c within =
-    let e : suc k + 1 ≡ suc (k + 1) = omega arith in
-    let tail : breaks (next_of rows) (next_of rows j) (l ∷ is) ≡ 0 = omega arith in
-    let at : next_of rows j ≡ Some l = gap-same (next_of rows j) (Some l) (omega arith) in
-    next-in rows l (l ∷ is) k (ap (λ o. breaks (next_of rows) o (l ∷ is)) (sym at) ∙ tail) (omega arith) ∙ ap (λ n. Some (get_or (j ∷ l ∷ is) n 0)) (sym e)
-
--- the last block of a chain has no link
-pub ends-in : (rows : List Row) (i : ℕ) (is : List ℕ) (k : ℕ) → IsChain rows i is → k + 1 ≡ length is → next_of rows (get_or is k 0) ≡ None
-unfolding breaks
-ends-in rows i [] k c e = absurd (omega arith)
-ends-in rows i (j ∷ []) zero c e = gap-same (next_of rows j) None (omega arith)
-ends-in rows i (j ∷ []) (suc k) c e = absurd (omega arith)
-ends-in rows i (j ∷ l ∷ is) zero c e = absurd (omega arith)
-ends-in rows i (j ∷ l ∷ is) (suc k) c e =
-    let tail : breaks (next_of rows) (next_of rows j) (l ∷ is) ≡ 0 = omega arith in
-    let at : next_of rows j ≡ Some l = gap-same (next_of rows j) (Some l) (omega arith) in
-    ends-in rows l (l ∷ is) k (ap (λ o. breaks (next_of rows) o (l ∷ is)) (sym at) ∙ tail) (omega arith)
-
 -- the data block that a block of the message names has a reference
 pub found-named : {v : Nodes} {b : Roster} {first_m : Option MsgLink} {first_d : Option DataLink} {spare_m spare_d : ℕ} (is : IsRaw v first_m first_d spare_m spare_d b)
     (l : MsgLink) (here : IsHere v b l) (at : ℕ) → at < length (ids (found is l here))

@@ -19,7 +19,7 @@ use Rattle.strm_raw.specs.Tails.{Hangs}
 use Rattle.strm_raw.specs.declared.neighbours.Ends.{Ends}
 use Rattle.strm_raw.specs.declared.msg_nodes.MsgLink.{MsgLink}
 use Rattle.strm_raw.specs.declared.data_nodes.DataLink.{DataLink}
-use Rattle.strm_raw.proofs.Giving.{empty}
+use Rattle.strm_raw.proofs.Standing.{empty}
 use Rattle.strm_raw.proofs.Hanging.{hung}
 use Rattle.strm_raw.proofs.Moved.{queue-value}
 use Rattle.strm_raw.proofs.Placing.{queue-few}

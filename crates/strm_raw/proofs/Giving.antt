@@ -13,6 +13,7 @@ use Rattle.strm_raw.specs.declared.msg_nodes.MsgLink.{MsgLink}
 use Rattle.strm_raw.specs.declared.data_nodes.DataLink.{DataLink}
 use Rattle.strm_raw.proofs.Apart.{times-cons, weigh-apart, map-same, maps-same, gap-self, weigh-same}
 use Rattle.strm_raw.proofs.Stocking.{Stocked, stocked, references-at, free-kept, datum-new}
+use Rattle.strm_raw.proofs.Standing.{empty}
 use Rattle.strm_raw.proofs.Finding.{found, found-head, found-len, without-value}
 use Rattle.strm_raw.proofs.Parting.{split, out-free, out-others}
 use Rattle.strm_raw.proofs.Relinking.{row-keeps}
@@ -64,10 +65,6 @@ module _ {v : Nodes} {b : Roster} {first_m : Option MsgLink} {first_d : Option D
           (free-kept is d within x same (option_map (data_number v.dat) first_d) b.free_d out ∙ is.linked_d) is.count_d is.there_d;
       fewer = fewer;
     }
-
-pub empty : {A : Type 0} (xs : List A) → length xs ≡ 0 → xs ≡ []
-empty [] z = refl
-empty (x ∷ xs) z = absurd (omega arith)
 
 -- a message in hand of one block is given back
 module _ {v : Nodes} {b : Roster} {first_m : Option MsgLink} {first_d : Option DataLink} {spare_m spare_d : ℕ} (is : IsRaw v first_m first_d spare_m spare_d b)

@@ -24,7 +24,6 @@ pub mod Walks
 pub mod Threads
 pub mod Fresh
 pub mod Freeing
-pub mod Ends
 pub mod Joining
 pub mod Hanging
 pub mod Writing

@@ -16,7 +16,7 @@ use Rattle.strm_raw.specs.Places.{rank_at, msg_rank, RanksBehind, RanksBefore, S
 use Rattle.strm_raw.specs.declared.neighbours.Ends.{Ends}
 use Rattle.strm_raw.specs.declared.msg_nodes.MsgLink.{MsgLink}
 use Rattle.strm_raw.specs.declared.data_nodes.DataLink.{DataLink}
-use Rattle.strm_raw.proofs.Giving.{empty}
+use Rattle.strm_raw.proofs.Standing.{empty}
 use Rattle.strm_raw.proofs.Tied.{list-begin, list-end, list-behind, list-ahead, a-first, a-last}
 use Rattle.strm_raw.proofs.Moved.{one-queue}
 

@@ -28,6 +28,10 @@ zeros-take f datas same (suc n) le =
     let here : cond {A = ℕ} (eqb (f n) 0) 1 0 ≡ cond {A = ℕ} (eqb (data_at n datas).references 0) 1 0 = ap (λ (r : ℕ). cond {A = ℕ} (eqb r 0) 1 0) (sym (same n)) in
     omega arith
 
+pub empty : {A : Type 0} (xs : List A) → length xs ≡ 0 → xs ≡ []
+empty [] z = refl
+empty (x ∷ xs) z = absurd (omega arith)
+
 -- no link leads through no numbers
 pub ended : (next : ℕ → Option ℕ) (xs : List ℕ) → breaks next None xs ≡ 0 → length xs ≡ 0
 unfolding breaks

@@ -1,5 +1,5 @@
 -- A visitor that is told of the blocks of a message, and of the messages of a list, as links lead to them.
-use Rattle.std.proofs.Common.{ℕ, ◌≡◌, ◌≤◌, ◌-◌, Bool, true, false, cond, List, [], ◌∷◌, ◌++◌, length, map, refl, sym, ap, ◌∙◌, subst, arith}
+use Rattle.std.proofs.Common.{ℕ, ◌≡◌, ◌≤◌, ◌<◌, ◌-◌, Bool, true, false, cond, List, [], ◌∷◌, ◌++◌, length, map, refl, sym, ap, ◌∙◌, subst, arith}
 use Rattle.std.specs.Prelude.{Option, Some, None, option_map, sum_by, slice_range}
 use Rattle.std.proofs.lemmas.List.{append_assoc}
 use Rattle.std.proofs.lemmas.List.Sums.{sum_by-cons}
@@ -16,11 +16,11 @@ use Rattle.strm_raw.specs.declared.msg_nodes.MsgNode.{MsgNode}
 use Rattle.strm_raw.specs.declared.data_nodes.DataLink.{DataLink}
 use Rattle.strm_raw.specs.declared.data_nodes.DataNode.{DataNode}
 use Rattle.strm_raw.proofs.Apart.{gap-self}
-use Rattle.strm_raw.proofs.Giving.{empty}
 use Rattle.strm_raw.proofs.Moved.{one-queue}
 use Rattle.strm_raw.proofs.Placing.{messages-few}
-use Rattle.strm_raw.proofs.Standing.{begun, ended}
+use Rattle.strm_raw.proofs.Standing.{empty}
 use Rattle.strm_raw.proofs.Tied.{a-first, list-ahead, list-begin, no-first}
+use Rattle.strm_raw.proofs.Walks.{Walked, split, none-behind, stands-next, walk-begins, walk-within, walk-last, walk-steps}
 
 -- what a visitor is told of a block
 abbrev pub seen_as : Bool → Block → SeenBlock
@@ -60,74 +60,44 @@ module _ {V : Type 0} (after : V → SeenBlock → V) (goes_on : V → Bool) whe
   abbrev pub Alike : V → V → List SeenBlock → List SeenBlock → Type 0
   Alike v0 v all rest = (more : List SeenBlock) → told after goes_on v0 (all ++ more) ≡ told after goes_on v (rest ++ more)
 
-  -- the blocks of a chain that are left
-  pub record LeftIn (v : Nodes) (link : MsgLink) (leads : Bool) (left : ℕ) (v0 w : V) (is : List ℕ) : Type 0 where
-    pub rest : List ℕ
-    pub chain : IsChain v.rows (msg_number v.mat link) rest
-    pub few : length rest ≤ left
-    pub same : Alike v0 w (seen_in true (map (block_no v) is)) (seen_in leads (map (block_no v) rest))
-
+  -- a walk along a chain, and what the visitor has still to be told of
   pub record Telling (v : Nodes) (first link : MsgLink) (leads : Bool) (left : ℕ) (v0 w : V) : Type 0 where
-    pub there : IsMsg v.mat (length v.rows) link
-    pub told_of : (is : List ℕ) → IsChain v.rows (msg_number v.mat first) is → length is ≤ length v.rows → LeftIn v link leads left v0 w is
+    pub walk : Walked v first link (length v.rows) left
+    pub same : (is : List ℕ) (c : IsChain v.rows (msg_number v.mat first) is) → Alike v0 w (seen_in true (map (block_no v) is)) (seen_in leads (map (block_no v) (walk.stands is c).rest))
 
-  module _ (v : Nodes) (first link : MsgLink) (leads : Bool) (left : ℕ) (v0 w w' : V) (t : Telling v first link leads left v0 w)
-      (is_told : w' ≡ after w (seen_as leads (block_no v (msg_number v.mat link)))) (o : Option MsgLink) (row : option_map (msg_number v.mat) o ≡ next_of v.rows (msg_number v.mat link))
-      (is : List ℕ) (c : IsChain v.rows (msg_number v.mat first) is) (few : length is ≤ length v.rows) where
-    before : LeftIn v link leads left v0 w is
-    before = t.told_of is c few
+  pub tells-begin : {v : Nodes} {first : MsgLink} {v0 : V} → IsMsg v.mat (length v.rows) first → (n : ℕ) → n ≡ length v.rows → Telling v first first true n v0 v0
+  unfolding walk-begins
+  tells-begin {v = v} there n all = record { walk = walk-begins n (length v.rows) all there; same = λ is c more. refl }
 
-    split : (rest : List ℕ) × ((before.rest ≡ msg_number v.mat link ∷ rest) × (breaks (next_of v.rows) (next_of v.rows (msg_number v.mat link)) rest ≡ 0))
-    split = begun (next_of v.rows) (msg_number v.mat link) before.rest before.chain
+  -- a walk comes to the end of a chain before it has used up its steps
+  pub tells-past : {v : Nodes} {first link : MsgLink} {leads : Bool} {left : ℕ} {v0 w : V} → Telling v first link leads left v0 w → left ≤ 0
+      → (is : List ℕ) → IsChain v.rows (msg_number v.mat first) is → length is ≤ length v.rows → ⊥
+  tells-past t zero is c few = let n = walk-within t.walk is c in absurd (omega arith)
 
-    begins : (more : List SeenBlock) → told after goes_on v0 (seen_in true (map (block_no v) is) ++ more)
-        ≡ told after goes_on w (seen_as leads (block_no v (msg_number v.mat link)) ∷ (seen_in false (map (block_no v) split.0) ++ more))
-    begins more = before.same more ∙ ap (λ r. told after goes_on w (seen_in leads (map (block_no v) r) ++ more)) split.1.0
-
-    linked : breaks (next_of v.rows) (option_map (msg_number v.mat) o) split.0 ≡ 0
-    linked = ap (λ p. breaks (next_of v.rows) p split.0) row ∙ split.1.1
+  module _ {v : Nodes} {first link : MsgLink} {leads : Bool} {left : ℕ} {v0 w w' : V} (t : Telling v first link leads left v0 w)
+      (is_told : w' ≡ after w (seen_as leads (block_no v (msg_number v.mat link)))) where
+    begins : (is : List ℕ) (c : IsChain v.rows (msg_number v.mat first) is) (more : List SeenBlock) → told after goes_on v0 (seen_in true (map (block_no v) is) ++ more)
+        ≡ told after goes_on w (seen_as leads (block_no v (msg_number v.mat link)) ∷ (seen_in false (map (block_no v) (split (t.walk.stands is c)).0) ++ more))
+    begins is c more = t.same is c more ∙ ap (λ r. told after goes_on w (seen_in leads (map (block_no v) r) ++ more)) (split (t.walk.stands is c)).1.0
 
     -- a visitor that wants no more was told of all that it wanted
-    pub tells-last : goes_on w' ≡ false → (more : List SeenBlock) → told after goes_on v0 (seen_in true (map (block_no v) is) ++ more) ≡ w'
-    tells-last off more = begins more ∙ told-last after goes_on w w' _ is_told _ off
+    pub tells-last : goes_on w' ≡ false → (is : List ℕ) → IsChain v.rows (msg_number v.mat first) is → (more : List SeenBlock) → told after goes_on v0 (seen_in true (map (block_no v) is) ++ more) ≡ w'
+    tells-last off is c more = begins is c more ∙ told-last after goes_on w w' _ is_told _ off
 
-    -- where no link leads on, it was told of the whole message
-    pub tells-all : goes_on w' ≡ true → o ≡ None → (more : List SeenBlock) → told after goes_on v0 (seen_in true (map (block_no v) is) ++ more) ≡ told after goes_on w' more
-    tells-all on none more =
-        let no = empty split.0 (ended (next_of v.rows) split.0 (ap (λ (p : Option MsgLink). breaks (next_of v.rows) (option_map (msg_number v.mat) p) split.0) (sym none) ∙ linked)) in
-        begins more ∙ told-on after goes_on w w' _ is_told _ on ∙ ap (λ r. told after goes_on w' (seen_in false (map (block_no v) r) ++ more)) no
+    module _ (goes : 0 < left) {o : Option MsgLink} (row : option_map (msg_number v.mat) o ≡ next_of v.rows (msg_number v.mat link)) where
+      -- where no link leads on, it was told of the whole message
+      pub tells-all : goes_on w' ≡ true → o ≡ None → (is : List ℕ) → IsChain v.rows (msg_number v.mat first) is → (more : List SeenBlock) → told after goes_on v0 (seen_in true (map (block_no v) is) ++ more) ≡ told after goes_on w' more
+      tells-all on none is c more =
+          begins is c more ∙ told-on after goes_on w w' _ is_told _ on
+          ∙ ap (λ r. told after goes_on w' (seen_in false (map (block_no v) r) ++ more)) (none-behind (t.walk.stands is c) (walk-last t.walk goes row none))
 
-    -- where one does, it wants to be told of the next block
-    tells-left : goes_on w' ≡ true → (next : MsgLink) → o ≡ Some next → LeftIn v next false (left - 1) v0 w' is
-    tells-left on next some = record {
-      rest = split.0;
-      chain = ap (λ (p : Option MsgLink). breaks (next_of v.rows) (option_map (msg_number v.mat) p) split.0) (sym some) ∙ linked;
-      few = let l = before.few in let n = ap length split.1.0 in omega arith;
-      same = λ more. begins more ∙ told-on after goes_on w w' _ is_told _ on;
-    }
-
-  module _ (v : Nodes) (first : MsgLink) (v0 : V) where
-    pub tells-begin : IsMsg v.mat (length v.rows) first → (n : ℕ) → n ≡ length v.rows → Telling v first first true n v0 v0
-    tells-begin there n all = record {
-      there = there;
-      told_of = λ is c few. record { rest = is; chain = c; few = omega arith; same = λ more. refl };
-    }
-
-    pub tells-step : (link : MsgLink) (leads : Bool) (left : ℕ) (w w' : V) → Telling v first link leads left v0 w → w' ≡ after w (seen_as leads (block_no v (msg_number v.mat link)))
-        → (o : Option MsgLink) → option_map (msg_number v.mat) o ≡ next_of v.rows (msg_number v.mat link) → goes_on w' ≡ true
-        → (next : MsgLink) → o ≡ Some next → IsMsg v.mat (length v.rows) next → Telling v first next false (left - 1) v0 w'
-    tells-step link leads left w w' t is_told o row on next some there = record {
-      there = there;
-      told_of = λ is c few. tells-left v first link leads left v0 w w' t is_told o row is c few on next some;
-    }
-
-    -- a walk comes to the end of a chain before it has used up its steps
-    pub tells-past : (link : MsgLink) (leads : Bool) (left : ℕ) (w : V) → Telling v first link leads left v0 w → left ≤ 0
-        → (is : List ℕ) → IsChain v.rows (msg_number v.mat first) is → length is ≤ length v.rows → ⊥
-    tells-past link leads left w t zero is c few =
-        let l = t.told_of is c few in
-        let b = begun (next_of v.rows) (msg_number v.mat link) l.rest l.chain in
-        let n = ap length b.1.0 in let f = l.few in absurd (omega arith)
+      -- where one does, it wants to be told of the next block
+      pub tells-step : goes_on w' ≡ true → (next : MsgLink) → o ≡ Some next → IsMsgOrNone v.mat (length v.rows) o → Telling v first next false (left - 1) v0 w'
+      unfolding walk-steps stands-next
+      tells-step on next some there = record {
+        walk = walk-steps t.walk goes row next some there;
+        same = λ is c more. begins is c more ∙ told-on after goes_on w w' _ is_told _ on;
+      }
 
 -- the messages of a list that are left
 module _ {V : Type 0} (after : V → SeenBlock → V) (goes_on : V → Bool) (v : Nodes) (ends : Ends) (v0 : V) where

@@ -1,13 +1,16 @@
 //! Data blocks as nodes.
 use std::marker::{Send, Sync};
 
-/// A data block: the next free one, how many message blocks name it (db_ref), and its bytes.
+/// A data block: the next free one, how many message blocks name it (db_ref), and its bytes. It takes 280
+/// bytes.
 #[derive(Clone, Copy)]
 pub(crate) struct DataNode {
     pub(crate) next: Option<DataLink>,
     pub(crate) references: u8,
     pub(crate) bytes: [u8; 256],
 }
+
+const _: () = prove!(size_of::<DataNode>() == 280);
 
 /// Where a data block lies. It owns nothing.
 #[derive(Clone, Copy)]

@@ -5,7 +5,7 @@ use strm_types::MsgKind;
 
 /// A message block: its own number, its kind and band, its data block, and of that the read place and the write place.
 /// `next` is b_cont, or the next free one. Of the first block of a message on a list, `ahead` leads on to the next message
-/// of the list, and `behind` back to the one before.
+/// of the list, and `behind` back to the one before. It takes 80 bytes.
 #[derive(Clone, Copy)]
 pub(crate) struct MsgNode {
     pub(crate) kind: MsgKind,
@@ -18,6 +18,8 @@ pub(crate) struct MsgNode {
     pub(crate) ahead: Option<MsgLink>,
     pub(crate) behind: Option<MsgLink>,
 }
+
+const _: () = prove!(size_of::<MsgNode>() == 80);
 
 /// Where a message block lies. It owns nothing.
 #[derive(Clone, Copy)]

@@ -1,19 +1,17 @@
-use Rattle.std.proofs.Common.{ap, ◌∙◌, subst}
-use Rattle.std.specs.Prelude.{Option}
-use Rattle.strm_raw.specs.Numbered.{Row, IsMsgOrNone}
-use Rattle.strm_raw.specs.declared.msg_nodes.MsgLink.{MsgLink}
-use Rattle.strm_raw.proofs.Walks.{walk-begins, walk-steps, walk-goes}
+use Rattle.std.proofs.Common.{◌≡◌, ◌-◌, ap, ◌∙◌, arith, refl, get_or}
+use Rattle.strm_raw.specs.Numbered.{Row}
+use Rattle.strm_raw.proofs.Walks.{stands-at, walk-begins, walk-counts, walk-steps}
 use Rattle.strm_raw.proofs.chains.block_link.Goals as goal
 
 pub loop-left-init : goal.loop-left-init
-loop-left-init c = walk-begins c.args.memory.now c.args.first c.args.at c.requires
+loop-left-init c = walk-begins c.args.at c.args.at refl c.requires
 
 pub returns-in_default-clause-number : goal.returns-in_default-clause-number
 returns-in_default-clause-number c = λ is chain within.
-    absurd (walk-goes c.args.memory.now c.args.first c.loop-left.link c.args.at c.loop-left.left c.message.result.next c.loop-left.invariant c.loop-left-test.true (ap (λ (r : Row). r.next) c.message.ensures.row) c.in_default.is is chain within)
+    let n = walk-counts c.loop-left.invariant c.loop-left-test.true (ap (λ (r : Row). r.next) c.message.ensures.row) c.in_default.is is chain in absurd (omega arith)
+
+pub returns-clause-number : goal.returns-clause-number
+returns-clause-number c = λ is chain within. let e : c.args.at - c.loop-left.left ≡ c.args.at = omega arith in stands-at (c.loop-left.invariant.stands is chain) ∙ ap (λ k. get_or is k 0) e
 
 pub loop-left-preserved : goal.loop-left-preserved
-loop-left-preserved c =
-    let v = c.args.memory.now in
-    let there = subst (λ (o : Option MsgLink). IsMsgOrNone v.mat (Rattle.std.proofs.Common.length v.rows) o) c.in-Some.is c.message.ensures.links.next in
-    walk-steps v c.args.first c.loop-left.link c.in-Some.next c.args.at c.loop-left.left c.message.result.next c.loop-left.invariant c.loop-left-test.true (ap (λ (r : Row). r.next) c.message.ensures.row) c.in-Some.is there
+loop-left-preserved c = walk-steps c.loop-left.invariant c.loop-left-test.true (ap (λ (r : Row). r.next) c.message.ensures.row) c.in-Some.next c.in-Some.is c.message.ensures.links.next

@@ -1,14 +1,13 @@
-use Rattle.std.proofs.Common.{ap, sym, ◌∙◌, subst, length, arith}
-use Rattle.std.specs.Prelude.{Option, slice_range}
-use Rattle.strm_raw.specs.Numbered.{Row, DataRow, IsMsgOrNone, row_of, msg_number}
+use Rattle.std.proofs.Common.{ap, sym, ◌∙◌, length, arith}
+use Rattle.std.specs.Prelude.{slice_range}
+use Rattle.strm_raw.specs.Numbered.{Row, DataRow, row_of, msg_number}
 use Rattle.strm_raw.specs.Raw.{askew, shown}
-use Rattle.strm_raw.specs.declared.msg_nodes.MsgLink.{MsgLink}
 use Rattle.strm_raw.proofs.Edited.{shown-len}
-use Rattle.strm_raw.proofs.Ends.{sum-begins, sum-steps, sum-ends}
+use Rattle.strm_raw.proofs.Walks.{sum-begins, sum-steps, sum-ends, walk-within}
 use Rattle.strm_raw.proofs.chains.chain_bytes.Goals as goal
 
 pub loop-left-init : goal.loop-left-init
-loop-left-init c = sum-begins c.args.memory.now c.args.first c.args.most c.requires.there
+loop-left-init c = sum-begins c.args.most c.requires.there
 
 pub overflow_add-bytes : goal.overflow_add-bytes
 overflow_add-bytes c =
@@ -23,11 +22,10 @@ pub returns-in_default : goal.returns-in_default
 returns-in_default c =
     let v = c.args.memory.now in let node = c.message-node.result in
     let here = ap (λ (d : DataRow). length (slice_range d.bytes node.start node.end)) c.datum.ensures.row ∙ ap (λ (r : Row). length (shown v.datas r).bytes) c.message-node.ensures.row in
-    let row = ap (λ (r : Row). r.next) c.message-node.ensures.row in
-    sum-ends v c.args.first c.loop-left.link c.args.most c.loop-left.left c.loop-left.bytes _ c.loop-left.invariant c.loop-left-test.true here node.next row c.in_default.is
+    λ is chain few. sum-ends c.loop-left.invariant c.loop-left-test.true here (ap (λ (r : Row). r.next) c.message-node.ensures.row) c.in_default.is is chain
 
 pub returns : goal.returns
-returns c = λ is chain few. let n = c.loop-left.invariant.walk.number is chain few in let past = n.0 in absurd (omega arith)
+returns c = λ is chain few. let n = walk-within c.loop-left.invariant.walk is chain in absurd (omega arith)
 
 pub loop-left-preserved : goal.loop-left-preserved
 loop-left-preserved c =
@@ -37,5 +35,4 @@ loop-left-preserved c =
     let straight = ap (λ (r : Row). askew r) c.message-node.ensures.row ∙ c.requires.straight (msg_number v.mat c.loop-left.link) in
     let sized = ap (λ (d : DataRow). length d.bytes) (sym c.datum.ensures.row) ∙ c.datum.ensures.sized in
     let len = ap (λ (d : DataRow). length (slice_range d.bytes node.start node.end)) c.datum.ensures.row ∙ shown-len v.datas (row_of v.mat v.dat node) straight sized in
-    let there = subst (λ (o : Option MsgLink). IsMsgOrNone v.mat (length v.rows) o) c.in-Some.is c.message-node.ensures.links.next in
-    sum-steps v c.args.first c.loop-left.link c.args.most c.loop-left.left c.loop-left.bytes _ c.loop-left.invariant c.loop-left-test.true here node.next row (omega arith) c.in-Some.next c.in-Some.is there
+    sum-steps c.loop-left.invariant c.loop-left-test.true here row (omega arith) c.in-Some.next c.in-Some.is c.message-node.ensures.links.next

@@ -1,4 +1,4 @@
-use Rattle.strm_raw.proofs.Ends.{Summing}
+use Rattle.strm_raw.proofs.Walks.{Summing}
 use Rattle.strm_raw.proofs.chains.chain_bytes.Given as goal
 
 abbrev pub invariant-loop-left : goal.invariant-loop-left

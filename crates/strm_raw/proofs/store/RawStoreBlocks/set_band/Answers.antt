@@ -1,4 +1,4 @@
-use Rattle.std.proofs.Common.{refl, ap, ◌∙◌}
+use Rattle.std.proofs.Common.{refl, sym, ap, ◌∙◌}
 use Rattle.strm_blocks.specs.Blocks.{Block, token, in_hand, changed, banded}
 use Rattle.strm_blocks.proofs.Edits.{banded-is}
 use Rattle.strm_raw.specs.Numbered.{Row}
@@ -6,7 +6,6 @@ use Rattle.strm_raw.specs.Raw.{askew}
 use Rattle.strm_raw.proofs.Becoming.{Becomes, becomes-as}
 use Rattle.strm_raw.proofs.Finding as finding
 use Rattle.strm_raw.proofs.Edited.{edited}
-use Rattle.strm_raw.proofs.Walks.{walk-begins}
 use Rattle.strm_raw.proofs.store.RawStoreBlocks.set_band.Goals as goal
 use Rattle.strm_raw.proofs.store.RawStoreBlocks.set_band.Goals.{After-set_message}
 
@@ -19,9 +18,8 @@ done c =
     let v = c.self.inside.memory in let is = c.self.invariant.raw in let l = c.message_link-first.result in let n = token c.args.message.now in
     let here = finding.here-by v c.self.inside.ledger.roster _ c.self.view_is l n _ c.message_link-first.ensures.there c.message_link-first.ensures.number c.name.ensures c.requires in
     let row = c.message-node.ensures.row in
-    let number = (walk-begins v l 0 c.message_link-first.ensures.there).number _ (finding.found-linked is l here) in
     becomes-as
-    (edited is c.self.view_is l here (c.message_link-first.ensures.number ∙ c.name.ensures) 0 (finding.first-within is c.self.view_is n c.requires) l number c.self.invariant.listed _ _ _ row refl (ap (λ (r : Row). askew r) row ∙ is.straight _) c.set_message.ensures (λ (b : Block). record b { band = c.args.band.0 }) refl)
+    (edited is c.self.view_is l here (c.message_link-first.ensures.number ∙ c.name.ensures) 0 (finding.first-within is c.self.view_is n c.requires) l (λ _. sym (finding.found-head is l here)) c.self.invariant.listed _ _ _ row refl (ap (λ (r : Row). askew r) row ∙ is.straight _) c.set_message.ensures (λ (b : Block). record b { band = c.args.band.0 }) refl)
     (ap (λ chain. changed c.args.self.now n chain) (banded-is c.args.band.0 (in_hand c.args.self.now n)))
 
 pub invariant_of-self : goal.invariant_of-self
