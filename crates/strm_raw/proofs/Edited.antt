@@ -8,12 +8,16 @@ use Rattle.std.proofs.lemmas.List.{get_or-set_same, get_or-set_other, drop_min}
 use Rattle.std.proofs.lemmas.List.Sums.{sum_by-cons, get_or-le-sum_by}
 use Rattle.strm_blocks.specs.Blocks.{Block, StoreValue, in_hand, block_at, changed, with_block, with_chain, trimmed_head, trimmed_tail}
 use Rattle.strm_blocks.proofs.Shown.{length-range, shown-head, shown-tail}
-use Rattle.strm_raw.specs.Numbered.{Nodes, Row, DataRow, row_at, data_at, no_row, msg_number, with_row}
+use Rattle.strm_raw.specs.Changes.{changed_by, node_by}
+use Rattle.strm_raw.specs.Numbered.{Nodes, Row, DataRow, row_at, row_of, data_at, no_row, msg_number, with_row}
 use Rattle.strm_raw.specs.Roster.{Msg, Roster}
 use Rattle.strm_raw.specs.Raw.{weigh, ids, times, chain_of, held_of, block_no, shown, value_of, breaks, IsRaw, IsHere, next_of, is_there, askew, msg_in, without_in, heads}
 use Rattle.strm_raw.specs.Lists.{AreListed}
 use Rattle.strm_raw.specs.declared.neighbours.Ends.{Ends}
+use Rattle.strm_raw.specs.declared.changes.Change.{Change}
+use Rattle.strm_raw.specs.declared.changes.Change.TheVariants.{Head, Tail, Kind, Band}
 use Rattle.strm_raw.specs.declared.msg_nodes.MsgLink.{MsgLink}
+use Rattle.strm_raw.specs.declared.msg_nodes.MsgNode.{MsgNode}
 use Rattle.strm_raw.specs.declared.data_nodes.DataLink.{DataLink}
 use Rattle.strm_raw.proofs.Apart.{hand-apart, lists-apart, map-none, map-one}
 use Rattle.strm_raw.proofs.Finding.{sum-without, found, found-some, found-chain, found-len, found-block}
@@ -47,6 +51,14 @@ module _ (datas : List DataRow) (r : Row) (straight : askew r ≡ 0) (sized : le
       let bytes = shown-tail (data_at r.number datas).bytes r.start r.end m (omega arith) (omega arith) (omega arith) ∙ ap (λ j. take j xs) left in
       let room : 256 - (r.end - m) ≡ 256 - r.end + min n (length xs) = omega (arith, long) in
       λ k. record (shown datas r) { bytes = bytes k; room = room k }
+
+-- a call that changes a block keeps its links and the order of its places
+pub changes : (v : Nodes) (change : Change) (node : MsgNode) → let r = row_of v.mat v.dat node in askew r ≡ 0 → length (data_at r.number v.datas).bytes ≡ 256 → (m : ℕ) → m ≡ length (shown v.datas r).bytes
+    → let r' = row_of v.mat v.dat (node_by change m node) in (links r' ≡ links r) × ((askew r' ≡ 0) × (shown v.datas r' ≡ changed_by change (shown v.datas r)))
+changes v (Head n) node straight sized m all = let len = shown-len v.datas (row_of v.mat v.dat node) straight sized in (refl, (omega arith, head-is v.datas (row_of v.mat v.dat node) straight sized n (min n m) (omega arith)))
+changes v (Tail n) node straight sized m all = let len = shown-len v.datas (row_of v.mat v.dat node) straight sized in (refl, (omega arith, tail-is v.datas (row_of v.mat v.dat node) straight sized n (min n m) (omega arith)))
+changes v (Kind kind) node straight sized m all = (refl, (straight, refl))
+changes v (Band band) node straight sized m all = (refl, (straight, refl))
 
 -- the hand where one message shows another chain
 module _ (h : Msg → ℕ) (v v' : Nodes) (same : (m : Msg) → h m ≡ 0 → chain_of v' m ≡ chain_of v m) (i : ℕ) where

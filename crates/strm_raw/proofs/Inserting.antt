@@ -1,14 +1,16 @@
 -- What a message leaves of a store that is put on a list at the place of its rank.
-use Rattle.std.proofs.Common.{ℕ, ◌≡◌, ◌≤◌, ◌<◌, List, length, map, sym, ap, ◌∙◌, subst}
+use Rattle.std.proofs.Common.{ℕ, ◌≡◌, ◌≤◌, ◌<◌, List, ◌++◌, length, map, refl, sym, ap, ◌∙◌, subst}
 use Rattle.std.proofs.Math.ListN.{set}
-use Rattle.std.specs.Prelude.{Option, option_map, unwrap_or}
+use Rattle.std.specs.Prelude.{Option, None, option_map, unwrap_or}
 use Rattle.strm_types.specs.Ranked as ranked
-use Rattle.strm_blocks.specs.Blocks.{Block, rank_of, list_at, in_hand, dropped, placed, put, put_back}
+use Rattle.strm_blocks.specs.Blocks.{Block, rank_of, list_at, in_hand, dropped, placed}
 use Rattle.strm_raw.specs.Numbered.{Nodes, msg_number, IsMsgOrNone}
 use Rattle.strm_raw.specs.Roster.{Msg, Roster}
 use Rattle.strm_raw.specs.Raw.{chain_of, value_of, IsRaw, IsHere, msg_in}
-use Rattle.strm_raw.specs.Lists.{AreListed, IsList, Seats, on, back, ends_at, queue_at, ahead_of, behind_of, seated}
-use Rattle.strm_raw.specs.Places.{rank_at, RanksBehind, RanksBefore}
+use Rattle.strm_raw.specs.Lists.{AreListed, IsList, Seats, along, pick, begin_of, end_of, ends_at, queue_at, seated}
+use Rattle.strm_raw.specs.Places.{rank_at, RanksAt, place_in, put_by}
+use Rattle.strm_raw.specs.declared.neighbours.Course.{Course}
+use Rattle.strm_raw.specs.declared.neighbours.Course.TheVariants.{On, Back}
 use Rattle.strm_raw.specs.declared.neighbours.Ends.{Ends}
 use Rattle.strm_raw.specs.declared.msg_nodes.MsgLink.{MsgLink}
 use Rattle.strm_raw.specs.declared.data_nodes.DataLink.{DataLink}
@@ -17,7 +19,17 @@ use Rattle.strm_raw.proofs.Finding.{found-head, found-chain}
 use Rattle.strm_raw.proofs.Tied.{list-on, list-back}
 use Rattle.strm_raw.proofs.Moved.{queue-value}
 use Rattle.strm_raw.proofs.Seating.{put-on}
-use Rattle.strm_raw.proofs.Placing.{queue-few, puts-behind, puts-before, behind-order, before-order}
+use Rattle.strm_raw.proofs.Placing.{queue-few, puts-there, order-there}
+
+-- the places before and behind the one at which a walk in a course stops
+places : (v : Nodes) (e : Ends) (c : Course) (front rear : List Msg) → IsList v e (front ++ rear) → (stop past : Option ℕ) → stop ≡ place_in c front rear → past ≡ along (pick c Back On) v e stop
+    → (pick c past stop ≡ end_of None front) × (pick c stop past ≡ begin_of rear)
+places v e On front rear t stop past place step = (step ∙ ap (λ p. along Back v e p) place ∙ list-back v e front rear t, place)
+places v e Back front rear t stop past place step = (place, step ∙ ap (λ p. along On v e p) place ∙ list-on v e front rear t)
+
+number-of : (f : MsgLink → ℕ) (c : Course) (x y : Option MsgLink) → option_map f (pick c x y) ≡ pick c (option_map f x) (option_map f y)
+number-of f On x y = refl
+number-of f Back x y = refl
 
 module _ {v v' : Nodes} {ends ends' : List Ends} {b b' : Roster} {first_m : Option MsgLink} {first_d : Option DataLink} {spare_m spare_d : ℕ} (is : IsRaw v first_m first_d spare_m spare_d b) (listed : AreListed v ends b)
     (k : ℕ) (within : k < 8) (l : MsgLink) (here : IsHere v b l) (r : ℕ) (rank_is : r ≡ rank_at v.rows (msg_number v.mat l)) (before after : Option MsgLink)
@@ -39,24 +51,17 @@ module _ {v v' : Nodes} {ends ends' : List Ends} {b b' : Roster} {first_m : Opti
   rank-here : r ≡ rank_at v.rows x.head
   rank-here = rank_is ∙ ap (λ j. rank_at v.rows j) (sym (found-head is l here))
 
-  pub inserted-back : ((q : List Msg) → IsList v (ends_at k ends) q → length q ≤ length v.rows → RanksBehind v.rows r q (option_map (msg_number v.mat) before))
-      → option_map (msg_number v.mat) after ≡ on v.mat (ahead_of v.rows) (ends_at k ends) (option_map (msg_number v.mat) before)
-      → Becomes v' ends' b' first_m first_d spare_m spare_d (placed (dropped (value_of v b) i) k (put (in_hand (value_of v b) i) (list_at (value_of v b) k)))
-  inserted-back place step =
-      let w = subst (λ r. RanksBehind v.rows r q (option_map (msg_number v.mat) before)) rank-here (place q (listed.tied k) (queue-few is k)) in
+  pub inserted : (c other : Course) (stop past : Option MsgLink) → other ≡ pick c Back On → before ≡ pick c past stop → after ≡ pick c stop past
+      → ((q : List Msg) → IsList v (ends_at k ends) q → length q ≤ length v.rows → RanksAt c v.rows r q (option_map (msg_number v.mat) stop))
+      → option_map (msg_number v.mat) past ≡ along other v (ends_at k ends) (option_map (msg_number v.mat) stop)
+      → Becomes v' ends' b' first_m first_d spare_m spare_d (placed (dropped (value_of v b) i) k (put_by c rank_of (in_hand (value_of v b) i) (list_at (value_of v b) k)))
+  inserted c other stop past other_is before_is after_is place step =
+      let number = msg_number v.mat in
+      let w = subst (λ r. RanksAt c v.rows r q (option_map number stop)) rank-here (place q (listed.tied k) (queue-few is k)) in
       let tied = subst (λ (q : List Msg). IsList v (ends_at k ends) q) w.joined (listed.tied k) in
-      let behind = step ∙ ap (λ p. on v.mat (ahead_of v.rows) (ends_at k ends) p) w.place ∙ list-on v (ends_at k ends) w.front w.rear tied in
-      let puts = puts-behind v x q order _ w ∙ (λ j. put (sym (found-chain is l here) j) (sym (queue-value v b.lists k) j)) in
-      put-on is listed k within l here w.front w.rear w.joined e _ _ w.place behind seats first last nodes ends_are after (λ _. option_map (msg_number v.mat) after) n n_is roster_is _ puts
-      (subst (λ (z : List (List Block)). ranked.IsOrdered rank_of z) puts (behind-order v x q order _ w))
-
-  pub inserted-front : ((q : List Msg) → IsList v (ends_at k ends) q → length q ≤ length v.rows → RanksBefore v.rows r q (option_map (msg_number v.mat) after))
-      → option_map (msg_number v.mat) before ≡ back v.mat (behind_of v.rows) (ends_at k ends) (option_map (msg_number v.mat) after)
-      → Becomes v' ends' b' first_m first_d spare_m spare_d (placed (dropped (value_of v b) i) k (put_back (in_hand (value_of v b) i) (list_at (value_of v b) k)))
-  inserted-front place step =
-      let w = subst (λ r. RanksBefore v.rows r q (option_map (msg_number v.mat) after)) rank-here (place q (listed.tied k) (queue-few is k)) in
-      let tied = subst (λ (q : List Msg). IsList v (ends_at k ends) q) w.joined (listed.tied k) in
-      let front = step ∙ ap (λ p. back v.mat (behind_of v.rows) (ends_at k ends) p) w.place ∙ list-back v (ends_at k ends) w.front w.rear tied in
-      let puts = puts-before v x q order _ w ∙ (λ j. put_back (sym (found-chain is l here) j) (sym (queue-value v b.lists k) j)) in
-      put-on is listed k within l here w.front w.rear w.joined e _ _ front w.place seats first last nodes ends_are after (λ _. option_map (msg_number v.mat) after) n n_is roster_is _ puts
-      (subst (λ (z : List (List Block)). ranked.IsOrdered rank_of z) puts (before-order v x q order _ w))
+      let between = places v (ends_at k ends) c w.front w.rear tied _ _ w.place (step ∙ ap (λ d. along d v (ends_at k ends) (option_map number stop)) other_is) in
+      let at_before = ap (λ (o : Option MsgLink). option_map number o) before_is ∙ number-of number c past stop ∙ between.0 in
+      let at_after = ap (λ (o : Option MsgLink). option_map number o) after_is ∙ number-of number c stop past ∙ between.1 in
+      let puts = puts-there v x q order c _ w ∙ (λ j. put_by c rank_of (sym (found-chain is l here) j) (sym (queue-value v b.lists k) j)) in
+      put-on is listed k within l here w.front w.rear w.joined e _ _ at_before at_after seats first last nodes ends_are after (λ _. option_map number after) n n_is roster_is _ puts
+      (subst (λ (z : List (List Block)). ranked.IsOrdered rank_of z) puts (order-there v x q order c _ w))

@@ -14,6 +14,7 @@ pub mod Moved
 pub mod Seating
 pub mod Placing
 pub mod Inserting
+pub mod Popping
 pub mod Flushed
 pub mod Sound
 pub mod Stocking

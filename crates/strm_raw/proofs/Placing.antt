@@ -11,8 +11,10 @@ use Rattle.strm_blocks.specs.Blocks.{Block, rank_of}
 use Rattle.strm_raw.specs.Numbered.{Nodes, row_at, msg_number, IsMsgOrNone}
 use Rattle.strm_raw.specs.Roster.{Msg, Roster}
 use Rattle.strm_raw.specs.Raw.{ids, chain_of, IsRaw}
-use Rattle.strm_raw.specs.Lists.{IsList, queue_at, end_of, begin_of}
-use Rattle.strm_raw.specs.Places.{rank_at, msg_rank, RanksBehind, RanksBefore, StopsAt}
+use Rattle.strm_raw.specs.Lists.{IsList, queue_at, along, pick, ahead_of, behind_of, end_of, begin_of}
+use Rattle.strm_raw.specs.Places.{rank_at, msg_rank, Passes, Stops, RanksAt, StopsAt, passed_in, left_in, place_in, put_by}
+use Rattle.strm_raw.specs.declared.neighbours.Course.{Course}
+use Rattle.strm_raw.specs.declared.neighbours.Course.TheVariants.{On, Back}
 use Rattle.strm_raw.specs.declared.neighbours.Ends.{Ends}
 use Rattle.strm_raw.specs.declared.msg_nodes.MsgLink.{MsgLink}
 use Rattle.strm_raw.specs.declared.data_nodes.DataLink.{DataLink}
@@ -30,120 +32,92 @@ queue-few {b = b} is k =
     let c = is.counted_m in let f = messages-few (queue_at k b.lists) in
     let o = one-queue (λ q. sum_by (λ m. length (ids m)) q) refl b.lists k in omega arith
 
-module _ (v : Nodes) (e : Ends) (r : ℕ) where
-  abbrev number_of : Option MsgLink → Option ℕ
-  number_of o = option_map (msg_number v.mat) o
-
-  -- from the last message back, past those of a lower rank
+-- a walk in a course past the messages of a list that pass a test
+module _ (c : Course) (v : Nodes) (e : Ends) (passes stops : ℕ → Type 0) where
   pub record Passed (q : List Msg) (p : Option ℕ) (left : ℕ) : Type 0 where
     pub front : List Msg
     pub rear : List Msg
     pub joined : q ≡ front ++ rear
-    pub place : p ≡ end_of None front
-    pub lower : AllByRecursion (λ m. msg_rank v.rows m < r) rear
-    pub short : length front ≤ left
+    pub place : p ≡ place_in c front rear
+    pub passed : AllByRecursion (λ m. passes m.head) (passed_in c front rear)
+    pub short : length (left_in c front rear) ≤ left
 
-  pub record Backward (o : Option MsgLink) (left : ℕ) : Type 0 where
+  pub record Walking (o : Option MsgLink) (left : ℕ) : Type 0 where
     pub there : IsMsgOrNone v.mat (length v.rows) o
-    pub passed : (q : List Msg) → IsList v e q → length q ≤ length v.rows → Passed q (number_of o) left
+    pub parts : (q : List Msg) → IsList v e q → length q ≤ length v.rows → Passed q (option_map (msg_number v.mat) o) left
 
-  pub back-begins : IsMsgOrNone v.mat (length v.rows) e.last → (n : ℕ) → n ≡ length v.rows → Backward e.last n
-  back-begins there n all = record {
-    there = there;
-    passed = λ q t few. record { front = q; rear = []; joined = sym (append-nil q); place = list-end v e q t; lower = tt; short = omega arith };
-  }
+all-more : (passes : ℕ → Type 0) (xs : List Msg) (m : Msg) → AllByRecursion (λ m. passes m.head) xs → passes m.head → AllByRecursion (λ m. passes m.head) (xs ++ m ∷ [])
+all-more passes [] m all here = (here, tt)
+all-more passes (x ∷ xs) m all here = (all.0, all-more passes xs m all.1 here)
 
-  pub back-steps : (o : Option MsgLink) (left : ℕ) → Backward o left → 0 < left → (l : MsgLink) → o ≡ Some l → rank_at v.rows (msg_number v.mat l) < r
-      → (next : Option MsgLink) → number_of next ≡ (row_at (msg_number v.mat l) v.rows).behind → IsMsgOrNone v.mat (length v.rows) next → Backward next (left - 1)
-  back-steps o left w more l eq less next step there = record {
-    there = there;
-    passed = λ q t few. (
-        let p = w.passed q t few in
-        let f = a-last p.front (msg_number v.mat l) (sym p.place ∙ ap number_of eq) in
-        let joined = p.joined ∙ ap (λ xs. xs ++ p.rear) f.1.1.0 ∙ append_assoc f.0 (f.1.0 ∷ []) p.rear in
-        let seam = list-behind v e f.0 f.1.0 p.rear (subst (λ (q : List Msg). IsList v e q) joined t) in
-        let len = ap length f.1.1.0 ∙ length-append f.0 (f.1.0 ∷ []) in
-        record {
-          front = f.0;
-          rear = f.1.0 ∷ p.rear;
-          joined = joined;
-          place = step ∙ ap (λ i. (row_at i v.rows).behind) (sym f.1.1.1) ∙ seam;
-          lower = (subst (λ i. rank_at v.rows i < r) (sym f.1.1.1) less, p.lower);
-          short = let s = p.short in omega arith;
-        });
-  }
+at-end : (c : Course) (front rear : List Msg) → length (left_in c front rear) ≡ 0 → place_in c front rear ≡ None
+at-end On front rear z = ap begin_of (empty rear z)
+at-end Back front rear z = ap (λ xs. end_of None xs) (empty front z)
 
-  pub back-none : (o : Option MsgLink) (left : ℕ) → Backward o left → o ≡ None → (q : List Msg) → IsList v e q → length q ≤ length v.rows → RanksBehind v.rows r q None
-  back-none o left w eq q t few = let p = w.passed q t few in record { front = p.front; rear = p.rear; joined = p.joined; place = sym (ap number_of eq) ∙ p.place; lower = p.lower; upper = tt }
+module _ {v : Nodes} {e : Ends} {passes stops : ℕ → Type 0} where
+  begins : (c : Course) (p : Option ℕ) → p ≡ along c v e None → (q : List Msg) → IsList v e q → (n : ℕ) → length q ≤ n → Passed c v e passes stops q p n
+  begins On p is q t n few = record { front = []; rear = q; joined = refl; place = is ∙ list-begin v e q t; passed = tt; short = few }
+  begins Back p is q t n few = record { front = q; rear = []; joined = sym (append-nil q); place = is ∙ list-end v e q t; passed = tt; short = few }
 
-  pub back-stops : (o : Option MsgLink) (left : ℕ) → Backward o left → (l : MsgLink) → o ≡ Some l → r ≤ rank_at v.rows (msg_number v.mat l) → (q : List Msg) → IsList v e q → length q ≤ length v.rows → RanksBehind v.rows r q (number_of o)
-  back-stops o left w l eq le q t few =
-      let p = w.passed q t few in
-      record { front = p.front; rear = p.rear; joined = p.joined; place = p.place; lower = p.lower; upper = subst (λ (o : Option ℕ). MatchOption o (Unit {0}) (λ i. r ≤ rank_at v.rows i)) (sym (ap number_of eq)) le }
+  goes-past : (c : Course) (i : ℕ) (p' : Option ℕ) (left : ℕ) → passes i → p' ≡ along c v e (Some i) → (q : List Msg) → IsList v e q → Passed c v e passes stops q (Some i) left → Passed c v e passes stops q p' (left - 1)
+  goes-past On i p' left pass step q t p =
+      let f = a-first p.rear i (sym p.place) in
+      let joined = p.joined ∙ ap (λ ys. p.front ++ ys) f.1.1.0 in
+      let len = ap length f.1.1.0 in
+      record {
+        front = p.front ++ f.0 ∷ [];
+        rear = f.1.0;
+        joined = joined ∙ sym (append_assoc p.front (f.0 ∷ []) f.1.0);
+        place = step ∙ ap (λ i. (row_at i v.rows).ahead) (sym f.1.1.1) ∙ list-ahead v e p.front f.0 f.1.0 (subst (λ (q : List Msg). IsList v e q) joined t);
+        passed = all-more passes p.front f.0 p.passed (subst passes (sym f.1.1.1) pass);
+        short = let s = p.short in omega arith;
+      }
+  goes-past Back i p' left pass step q t p =
+      let f = a-last p.front i (sym p.place) in
+      let joined = p.joined ∙ ap (λ xs. xs ++ p.rear) f.1.1.0 ∙ append_assoc f.0 (f.1.0 ∷ []) p.rear in
+      let len = ap length f.1.1.0 ∙ length-append f.0 (f.1.0 ∷ []) in
+      record {
+        front = f.0;
+        rear = f.1.0 ∷ p.rear;
+        joined = joined;
+        place = step ∙ ap (λ i. (row_at i v.rows).behind) (sym f.1.1.1) ∙ list-behind v e f.0 f.1.0 p.rear (subst (λ (q : List Msg). IsList v e q) joined t);
+        passed = (subst passes (sym f.1.1.1) pass, p.passed);
+        short = let s = p.short in omega arith;
+      }
 
-  pub back-ends : (o : Option MsgLink) (left : ℕ) → Backward o left → left ≤ 0 → (q : List Msg) → IsList v e q → length q ≤ length v.rows → RanksBehind v.rows r q (number_of o)
-  back-ends o left w zero q t few =
-      let p = w.passed q t few in let s = p.short in
-      let none = empty p.front (omega arith) in
-      record { front = p.front; rear = p.rear; joined = p.joined; place = p.place; lower = p.lower; upper = subst (λ (o : Option ℕ). MatchOption o (Unit {0}) (λ i. r ≤ rank_at v.rows i)) (sym (p.place ∙ ap (λ xs. end_of None xs) none)) tt }
+  module _ {c : Course} {o : Option MsgLink} where
+    pub begins-at : IsMsgOrNone v.mat (length v.rows) o → option_map (msg_number v.mat) o ≡ along c v e None → (n : ℕ) → n ≡ length v.rows → Walking c v e passes stops o n
+    begins-at there is n all = record { there = there; parts = λ q t few. begins c _ is q t n (omega arith) }
 
--- from the first message on, past those that pass a test
-module _ (v : Nodes) (e : Ends) (passes stops : ℕ → Type 0) where
-  pub record Skipped (q : List Msg) (p : Option ℕ) (left : ℕ) : Type 0 where
-    pub front : List Msg
-    pub rear : List Msg
-    pub joined : q ≡ front ++ rear
-    pub place : p ≡ begin_of rear
-    pub passed : AllByRecursion (λ m. passes m.head) front
-    pub short : length rear ≤ left
+    module _ {left : ℕ} (w : Walking c v e passes stops o left) where
+      pub steps-past : (l : MsgLink) → o ≡ Some l → passes (msg_number v.mat l) → (next : Option MsgLink) → option_map (msg_number v.mat) next ≡ along c v e (Some (msg_number v.mat l)) → IsMsgOrNone v.mat (length v.rows) next
+          → Walking c v e passes stops next (left - 1)
+      steps-past l eq pass next step there = record {
+        there = there;
+        parts = λ q t few. goes-past c (msg_number v.mat l) _ left pass step q t (subst (λ (o : Option MsgLink). Passed c v e passes stops q (option_map (msg_number v.mat) o) left) eq (w.parts q t few));
+      }
 
-  pub record Forward (o : Option MsgLink) (left : ℕ) : Type 0 where
-    pub there : IsMsgOrNone v.mat (length v.rows) o
-    pub skipped : (q : List Msg) → IsList v e q → length q ≤ length v.rows → Skipped q (option_map (msg_number v.mat) o) left
+      pub stops-at : MatchOption (option_map (msg_number v.mat) o) (Unit {0}) stops → (q : List Msg) → IsList v e q → length q ≤ length v.rows → StopsAt c passes stops q (option_map (msg_number v.mat) o)
+      stops-at stop q t few = let p = w.parts q t few in record { front = p.front; rear = p.rear; joined = p.joined; place = p.place; passed = p.passed; stopped = stop }
 
-  pub on-begins : IsMsgOrNone v.mat (length v.rows) e.first → (n : ℕ) → n ≡ length v.rows → Forward e.first n
-  on-begins there n all = record {
-    there = there;
-    skipped = λ q t few. record { front = []; rear = q; joined = refl; place = list-begin v e q t; passed = tt; short = omega arith };
-  }
+      pub stops-none : o ≡ None → (q : List Msg) → IsList v e q → length q ≤ length v.rows → StopsAt c passes stops q None
+      stops-none none q t few = subst (λ (o : Option MsgLink). StopsAt c passes stops q (option_map (msg_number v.mat) o)) none
+          (stops-at (subst (λ (o : Option MsgLink). MatchOption (option_map (msg_number v.mat) o) (Unit {0}) stops) (sym none) tt) q t few)
 
-  all-more : (xs : List Msg) (m : Msg) → AllByRecursion (λ m. passes m.head) xs → passes m.head → AllByRecursion (λ m. passes m.head) (xs ++ m ∷ [])
-  all-more [] m all here = (here, tt)
-  all-more (x ∷ xs) m all here = (all.0, all-more xs m all.1 here)
+      pub stops-here : (l : MsgLink) → o ≡ Some l → stops (msg_number v.mat l) → (q : List Msg) → IsList v e q → length q ≤ length v.rows → StopsAt c passes stops q (Some (msg_number v.mat l))
+      stops-here l eq stop q t few = subst (λ (o : Option MsgLink). StopsAt c passes stops q (option_map (msg_number v.mat) o)) eq
+          (stops-at (subst (λ (o : Option MsgLink). MatchOption (option_map (msg_number v.mat) o) (Unit {0}) stops) (sym eq) stop) q t few)
 
-  pub on-steps : (o : Option MsgLink) (left : ℕ) → Forward o left → 0 < left → (l : MsgLink) → o ≡ Some l → passes (msg_number v.mat l)
-      → (next : Option MsgLink) → option_map (msg_number v.mat) next ≡ (row_at (msg_number v.mat l) v.rows).ahead → IsMsgOrNone v.mat (length v.rows) next → Forward next (left - 1)
-  on-steps o left w more l eq pass next step there = record {
-    there = there;
-    skipped = λ q t few. (
-        let p = w.skipped q t few in
-        let f = a-first p.rear (msg_number v.mat l) (sym p.place ∙ ap (λ o. option_map (msg_number v.mat) o) eq) in
-        let joined = p.joined ∙ ap (λ ys. p.front ++ ys) f.1.1.0 in
-        let seam = list-ahead v e p.front f.0 f.1.0 (subst (λ (q : List Msg). IsList v e q) joined t) in
-        let len = ap length f.1.1.0 in
-        record {
-          front = p.front ++ f.0 ∷ [];
-          rear = f.1.0;
-          joined = joined ∙ sym (append_assoc p.front (f.0 ∷ []) f.1.0);
-          place = step ∙ ap (λ i. (row_at i v.rows).ahead) (sym f.1.1.1) ∙ seam;
-          passed = all-more p.front f.0 p.passed (subst passes (sym f.1.1.1) pass);
-          short = let s = p.short in omega arith;
-        });
-  }
+      pub stops-last : left ≤ 0 → (q : List Msg) → IsList v e q → length q ≤ length v.rows → StopsAt c passes stops q (option_map (msg_number v.mat) o)
+      stops-last zero q t few =
+          let x = w.parts q t few in let s = x.short in
+          stops-at (subst (λ (o : Option ℕ). MatchOption o (Unit {0}) stops) (sym (x.place ∙ at-end c x.front x.rear (omega arith))) tt) q t few
 
-  pub on-none : (o : Option MsgLink) (left : ℕ) → Forward o left → o ≡ None → (q : List Msg) → IsList v e q → length q ≤ length v.rows → StopsAt passes stops q None
-  on-none o left w eq q t few = let p = w.skipped q t few in record { front = p.front; rear = p.rear; joined = p.joined; place = sym (ap (λ o. option_map (msg_number v.mat) o) eq) ∙ p.place; passed = p.passed; stopped = tt }
-
-  pub on-stops : (o : Option MsgLink) (left : ℕ) → Forward o left → (l : MsgLink) → o ≡ Some l → stops (msg_number v.mat l) → (q : List Msg) → IsList v e q → length q ≤ length v.rows → StopsAt passes stops q (option_map (msg_number v.mat) o)
-  on-stops o left w l eq stop q t few =
-      let p = w.skipped q t few in
-      record { front = p.front; rear = p.rear; joined = p.joined; place = p.place; passed = p.passed; stopped = subst (λ (o : Option ℕ). MatchOption o (Unit {0}) stops) (sym (ap (λ o. option_map (msg_number v.mat) o) eq)) stop }
-
-  pub on-ends : (o : Option MsgLink) (left : ℕ) → Forward o left → left ≤ 0 → (q : List Msg) → IsList v e q → length q ≤ length v.rows → StopsAt passes stops q (option_map (msg_number v.mat) o)
-  on-ends o left w zero q t few =
-      let p = w.skipped q t few in let s = p.short in
-      let none = empty p.rear (omega arith) in
-      record { front = p.front; rear = p.rear; joined = p.joined; place = p.place; passed = p.passed; stopped = subst (λ (o : Option ℕ). MatchOption o (Unit {0}) stops) (sym (p.place ∙ ap begin_of none)) tt }
+-- the next one in a course, of the two neighbours of a message
+pub next-there : (c : Course) (v : Nodes) (e : Ends) (i : ℕ) (x y next : Option MsgLink) → next ≡ pick c x y → option_map (msg_number v.mat) x ≡ ahead_of v.rows i → option_map (msg_number v.mat) y ≡ behind_of v.rows i
+    → IsMsgOrNone v.mat (length v.rows) x → IsMsgOrNone v.mat (length v.rows) y → (option_map (msg_number v.mat) next ≡ along c v e (Some i)) × IsMsgOrNone v.mat (length v.rows) next
+next-there On v e i x y next is ahead behind there_x there_y = (ap (λ (o : Option MsgLink). option_map (msg_number v.mat) o) is ∙ ahead, subst (λ (o : Option MsgLink). IsMsgOrNone v.mat (length v.rows) o) (sym is) there_x)
+next-there Back v e i x y next is ahead behind there_x there_y = (ap (λ (o : Option MsgLink). option_map (msg_number v.mat) o) is ∙ behind, subst (λ (o : Option MsgLink). IsMsgOrNone v.mat (length v.rows) o) (sym is) there_y)
 
 -- a put between members of at least a rank and members of a lower one, and a put back between higher ones and lower ones
 module _ {A : Type 0} (rank : A → ℕ) (m : A) where
@@ -188,22 +162,27 @@ module _ (v : Nodes) (x : Msg) (q : List Msg) (order : ranked.IsOrdered rank_of 
   low-first [] low = tt
   low-first (y ∷ ys) low = low
 
-  pub puts-behind : (p : Option ℕ) (w : RanksBehind v.rows (rank x) q p) → map (chain_of v) (w.front ++ x ∷ w.rear) ≡ ranked.put rank_of (chain_of v x) (map (chain_of v) q)
-  puts-behind p w =
-      let o = subst (λ (q : List Msg). ranked.IsOrdered rank q) w.joined (in-order q order) in
-      let high = high-all w.front w.rear o (subst (λ (p : Option ℕ). MatchOption p (Unit {0}) (λ i. rank x ≤ rank_at v.rows i)) w.place w.upper) in
-      ap (λ q. map (chain_of v) q) (sym (put-between rank x w.front w.rear high w.lower) ∙ ap (λ q. ranked.put rank x q) (sym w.joined))
-      ∙ put-map (chain_of v) rank rank_of (λ m. refl) x q
+  -- the place is that of the rank
+  between : (c : Course) (xs ys : List Msg) → ranked.IsOrdered rank (xs ++ ys) → AllByRecursion (λ m. Passes c (rank x) (rank m)) (passed_in c xs ys) → MatchOption (place_in c xs ys) (Unit {0}) (λ i. Stops c (rank x) (rank_at v.rows i))
+      → put_by c rank x (xs ++ ys) ≡ xs ++ x ∷ ys
+  between On xs ys o passed stopped = put_back-between rank x xs ys passed (low-first ys stopped)
+  between Back xs ys o passed stopped = put-between rank x xs ys (high-all xs ys o stopped) passed
 
-  pub puts-before : (p : Option ℕ) (w : RanksBefore v.rows (rank x) q p) → map (chain_of v) (w.front ++ x ∷ w.rear) ≡ ranked.put_back rank_of (chain_of v x) (map (chain_of v) q)
-  puts-before p w =
-      let low = low-first w.rear (subst (λ (p : Option ℕ). MatchOption p (Unit {0}) (λ i. rank_at v.rows i ≤ rank x)) w.place w.stopped) in
-      ap (λ q. map (chain_of v) q) (sym (put_back-between rank x w.front w.rear w.passed low) ∙ ap (λ q. ranked.put_back rank x q) (sym w.joined))
-      ∙ put_back-map (chain_of v) rank rank_of (λ m. refl) x q
+  mapped : (c : Course) (q : List Msg) → map (chain_of v) (put_by c rank x q) ≡ put_by c rank_of (chain_of v x) (map (chain_of v) q)
+  mapped On q = put_back-map (chain_of v) rank rank_of (λ m. refl) x q
+  mapped Back q = put-map (chain_of v) rank rank_of (λ m. refl) x q
 
-  -- and the list stays in order
-  pub behind-order : (p : Option ℕ) (w : RanksBehind v.rows (rank x) q p) → ranked.IsOrdered rank_of (map (chain_of v) (w.front ++ x ∷ w.rear))
-  behind-order p w = subst (λ (q : List (List Block)). ranked.IsOrdered rank_of q) (sym (puts-behind p w)) (Ordered-put rank_of (chain_of v x) (map (chain_of v) q) order)
+  stays-ordered : (c : Course) (z : List (List Block)) → ranked.IsOrdered rank_of z → ranked.IsOrdered rank_of (put_by c rank_of (chain_of v x) z)
+  stays-ordered On z o = Ordered-put_back rank_of (chain_of v x) z o
+  stays-ordered Back z o = Ordered-put rank_of (chain_of v x) z o
 
-  pub before-order : (p : Option ℕ) (w : RanksBefore v.rows (rank x) q p) → ranked.IsOrdered rank_of (map (chain_of v) (w.front ++ x ∷ w.rear))
-  before-order p w = subst (λ (q : List (List Block)). ranked.IsOrdered rank_of q) (sym (puts-before p w)) (Ordered-put_back rank_of (chain_of v x) (map (chain_of v) q) order)
+  module _ (c : Course) (p : Option ℕ) (w : RanksAt c v.rows (rank x) q p) where
+    pub puts-there : map (chain_of v) (w.front ++ x ∷ w.rear) ≡ put_by c rank_of (chain_of v x) (map (chain_of v) q)
+    puts-there =
+        let o = subst (λ (q : List Msg). ranked.IsOrdered rank q) w.joined (in-order q order) in
+        let stopped = subst (λ (p : Option ℕ). MatchOption p (Unit {0}) (λ i. Stops c (rank x) (rank_at v.rows i))) w.place w.stopped in
+        ap (λ q. map (chain_of v) q) (sym (between c w.front w.rear o w.passed stopped) ∙ ap (λ q. put_by c rank x q) (sym w.joined)) ∙ mapped c q
+
+    -- and the list stays in order
+    pub order-there : ranked.IsOrdered rank_of (map (chain_of v) (w.front ++ x ∷ w.rear))
+    order-there = subst (λ (q : List (List Block)). ranked.IsOrdered rank_of q) (sym puts-there) (stays-ordered c (map (chain_of v) q) order)

@@ -1,5 +1,5 @@
 -- All blocks linked as free ones.
-use Rattle.std.proofs.Common.{ℕ, zero, suc, ◌≡◌, ◌<◌, ◌≤◌, ◌+◌, ◌-◌, true, false, cond, eqb, ltb, List, ◌∷◌, length, refl, sym, ap, ◌∙◌, subst, arith, inl, inr}
+use Rattle.std.proofs.Common.{ℕ, zero, suc, ◌≡◌, ◌<◌, ◌≤◌, ◌+◌, ◌-◌, true, false, cond, eqb, ltb, List, ◌∷◌, length, get_or, refl, sym, ap, ◌∙◌, subst, arith, inl, inr}
 use Rattle.std.proofs.Math.ListN.{set, length-set}
 use Rattle.std.specs.Prelude.{Option, Some, None, option_map}
 use Rattle.std.proofs.lemmas.Bool.Decides.{nat_tests}
@@ -31,14 +31,33 @@ pub numbers-len : (a k : ℕ) → length (numbers a k) ≡ k
 numbers-len a zero = refl
 numbers-len a (suc k) = let ih = numbers-len (suc a) k in omega arith
 
-first-break : (next : ℕ → Option ℕ) (i j : ℕ) (xs : List ℕ) → i ≡ j → breaks next (next j) xs ≡ 0 → breaks next (Some i) (j ∷ xs) ≡ 0
+first-break : (next : ℕ → Option ℕ) (i : ℕ) (xs : List ℕ) → breaks next (next i) xs ≡ 0 → breaks next (Some i) (i ∷ xs) ≡ 0
 unfolding breaks
-first-break next i j xs e z = let g = ap (λ k. gap (Some k) (Some j)) e ∙ gap-self (Some j) in omega arith
+first-break next i xs z = let g = gap-self (Some i) in omega arith
 
 nothing-left : (next : ℕ → Option ℕ) (a k : ℕ) → k ≡ 0 → breaks next None (numbers a k) ≡ 0
 unfolding breaks
 nothing-left next a zero e = refl
 nothing-left next a (suc k) e = absurd (omega arith)
+
+-- nodes of a kind, and their links
+module _ {X : Type 0} (none : X) (next : X → Option ℕ) where
+  abbrev after : List X → ℕ → Option ℕ
+  after xs i = next (get_or xs i none)
+
+  -- one more is the first of those from a number on
+  linked-more : (xs : List X) (x : X) (from n : ℕ) → 0 < from → from ≤ n → n ≡ length xs → breaks (after xs) (next x) (numbers from (n - from)) ≡ 0
+      → breaks (after (set xs (from - 1) x)) (Some (from - 1)) (numbers (from - 1) (n - (from - 1))) ≡ 0
+  linked-more xs x from n more within len had =
+      let i = from - 1 in
+      let count : n - i ≡ suc (n - from) = omega arith in
+      let up : suc i ≡ from = omega arith in
+      let rest = numbers (suc i) (n - from) in
+      let here : after (set xs i x) i ≡ next x = ap next (get_or-set_same xs i x none (omega arith)) in
+      let others = breaks-apart i (after xs) (after (set xs i x)) (λ k other. ap next (get_or-set_other xs i k x none other)) (next x) rest (times-below i (suc i) (n - from) (omega arith)) in
+      let behind = ap (λ k. breaks (after xs) (next x) (numbers k (n - from))) up ∙ had in
+      ap (λ k. breaks (after (set xs i x)) (Some i) (numbers i k)) count
+      ∙ first-break (after (set xs i x)) i rest (ap (λ o. breaks (after (set xs i x)) o rest) here ∙ others ∙ behind)
 
 pub thread-begin : (old : Nodes) (n : ℕ) → n ≡ length old.rows → ThreadsMessages old old None n
 thread-begin old n e = record {
@@ -80,15 +99,8 @@ module _ {old new : Nodes} {first : Option MsgLink} {from : ℕ} (is : ThreadsMe
 
     linked-here : breaks (next_of xs) (Some (msg_number old.mat at)) (numbers i (length old.rows - i)) ≡ 0
     linked-here =
-        let count : length old.rows - i ≡ suc (length old.rows - from) = omega arith in
-        let up : suc i ≡ from = omega arith in
-        let n = ap (λ m. msg_number m at) (sym mat) ∙ number in
-        let next : next_of xs i ≡ option_map (msg_number old.mat) first = ap (λ (x : Row). x.next) (get_or-set_same new.rows i r no_row here) in
-        let rest = numbers (suc i) (length old.rows - from) in
-        let others = breaks-apart i (next_of new.rows) (next_of xs) (λ k other. ap (λ (x : Row). x.next) (get_or-set_other new.rows i k r no_row other)) (option_map (msg_number old.mat) first) rest (times-below i (suc i) (length old.rows - from) (omega arith)) in
-        let had : breaks (next_of new.rows) (option_map (msg_number old.mat) first) rest ≡ 0 = ap (λ k. breaks (next_of new.rows) (option_map (msg_number old.mat) first) (numbers k (length old.rows - from))) up ∙ is.linked in
-        ap (λ k. breaks (next_of xs) (Some (msg_number old.mat at)) (numbers i k)) count
-        ∙ first-break (next_of xs) (msg_number old.mat at) i rest n (ap (λ o. breaks (next_of xs) o rest) next ∙ others ∙ had)
+        ap (λ k. breaks (next_of xs) (Some k) (numbers i (length old.rows - i))) (ap (λ m. msg_number m at) (sym mat) ∙ number)
+        ∙ linked-more no_row (λ (x : Row). x.next) new.rows r from (length old.rows) more within (sym is.len) is.linked
 
     pub thread-step : ThreadsMessages old new2 (Some at) i
     thread-step = record {
@@ -140,15 +152,8 @@ module _ {old new : Nodes} {first : Option DataLink} {from : ℕ} (is : ThreadsD
 
     linked-data : breaks (free_after ys) (Some (data_number old.dat at)) (numbers d (length old.datas - d)) ≡ 0
     linked-data =
-        let count : length old.datas - d ≡ suc (length old.datas - from) = omega arith in
-        let up : suc d ≡ from = omega arith in
-        let n = ap (λ m. data_number m at) (sym dat) ∙ number_d in
-        let next : free_after ys d ≡ option_map (data_number old.dat) first = ap (λ (x : DataRow). x.next) x-is in
-        let rest = numbers (suc d) (length old.datas - from) in
-        let others = breaks-apart d (free_after new.datas) (free_after ys) (λ k other. ap (λ (x : DataRow). x.next) (get_or-set_other new.datas d k x no_data other)) (option_map (data_number old.dat) first) rest (times-below d (suc d) (length old.datas - from) (omega arith)) in
-        let had : breaks (free_after new.datas) (option_map (data_number old.dat) first) rest ≡ 0 = ap (λ k. breaks (free_after new.datas) (option_map (data_number old.dat) first) (numbers k (length old.datas - from))) up ∙ is.linked in
-        ap (λ k. breaks (free_after ys) (Some (data_number old.dat at)) (numbers d k)) count
-        ∙ first-break (free_after ys) (data_number old.dat at) d rest n (ap (λ o. breaks (free_after ys) o rest) next ∙ others ∙ had)
+        ap (λ k. breaks (free_after ys) (Some k) (numbers d (length old.datas - d))) (ap (λ m. data_number m at) (sym dat) ∙ number_d)
+        ∙ linked-more no_data (λ (x : DataRow). x.next) new.datas x from (length old.datas) more within (sym is.len) is.linked
 
     pub thread_data-step : ThreadsData old new2 (Some at) d
     thread_data-step = record {

@@ -8,5 +8,6 @@ pub mod Raw
 pub mod Lists
 pub mod Places
 pub mod Flushing
+pub mod Changes
 pub mod Tails
 pub mod RawStore

@@ -2,10 +2,13 @@
 use Rattle.std.specs.Prelude.{ℕ, ◌≡◌, ◌≢◌, ◌≤◌, ◌==◌, if◌then◌else◌, List, [], ◌∷◌, length, sum_by, slice_index_or, slice_set, Option, None, Some, option_map}
 use denote.RawPtr.{Ptr}
 use Rattle.strm_types.specs.Ranked as ranked
-use Rattle.strm_blocks.specs.Blocks.{rank_of, list_at}
+use Rattle.strm_blocks.specs.Blocks.{StoreValue, rank_of, list_at}
+use Rattle.strm_blocks.specs.Outcomes.{Popped, PoppedLast}
 use Rattle.strm_raw.specs.Numbered.{Nodes, Row, row_at, msg_number, IsMsgOrNone}
 use Rattle.strm_raw.specs.Roster.{Msg, Roster}
 use Rattle.strm_raw.specs.Raw.{value_of, msg_in, without_in, ids, broken}
+use Rattle.strm_raw.specs.declared.neighbours.Course.{Course}
+use Rattle.strm_raw.specs.declared.neighbours.Course.TheVariants.{On, Back}
 use Rattle.strm_raw.specs.declared.neighbours.Ends.{Ends}
 use Rattle.strm_raw.specs.declared.msg_nodes.MsgLink.{MsgLink}
 
@@ -38,6 +41,20 @@ on mat ahead ends = lead mat ends.first ahead
 
 abbrev pub back : Ptr → (ℕ → Option ℕ) → Ends → Step
 back mat behind ends = lead mat ends.last behind
+
+-- the end at which a list begins in a course, and where it leads in that course
+abbrev pub edge : Course → Ends → Option MsgLink
+edge On ends = ends.first
+edge Back ends = ends.last
+
+abbrev pub along : Course → Nodes → Ends → Step
+along On v ends = on v.mat (ahead_of v.rows) ends
+along Back v ends = back v.mat (behind_of v.rows) ends
+
+-- of two, the one for a course
+abbrev pub pick : {A : Type 0} → Course → A → A → A
+pick On x y = x
+pick Back x y = y
 
 -- from a place on, the steps on lead through the messages in order and to the outside, and each step back undoes one on
 abbrev pub IsTied : Step → Step → Option ℕ → List Msg → Type 0
@@ -113,3 +130,8 @@ pub record Unseats (v v' : Nodes) (ends ends' : List Ends) (b b' : Roster) (k : 
   pub last : IsMsgOrNone v.mat (length v.rows) after.last
   pub ends_are : ends' ≡ slice_set ends k after
   pub roster_is : b' ≡ unseated k l b
+
+-- the message at the end of a list where it begins in a course is taken off it, and is in hand
+abbrev pub PoppedBy : Course → StoreValue → StoreValue → ℕ → ℕ → Type 0
+PoppedBy On = Popped
+PoppedBy Back = PoppedLast

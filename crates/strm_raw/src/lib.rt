@@ -2,6 +2,7 @@
 #![tactic(auto)]
 
 mod chains;
+mod changes;
 mod data_nodes;
 mod flushing;
 mod ledger;

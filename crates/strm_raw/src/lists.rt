@@ -1,13 +1,17 @@
-//! A message that goes off the list on which it stands.
-ghost use Rattle.std.specs.Prelude.{◌≡◌, ◌<◌, length};
-ghost use Rattle.strm_blocks.specs.Blocks.{token};
+//! A message that goes on a list, and one that goes off it.
+ghost use Rattle.std.specs.Prelude.{◌≡◌, ◌<◌, length, MatchOption};
+ghost use Rattle.strm_blocks.specs.Blocks.{IsInHand, dropped, in_hand, list_at, placed, rank_of, token};
+ghost use Rattle.strm_blocks.specs.Outcomes.{Unpopped};
 ghost use Rattle.strm_raw.specs.Numbered.{IsMsg, IsMsgOrNone, msg_number};
-ghost use Rattle.strm_raw.specs.Lists.{Unseats, ends_at};
+ghost use Rattle.strm_raw.specs.Lists.{PoppedBy, Unseats, ends_at};
+ghost use Rattle.strm_raw.specs.Places.{put_by};
 
 use crate::ledger::Ledger;
 use crate::memory::Memory;
 use crate::msg_nodes::MsgLink;
-use crate::neighbours::{Ends, tie};
+use crate::neighbours::{Course, Ends, beside, pick, seat, tie};
+use crate::ranks::{rank_of, ranked};
+use crate::raw::RawStore;
 use std::ptr::null_mut;
 use strm_blocks::InHand;
 
@@ -30,4 +34,41 @@ pub(crate) fn unseat(
     ends[list] = tie(memory, ends[list], node.behind, node.ahead);
     ledger.note(at.at, null_mut(), list, 0);
     InHand::of(node.name)
+}
+
+impl RawStore {
+    /// Puts a message on a list, at the place of its rank to which a walk in a course comes.
+    #[inline(always)]
+    pub(crate) fn insert(&mut self, list: usize, message: InHand, course: Course)
+        requires list { list < 8 }
+        requires in_hand { IsInHand self.old (token message) }
+        ensures { let s = self.old in
+            self.new ≡ placed (dropped s (token message)) list (put_by course rank_of (in_hand s (token message)) (list_at s list)) }
+    {
+        let at = self.memory.message_link(message.name() as usize);
+        let rank = rank_of(self.memory.message(at));
+        let ends = self.ends[list];
+        let stop = ranked(&self.memory, ends, course, rank);
+        let other = pick(course, Course::Back, Course::On);
+        let past = beside(&self.memory, ends, other, stop);
+        let after = pick(course, stop, past);
+        let before = pick(course, past, stop);
+        self.ends[list] = seat(&mut self.memory, ends, before, at, after);
+        let next = after.unwrap_or(at);
+        self.ledger
+            .note(next.at, null_mut(), list, message.name() as usize);
+    }
+
+    /// Takes the message off a list, if there is one, that stands where the list begins in a course.
+    #[inline(always)]
+    pub(crate) fn take_end(&mut self, list: usize, course: Course) -> Option<InHand>
+        requires { list < 8 }
+        ensures { MatchOption result (Unpopped self.old self.new list) (λ m. PoppedBy course self.old self.new list (token m)) }
+    {
+        let Some(at) = beside(&self.memory, self.ends[list], course, None) else {
+            return None;
+        };
+        let message = unseat(&mut self.memory, &mut self.ends, &mut self.ledger, list, at);
+        Some(message)
+    }
 }

@@ -1,7 +1,7 @@
 //! The two ends of a list of messages, and its links.
 ghost use Rattle.std.specs.Prelude.{◌≡◌, length, option_map, MatchOption};
 ghost use Rattle.strm_raw.specs.Numbered.{IsMsg, IsMsgOrNone, msg_number, row_at, with_row};
-ghost use Rattle.strm_raw.specs.Lists.{Seats, Ties, ahead_of, back, behind_of, on};
+ghost use Rattle.strm_raw.specs.Lists.{Seats, Ties, along, edge, pick};
 
 use crate::memory::Memory;
 use crate::msg_nodes::{MsgLink, MsgNode};
@@ -18,6 +18,24 @@ pub(crate) const NO_ENDS: Ends = Ends {
     first: None,
     last: None,
 };
+
+/// A course along a list: on from its first message, or back from its last one.
+#[derive(Clone, Copy)]
+pub(crate) enum Course {
+    On,
+    Back,
+}
+
+/// Of two values, the one for a course.
+#[inline(always)]
+pub(crate) fn pick<A: Copy>(course: Course, on: A, back: A) -> A
+    ensures { result ≡ pick course on back }
+{
+    match course {
+        Course::On => on,
+        Course::Back => back,
+    }
+}
 
 // Lets a list lead on from a message, or from its outside, to another one.
 fn lead_on(memory: &mut Memory, ends: Ends, from: Option<MsgLink>, to: Option<MsgLink>) -> Ends
@@ -79,31 +97,25 @@ pub(crate) fn tie(
     lead_back(memory, led, after, before)
 }
 
-/// The message to which a list leads on from a message, or from its outside.
-pub(crate) fn ahead(memory: &Memory, ends: Ends, from: Option<MsgLink>) -> Option<MsgLink>
-    requires first { IsMsgOrNone memory.now.mat (length memory.now.rows) ends.first }
+/// The message to which a list leads in a course from a message, or from its outside.
+#[inline(always)]
+pub(crate) fn beside(
+    memory: &Memory,
+    ends: Ends,
+    course: Course,
+    from: Option<MsgLink>,
+) -> Option<MsgLink>
+    requires edge { IsMsgOrNone memory.now.mat (length memory.now.rows) (edge course ends) }
     requires from { IsMsgOrNone memory.now.mat (length memory.now.rows) from }
     ensures there { IsMsgOrNone memory.now.mat (length memory.now.rows) result }
-    ensures step { let v = memory.now in
-        option_map (msg_number v.mat) result ≡ on v.mat (ahead_of v.rows) ends (option_map (msg_number v.mat) from) }
+    ensures step { let v = memory.now in option_map (msg_number v.mat) result ≡ along course v ends (option_map (msg_number v.mat) from) }
 {
     match from {
-        None => ends.first,
-        Some(at) => memory.message(at).ahead,
-    }
-}
-
-/// The message to which a list leads back from a message, or from its outside.
-pub(crate) fn behind(memory: &Memory, ends: Ends, from: Option<MsgLink>) -> Option<MsgLink>
-    requires last { IsMsgOrNone memory.now.mat (length memory.now.rows) ends.last }
-    requires from { IsMsgOrNone memory.now.mat (length memory.now.rows) from }
-    ensures there { IsMsgOrNone memory.now.mat (length memory.now.rows) result }
-    ensures step { let v = memory.now in
-        option_map (msg_number v.mat) result ≡ back v.mat (behind_of v.rows) ends (option_map (msg_number v.mat) from) }
-{
-    match from {
-        None => ends.last,
-        Some(at) => memory.message(at).behind,
+        None => pick(course, ends.first, ends.last),
+        Some(at) => {
+            let node = memory.message(at);
+            pick(course, node.ahead, node.behind)
+        }
     }
 }
 

@@ -1,11 +1,10 @@
 //! The calls of the store, and what each of them costs.
 
 use crate::chains::{block_link, chain_bytes, chain_len, last_link};
+use crate::changes::Change;
 use crate::data_nodes::DataNode;
-use crate::lists::unseat;
 use crate::msg_nodes::MsgNode;
-use crate::neighbours::{NO_ENDS, ahead, behind, seat};
-use crate::ranks::{first_ranked, last_ranked, rank_of};
+use crate::neighbours::{Course, NO_ENDS};
 use crate::raw::RawStore;
 use crate::tails::hang;
 use crate::threading::{thread_data, thread_messages};
@@ -158,22 +157,12 @@ impl Blocks for RawStore {
 
     /// It takes a step for each block before block `at`.
     fn trim_head(&mut self, message: &InHand, at: usize, n: usize) {
-        let first = self.memory.message_link(message.name() as usize);
-        let link = block_link(&self.memory, first, at);
-        let node = self.memory.message(link);
-        let shown = self.memory.datum(node.number).bytes[node.start..node.end].len();
-        let start = node.start + n.min(shown);
-        self.memory.set_message(link, MsgNode { start, ..node });
+        self.change(message, at, Change::Head(n));
     }
 
     /// It takes a step for each block before block `at`.
     fn trim_tail(&mut self, message: &InHand, at: usize, n: usize) {
-        let first = self.memory.message_link(message.name() as usize);
-        let link = block_link(&self.memory, first, at);
-        let node = self.memory.message(link);
-        let shown = self.memory.datum(node.number).bytes[node.start..node.end].len();
-        let end = node.end - n.min(shown);
-        self.memory.set_message(link, MsgNode { end, ..node });
+        self.change(message, at, Change::Tail(n));
     }
 
     /// It takes a step for each block.
@@ -198,10 +187,7 @@ impl Blocks for RawStore {
 
     /// It takes a step for each block before block `at`.
     fn set_kind(&mut self, message: &InHand, at: usize, kind: MsgKind) {
-        let first = self.memory.message_link(message.name() as usize);
-        let link = block_link(&self.memory, first, at);
-        let node = self.memory.message(link);
-        self.memory.set_message(link, MsgNode { kind, ..node });
+        self.change(message, at, Change::Kind(kind));
     }
 
     /// The cost is the same whatever the message's length.
@@ -225,15 +211,8 @@ impl Blocks for RawStore {
 
     /// The cost is the same whatever the message's length.
     fn set_band(&mut self, message: &InHand, band: Band) {
-        let first = self.memory.message_link(message.name() as usize);
-        let node = self.memory.message(first);
-        self.memory.set_message(
-            first,
-            MsgNode {
-                band: band.0,
-                ..node
-            },
-        );
+        let _ = &self.ledger;
+        self.change(message, 0, Change::Band(band.0));
     }
 
     /// One load.
@@ -245,59 +224,23 @@ impl Blocks for RawStore {
     /// It takes one step where the last message of the list has at least the new one's rank, and else a step for each
     /// message that is passed.
     fn insert_back(&mut self, list: usize, message: InHand) {
-        let at = self.memory.message_link(message.name() as usize);
-        let rank = rank_of(self.memory.message(at));
-        let ends = self.ends[list];
-        let before = last_ranked(&self.memory, ends, rank);
-        let after = ahead(&self.memory, ends, before);
-        self.ends[list] = seat(&mut self.memory, ends, before, at, after);
-        let next = after.unwrap_or(at);
-        self.ledger
-            .note(next.at, null_mut(), list, message.name() as usize);
+        self.insert(list, message, Course::Back);
     }
 
     /// It takes one step where the first message of the list has at most the new one's rank, and else a step for each
     /// message that is passed.
     fn insert_front(&mut self, list: usize, message: InHand) {
-        let at = self.memory.message_link(message.name() as usize);
-        let rank = rank_of(self.memory.message(at));
-        let ends = self.ends[list];
-        let after = first_ranked(&self.memory, ends, rank);
-        let before = behind(&self.memory, ends, after);
-        self.ends[list] = seat(&mut self.memory, ends, before, at, after);
-        let next = after.unwrap_or(at);
-        self.ledger
-            .note(next.at, null_mut(), list, message.name() as usize);
+        self.insert(list, message, Course::On);
     }
 
     /// The cost is the same whatever the list's length.
     fn pop(&mut self, list: usize) -> Option<InHand> {
-        let Some(first) = self.ends[list].first else {
-            return None;
-        };
-        let message = unseat(
-            &mut self.memory,
-            &mut self.ends,
-            &mut self.ledger,
-            list,
-            first,
-        );
-        Some(message)
+        self.take_end(list, Course::On)
     }
 
     /// The cost is the same whatever the list's length.
     fn pop_last(&mut self, list: usize) -> Option<InHand> {
-        let Some(last) = self.ends[list].last else {
-            return None;
-        };
-        let message = unseat(
-            &mut self.memory,
-            &mut self.ends,
-            &mut self.ledger,
-            list,
-            last,
-        );
-        Some(message)
+        self.take_end(list, Course::Back)
     }
 
     /// The cost is the same whatever the list's length.

@@ -1,21 +1,21 @@
 use Rattle.std.proofs.Common.{refl, sym, ap, ◌∙◌}
 use Rattle.std.proofs.Math.ListN.{set}
-use Rattle.strm_blocks.specs.Blocks.{token, in_hand, list_at, dropped, placed, put}
+use Rattle.strm_blocks.specs.Blocks.{token, in_hand, list_at, dropped, placed, rank_of}
 use Rattle.strm_raw.specs.Numbered.{Row}
 use Rattle.strm_raw.specs.Lists.{seated}
-use Rattle.strm_raw.specs.Places.{rank_by}
+use Rattle.strm_raw.specs.Places.{put_by, rank_by}
 use Rattle.strm_raw.specs.declared.msg_nodes.MsgLink.{MsgLink}
 use Rattle.strm_raw.proofs.Finding as finding
 use Rattle.strm_raw.proofs.Becoming.{Becomes, becomes-as}
-use Rattle.strm_raw.proofs.Inserting.{inserted-back}
-use Rattle.strm_raw.proofs.store.RawStoreBlocks.insert_back.Goals as goal
-use Rattle.strm_raw.proofs.store.RawStoreBlocks.insert_back.Goals.{After-note}
+use Rattle.strm_raw.proofs.Inserting.{inserted}
+use Rattle.strm_raw.proofs.raw.RawStore.insert.Goals as goal
+use Rattle.strm_raw.proofs.raw.RawStore.insert.Goals.{After-note}
 
 pub message_link-at-requires : goal.message_link-at-requires
 message_link-at-requires c = finding.token-below c.self.invariant.raw _ c.self.view_is (token c.args.message) _ c.name.ensures c.requires.in_hand
 
 done : (c : After-note) → let t = c.self.inside in let s = c.args.self.now in let n = token c.args.message in let k = c.args.list in
-    Becomes c.seat.new.memory (set t.ends k c.seat.result) c.note.new.self.roster t.free_msg t.free_data t.spare_m t.spare_d (placed (dropped s n) k (put (in_hand s n) (list_at s k)))
+    Becomes c.seat.new.memory (set t.ends k c.seat.result) c.note.new.self.roster t.free_msg t.free_data t.spare_m t.spare_d (placed (dropped s n) k (put_by c.args.course rank_of (in_hand s n) (list_at s k)))
 done c =
     let t = c.self.inside in let v = t.memory in let b = t.ledger.roster in let is = c.self.invariant.raw in let listed = c.self.invariant.listed in let l = c.message_link-at.result in let n = token c.args.message in let k = c.args.list in
     let here = finding.here-by v b _ c.self.view_is l n _ c.message_link-at.ensures.there c.message_link-at.ensures.number c.name.ensures c.requires.in_hand in
@@ -23,9 +23,9 @@ done c =
     let roster = c.note.ensures ∙ ap (λ (x : MsgLink). seated k c.name-2.result x b) c.unwrap_or-next.ensures in
     let e = c.message_link-at.ensures.number ∙ c.name.ensures in
     becomes-as
-    (inserted-back is listed k c.requires.list l here _ rank c.last_ranked-before.result c.ahead-after.result c.seat.result c.seat.ensures.seats (c.seat.ensures.first (listed.first k)) (c.seat.ensures.last (listed.last k)) c.seat.ensures.nodes refl
-    _ (c.name-2.ensures ∙ sym e) roster c.last_ranked-before.ensures.place c.ahead-after.ensures.step)
-    (λ j. placed (dropped (c.self.view_is j) (e j)) k (put (in_hand (c.self.view_is j) (e j)) (list_at (c.self.view_is j) k)))
+    (inserted is listed k c.requires.list l here _ rank c.pick-before.result c.pick-after.result c.seat.result c.seat.ensures.seats (c.seat.ensures.first (listed.first k)) (c.seat.ensures.last (listed.last k)) c.seat.ensures.nodes refl
+    _ (c.name-2.ensures ∙ sym e) roster c.args.course c.pick-other.result c.ranked-stop.result c.beside-past.result c.pick-other.ensures c.pick-before.ensures c.pick-after.ensures c.ranked-stop.ensures.place c.beside-past.ensures.step)
+    (λ j. placed (dropped (c.self.view_is j) (e j)) k (put_by c.args.course rank_of (in_hand (c.self.view_is j) (e j)) (list_at (c.self.view_is j) k)))
 
 pub invariant_of-self : goal.invariant_of-self
 invariant_of-self c = let d = done (goal.at.invariant_of-self c).After-note in record { raw = d.raw; listed = d.listed }

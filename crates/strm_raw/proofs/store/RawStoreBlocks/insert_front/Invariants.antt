@@ -1,5 +1,0 @@
-use Rattle.strm_raw.specs.Lists.{seated}
-use Rattle.strm_raw.proofs.store.RawStoreBlocks.insert_front.Given as goal
-
-abbrev pub ghost-note : goal.ghost-note
-ghost-note a = seated a._first a._second (record { at = a._message })
