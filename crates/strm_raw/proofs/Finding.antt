@@ -1,16 +1,16 @@
 -- The message in hand that a pointer names.
-use Rattle.std.proofs.Common.{ℕ, zero, suc, ◌≡◌, ◌≤◌, ◌<◌, ◌+◌, ◌-◌, true, false, cond, eqb, List, [], ◌∷◌, length, get_or, map, refl, sym, ap, ◌∙◌, subst, arith}
-use Rattle.std.specs.Prelude.{sum_by, Option, Some, None}
+use Rattle.std.proofs.Common.{ℕ, ◌≡◌, ◌≤◌, ◌<◌, ◌+◌, ◌-◌, true, false, cond, eqb, List, [], ◌∷◌, length, get_or, map, refl, sym, ap, ◌∙◌, subst, arith}
+use Rattle.std.specs.Prelude.{sum_by, Option, Some}
 use Rattle.std.proofs.lemmas.Bool.Decides.{nat_tests}
 use Rattle.std.proofs.lemmas.List.Sums.{sum_by-cons, get_or-le-sum_by}
 use Rattle.std.proofs.lemmas.List.{length-map, get_or-map}
 use Rattle.strm_blocks.specs.Blocks.{Held, StoreValue, IsInHand, chain_in, times_in, without, with_chain, in_hand, block_at, no_block}
-use Rattle.strm_raw.specs.Numbered.{Nodes, Row, row_at, data_at, msg_number, IsMsg}
+use Rattle.strm_raw.specs.Numbered.{Nodes, row_at, data_at, msg_number, IsMsg}
 use Rattle.strm_raw.specs.Roster.{Msg, Roster}
-use Rattle.strm_raw.specs.Raw.{ids, times, chain_of, held_of, block_no, value_of, IsRaw, IsHere, msg_in, without_in, with_in, heads, breaks, broken, next_of, IsChain, gap, naming}
+use Rattle.strm_raw.specs.Raw.{ids, times, chain_of, held_of, block_no, value_of, IsRaw, IsHere, msg_in, without_in, with_in, heads, breaks, broken, IsChain, gap, naming}
 use Rattle.strm_raw.specs.declared.msg_nodes.MsgLink.{MsgLink}
 use Rattle.strm_raw.specs.declared.data_nodes.DataLink.{DataLink}
-use Rattle.strm_raw.proofs.Apart.{times-self, gap-same, gap-self}
+use Rattle.strm_raw.proofs.Apart.{times-self, gap-self}
 
 -- sums over messages, where one of them is at hand
 module _ (i : ℕ) (f : Msg → ℕ) where

@@ -1,11 +1,11 @@
 -- Nodes by their numbers, as they are read and written.
 use Rattle.std_alloc.specs.Vec.{vec_ptr, vec_items}
-use Rattle.std.proofs.Common.{Vec, Global, ℕ, zero, suc, ◌≡◌, List, [], ◌∷◌, length, map, get_or, refl, sym, ap, subst}
+use Rattle.std.proofs.Common.{Vec, Global, ℕ, zero, suc, ◌≡◌, List, [], ◌∷◌, length, map, get_or, refl, sym, ap, ◌∙◌, subst}
 use Rattle.std.proofs.Math.ListN.{set, length-set}
 use Rattle.std.specs.Prelude.{Some, slice_get}
 use Rattle.std.proofs.lemmas.List.{length-map}
 use Rattle.strm_raw.specs.Numbered.{Rows, rows}
-use Rattle.strm_raw.specs.Numbered.{AreLinked, IsRow, IsDataOrNone, row_of, data_of, nodes_of, with_row, with_data, Row, DataRow}
+use Rattle.strm_raw.specs.Numbered.{AreLinked, IsRow, IsDataOrNone, row_of, data_of, nodes_of, with_row, with_data, Row, DataRow, row_at, no_row}
 use Rattle.strm_raw.specs.declared.msg_nodes.MsgNode.{MsgNode}
 use Rattle.strm_raw.specs.declared.data_nodes.DataNode.{DataNode}
 
@@ -67,6 +67,17 @@ module _ (ms : Rows MsgNode) (ds : Rows DataNode) (is : AreLinked ms ds) where
 
   pub row-set-value : (i : ℕ) (n : MsgNode) → nodes_of (rows ms.at (set ms.items i n)) ds ≡ with_row i (row_of ms.at ds.at n) (nodes_of ms ds)
   row-set-value i n = ap (λ (rs : List Row). record (nodes_of ms ds) { rows = rs }) (map-set (row_of ms.at ds.at) ms.items i n)
+
+  -- another node in the place of the one that lies there, with its name
+  module _ (i : ℕ) (old : MsgNode) (there : slice_get ms.items i ≡ Some old) (n : MsgNode) (name : n.name ≡ old.name) where
+    pub was : IsRow ms.at ds.at (length ms.items) (length ds.items) old
+    was = is.rows i old there
+
+    pub row-kept : IsRow ms.at ds.at (length ms.items) (length ds.items) n → AreLinked (rows ms.at (set ms.items i n)) ds
+    row-kept ok = row-set i n ok (name ∙ is.named i old there)
+
+    pub row-edited : (f : Row → Row) → row_of ms.at ds.at n ≡ f (row_of ms.at ds.at old) → nodes_of (rows ms.at (set ms.items i n)) ds ≡ with_row i (f (row_at i (nodes_of ms ds).rows)) (nodes_of ms ds)
+    row-edited f edits = row-set-value i n ∙ ap (λ r. with_row i r (nodes_of ms ds)) (edits ∙ ap f (sym (map-at (row_of ms.at ds.at) ms.items i old no_row there)))
 
   pub data-set : (i : ℕ) (n : DataNode) → IsDataOrNone ds.at (length ds.items) n.next → length n.bytes ≡ 256 → AreLinked ms (rows ds.at (set ds.items i n))
   data-set i n ok sized =

@@ -6,9 +6,8 @@ use Rattle.std.proofs.lemmas.Bool.Decides.{nat_tests}
 use Rattle.std.proofs.lemmas.Bool.{cases_eq}
 use Rattle.std.proofs.lemmas.List.{get_or-set_same, get_or-set_other, get_or_past}
 use denote.RawPtr.{Ptr}
-use Rattle.strm_raw.specs.Numbered.{Nodes, Row, DataRow, row_at, data_at, no_row, no_data, row_of, msg_number, data_number, with_row, with_data, IsMsg, IsData}
-use Rattle.strm_raw.specs.Raw.{numbers, times, breaks, gap, next_of, free_after, askew, ThreadsMessages, ThreadsData}
-use Rattle.strm_raw.specs.declared.msg_nodes.MsgNode.{MsgNode}
+use Rattle.strm_raw.specs.Numbered.{Nodes, Row, DataRow, row_at, data_at, no_row, no_data, msg_number, data_number, with_row, with_data, IsMsg, IsData}
+use Rattle.strm_raw.specs.Raw.{numbers, times, breaks, next_of, free_after, askew, ThreadsMessages, ThreadsData}
 use Rattle.strm_raw.specs.declared.msg_nodes.MsgLink.{MsgLink}
 use Rattle.strm_raw.specs.declared.data_nodes.DataLink.{DataLink}
 use Rattle.strm_raw.proofs.Apart.{times-cons, breaks-apart, gap-self}
@@ -73,8 +72,7 @@ module _ {old new : Nodes} {first : Option MsgLink} {from : ℕ} (is : ThreadsMe
   mat : new.mat ≡ old.mat
   mat = ap (λ (v : Nodes). v.mat) is.same
 
-  module _ (node : MsgNode) (row : row_of new.mat new.dat node ≡ row_at (msg_number new.mat at) new.rows) (new2 : Nodes)
-      (after : new2 ≡ with_row (msg_number new.mat at) (row_of new.mat new.dat (record node { next = first })) new) where
+  module _ (new2 : Nodes) (after : new2 ≡ with_row (msg_number new.mat at) (record (row_at (msg_number new.mat at) new.rows) { next = option_map (msg_number new.mat) first }) new) where
     abbrev i : ℕ
     i = from - 1
 
@@ -87,7 +85,6 @@ module _ {old new : Nodes} {first : Option MsgLink} {from : ℕ} (is : ThreadsMe
     new2-is : new2 ≡ record old { rows = xs }
     new2-is =
         after
-        ∙ ap (λ (r : Row). with_row (msg_number new.mat at) (record r { next = option_map (msg_number new.mat) first }) new) row
         ∙ (λ j. with_row (number j) (record (row_at (number j) new.rows) { next = option_map (msg_number (mat j)) first }) new)
         ∙ ap (λ (v : Nodes). record v { rows = xs }) is.same
 

@@ -8,6 +8,7 @@ use Rattle.strm_raw.specs.MsgNodes as messages
 use Rattle.strm_raw.specs.DataNodes as data_blocks
 use Rattle.strm_raw.specs.declared.msg_nodes.MsgNode.{MsgNode}
 use Rattle.strm_raw.specs.declared.msg_nodes.MsgLink.{MsgLink}
+use Rattle.strm_raw.specs.declared.msg_nodes.Shows.{Shows}
 use Rattle.strm_raw.specs.declared.data_nodes.DataNode.{DataNode}
 use Rattle.strm_raw.specs.declared.data_nodes.DataLink.{DataLink}
 
@@ -126,3 +127,7 @@ with_row i r v = record v { rows = slice_set v.rows i r }
 
 abbrev pub with_data : ℕ → DataRow → Nodes → Nodes
 with_data i r v = record v { datas = slice_set v.datas i r }
+
+-- a message block that shows bytes of a data block, with no next one
+abbrev pub showing : Ptr → Shows → Row → Row
+showing dat s r = record r { kind = s.kind; band = s.band; number = data_number dat s.number; start = s.start; end = s.end; next = None }

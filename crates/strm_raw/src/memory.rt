@@ -1,10 +1,10 @@
 //! All nodes of a store. What lies in memory is read and written here alone; a pointer is seen as the number of its node.
 ghost use Rattle.std.specs.Prelude.{◌≡◌, ◌<◌, ◌≤◌, ◌+◌, length, option_map, replicate, IfOk, take, drop, ◌++◌};
-ghost use Rattle.strm_raw.specs.Numbered.{IsMsg, IsData, IsDataOrNone, Fits, IsRow, row_of, data_of, row_at, data_at, msg_number, data_number, with_row, with_data, no_row, new_data};
+ghost use Rattle.strm_raw.specs.Numbered.{IsMsg, IsMsgOrNone, IsData, IsDataOrNone, Fits, IsRow, row_of, data_of, row_at, data_at, msg_number, data_number, with_row, with_data, no_row, new_data, showing};
 
 use crate::data_nodes::{DataLink, DataNode};
 use crate::making::{data_nodes, message_nodes};
-use crate::msg_nodes::{MsgLink, MsgNode};
+use crate::msg_nodes::{MsgLink, MsgNode, Shows};
 use crate::nodes::{place_of, reach, reach_mut};
 use std::alloc::{AllocError, Global};
 use std::marker::Model;
@@ -95,6 +95,55 @@ impl Memory {
         ensures { self.new ≡ with_row (msg_number self.old.mat at) (row_of self.old.mat self.old.dat node) self.old }
     {
         *reach_mut(&mut self.msgs, at.at) = node;
+    }
+
+    /// Lets a message block lead to another next one, or to none.
+    pub(crate) fn set_next(&mut self, at: MsgLink, to: Option<MsgLink>)
+        requires there { IsMsg self.old.mat (length self.old.rows) at }
+        requires link { IsMsgOrNone self.old.mat (length self.old.rows) to }
+        ensures { let i = msg_number self.old.mat at in
+            self.new ≡ with_row i (record (row_at i self.old.rows) { next = option_map (msg_number self.old.mat) to }) self.old }
+    {
+        let node = reach_mut(&mut self.msgs, at.at);
+        node.next = to;
+    }
+
+    /// Lets a list lead on from a message to another one, or to none.
+    pub(crate) fn set_ahead(&mut self, at: MsgLink, to: Option<MsgLink>)
+        requires there { IsMsg self.old.mat (length self.old.rows) at }
+        requires link { IsMsgOrNone self.old.mat (length self.old.rows) to }
+        ensures { let i = msg_number self.old.mat at in
+            self.new ≡ with_row i (record (row_at i self.old.rows) { ahead = option_map (msg_number self.old.mat) to }) self.old }
+    {
+        let node = reach_mut(&mut self.msgs, at.at);
+        node.ahead = to;
+    }
+
+    /// Lets a list lead back from a message to another one, or to none.
+    pub(crate) fn set_behind(&mut self, at: MsgLink, to: Option<MsgLink>)
+        requires there { IsMsg self.old.mat (length self.old.rows) at }
+        requires link { IsMsgOrNone self.old.mat (length self.old.rows) to }
+        ensures { let i = msg_number self.old.mat at in
+            self.new ≡ with_row i (record (row_at i self.old.rows) { behind = option_map (msg_number self.old.mat) to }) self.old }
+    {
+        let node = reach_mut(&mut self.msgs, at.at);
+        node.behind = to;
+    }
+
+    /// Lets a message block show bytes of a data block, with no next one.
+    #[inline(always)]
+    pub(crate) fn show(&mut self, at: MsgLink, shows: Shows)
+        requires there { IsMsg self.old.mat (length self.old.rows) at }
+        requires data { IsData self.old.dat (length self.old.datas) shows.number }
+        ensures { let i = msg_number self.old.mat at in self.new ≡ with_row i (showing self.old.dat shows (row_at i self.old.rows)) self.old }
+    {
+        let node = reach_mut(&mut self.msgs, at.at);
+        node.kind = shows.kind;
+        node.band = shows.band;
+        node.number = shows.number;
+        node.start = shows.start;
+        node.end = shows.end;
+        node.next = None;
     }
 
     /// What stands in the data block to which a pointer leads.

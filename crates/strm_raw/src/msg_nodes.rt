@@ -27,6 +27,16 @@ pub(crate) struct MsgLink {
     pub(crate) at: *mut MsgNode,
 }
 
+/// What a message block shows of which data block.
+#[derive(Clone, Copy)]
+pub(crate) struct Shows {
+    pub(crate) kind: MsgKind,
+    pub(crate) band: u8,
+    pub(crate) number: DataLink,
+    pub(crate) start: usize,
+    pub(crate) end: usize,
+}
+
 // A link owns nothing: what lies there is reached through the owner of the nodes alone.
 unsafe impl Send for MsgLink {}
 

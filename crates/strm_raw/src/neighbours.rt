@@ -4,7 +4,7 @@ ghost use Rattle.strm_raw.specs.Numbered.{IsMsg, IsMsgOrNone, msg_number, row_at
 ghost use Rattle.strm_raw.specs.Lists.{Seats, Ties, along, edge, pick};
 
 use crate::memory::Memory;
-use crate::msg_nodes::{MsgLink, MsgNode};
+use crate::msg_nodes::MsgLink;
 
 /// Where the first and the last message of a list lie; both are `None` where no message stands on it.
 #[derive(Clone, Copy)]
@@ -49,8 +49,7 @@ fn lead_on(memory: &mut Memory, ends: Ends, from: Option<MsgLink>, to: Option<Ms
     match from {
         None => Ends { first: to, ..ends },
         Some(at) => {
-            let node = memory.message(at);
-            memory.set_message(at, MsgNode { ahead: to, ..node });
+            memory.set_ahead(at, to);
             ends
         }
     }
@@ -68,8 +67,7 @@ fn lead_back(memory: &mut Memory, ends: Ends, from: Option<MsgLink>, to: Option<
     match from {
         None => Ends { last: to, ..ends },
         Some(at) => {
-            let node = memory.message(at);
-            memory.set_message(at, MsgNode { behind: to, ..node });
+            memory.set_behind(at, to);
             ends
         }
     }

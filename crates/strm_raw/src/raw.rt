@@ -7,7 +7,7 @@ ghost use Rattle.strm_raw.specs.Numbered.{IsData, IsDataOrNone, data_at, data_nu
 use crate::data_nodes::{DataLink, DataNode};
 use crate::ledger::Ledger;
 use crate::memory::Memory;
-use crate::msg_nodes::{MsgLink, MsgNode};
+use crate::msg_nodes::MsgLink;
 use crate::neighbours::{Ends, NO_ENDS};
 use crate::threading::{thread_data, thread_messages};
 use std::alloc::{AllocError, Global};
@@ -84,8 +84,7 @@ impl RawStore {
             self.free_data,
             self.spare_d,
         );
-        let next = self.free_msg;
-        self.memory.set_message(at, MsgNode { next, ..node });
+        self.memory.set_next(at, self.free_msg);
         self.free_msg = Some(at);
         self.free_data = free_data;
         self.spare_d = spare_d;

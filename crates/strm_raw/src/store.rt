@@ -3,7 +3,7 @@
 use crate::chains::{block_link, chain_bytes, chain_len, last_link};
 use crate::changes::Change;
 use crate::data_nodes::DataNode;
-use crate::msg_nodes::MsgNode;
+use crate::msg_nodes::{MsgNode, Shows};
 use crate::neighbours::{Course, NO_ENDS};
 use crate::raw::RawStore;
 use crate::tails::hang;
@@ -38,18 +38,14 @@ impl Blocks for RawStore {
         let next = self.memory.datum(number).next;
         self.memory.write(number, 0, bytes);
         self.memory.set_datum(number, 1, None);
-        self.memory.set_message(
-            at,
-            MsgNode {
-                kind,
-                band: band.0,
-                number,
-                start: 0,
-                end: bytes.len(),
-                next: None,
-                ..free
-            },
-        );
+        let shows = Shows {
+            kind,
+            band: band.0,
+            number,
+            start: 0,
+            end: bytes.len(),
+        };
+        self.memory.show(at, shows);
         self.free_msg = free.next;
         self.free_data = next;
         self.spare_m -= 1;
@@ -76,16 +72,14 @@ impl Blocks for RawStore {
         }
         let taken = self.memory.message(free);
         self.memory.set_datum(block.number, references + 1, next);
-        self.memory.set_message(
-            free,
-            MsgNode {
-                name: taken.name,
-                next: None,
-                ahead: taken.ahead,
-                behind: taken.behind,
-                ..block
-            },
-        );
+        let shows = Shows {
+            kind: block.kind,
+            band: block.band,
+            number: block.number,
+            start: block.start,
+            end: block.end,
+        };
+        self.memory.show(free, shows);
         self.free_msg = taken.next;
         self.spare_m -= 1;
         self.ledger.note(free.at, block.number.at, 0, 0);
@@ -125,7 +119,7 @@ impl Blocks for RawStore {
             return (message, None);
         };
         let name = self.memory.message(rest).name;
-        self.memory.set_message(at, MsgNode { next: None, ..node });
+        self.memory.set_next(at, None);
         self.ledger.note(at.at, node.number.at, 0, 0);
         (message, Some(InHand::of(name)))
     }

@@ -6,7 +6,6 @@ ghost use Rattle.strm_raw.specs.Tails.{Hangs};
 use crate::chains::last_link;
 use crate::ledger::Ledger;
 use crate::memory::Memory;
-use crate::msg_nodes::MsgNode;
 use std::ptr::null_mut;
 use strm_blocks::InHand;
 
@@ -26,14 +25,7 @@ pub(crate) fn hang(
     let behind = second.name() as usize;
     let next = memory.message_link(behind);
     let last = last_link(memory, head, memory.messages());
-    let node = memory.message(last);
-    memory.set_message(
-        last,
-        MsgNode {
-            next: Some(next),
-            ..node
-        },
-    );
+    memory.set_next(last, Some(next));
     ledger.note(head.at, null_mut(), behind, 0);
     first
 }

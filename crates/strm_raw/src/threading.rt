@@ -4,7 +4,7 @@ ghost use Rattle.strm_raw.specs.Raw.{ThreadsMessages, ThreadsData};
 
 use crate::data_nodes::DataLink;
 use crate::memory::Memory;
-use crate::msg_nodes::{MsgLink, MsgNode};
+use crate::msg_nodes::MsgLink;
 
 /// Links all message blocks.
 pub(crate) fn thread_messages(memory: &mut Memory, count: usize) -> Option<MsgLink>
@@ -16,14 +16,7 @@ pub(crate) fn thread_messages(memory: &mut Memory, count: usize) -> Option<MsgLi
     while left > 0 {
         left -= 1;
         let at = memory.message_link(left);
-        let node = memory.message(at);
-        memory.set_message(
-            at,
-            MsgNode {
-                next: first,
-                ..node
-            },
-        );
+        memory.set_next(at, first);
         first = Some(at);
     }
     first

@@ -1,7 +1,7 @@
 use Rattle.std.proofs.Common.{ap, ◌∙◌, subst}
 use Rattle.std.specs.Bool.{OnTrue, OnFalse}
 use Rattle.strm_raw.specs.Numbered.{Row, msg_number}
-use Rattle.strm_raw.specs.Places.{Passes, Stops, rank_by, rank_at}
+use Rattle.strm_raw.specs.Places.{Passes, Stops, rank_by}
 use Rattle.strm_raw.proofs.Placing.{begins-at, next-there, steps-past, stops-here, stops-last, stops-none}
 use Rattle.strm_raw.proofs.ranks.ranked.Goals as goal
 

@@ -8,5 +8,5 @@ loop-left-init c = record { within = omega arith; threaded = thread-begin c.args
 pub loop-left-preserved : goal.loop-left-preserved
 loop-left-preserved c = record {
   within = omega (arith, c.loop-left.invariant.within);
-  threaded = thread-step c.loop-left.invariant.threaded c.loop-left-test.true (omega (arith, c.loop-left.invariant.within, c.requires)) c.message_link-at.result c.message_link-at.ensures.there c.message_link-at.ensures.number c.message-node.result c.message-node.ensures.row c.set_message.new.self c.set_message.ensures;
+  threaded = thread-step c.loop-left.invariant.threaded c.loop-left-test.true (omega (arith, c.loop-left.invariant.within, c.requires)) c.message_link-at.result c.message_link-at.ensures.there c.message_link-at.ensures.number c.set_next.new.self c.set_next.ensures;
 }

@@ -1,4 +1,4 @@
-use Rattle.std.proofs.Common.{◌≡◌, length, refl, sym, ap, ◌∙◌, arith}
+use Rattle.std.proofs.Common.{length, sym, ap, ◌∙◌}
 use Rattle.std.specs.Prelude.{slice_range}
 use Rattle.strm_blocks.specs.Blocks.{token, block_at, in_hand, changed, with_block}
 use Rattle.strm_raw.specs.Changes.{changed_by}
@@ -6,7 +6,7 @@ use Rattle.strm_raw.specs.Numbered.{Row, DataRow, row_of, msg_number, with_row}
 use Rattle.strm_raw.specs.Raw.{askew}
 use Rattle.strm_raw.proofs.Becoming.{Becomes}
 use Rattle.strm_raw.proofs.Finding as finding
-use Rattle.strm_raw.proofs.Edited.{changes, edited, shown-len}
+use Rattle.strm_raw.proofs.Edited.{changes, edited}
 use Rattle.strm_raw.proofs.raw.RawStore.change.Goals as goal
 use Rattle.strm_raw.proofs.raw.RawStore.change.Goals.{After-set_message}
 

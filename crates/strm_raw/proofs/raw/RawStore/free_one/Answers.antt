@@ -1,7 +1,7 @@
 use Rattle.std.proofs.Common.{◌+◌, ◌<◌, refl, sym, ap, ◌∙◌, subst, arith, length, ◌∷◌}
 use Rattle.std.specs.Prelude.{Some, option_map}
 use Rattle.strm_blocks.specs.Blocks.{token, in_hand, dropped}
-use Rattle.strm_raw.specs.Numbered.{Nodes, Row, row_of, row_at, data_at, data_number, with_row, msg_number, IsMsg}
+use Rattle.strm_raw.specs.Numbered.{Nodes, Row, row_at, data_at, data_number, with_row, msg_number, IsMsg}
 use Rattle.strm_raw.specs.Roster.{Roster}
 use Rattle.strm_raw.specs.Raw.{without_in, IsHere}
 use Rattle.strm_raw.proofs.Finding as finding
@@ -31,22 +31,20 @@ given-up : (c : After-release-free_data) → 0 < (data_at (data_number c.self.in
     → let t = c.self.inside in Released t.memory c.release-free_data.new.memory t.ledger.roster c.release-free_data.new.ledger.roster (data_number t.memory.dat c.message-node.result.number) c.release-free_data.result.0 c.release-free_data.result.1
 given-up c some = released c.self.invariant.raw c.message-node.result.number c.message-node.ensures.links.number some _ _ _ _ c.release-free_data.ensures
 
-pub set_message-requires-clause-there : goal.set_message-requires-clause-there
-set_message-requires-clause-there c =
-    let g = goal.at.set_message-requires-clause-there c in
+pub set_next-requires-clause-there : goal.set_next-requires-clause-there
+set_next-requires-clause-there c =
+    let g = goal.at.set_next-requires-clause-there c in
     subst (λ (w : Nodes). IsMsg w.mat (length w.rows) c.message_link-at.result) (sym (given-up g.After-release-free_data (named g.After-message-node)).memory) (here g.After-message-node).0
 
 freed : (c : After-note) → IsHere c.self.inside.memory c.self.inside.ledger.roster c.message_link-at.result
     → let t = c.self.inside in Released t.memory c.release-free_data.new.memory t.ledger.roster c.release-free_data.new.ledger.roster (data_number t.memory.dat c.message-node.result.number) c.release-free_data.result.0 c.release-free_data.result.1
-    → Becomes c.set_message.new.self t.ends c.note.new.self.roster (Some c.message_link-at.result) c.release-free_data.result.0 (t.spare_m + 1) c.release-free_data.result.1 (dropped c.args.self.now (token c.args.message))
+    → Becomes c.set_next.new.self t.ends c.note.new.self.roster (Some c.message_link-at.result) c.release-free_data.result.0 (t.spare_m + 1) c.release-free_data.result.1 (dropped c.args.self.now (token c.args.message))
 freed c here done =
     let t = c.self.inside in let v = t.memory in let b = t.ledger.roster in let is = c.self.invariant.raw in let l = c.message_link-at.result in let e = c.message_link-at.ensures.number ∙ c.name.ensures in
     let number = ap (λ (r : Row). r.number) c.message-node.ensures.row in
     let single = (λ j. length (in_hand (c.self.view_is j) (e j))) ∙ c.requires.single in
     let drops = subst (λ k. Drops v k done.datas c.release-free_data.result.0 c.release-free_data.result.1 done.free_d) number done.drops in
-    let memory = c.set_message.ensures
-    ∙ ap (λ (w : Nodes). with_row (msg_number w.mat l) (row_of w.mat w.dat (record c.message-node.result { next = t.free_msg })) w) done.memory
-    ∙ ap (λ (r : Row). with_row (msg_number v.mat l) (record r { next = option_map (msg_number v.mat) t.free_msg }) (record v { datas = done.datas })) c.message-node.ensures.row in
+    let memory = c.set_next.ensures ∙ ap (λ (w : Nodes). with_row (msg_number w.mat l) (record (row_at (msg_number w.mat l) w.rows) { next = option_map (msg_number w.mat) t.free_msg }) w) done.memory in
     let roster = c.note.ensures ∙ ap (λ (x : Roster). let i = msg_number x.mat l in record x { free_m = i ∷ x.free_m; hand = without_in i x.hand }) done.roster
     ∙ ap (λ mat. let i = msg_number mat l in record b { free_m = i ∷ b.free_m; free_d = done.free_d; hand = without_in i b.hand }) is.same in
     becomes-as (row-becomes c.self.invariant.listed _ _ _ _ memory roster (given-raw is l here single _ _ _ _ drops) refl (msg_number v.mat l) (here.0).0 _ refl refl refl refl _ (given-value is l here single _ _ _ _ drops) refl)

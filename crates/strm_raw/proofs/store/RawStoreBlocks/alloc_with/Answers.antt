@@ -4,8 +4,9 @@ use Rattle.std.proofs.lemmas.List.{get_or-set_same}
 use Rattle.std.specs.Prelude.{None, slice_range}
 use Rattle.strm_blocks.specs.Blocks.{StoreValue, held, copy_of, filled_block}
 use Rattle.strm_blocks.specs.Outcomes.{Copied}
-use Rattle.strm_raw.specs.Numbered.{Nodes, Row, DataRow, row_of, data_at, no_data, with_row, with_data, msg_number, data_number, IsDataOrNone}
+use Rattle.strm_raw.specs.Numbered.{Nodes, Row, DataRow, row_of, row_at, showing, data_at, no_data, with_row, with_data, msg_number, data_number, IsDataOrNone}
 use Rattle.strm_raw.specs.declared.msg_nodes.MsgNode.{MsgNode}
+use Rattle.strm_raw.specs.declared.msg_nodes.Shows.{Shows}
 use Rattle.strm_raw.specs.Raw.{askew}
 use Rattle.strm_raw.proofs.Standing.{none-m, none-d}
 use Rattle.strm_raw.proofs.Becoming.{Becomes, becomes-as}
@@ -34,7 +35,7 @@ overflow_sub-self-2 c = let a = ap length (taking.first-d c.self.invariant.raw c
 -- the new message, beside the store that was
 done : (c : After-note) → let t = c.self.inside in let s = c.args.self.now in let i = msg_number t.memory.mat c.in-Some.at in let x = filled_block c.args.kind c.args.band.0 c.args.bytes.now in
     let after = held s i (copy_of (data_number t.memory.dat c.in-Some-free_data.number) x ∷ []) in
-    Becomes c.set_message.new.self t.ends c.note.new.self.roster c.message-free.result.next c.datum.result.now.next (t.spare_m - 1) (t.spare_d - 1) after × Copied s after i x
+    Becomes c.show.new.self t.ends c.note.new.self.roster c.message-free.result.next c.datum.result.now.next (t.spare_m - 1) (t.spare_d - 1) after × Copied s after i x
 done c =
     let t = c.self.inside in let v = t.memory in let b = t.ledger.roster in let is0 = c.self.invariant.raw in
     let at = c.in-Some.at in let k = c.in-Some-free_data.number in let d = data_number v.dat k in
@@ -43,8 +44,10 @@ done c =
     let is = writing.written-raw is0 d within filled in let V = writing.written is0 d within filled in
     let node : MsgNode = record c.message-free.result { kind = c.args.kind; band = c.args.band.0; number = k; start = 0; end = length c.args.bytes.now; next = None } in
     let then : Nodes → Nodes = λ w. with_data (data_number w.dat k) (record { next = None; references = 1; bytes = (data_at (data_number w.dat k) w.datas).bytes }) w in
-    let memory = c.set_message.ensures ∙ ap (λ (w : Nodes). with_row (msg_number w.mat at) (row_of w.mat w.dat node) w) c.set_datum.ensures
-    ∙ ap (λ (w : Nodes). with_row (msg_number (then w).mat at) (row_of (then w).mat (then w).dat node) (then w)) c.write.ensures in
+    let shows : Shows = record { kind = c.args.kind; band = c.args.band.0; number = k; start = 0; end = length c.args.bytes.now } in
+    let written : Nodes → Nodes = λ w. with_row (msg_number w.mat at) (showing w.dat shows (row_at (msg_number w.mat at) w.rows)) w in
+    let memory = c.show.ensures ∙ ap (λ (w : Nodes). written w) c.set_datum.ensures
+    ∙ ap (λ (w : Nodes). written (then w)) c.write.ensures ∙ ap (λ (r : Row). with_row (msg_number v.mat at) (showing v.dat shows r) (then V)) (sym c.message-free.ensures.row) in
     let x : DataRow = record { next = None; references = 1; bytes = (data_at d V.datas).bytes } in
     let next_is = ap (λ (r : DataRow). r.next) c.datum.ensures.row ∙ sym (writing.data-kept is0 d within filled (λ (r : DataRow). r.next) refl d) in
     let len : length V.datas ≡ length v.datas = length-set v.datas d _ in

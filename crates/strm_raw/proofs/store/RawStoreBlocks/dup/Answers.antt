@@ -3,8 +3,9 @@ use Rattle.std.proofs.lemmas.Bool.Decides.{nat_tests}
 use Rattle.std.specs.Prelude.{None, option_map}
 use Rattle.strm_blocks.specs.Blocks.{StoreValue, token, Block, block_at, in_hand, IsInHand, held, times_in}
 use Rattle.strm_blocks.specs.Outcomes.{NoneShared, Duplicated}
-use Rattle.strm_raw.specs.Numbered.{Nodes, Row, DataRow, row_of, data_at, row_at, with_row, msg_number, data_number}
+use Rattle.strm_raw.specs.Numbered.{Nodes, Row, DataRow, row_of, showing, data_at, row_at, with_data, with_row, msg_number, data_number}
 use Rattle.strm_raw.specs.declared.msg_nodes.MsgNode.{MsgNode}
+use Rattle.strm_raw.specs.declared.msg_nodes.Shows.{Shows}
 use Rattle.strm_raw.specs.Raw.{value_of, ids, shown, askew}
 use Rattle.strm_raw.proofs.Standing.{none-m, stored}
 use Rattle.strm_raw.proofs.Becoming.{Becomes, becomes-as}
@@ -41,7 +42,7 @@ overflow_sub-self c = let a = ap length (taking.first-m c.self.invariant.raw c.i
 
 -- the new message, beside the store that was
 done : (c : After-note) → let t = c.self.inside in let s = c.args.self.now in let i = msg_number t.memory.mat c.in-Some.free in let x = block_at c.args.at (in_hand s (token c.args.message.now)) in
-    Becomes c.set_message.new.self t.ends c.note.new.self.roster c.message-taken.result.next t.free_data (t.spare_m - 1) t.spare_d (held s i (x ∷ [])) × Duplicated s (held s i (x ∷ [])) i x
+    Becomes c.show.new.self t.ends c.note.new.self.roster c.message-taken.result.next t.free_data (t.spare_m - 1) t.spare_d (held s i (x ∷ [])) × Duplicated s (held s i (x ∷ [])) i x
 done c =
     let t = c.self.inside in let v = t.memory in let is = c.self.invariant.raw in let l = c.message_link-first.result in let n = token c.args.message.now in let e = c.message_link-first.ensures.number ∙ c.name.ensures in let at = c.args.at in
     let here = finding.here-by c.self.inside.memory c.self.inside.ledger.roster _ c.self.view_is l n _ c.message_link-first.ensures.there c.message_link-first.ensures.number c.name.ensures c.requires.in_hand in
@@ -52,11 +53,13 @@ done c =
     let d = data_number v.dat c.message-block.result.number in
     let free = c.in-Some.free in
     let node : MsgNode = record c.message-block.result { name = c.message-taken.result.name; next = None; ahead = c.message-taken.result.ahead; behind = c.message-taken.result.behind } in
-    let memory = c.set_message.ensures ∙ ap (λ (w : Nodes). with_row (msg_number w.mat free) (row_of w.mat w.dat node) w) c.set_datum.ensures in
+    let x : DataRow = record { next = option_map (data_number v.dat) c.datum.result.now.next; references = c.datum.result.now.references + 1; bytes = (data_at d v.datas).bytes } in
+    let y = c.message-block.result in let shows : Shows = record { kind = y.kind; band = y.band; number = y.number; start = y.start; end = y.end } in
+    let memory = c.show.ensures ∙ ap (λ (w : Nodes). with_row (msg_number w.mat free) (showing w.dat shows (row_at (msg_number w.mat free) w.rows)) w) c.set_datum.ensures
+    ∙ ap (λ (r : Row). with_row (msg_number v.mat free) (showing v.dat shows r) (with_data d x v)) (sym c.message-taken.ensures.row) in
     let some : 0 < (data_at d v.datas).references = subst (λ k. 0 < (data_at k v.datas).references) (sym (ap (λ (r : Row). r.number) row)) (finding.found-named is l here at (omega arith)) in
     let count = ap (λ (r : DataRow). r.references) c.datum.ensures.row in
     let few : (data_at d v.datas).references < 255 = let b = is.bounded d in grind (arith, nat_tests) in
-    let x : DataRow = record { next = option_map (data_number v.dat) c.datum.result.now.next; references = c.datum.result.now.references + 1; bytes = (data_at d v.datas).bytes } in
     let refers = taking.refers-more is d c.message-block.ensures.links.number.0 some few x (omega arith) refl in
     let straight = ap (λ (r : Row). askew r) row ∙ is.straight _ in
     let row_next = ap (λ (r : Row). r.next) c.message-taken.ensures.row in

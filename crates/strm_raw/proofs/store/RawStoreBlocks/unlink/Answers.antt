@@ -24,12 +24,12 @@ returns-in_default c =
 
 -- the rest is a new message
 done : (c : After-note) → let t = c.self.inside in let s = c.args.self.now in let n = token c.args.message in let j = msg_number t.memory.mat c.in-Some.rest in
-    (s' : StoreValue) × (Becomes c.set_message.new.self t.ends c.note.new.self.roster t.free_msg t.free_data t.spare_m t.spare_d s' × Unlinked s s' n n j)
+    (s' : StoreValue) × (Becomes c.set_next.new.self t.ends c.note.new.self.roster t.free_msg t.free_data t.spare_m t.spare_d s' × Unlinked s s' n n j)
 done c =
     let t = c.self.inside in let v = t.memory in let b = t.ledger.roster in let is = c.self.invariant.raw in let l = c.message_link-at.result in let n = token c.args.message in let e = c.message_link-at.ensures.number ∙ c.name.ensures in
     let here = finding.here-by c.self.inside.memory c.self.inside.ledger.roster _ c.self.view_is l n _ c.message_link-at.ensures.there c.message_link-at.ensures.number c.name.ensures c.requires in
     let more = sym (ap (λ (r : Row). r.next) c.message-node.ensures.row) ∙ ap (λ (o : Option MsgLink). option_map (msg_number v.mat) o) c.in-Some.is in
-    let memory = c.set_message.ensures ∙ ap (λ (r : Row). with_row (msg_number v.mat l) (record r { next = None }) v) c.message-node.ensures.row in
+    let memory = c.set_next.ensures in
     let roster = c.note.ensures ∙ ap (λ mat. let i = msg_number mat l in record b { hand = rest_of (msg_in i b.hand) ∷ with_in i (alone i) b.hand }) is.same in
     let S = held (changed (value_of v b) (msg_number v.mat l) (block_no v (msg_number v.mat l) ∷ [])) (msg_number v.mat c.in-Some.rest) (chain_of v (rest_of (msg_in (msg_number v.mat l) b.hand))) in (
       S,
