@@ -41,7 +41,7 @@ fn is_full_with<B: Blocks>(store: &B, queue: &Queue, band: Band, more: usize) ->
         result ≡ nat_le (flow_of band.0 q).high (count_of band.0 q.messages + more) }
 {
     let count = standing::count(store, queue, band);
-    let high = queue.flows[usize::from(band.0)].high as usize;
+    let high = queue.flows.at(band).high as usize;
     high <= count || high - count <= more
 }
 
@@ -86,7 +86,7 @@ pub(crate) fn echo_room<B: Blocks>(ldterm: &Ldterm, store: &B) -> usize
         0 < result → count_of 0 q.messages + result ≤ (flow_of 0 q).high }
 {
     let counted = count(ldterm, store, Way::Down, Band(0));
-    (ldterm.write_queue.flows[0].high as usize).saturating_sub(counted)
+    (ldterm.write_queue.flows.at(Band(0)).high as usize).saturating_sub(counted)
 }
 
 /// How many messages stand on its queue of a way, and how many bytes they have. The turn's echo stands on the write queue.

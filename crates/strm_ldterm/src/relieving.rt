@@ -20,7 +20,7 @@ fn stays(queue: &Queue, more: usize) -> bool
         && nat_lt (flow_at 0 queue.now.flows).low (count_of 0 (messages_on s queue.now.list) + more)) }
 {
     let count = queue.count(Band(0));
-    let flow = queue.flows[0];
+    let flow = queue.flows.at(Band(0));
     let low = flow.low as usize;
     flow.want_write && (low < count || low - count < more)
 }
@@ -31,7 +31,7 @@ fn put_aside(queue: &mut Queue)
     ensures counted { (q : List (List Block)) → AreCounted queue.old.flows q → AreCounted queue.new.flows q }
     ensures others { OnlyCounts queue.old queue.new }
 {
-    queue.flows[0].want_write = false;
+    queue.flows.set_waiting(Band(0), false);
 }
 
 /// Lets waiting writers go where the count has come down to the low-water mark, and says whether one was. So many more bytes count in

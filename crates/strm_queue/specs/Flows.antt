@@ -31,6 +31,10 @@ flushed_of all f = marked (if all then record f { data_bytes = 0; other_bytes = 
 abbrev pub marked_with : ℕ → ℕ → Flow → Flow
 marked_with high low f = marked (record f { high = high; low = low })
 
+-- with a writer that waits, or with none
+abbrev pub waiting : Bool → Flow → Flow
+waiting waits f = record f { want_write = waits }
+
 -- a writer waits, and the count has come down to the low-water mark
 abbrev pub relieves : Flow → Bool
 relieves f = f.want_write && nat_le (count_in f) f.low

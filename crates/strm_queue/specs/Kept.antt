@@ -70,3 +70,8 @@ enables chain want_read no_enable = is_high_priority (block_at 0 chain).kind || 
 -- the counts are small enough to add: a store has 65536 blocks of 256 bytes at most
 abbrev pub FewBytes : List Flow → Type 0
 FewBytes flows = (band : ℕ) → count_in (flow_at band flows) ≤ 16777216
+
+-- the flow control of a queue's bands: of each, with such counts
+pub record AreFlows (flows : List Flow) : Type 0 where
+  pub eight : length flows ≡ BANDS
+  pub few : FewBytes flows

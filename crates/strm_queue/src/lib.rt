@@ -4,6 +4,7 @@
 
 pub mod emptying;
 mod flow;
+mod flows;
 mod flush;
 pub mod lengths;
 mod limits;
@@ -13,6 +14,7 @@ mod share;
 pub mod standing;
 
 pub use flow::Flow;
+pub use flows::Flows;
 pub use flush::Flush;
 pub use limits::{HEAD_HIGH, HEAD_LOW, OTHER_HIGH, OTHER_LOW, are_marks, is_band, is_list};
 pub use order::serves_in_order;

@@ -1,36 +1,34 @@
 //! A queue.
 
-ghost use Rattle.std.specs.Prelude.{◌≡◌, ◌<◌, ◌≤◌, ◌+◌, ◌^◌, ℕ, true, false, List, [], length, MatchOption, Some, None, if◌then◌else◌, slice_set, slice_index_or, sum_by, map};
+ghost use Rattle.std.specs.Prelude.{◌≡◌, ◌<◌, ◌≤◌, ℕ, true, false, List, [], MatchOption, Some, None, slice_set, sum_by, map, replicate};
 ghost use Rattle.strm_types.specs.Message.{is_high_priority};
 ghost use Rattle.strm_blocks.specs.Blocks.{IsInHand, in_hand, list_at, placed, dropped, put, put_back, block_at, token};
 ghost use Rattle.strm_blocks.specs.Outcomes.{Popped, Unpopped, flushed};
-ghost use Rattle.strm_queue.specs.Kept.{AreCounted, bytes_of, data_bytes_of, data_share, count_of, band_of, enables, flow_at, is_full, FewBytes};
+ghost use Rattle.strm_queue.specs.Kept.{AreCounted, bytes_of, data_bytes_of, data_share, count_of, band_of, enables, flow_at, is_full};
 ghost use Rattle.strm_blocks.specs.Blocks.{Block};
-ghost use Rattle.strm_queue.specs.Flows.{count_in, added_to, removed_from, flushed_of, marked_with, relieves, relieved, plain_flows};
+ghost use Rattle.strm_queue.specs.Flows.{count_in, marked_with, relieves, relieved, plain_flows};
 ghost use Rattle.strm_queue.specs.Flushes.{takes_all};
 ghost use Rattle.strm_types.specs.Queue.{with_writer_at, with_marks, is_none_left};
 ghost use Rattle.strm_types.specs.Refused.{is_a_band};
 ghost use Rattle.strm_types.specs.declared.kinds.Band.{Band};
-ghost use Rattle.std.specs.Prelude.{replicate};
+ghost use Rattle.strm_types.specs.declared.limits.TheConstants.{BANDS};
 ghost use Rattle.std.specs.List.{list_any};
-ghost use Rattle.std.specs.Bool.{OnFalse};
 
-use crate::flow::Flow;
+use crate::flows::Flows;
 use crate::flush::Flush;
-use crate::share::{Share, share_of};
+use crate::share::share_of;
 use strm_blocks::{Blocks, FlushWhat, InHand};
-use strm_types::{BANDS, Band, Marks};
+use strm_types::{Band, Marks};
 
 /// A queue: the number of its list in a store, the flow control of its bands from 0 up, and its flags. Want-read says
 /// that a message of band 0 that is put enables the queue; no-enable that only a message of high priority does.
 #[derive(Drop)]
 pub struct Queue {
     pub list: usize,
-    pub flows: [Flow; BANDS],
+    pub flows: Flows,
     pub want_read: bool,
     pub no_enable: bool,
     pub ghost on_list: { list < 8 },
-    pub ghost few: { FewBytes flows },
 }
 
 impl Queue {
@@ -50,35 +48,10 @@ impl Queue {
     {
         Queue {
             list,
-            flows: [Flow::new(high, low); BANDS],
+            flows: Flows::new(high, low),
             want_read: true,
             no_enable: false,
         }
-    }
-
-    // Counts a message in.
-    fn count_in(&mut self, share: Share)
-        requires band { share.band < length self.old.flows }
-        requires few { count_in (flow_at share.band self.old.flows) + share.bytes ≤ 16777216 }
-        ensures flows { self.new.flows ≡ slice_set self.old.flows share.band
-            (added_to share.is_data share.bytes (flow_at share.band self.old.flows)) }
-        ensures others { OnlyCounts self.old self.new }
-    {
-        let flow = self.flows[share.band];
-        self.flows[share.band] = flow.with(share);
-    }
-
-    // Counts a message out.
-    fn count_out(&mut self, share: Share)
-        requires band { share.band < length self.old.flows }
-        requires has { share.bytes ≤ (if share.is_data then (flow_at share.band self.old.flows).data_bytes
-            else (flow_at share.band self.old.flows).other_bytes) }
-        ensures flows { self.new.flows ≡ slice_set self.old.flows share.band
-            (removed_from share.is_data share.bytes (flow_at share.band self.old.flows)) }
-        ensures others { OnlyCounts self.old self.new }
-    {
-        let flow = self.flows[share.band];
-        self.flows[share.band] = flow.without(share);
     }
 
     /// Puts a message behind all of at least its rank, and says whether that enables the queue: a message of high
@@ -102,7 +75,7 @@ impl Queue {
         store.audit();
         let share = share_of(store, &message);
         store.insert_back(self.list, message);
-        self.count_in(share);
+        self.flows.add(share);
         share.enables(self.want_read, self.no_enable)
     }
 
@@ -121,7 +94,7 @@ impl Queue {
         store.audit();
         let share = share_of(store, &message);
         store.insert_front(self.list, message);
-        self.count_in(share);
+        self.flows.add(share);
     }
 
     /// Takes the first message, if there is one, which clears want-read: `getq(9F)`. Waiting writers are let go by
@@ -141,7 +114,7 @@ impl Queue {
         store.audit();
         let message = store.pop(self.list)?;
         let share = share_of(store, &message);
-        self.count_out(share);
+        self.flows.remove(share);
         self.want_read = false;
         Some(message)
     }
@@ -152,19 +125,14 @@ impl Queue {
         ensures kept { result ≡ count_in (flow_at band.0 self.now.flows) }
         ensures count { (q : List (List Block)) → AreCounted self.now.flows q → result ≡ count_of band.0 q }
     {
-        let flow = self.flows[usize::from(band.0)];
-        flow.count() as usize
+        self.flows.at(band).count() as usize
     }
 
     /// How many bytes stand on the queue, in all bands.
     pub fn total(&self) -> usize
         ensures total { (q : List (List Block)) → AreCounted self.now.flows q → result ≡ sum_by bytes_of q }
     {
-        let mut total = 0;
-        for band in 0..BANDS {
-            total += self.flows[band].count() as usize;
-        }
-        total
+        self.flows.total()
     }
 
     /// How many bytes of data stand on the queue, in messages of data of one band or of all: what a flush takes.
@@ -173,14 +141,7 @@ impl Queue {
         ensures all { (q : List (List Block)) → AreCounted self.now.flows q → band ≡ None → result ≡ sum_by data_bytes_of q }
         ensures one { (q : List (List Block)) (b : Band) → AreCounted self.now.flows q → band ≡ Some b → result ≡ sum_by (data_share b.0) q }
     {
-        if let Some(band) = band {
-            return self.flows[usize::from(band.0)].data_bytes as usize;
-        }
-        let mut total = 0;
-        for band in 0..BANDS {
-            total += self.flows[band].data_bytes as usize;
-        }
-        total
+        self.flows.data_bytes(band)
     }
 
     /// Whether a band's count is at or above its high-water mark.
@@ -190,20 +151,7 @@ impl Queue {
         ensures full { (q : List (List Block)) → AreCounted self.now.flows q →
             result ≡ is_full (flow_at band.0 self.now.flows).high band.0 q }
     {
-        self.flows[usize::from(band.0)].full
-    }
-
-    // Counts out what a flush of all messages, or of those of data, has taken.
-    fn count_flush(&mut self, what: Flush)
-        ensures flows { (band : ℕ) → band < BANDS →
-            flow_at band self.new.flows ≡ flushed_of (takes_all what) (flow_at band self.old.flows) }
-        ensures eight { length self.new.flows ≡ length self.old.flows }
-        ensures others { OnlyCounts self.old self.new }
-    {
-        for band in 0..BANDS {
-            let flow = self.flows[band];
-            self.flows[band] = flow.flushed(what);
-        }
+        self.flows.is_full(band)
     }
 
     // Sets want-read where nothing stands on the list.
@@ -243,7 +191,7 @@ impl Queue {
                 band: None,
             },
         );
-        self.count_flush(what);
+        self.flows.flush(what);
         self.see_empty(store);
     }
 
@@ -271,19 +219,8 @@ impl Queue {
                 band: Some(band),
             },
         );
-        self.count_band_flush(usize::from(band.0));
+        self.flows.flush_band(band);
         self.see_empty(store);
-    }
-
-    // Counts out what a flush of data of one band has taken.
-    fn count_band_flush(&mut self, band: usize)
-        requires { band < length self.old.flows }
-        ensures flows { self.new.flows
-            ≡ slice_set self.old.flows band (flushed_of false (flow_at band self.old.flows)) }
-        ensures others { OnlyCounts self.old self.new }
-    {
-        let flow = self.flows[band];
-        self.flows[band] = flow.flushed(Flush::Data);
     }
 
     /// Sets the marks of a band. It is full from then on exactly where its count is at or above the new high-water mark.
@@ -296,9 +233,7 @@ impl Queue {
         ensures counted { (q : List (List Block)) → AreCounted self.old.flows q → AreCounted self.new.flows q }
         ensures others { OnlyCounts self.old self.new }
     {
-        let band = usize::from(band.0);
-        let flow = self.flows[band];
-        self.flows[band] = flow.marked(high, low);
+        self.flows.mark(band, high, low);
     }
 
     /// Sets the same marks in each band. A band is full from then on exactly where its count is at or above the new high-water
@@ -310,10 +245,7 @@ impl Queue {
         ensures counted { (q : List (List Block)) → AreCounted self.old.flows q → AreCounted self.new.flows q }
         ensures others { OnlyCounts self.old self.new }
     {
-        for band in 0..BANDS {
-            let flow = self.flows[band];
-            self.flows[band] = flow.marked(marks.high, marks.low);
-        }
+        self.flows.mark_all(marks.high, marks.low);
     }
 
     /// Whether no message stands on the queue's list.
@@ -330,7 +262,7 @@ impl Queue {
         ensures counted { (q : List (List Block)) → AreCounted self.old.flows q → AreCounted self.new.flows q }
         ensures others { OnlyCounts self.old self.new }
     {
-        self.flows[usize::from(band.0)].want_write = true;
+        self.flows.set_waiting(band, true);
     }
 
     /// Lets the waiting writers of each band go whose count is at or below its low-water mark: want-write is cleared.
@@ -342,39 +274,6 @@ impl Queue {
         ensures counted { (q : List (List Block)) → AreCounted self.old.flows q → AreCounted self.new.flows q }
         ensures others { OnlyCounts self.old self.new }
     {
-        if !self.has_waiting() {
-            return false;
-        }
-        self.relieve_waiting()
-    }
-
-    // Whether a writer waits for a band.
-    fn has_waiting(&self) -> bool
-        ensures { OnFalse result ((band : ℕ) → band < BANDS → (flow_at band self.now.flows).want_write ≡ false) }
-    {
-        for band in 0..BANDS {
-            if self.flows[band].want_write {
-                return true;
-            }
-        }
-        false
-    }
-
-    // What `back_enable` does, band by band. It is apart, since mostly no writer waits.
-    #[cold]
-    #[inline(never)]
-    fn relieve_waiting(&mut self) -> bool
-        ensures went { result ≡ list_any relieves self.old.flows }
-        ensures flows { (band : ℕ) → band < BANDS → flow_at band self.new.flows ≡ relieved (flow_at band self.old.flows) }
-        ensures counted { (q : List (List Block)) → AreCounted self.old.flows q → AreCounted self.new.flows q }
-        ensures others { OnlyCounts self.old self.new }
-    {
-        let mut went = false;
-        for band in 0..BANDS {
-            let flow = self.flows[band];
-            went |= flow.lets_go();
-            self.flows[band] = flow.relieved();
-        }
-        went
+        self.flows.relieve()
     }
 }

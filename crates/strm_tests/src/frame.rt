@@ -85,7 +85,7 @@ fn a_writer_waits_at_the_nearest_queue(rt: HostRuntime) -> Result<(), Fail> {
     stack.let_wait_past(Way::Up, Band(3), 3);
     for waits in [true, false] {
         let last = stack.modules.pop();
-        assert!(rt; last.map(|stock| stock.queue.flows[2].want_write) == Some(waits));
+        assert!(rt; last.map(|stock| stock.queue.flows.at(Band(2)).want_write) == Some(waits));
     }
     Ok(())
 }

@@ -19,7 +19,7 @@ fn kept_of(queue: &Queue) -> Kept {
     Kept {
         bytes: queue.count(Band(0)),
         is_full: queue.is_full(Band(0)),
-        want_write: queue.flows[0].want_write,
+        want_write: queue.flows.at(Band(0)).want_write,
         want_read: queue.want_read,
     }
 }

@@ -22,11 +22,15 @@ above w n m l more is waits low =
 pub returns-then-low-count : goal.returns-then-low-count
 returns-then-low-count c = λ s ready.
     let q = c.args.queue.now in
-    below (flow_at 0 q.flows).want_write c.count-count.result (count_of 0 (messages_on s q.list)) (flow_at 0 q.flows).low c.args.more
-    (c.count-count.ensures.kept ∙ counts s q ready 0 (omega arith)) c.if-flow.true c.if-low-count.true
+    let flow = c.at-flow.ensures.flow in
+    rw flow
+    (below (flow_at 0 q.flows).want_write c.count-count.result (count_of 0 (messages_on s q.list)) (flow_at 0 q.flows).low c.args.more
+    (c.count-count.ensures.kept ∙ counts s q ready 0 (omega arith)) (rw flow at c.if-flow.true) (rw flow at c.if-low-count.true))
 
 pub returns-else-low-count : goal.returns-else-low-count
 returns-else-low-count c = λ s ready.
     let q = c.args.queue.now in
-    above (flow_at 0 q.flows).want_write c.count-count.result (count_of 0 (messages_on s q.list)) (flow_at 0 q.flows).low c.args.more
-    (c.count-count.ensures.kept ∙ counts s q ready 0 (omega arith)) c.if-flow.true c.if-low-count.false
+    let flow = c.at-flow.ensures.flow in
+    rw flow
+    (above (flow_at 0 q.flows).want_write c.count-count.result (count_of 0 (messages_on s q.list)) (flow_at 0 q.flows).low c.args.more
+    (c.count-count.ensures.kept ∙ counts s q ready 0 (omega arith)) (rw flow at c.if-flow.true) (rw flow at c.if-low-count.false))

@@ -15,8 +15,8 @@ returns-clause-counted g c =
     let chain_is = ap (λ v. in_hand v i) p.after ∙ held-chain (placed s k p.rest) i p.message in
     let low = (subst AllBands p.joined c.requires.bands).0 in
     let list_is = ap (λ v. list_at v k) p.after ∙ list-placed s k p.rest (omega (arith, c.audit.ensures.eight, c.args.self.now.on_list)) in
-    rw (c.count_out.ensures.flows, c.count_out.ensures.others.list, list_is, c.share_of-share.ensures.band, c.share_of-share.ensures.bytes, c.share_of-share.ensures.kind, chain_is)
+    rw (c.remove.ensures, list_is, c.share_of-share.ensures.band, c.share_of-share.ensures.bytes, c.share_of-share.ensures.kind, chain_is)
     (take-counted s k c.args.self.now.flows p.message p.rest c.requires p.joined low)
 
 pub returns-clause-flows : goal.returns-clause-flows
-returns-clause-flows g c = rw c.count_out.ensures.flows (set-removed c.args.self.now.flows c.share_of-share.result.band c.share_of-share.result.is_data c.share_of-share.result.bytes)
+returns-clause-flows g c = rw c.remove.ensures (set-removed c.args.self.now.flows c.share_of-share.result.band c.share_of-share.result.is_data c.share_of-share.result.bytes)
