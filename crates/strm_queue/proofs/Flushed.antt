@@ -9,7 +9,7 @@ use Rattle.strm_types.specs.declared.kinds.Band.{Band}
 use Rattle.strm_blocks.specs.Blocks.{Block}
 use Rattle.strm_blocks.specs.Outcomes.{flushed}
 use Rattle.strm_queue.specs.declared.flow.Flow.{Flow}
-use Rattle.strm_queue.specs.Flows.{count_in, flushed_of, marked_with, waiting, relieves, relieved}
+use Rattle.strm_queue.specs.Flows.{count_in, IsMarked, flushed_of, marked_with, waiting, relieves, relieved}
 use Rattle.strm_queue.specs.Kept.{bytes_of, band_of, is_data, data_share, other_share, flow_at, no_flow, IsCounted, AreCounted, FewBytes}
 use Rattle.strm_queue.proofs.Counted.{flow-same, flow-other, all-kept}
 
@@ -214,13 +214,20 @@ relieved-less f = at (relieves f)
     at true = omega arith
     at false = omega arith
 
+pub relieved-marked : (f : Flow) → IsMarked f → IsMarked (relieved f)
+relieved-marked f is = at (relieves f)
+  where
+    at : (b : Bool) → IsMarked (if b then record f { want_write = false } else f)
+    at true = is
+    at false = is
+
 -- whether some band's writer was let go, with one band more
 pub went-more : (old new : List Flow) (band : ℕ) (went : Bool) → band < length old → flow_at band new ≡ flow_at band old → went ≡ list_any relieves (take band old) → (went || relieves (flow_at band new)) ≡ list_any relieves (take (band + 1) old)
 went-more old new band went within same sofar =
     ap (λ b. b || relieves (flow_at band new)) sofar ∙ ap (λ f. list_any relieves (take band old) || relieves f) same ∙ sym (list_any_more relieves old band no_flow within)
 
 -- a band without a waiting writer lets none go, and stays
-waits-none : (f : Flow) → f.want_write ≡ false → relieves f ≡ false
+pub waits-none : (f : Flow) → f.want_write ≡ false → relieves f ≡ false
 waits-none f is = ap (λ b. b && nat_le (count_in f) f.low) is
 
 pub none-waits : (f : Flow) → f.want_write ≡ false → f ≡ relieved f

@@ -21,3 +21,10 @@ pub mod Joined
 pub mod Dequeuing
 pub mod Going
 pub mod Finding
+pub mod Lowest
+pub mod Next
+pub mod RowFlows
+pub mod Passing
+pub mod FreshRows
+pub mod Gaps
+pub mod Parts

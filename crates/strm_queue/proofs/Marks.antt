@@ -43,13 +43,9 @@ all-flushed all (f ∷ fs) (g ∷ gs) long each =
     ∙ ap (λ ys. plain_flow f ∷ ys) (all-flushed all fs gs (omega arith) (λ band lt. each (suc band) (omega arith)))
 
 -- other marks in each band
-pub all-marked : (high low : ℕ) (fs gs : List Flow) → length gs ≡ length fs → ((band : ℕ) → band < length fs → flow_at band gs ≡ marked_with high low (flow_at band fs)) → plain_flows gs ≡ map (plain.with_marks high low) (plain_flows fs)
-all-marked high low [] [] long each = refl
-all-marked high low [] (g ∷ gs) long each = absurd (omega arith)
-all-marked high low (f ∷ fs) [] long each = absurd (omega arith)
-all-marked high low (f ∷ fs) (g ∷ gs) long each =
-    ap (λ y. plain_flow y ∷ plain_flows gs) (each 0 (omega arith))
-    ∙ ap (λ ys. plain.with_marks high low (plain_flow f) ∷ ys) (all-marked high low fs gs (omega arith) (λ band lt. each (suc band) (omega arith)))
+pub map-marked : (high low : ℕ) (fs : List Flow) → plain_flows (map (marked_with high low) fs) ≡ map (plain.with_marks high low) (plain_flows fs)
+map-marked high low [] = refl
+map-marked high low (f ∷ fs) = ap (λ ys. plain.with_marks high low (plain_flow f) ∷ ys) (map-marked high low fs)
 
 -- a writer waits for a band
 pub set-waits : (flows : List Flow) (i : ℕ) → plain_flows (slice_set flows i (record (flow_at i flows) { want_write = true })) ≡ plain.with_writer_at i (plain_flows flows)

@@ -1,12 +1,13 @@
 -- The counts of the bands add up to the bytes of all messages.
-use Rattle.std.proofs.Common.{ℕ, zero, suc, ◌≡◌, ◌≤◌, ◌<◌, ◌+◌, ◌*◌, Bool, true, false, List, [], ◌∷◌, refl, sym, ◌∙◌, arith}
+use Rattle.std.proofs.Common.{ℕ, zero, suc, ◌≡◌, ◌≤◌, ◌<◌, ◌+◌, ◌*◌, Bool, true, false, List, [], ◌∷◌, length, take, refl, sym, ap, ◌∙◌, arith}
 use Rattle.std.specs.Prelude.{sum_by, nat_lt, ◌==◌, ◌&&◌, if◌then◌else◌}
 use Rattle.std.proofs.lemmas.Bool.Decides.{nat_tests}
-use Rattle.std.proofs.lemmas.List.Sums.{sum_by-cons}
+use Rattle.std.proofs.lemmas.List.{take_all}
+use Rattle.std.proofs.lemmas.List.Sums.{sum_by-cons, sum_by_more}
 use Rattle.strm_blocks.specs.Blocks.{Block}
 use Rattle.strm_queue.specs.declared.flow.Flow.{Flow}
-use Rattle.strm_queue.specs.Flows.{count_in}
-use Rattle.strm_queue.specs.Kept.{bytes_of, data_bytes_of, band_of, is_data, data_share, flow_at, AllBands, AreCounted, FewBytes}
+use Rattle.strm_queue.specs.Flows.{count_in, kept_bytes}
+use Rattle.strm_queue.specs.Kept.{bytes_of, data_bytes_of, band_of, is_data, data_share, flow_at, no_flow, AllBands, AreCounted, FewBytes}
 use Rattle.strm_queue.proofs.Counted.{count-kept, sum-both}
 
 -- Numbers that are kept for each band, and what a message adds to them all.
@@ -65,6 +66,18 @@ module _ (kept : Flow → ℕ) (adds : List Block → ℕ) where
   pub sums : (flows : List Flow) (q : List (List Block)) → ((band : ℕ) → band < 8 → kept (flow_at band flows) ≡ sum_by (share_at band) q) → AllBands q → counts_below 8 flows ≡ sum_by adds q
   sums flows q each bands = below-is flows q each 8 (omega arith) ∙ all-below q bands
 
+-- the numbers of all bands, as a sum over them
+below-take : (kept : Flow → ℕ) (adds : List Block → ℕ) (flows : List Flow) (band : ℕ) → band ≤ length flows → counts_below kept adds band flows ≡ sum_by kept (take band flows)
+below-take kept adds flows zero within = refl
+below-take kept adds flows (suc band) within =
+    let one : sum_by kept (take (band + 1) flows) ≡ sum_by kept (take band flows) + kept (flow_at band flows) = sum_by_more kept flows band no_flow (omega (arith, within)) in
+    let is : sum_by kept (take (suc band) flows) ≡ sum_by kept (take (band + 1) flows) = ap (λ j. sum_by kept (take j flows)) (let e : suc band ≡ band + 1 = omega arith in e) in
+    omega (arith, one, is, below-take kept adds flows band (omega (arith, within)))
+
+below-sum : (kept : Flow → ℕ) (adds : List Block → ℕ) (flows : List Flow) → length flows ≡ 8 → sum_by kept flows ≡ counts_below kept adds 8 flows
+below-sum kept adds flows eight =
+    ap (sum_by kept) (sym (take_all 8 flows (omega (arith, eight)))) ∙ sym (below-take kept adds flows 8 (omega (arith, eight)))
+
 -- the counts add up to the bytes of all messages
 pub total-is : (flows : List Flow) (q : List (List Block)) → AreCounted flows q → counts_below count_in bytes_of 8 flows ≡ sum_by bytes_of q
 total-is flows q is = sums count_in bytes_of flows q (λ band lt. count-kept band (flow_at band flows) q (is.each band lt)) is.bands
@@ -87,3 +100,10 @@ data-band band flows q is lt = (is.each band lt).data_sum ∙ sum-same (data_sha
 
 pub data-is : (flows : List Flow) (q : List (List Block)) → AreCounted flows q → counts_below (λ f. f.data_bytes) data_bytes_of 8 flows ≡ sum_by data_bytes_of q
 data-is flows q is = sums (λ f. f.data_bytes) data_bytes_of flows q (λ band lt. data-band band flows q is lt) is.bands
+
+-- the sums over all bands, of all bytes and of those of data alone
+pub bytes-sum : (flows : List Flow) (q : List (List Block)) → AreCounted flows q → sum_by (kept_bytes false) flows ≡ sum_by bytes_of q
+bytes-sum flows q is = below-sum count_in bytes_of flows is.eight ∙ total-is flows q is
+
+pub data-sum : (flows : List Flow) (q : List (List Block)) → AreCounted flows q → sum_by (kept_bytes true) flows ≡ sum_by data_bytes_of q
+data-sum flows q is = below-sum (λ f. f.data_bytes) data_bytes_of flows is.eight ∙ data-is flows q is

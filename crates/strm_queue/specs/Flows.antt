@@ -7,6 +7,10 @@ use Rattle.strm_queue.specs.declared.flow.Flow.{Flow}
 abbrev pub count_in : Flow → ℕ
 count_in f = f.data_bytes + f.other_bytes
 
+-- those of data alone, or all
+abbrev pub kept_bytes : Bool → Flow → ℕ
+kept_bytes data_alone f = if data_alone then f.data_bytes else count_in f
+
 -- the full flag says whether the count is at or above the high-water mark
 abbrev pub IsMarked : Flow → Type 0
 IsMarked f = f.full ≡ nat_le f.high (count_in f)

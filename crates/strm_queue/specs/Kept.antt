@@ -71,7 +71,8 @@ enables chain want_read no_enable = is_high_priority (block_at 0 chain).kind || 
 abbrev pub FewBytes : List Flow → Type 0
 FewBytes flows = (band : ℕ) → count_in (flow_at band flows) ≤ 16777216
 
--- the flow control of a queue's bands: of each, with such counts
+-- the flow control of a queue's bands: there is one of each, with such counts, and that of band 0 says when it is full
 pub record AreFlows (flows : List Flow) : Type 0 where
   pub eight : length flows ≡ BANDS
   pub few : FewBytes flows
+  pub marked : IsMarked (flow_at 0 flows)

@@ -6,3 +6,5 @@ pub mod Queues
 pub mod Order
 pub mod Stored
 pub mod Choices
+pub mod Sets
+pub mod Rows

@@ -1,7 +1,7 @@
 //! Flow control of one band.
 
 ghost use Rattle.std.specs.Prelude.{◌≡◌, ◌+◌, ◌≤◌, ◌<◌, ◌^◌, nat_le, false, if◌then◌else◌};
-ghost use Rattle.strm_queue.specs.Flows.{count_in, added_to, removed_from, flushed_of, marked_with, relieved, relieves};
+ghost use Rattle.strm_queue.specs.Flows.{count_in, kept_bytes, added_to, removed_from, flushed_of, marked_with, relieved, relieves};
 ghost use Rattle.strm_queue.specs.Flushes.{takes_all};
 
 use crate::flush::Flush;
@@ -48,6 +48,18 @@ impl Flow {
         ensures { result ≡ count_in self.now }
     {
         self.data_bytes + self.other_bytes
+    }
+
+    /// How many bytes of data stand in the band, or of all messages.
+    pub(crate) fn kept(&self, data_alone: bool) -> u32
+        requires { count_in self.now < 2 ^ 32 }
+        ensures { result ≡ kept_bytes data_alone self.now }
+    {
+        if data_alone {
+            self.data_bytes
+        } else {
+            self.count()
+        }
     }
 
     /// With a message's bytes added.

@@ -1,39 +1,41 @@
 //! The flow control of a queue's bands.
 
-ghost use Rattle.std.specs.Prelude.{◌≡◌, ◌<◌, ◌≤◌, ◌+◌, ℕ, true, false, List, [], length, Some, None, if◌then◌else◌, slice_set, sum_by, replicate, map};
+ghost use Rattle.std.specs.Prelude.{◌≡◌, ◌<◌, ◌≤◌, ◌+◌, ℕ, true, false, List, [], length, Some, None, not, ◌||◌, if◌then◌else◌, slice_set, sum_by, replicate, map};
 ghost use Rattle.std.specs.List.{list_any};
 ghost use Rattle.std.specs.Bool.{OnFalse};
 ghost use Rattle.strm_types.specs.declared.kinds.Band.{Band};
 ghost use Rattle.strm_types.specs.Queue.{with_marks};
 ghost use Rattle.strm_types.specs.Refused.{is_a_band};
 ghost use Rattle.strm_blocks.specs.Blocks.{Block};
-ghost use Rattle.strm_queue.specs.Flows.{count_in, added_to, removed_from, flushed_of, marked_with, waiting, relieves, relieved, plain_flows};
+ghost use Rattle.strm_queue.specs.Flows.{count_in, IsMarked, added_to, removed_from, flushed_of, marked_with, waiting, relieves, relieved, plain_flows};
 ghost use Rattle.strm_queue.specs.Flushes.{takes_all};
 ghost use Rattle.strm_queue.specs.Kept.{AreCounted, bytes_of, data_bytes_of, data_share, flow_at};
 
+use crate::banded::Banded;
 use crate::flow::Flow;
 use crate::flush::Flush;
 use crate::share::Share;
 use std::marker::Model;
 use strm_types::{BANDS, Band};
 
-/// The flow control of the bands of a queue. Contracts see a list, from band 0 up.
+/// The flow control of the bands of a queue: that of band 0 beside that of all others. Contracts see a list, from band 0 up.
 #[derive(Drop)]
 pub struct Flows {
-    bands: [Flow; BANDS],
+    first: Flow,
+    others: Banded,
 }
 
 impl Model for Flows {
-    ghost use Rattle.std.specs.Prelude.{List};
+    ghost use Rattle.std.specs.Prelude.{List, ◌∷◌};
     ghost use Rattle.strm_queue.specs.declared.flow.Flow.{Flow};
 
     ghost Value = { List Flow };
 
     ghost use Rattle.strm_queue.specs.Kept.{AreFlows};
 
-    ghost view = { λ f. f.bands };
+    ghost view = { λ f. f.first ∷ f.others };
 
-    ghost invariant = { λ f. AreFlows f.bands };
+    ghost invariant = { λ f. AreFlows (f.first ∷ f.others) };
 }
 
 impl Flows {
@@ -44,7 +46,37 @@ impl Flows {
         ensures flows { plain_flows result ≡ replicate BANDS (record { high = high; low = low; want_write = false }) }
     {
         Flows {
-            bands: [Flow::new(high, low); BANDS],
+            first: Flow::new(high, low),
+            others: Banded::new(high, low),
+        }
+    }
+
+    // The flow control of a band by its number.
+    #[inline(always)]
+    fn get(&self, band: usize) -> Flow
+        requires { band < BANDS }
+        ensures flow { result ≡ flow_at band self.now }
+        ensures few { count_in result ≤ 16777216 }
+        ensures marked { IsMarked result }
+    {
+        if band == 0 {
+            return self.first;
+        }
+        self.others.at(band - 1)
+    }
+
+    // Sets the flow control of a band.
+    #[inline(always)]
+    fn set(&mut self, band: usize, flow: Flow)
+        requires band { band < BANDS }
+        requires few { count_in flow ≤ 16777216 }
+        requires marked { IsMarked flow }
+        ensures { self.new ≡ slice_set self.old band flow }
+    {
+        if band == 0 {
+            self.first = flow;
+        } else {
+            self.others.set(band - 1, flow);
         }
     }
 
@@ -54,7 +86,7 @@ impl Flows {
         ensures flow { result ≡ flow_at band.0 self.now }
         ensures few { count_in result ≤ 16777216 }
     {
-        self.bands[usize::from(band.0)]
+        self.get(usize::from(band.0))
     }
 
     /// Whether a band is full.
@@ -62,34 +94,26 @@ impl Flows {
         requires { band.0 < BANDS }
         ensures { result ≡ (flow_at band.0 self.now).full }
     {
-        self.bands[usize::from(band.0)].full
+        self.get(usize::from(band.0)).full
     }
 
-    /// How many bytes stand in all bands.
+    /// How many bytes stand in all bands. The cost is a step for each band above 0 where some do.
     pub(crate) fn total(&self) -> usize
         ensures { (q : List (List Block)) → AreCounted self.now q → result ≡ sum_by bytes_of q }
     {
-        let mut total = 0;
-        for band in 0..BANDS {
-            total += self.bands[band].count() as usize;
-        }
-        total
+        self.first.count() as usize + self.others.total(false)
     }
 
-    /// How many bytes of data stand in one band, or in all.
+    /// How many bytes of data stand in one band, or in all, at the cost of `total`.
     pub(crate) fn data_bytes(&self, band: Option<Band>) -> usize
         requires { is_a_band band ≡ true }
         ensures all { (q : List (List Block)) → AreCounted self.now q → band ≡ None → result ≡ sum_by data_bytes_of q }
         ensures one { (q : List (List Block)) (b : Band) → AreCounted self.now q → band ≡ Some b → result ≡ sum_by (data_share b.0) q }
     {
         if let Some(band) = band {
-            return self.bands[usize::from(band.0)].data_bytes as usize;
+            return self.at(band).data_bytes as usize;
         }
-        let mut total = 0;
-        for band in 0..BANDS {
-            total += self.bands[band].data_bytes as usize;
-        }
-        total
+        self.first.data_bytes as usize + self.others.total(true)
     }
 
     /// Counts a message in.
@@ -99,8 +123,8 @@ impl Flows {
         ensures { self.new ≡ slice_set self.old share.band
             (added_to share.is_data share.bytes (flow_at share.band self.old)) }
     {
-        let flow = self.bands[share.band];
-        self.bands[share.band] = flow.with(share);
+        let flow = self.get(share.band);
+        self.set(share.band, flow.with(share));
     }
 
     /// Counts a message out.
@@ -111,19 +135,17 @@ impl Flows {
         ensures { self.new ≡ slice_set self.old share.band
             (removed_from share.is_data share.bytes (flow_at share.band self.old)) }
     {
-        let flow = self.bands[share.band];
-        self.bands[share.band] = flow.without(share);
+        let flow = self.get(share.band);
+        self.set(share.band, flow.without(share));
     }
 
-    /// Counts out what a flush of all messages, or of those of data, has taken.
+    /// Counts out what a flush of all messages, or of those of data, has taken. The cost is that of `total`.
     pub(crate) fn flush(&mut self, what: Flush)
         ensures each { (band : ℕ) → band < BANDS → flow_at band self.new ≡ flushed_of (takes_all what) (flow_at band self.old) }
         ensures eight { length self.new ≡ length self.old }
     {
-        for band in 0..BANDS {
-            let flow = self.bands[band];
-            self.bands[band] = flow.flushed(what);
-        }
+        self.first = self.first.flushed(what);
+        self.others.flush(what);
     }
 
     /// Counts out what a flush of data of one band has taken.
@@ -132,8 +154,8 @@ impl Flows {
         ensures { self.new ≡ slice_set self.old band.0 (flushed_of false (flow_at band.0 self.old)) }
     {
         let at = usize::from(band.0);
-        let flow = self.bands[at];
-        self.bands[at] = flow.flushed(Flush::Data);
+        let flow = self.get(at);
+        self.set(at, flow.flushed(Flush::Data));
     }
 
     /// Sets the marks of a band.
@@ -142,19 +164,17 @@ impl Flows {
         ensures { self.new ≡ slice_set self.old band.0 (marked_with high low (flow_at band.0 self.old)) }
     {
         let at = usize::from(band.0);
-        let flow = self.bands[at];
-        self.bands[at] = flow.marked(high, low);
+        let flow = self.get(at);
+        self.set(at, flow.marked(high, low));
     }
 
-    /// Sets the same marks in each band.
+    /// Sets the same marks in each band, whatever their number.
     pub(crate) fn mark_all(&mut self, high: u32, low: u32)
         ensures flows { plain_flows self.new ≡ map (with_marks high low) (plain_flows self.old) }
         ensures counted { (q : List (List Block)) → AreCounted self.old q → AreCounted self.new q }
     {
-        for band in 0..BANDS {
-            let flow = self.bands[band];
-            self.bands[band] = flow.marked(high, low);
-        }
+        self.first = self.first.marked(high, low);
+        self.others.mark(high, low);
     }
 
     /// Sets or clears want-write of a band: whether a writer waits for it.
@@ -163,10 +183,14 @@ impl Flows {
         ensures flows { self.new ≡ slice_set self.old band.0 (waiting waits (flow_at band.0 self.old)) }
         ensures counted { (q : List (List Block)) → AreCounted self.old q → AreCounted self.new q }
     {
-        self.bands[usize::from(band.0)].want_write = waits;
+        let at = usize::from(band.0);
+        let mut flow = self.get(at);
+        flow.want_write = waits;
+        self.set(at, flow);
     }
 
     /// Lets the waiting writers of each band go whose count is at or below its low-water mark, and says whether there was one.
+    /// Only bands for which a writer waits are asked.
     #[inline(always)]
     pub(crate) fn relieve(&mut self) -> bool
         ensures went { result ≡ list_any relieves self.old }
@@ -184,15 +208,10 @@ impl Flows {
         ensures none { OnFalse result ((band : ℕ) → band < BANDS → (flow_at band self.now).want_write ≡ false) }
         ensures eight { length self.now ≡ BANDS }
     {
-        for band in 0..BANDS {
-            if self.bands[band].want_write {
-                return true;
-            }
-        }
-        false
+        self.first.want_write || !self.others.waiting().is_empty()
     }
 
-    // What `relieve` does, band by band. It is apart, since mostly no writer waits.
+    // What `relieve` does where a writer waits. It is apart, since mostly none does.
     #[cold]
     #[inline(never)]
     fn relieve_waiting(&mut self) -> bool
@@ -200,12 +219,8 @@ impl Flows {
         ensures each { (band : ℕ) → band < BANDS → flow_at band self.new ≡ relieved (flow_at band self.old) }
         ensures counted { (q : List (List Block)) → AreCounted self.old q → AreCounted self.new q }
     {
-        let mut went = false;
-        for band in 0..BANDS {
-            let flow = self.bands[band];
-            went |= flow.lets_go();
-            self.bands[band] = flow.relieved();
-        }
-        went
+        let went = self.first.lets_go();
+        self.first = self.first.relieved();
+        went | self.others.relieve()
     }
 }

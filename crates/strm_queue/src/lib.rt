@@ -2,6 +2,9 @@
 //! flushq(9F), flushband(9F), canput(9F). A queue is a list of a store with its counts, marks and flags beside it.
 #![tactic(auto)]
 
+mod banded;
+mod bandset;
+mod common;
 pub mod emptying;
 mod flow;
 mod flows;

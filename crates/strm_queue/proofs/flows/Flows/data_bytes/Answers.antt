@@ -1,19 +1,22 @@
--- The bytes of data of the bands so far.
-use Rattle.std.proofs.Common.{suc, ◌≡◌, ◌≤◌, ◌+◌, ◌*◌, ap, ◌∙◌, arith}
-use Rattle.strm_queue.specs.Kept.{data_bytes_of, flow_at}
-use Rattle.strm_queue.proofs.Totals.{counts_below, below-small, data-is}
+-- The bytes of data of band 0 and of the others.
+use Rattle.std.proofs.Common.{true, ◌∷◌, arith}
+use Rattle.std.proofs.lemmas.List.Sums.{sum_by-cons}
+use Rattle.strm_queue.specs.Flows.{kept_bytes}
+use Rattle.strm_queue.proofs.Parts.{others-few, others-small}
+use Rattle.strm_queue.proofs.Passing.{kept-less}
+use Rattle.strm_queue.proofs.Totals.{data-sum}
 use Rattle.strm_queue.proofs.flows.Flows.data_bytes.Goals as goal
 
-pub overflow_add-total : goal.overflow_add-total
-overflow_add-total c =
-    let flows = c.self.inside.bands in
-    let band = c.loop-band.band in
-    let small : counts_below (λ f. f.data_bytes) data_bytes_of band flows + (flow_at band flows).data_bytes ≤ suc band * 16777216 =
-    below-small (λ f. f.data_bytes) data_bytes_of (suc band) flows (λ f. omega arith) c.self.invariant.few in
-    omega (arith, small, c.loop-band.invariant)
+pub total-requires : goal.total-requires
+total-requires c = others-few c.self.inside.first c.self.inside.others c.self.invariant
+
+pub overflow_add-result : goal.overflow_add-result
+overflow_add-result c =
+    let small = others-small (kept_bytes true) c.self.inside.first c.self.inside.others (kept-less true) c.self.invariant in
+    omega (arith, small, c.self.invariant.few 0, c.total.ensures)
 
 pub returns-clause-all : goal.returns-clause-all
 returns-clause-all c = rw (← c.self.view_is) λ q is none.
-    c.loop-band.invariant
-    ∙ ap (λ band. counts_below (λ f. f.data_bytes) data_bytes_of band c.self.inside.bands) (let eight : c.loop-band.band ≡ 8 = omega arith in eight)
-    ∙ data-is c.self.inside.bands q is
+    let f = c.self.inside.first in
+    let fs = c.self.inside.others in
+    omega (arith, c.total.ensures, sum_by-cons (kept_bytes true) f fs, data-sum (f ∷ fs) q is)

@@ -1,17 +1,25 @@
--- The counts of the bands so far.
-use Rattle.std.proofs.Common.{suc, ◌≡◌, ◌≤◌, ◌+◌, ◌*◌, ap, ◌∙◌, arith}
-use Rattle.strm_queue.specs.Flows.{count_in}
-use Rattle.strm_queue.specs.Kept.{bytes_of, flow_at}
-use Rattle.strm_queue.proofs.Totals.{counts_below, below-small, total-is}
+-- The bytes of band 0 and of the others.
+use Rattle.std.proofs.Common.{false, ◌∷◌, arith}
+use Rattle.std.proofs.lemmas.List.Sums.{sum_by-cons}
+use Rattle.strm_queue.specs.Flows.{kept_bytes}
+use Rattle.strm_queue.proofs.Parts.{others-few, others-small, first-few}
+use Rattle.strm_queue.proofs.Passing.{kept-less}
+use Rattle.strm_queue.proofs.Totals.{bytes-sum}
 use Rattle.strm_queue.proofs.flows.Flows.total.Goals as goal
 
-pub overflow_add-total : goal.overflow_add-total
-overflow_add-total c =
-    let flows = c.self.inside.bands in
-    let band = c.loop-band.band in
-    let small : counts_below count_in bytes_of band flows + count_in (flow_at band flows) ≤ suc band * 16777216 = below-small count_in bytes_of (suc band) flows (λ f. omega arith) c.self.invariant.few in
-    omega (arith, small, c.count.ensures, c.loop-band.invariant)
+pub count-requires : goal.count-requires
+count-requires c = first-few c.self.inside.first c.self.inside.others c.self.invariant
+
+pub total-requires : goal.total-requires
+total-requires c = others-few c.self.inside.first c.self.inside.others c.self.invariant
+
+pub overflow_add-result : goal.overflow_add-result
+overflow_add-result c =
+    let small = others-small (kept_bytes false) c.self.inside.first c.self.inside.others (kept-less false) c.self.invariant in
+    omega (arith, small, c.self.invariant.few 0, c.count.ensures, c.total.ensures)
 
 pub returns : goal.returns
 returns c = rw (← c.self.view_is) λ q is.
-    c.loop-band.invariant ∙ ap (λ band. counts_below count_in bytes_of band c.self.inside.bands) (let eight : c.loop-band.band ≡ 8 = omega arith in eight) ∙ total-is c.self.inside.bands q is
+    let f = c.self.inside.first in
+    let fs = c.self.inside.others in
+    omega (arith, c.count.ensures, c.total.ensures, sum_by-cons (kept_bytes false) f fs, bytes-sum (f ∷ fs) q is)

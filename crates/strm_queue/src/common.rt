@@ -1,0 +1,112 @@
+//! What the bands above 0 of a queue have in common, and what is kept of each.
+
+ghost use Rattle.std.specs.Prelude.{◌≡◌, ◌≢◌, ◌<◌, ◌+◌, ◌^◌, ℕ, false, nat_lt};
+ghost use Rattle.strm_types.specs.declared.limits.TheConstants.{BANDS};
+ghost use Rattle.strm_queue.specs.Flows.{count_in, marked_with, IsMarked};
+ghost use Rattle.strm_queue.specs.Rows.{high_of, low_of, row_flow};
+ghost use Rattle.strm_queue.specs.Sets.{has};
+ghost use Rattle.strm_queue.specs.declared.common.Row.{Row};
+
+use crate::bandset::BandSet;
+use crate::flow::Flow;
+use strm_types::Marks;
+
+/// The counts of a band, and its own marks where it has some.
+#[derive(Clone, Copy)]
+pub(crate) struct Row {
+    pub data_bytes: u32,
+    pub other_bytes: u32,
+    pub high: u32,
+    pub low: u32,
+}
+
+/// The marks of bands that have none of their own; the bands that do, those where bytes stand, and those for which a writer
+/// waits.
+#[derive(Clone, Copy)]
+pub(crate) struct Common {
+    pub marks: Marks,
+    pub marked: BandSet,
+    pub filled: BandSet,
+    pub waiting: BandSet,
+}
+
+impl Common {
+    /// Bands where nothing stands, and for which nobody waits.
+    pub fn new(high: u32, low: u32) -> Common
+        ensures high { result.marks.high ≡ high }
+        ensures low { result.marks.low ≡ low }
+        ensures marked { (at : ℕ) → has result.marked at ≡ false }
+        ensures waiting { (at : ℕ) → has result.waiting at ≡ false }
+    {
+        Common {
+            marks: Marks { high, low },
+            marked: BandSet::new(),
+            filled: BandSet::new(),
+            waiting: BandSet::new(),
+        }
+    }
+
+    // The marks of a band.
+    fn marks_of(&self, at: usize, row: Row) -> Marks
+        requires { at + 1 < BANDS }
+        ensures high { result.high ≡ high_of self.now at row }
+        ensures low { result.low ≡ low_of self.now at row }
+    {
+        if self.marked.has(at) {
+            Marks {
+                high: row.high,
+                low: row.low,
+            }
+        } else {
+            self.marks
+        }
+    }
+
+    /// The flow control of a band.
+    pub fn flow(&self, at: usize, row: Row) -> Flow
+        requires within { at + 1 < BANDS }
+        requires few { row.data_bytes + row.other_bytes < 2 ^ 32 }
+        ensures { result ≡ row_flow self.now at row }
+    {
+        let marks = self.marks_of(at, row);
+        Flow {
+            data_bytes: row.data_bytes,
+            other_bytes: row.other_bytes,
+            high: marks.high,
+            low: marks.low,
+            full: row.data_bytes + row.other_bytes >= marks.high,
+            want_write: self.waiting.has(at),
+        }
+    }
+
+    /// Sets the flow control of a band, and tells its row.
+    pub fn set(&mut self, at: usize, flow: Flow) -> Row
+        requires within { at + 1 < BANDS }
+        requires few { count_in flow < 2 ^ 32 }
+        requires marked { IsMarked flow }
+        ensures here { row_flow self.new at result ≡ flow }
+        ensures others { (k : ℕ) (row : Row) → k ≢ at → row_flow self.new k row ≡ row_flow self.old k row }
+        ensures filled { has self.new.filled at ≡ nat_lt 0 (count_in flow) }
+        ensures stay { (k : ℕ) → k ≢ at → has self.new.filled k ≡ has self.old.filled k }
+    {
+        let shares = flow.high == self.marks.high && flow.low == self.marks.low;
+        self.marked.put(at, !shares);
+        self.filled.put(at, flow.count() > 0);
+        self.waiting.put(at, flow.want_write);
+        Row {
+            data_bytes: flow.data_bytes,
+            other_bytes: flow.other_bytes,
+            high: flow.high,
+            low: flow.low,
+        }
+    }
+
+    /// Sets the marks of all bands.
+    pub fn mark(&mut self, high: u32, low: u32)
+        ensures each { (at : ℕ) (row : Row) → row_flow self.new at row ≡ marked_with high low (row_flow self.old at row) }
+        ensures filled { self.new.filled ≡ self.old.filled }
+    {
+        self.marks = Marks { high, low };
+        self.marked = BandSet::new();
+    }
+}
