@@ -1,6 +1,6 @@
 -- The kept numbers of a queue after a flush, with other marks, and after its writers are let go.
 use Rattle.std.proofs.Common.{ℕ, suc, ◌≡◌, ◌<◌, ◌≤◌, ◌+◌, nat_le, Bool, true, false, cond, List, [], ◌∷◌, length, take, refl, sym, ap, subst, ◌∙◌, arith, length-set}
-use Rattle.std.specs.Prelude.{sum_by, slice_set, if◌then◌else◌, ◌==◌, ◌&&◌, ◌||◌, not, filter, nat_lt, None, Some}
+use Rattle.std.specs.Prelude.{sum_by, slice_set, if◌then◌else◌, ◌==◌, ◌&&◌, ◌||◌, not, filter, None, Some}
 use Rattle.std.proofs.lemmas.Bool.Decides.{nat_tests}
 use Rattle.std.proofs.lemmas.List.Sums.{sum_by-cons}
 use Rattle.std.proofs.lemmas.List.Folds.{list_any_more}
@@ -9,8 +9,8 @@ use Rattle.strm_types.specs.declared.kinds.Band.{Band}
 use Rattle.strm_blocks.specs.Blocks.{Block}
 use Rattle.strm_blocks.specs.Outcomes.{flushed}
 use Rattle.strm_queue.specs.declared.flow.Flow.{Flow}
-use Rattle.strm_queue.specs.Flows.{count_in, IsMarked, flushed_of, marked_with, waiting, relieves, relieved}
-use Rattle.strm_queue.specs.Kept.{bytes_of, band_of, is_data, data_share, other_share, flow_at, no_flow, IsCounted, AreCounted, FewBytes}
+use Rattle.strm_queue.specs.Flows.{count_in, IsMarked, flushed_of, marked_with, relieves, relieved}
+use Rattle.strm_queue.specs.Kept.{bytes_of, band_of, is_data, data_share, other_share, flow_at, no_flow, IsCounted, AreCounted}
 use Rattle.strm_queue.proofs.Counted.{flow-same, flow-other, all-kept}
 
 -- what stays and what goes have the sum of all
@@ -110,9 +110,6 @@ counted-relieved old new q eight each is = record {
   each = λ band lt. subst (λ f. IsCounted band f q) (sym (each band lt)) (relieved-at band (flow_at band old) q (relieves (flow_at band old)) (is.each band lt));
 }
 
-waiting-at : (band : ℕ) (waits : Bool) (f : Flow) (q : List (List Block)) → IsCounted band f q → IsCounted band (waiting waits f) q
-waiting-at band waits f q is = record { data_sum = is.data_sum; other_sum = is.other_sum; marked = is.marked }
-
 -- a flush of a band takes its bytes of data alone
 band-data-goes : (band : ℕ) (q : List (List Block)) → sum_by (data_share band) (filter (λ m. not (is_data m && (band_of m == band))) q) ≡ 0
 band-data-goes band q =
@@ -190,19 +187,6 @@ passed-more change old new band within sofar = record {
         flow-other new band k (change (flow_at band new)) (λ e. omega (arith, e, earlier)) ∙ sofar.before k earlier
 
 -- no band counts more than before
-pub passed-few : (change : Flow → Flow) (old new : List Flow) (band : ℕ) → ((f : Flow) → count_in (change f) ≤ count_in f) → Passed change old new band → FewBytes old → FewBytes new
-passed-few change old new band less sofar few = λ k. at k (nat_lt k band) refl
-  where
-    at : (k : ℕ) (b : Bool) → nat_lt k band ≡ b → count_in (flow_at k new) ≤ 16777216
-    at k true lt =
-        let earlier : k < band = grind (arith, nat_tests) in
-        let same = ap count_in (sofar.before k earlier) in
-        omega (arith, same, less (flow_at k old), few k)
-    at k false ge =
-        let later : band ≤ k = grind (arith, nat_tests) in
-        let same = ap count_in (sofar.behind k later) in
-        omega (arith, same, few k)
-
 pub flushed-less : (all : Bool) (f : Flow) → count_in (flushed_of all f) ≤ count_in f
 flushed-less true f = omega arith
 flushed-less false f = omega arith

@@ -1,5 +1,5 @@
 -- What holds of all bands above 0 where those of a set alone are gone through.
-use Rattle.std.proofs.Common.{ℕ, ◌≡◌, ◌<◌, ◌≤◌, ◌+◌, Bool, true, false, List, length, take, sym, ap, ◌∙◌, arith}
+use Rattle.std.proofs.Common.{ℕ, ◌≡◌, ◌<◌, ◌≤◌, ◌+◌, Bool, false, List, length, take, sym, ap, ◌∙◌, arith}
 use Rattle.std.specs.Prelude.{sum_by, slice_set, ◌||◌}
 use Rattle.std.specs.List.{list_any}
 use Rattle.std.proofs.lemmas.List.{take_all}

@@ -1,7 +1,7 @@
 -- The lowest bit of a word that is set, from one up.
-use Rattle.std.proofs.Common.{ℕ, ◌≡◌, ◌≢◌, ◌<◌, ◌≤◌, ◌+◌, ◌-◌, ◌*◌, ◌/◌, ◌%◌, ◌^◌, Bool, true, false, refl, sym, ap, subst, ◌∙◌, arith, w64, bit_and, bit_or}
-use Rattle.std.specs.Prelude.{min, max, nat_lt, ◌==◌}
-use Rattle.std.specs.Int.{bit_at, bit_not, trailing_zeros}
+use Rattle.std.proofs.Common.{ℕ, ◌≡◌, ◌<◌, ◌≤◌, ◌-◌, ◌*◌, ◌%◌, ◌^◌, Bool, true, false, refl, ap, ◌∙◌, arith, w64, bit_and}
+use Rattle.std.specs.Prelude.{min, nat_lt, ◌==◌}
+use Rattle.std.specs.Int.{bit_at, trailing_zeros}
 use Rattle.std.proofs.lemmas.Bool.Decides.{nat_tests}
 use Rattle.std.proofs.lemmas.Nat.Bits.{bit_at_and, bit_at-zero, bit_at-lt, bit_at-trailing_zeros, ones_shl, bit_at_mask_inside, bit_at_mask_below}
 use Rattle.strm_queue.specs.Sets.{has_bit, IsLowest}

@@ -1,7 +1,6 @@
 -- The flow control of a band is that of its row.
-use Rattle.std.proofs.Common.{sym, subst, ◌∙◌}
-use Rattle.strm_queue.specs.Flows.{IsMarked}
-use Rattle.strm_queue.proofs.RowFlows.{row-at, row-few, row-marked}
+use Rattle.std.proofs.Common.{sym, ◌∙◌}
+use Rattle.strm_queue.proofs.RowFlows.{row-at, row-few}
 use Rattle.strm_queue.proofs.banded.Banded.at.Goals as goal
 
 pub flow-requires-clause-few : goal.flow-requires-clause-few

@@ -1,9 +1,7 @@
 -- Bands for which no writer waits stay as they are.
-use Rattle.std.proofs.Common.{ℕ, ◌≡◌, ◌<◌, ◌+◌, false, sym, ◌∙◌, arith}
-use Rattle.strm_types.specs.declared.limits.TheConstants.{BANDS}
-use Rattle.strm_queue.specs.Flows.{relieves, relieved}
+use Rattle.std.proofs.Common.{sym, ◌∙◌}
+use Rattle.strm_queue.specs.Flows.{relieved}
 use Rattle.strm_queue.specs.Kept.{flow_at}
-use Rattle.strm_queue.specs.Sets.{has}
 use Rattle.strm_queue.proofs.Flushed.{none-waits, waits-none}
 use Rattle.strm_queue.proofs.Gaps.{next-passed, next-went, all-went}
 use Rattle.strm_queue.proofs.banded.Banded.relieve.Goals as goal

@@ -1,5 +1,5 @@
 -- One row changes, and what is common to all says the same of the others.
-use Rattle.std.proofs.Common.{◌<◌, ap, sym, ◌∙◌, length, arith}
+use Rattle.std.proofs.Common.{◌<◌, ap, ◌∙◌, length, arith}
 use Rattle.std.specs.Prelude.{slice_set}
 use Rattle.strm_queue.proofs.RowFlows.{first-set, rows-set}
 use Rattle.strm_queue.proofs.banded.Banded.set.Goals as goal

@@ -1,9 +1,7 @@
 -- Bands where nothing stands add nothing.
-use Rattle.std.proofs.Common.{ℕ, ◌≡◌, ◌<◌, ◌≤◌, ◌+◌, false, length, ap, ◌∙◌, arith}
-use Rattle.strm_types.specs.declared.limits.TheConstants.{BANDS}
+use Rattle.std.proofs.Common.{◌≤◌, length, ap, ◌∙◌, arith}
 use Rattle.strm_queue.specs.Flows.{count_in, kept_bytes}
 use Rattle.strm_queue.specs.Kept.{flow_at}
-use Rattle.strm_queue.specs.Sets.{has}
 use Rattle.strm_queue.proofs.Gaps.{next-sum, all-sum}
 use Rattle.strm_queue.proofs.Passing.{sum-small, kept-less, kept-none}
 use Rattle.strm_queue.proofs.banded.Banded.total.Goals as goal

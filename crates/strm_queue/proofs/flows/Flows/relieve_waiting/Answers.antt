@@ -1,5 +1,5 @@
 -- Each band lets its writer go.
-use Rattle.std.proofs.Common.{refl, ◌∷◌, ◌∙◌, arith}
+use Rattle.std.proofs.Common.{◌∷◌, arith}
 use Rattle.strm_queue.specs.Flows.{relieved}
 use Rattle.strm_queue.proofs.Flushed.{counted-relieved, relieved-less, relieved-marked}
 use Rattle.strm_queue.proofs.Parts.{each-band, each-flows, others-few, first-few}
