@@ -1,13 +1,16 @@
-//! Rounds of a write, a turn and a read on a pair, for `bench/run` to time. Each line of standard input is a plan of
-//! nine numbers; the answer is how many bytes were read.
+//! Rounds of calls and turns on a pair, for `bench/run` to time and `bench/instructions` to count. Each line of standard input is a
+//! plan of thirteen numbers; the answer is how many bytes were read, and how many entries and bytes the last pair's journal has.
 #![tactic(auto)]
 
+mod making;
 mod plans;
 mod reading;
 mod rounds;
+mod running;
+mod texts;
 
 use crate::reading::read_plan;
-use crate::rounds::run;
+use crate::running::run;
 use std::io;
 
 fn main(rt: HostRuntime) -> io::Result<()> {
@@ -15,11 +18,13 @@ fn main(rt: HostRuntime) -> io::Result<()> {
         let line = line?;
         let words: Vec<&str> = line.split_whitespace().collect(rt.alloc())?;
         let Some(plan) = read_plan(&words) else {
-            println!(rt; "a plan is: pairs rounds size standing blocks entries warm typed store")?;
+            println!(rt;
+                "a plan is: pairs rounds standing blocks entries warm store, act stack text line size asked"
+            )?;
             continue;
         };
         match run(rt.alloc(), &plan) {
-            Some(bytes) => println!(rt; "{bytes}")?,
+            Some(told) => println!(rt; "{} {} {}", told.read, told.entries, told.bytes)?,
             None => println!(rt; "refused")?,
         }
     }

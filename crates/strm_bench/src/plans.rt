@@ -1,18 +1,51 @@
 //! What is to be measured.
 
-ghost use Rattle.std.specs.Prelude.{◌≡◌, ◌≤◌, ◌<◌};
-ghost use Rattle.strm_bench.specs.declared.plans.Typed.TheVariants.{Lines};
+ghost use Rattle.std.specs.Prelude.{◌≤◌, ◌<◌};
 
-/// What the bytes that the master writes go through on the slave's stream: nothing, a line discipline that makes lines of them and echoes
-/// them, or one in raw mode, which takes them as they come. Or what the slave writes goes out through a line discipline to the master, by the
-/// first modes of a terminal or in raw mode. Below a line discipline stands a ptem.
+/// What a round does.
 #[derive(Clone, Copy)]
-pub enum Typed {
+pub enum Act {
+    /// The master writes, and the slave reads.
+    Types,
+    /// The master writes, and the slave reads; the master reads what was echoed.
+    TypesEchoed,
+    /// The master writes, and reads what was echoed: keys that end no line.
+    Keys,
+    /// The slave writes, and the master reads.
+    Shows,
+    /// The master sends a message with a control part of four bytes by putmsg(2), and the slave takes it by getmsg(2).
+    Messages,
+    /// The slave asks for the size of its window (termio(7I): TIOCGWINSZ).
+    Winsizes,
+}
+
+/// What stands on the slave's stream: nothing, or a ptem and above it a line discipline in its first modes or in raw mode.
+#[derive(Clone, Copy)]
+pub enum Stack {
     Nothing,
     Lines,
     Raw,
-    Shown,
-    ShownRaw,
+}
+
+/// What a round writes: a letter over and over, the byte ESC, or words that are coloured by escape sequences.
+#[derive(Clone, Copy)]
+pub enum Text {
+    Letters,
+    Escapes,
+    Colours,
+}
+
+/// A round: it writes `size` bytes of a text, as much at a time as is taken, makes the turns of enabled queues behind each write,
+/// and reads what comes, at most `asked` bytes in all. Where `line` isn't 0 each so many bytes of the text end with a newline.
+#[derive(Clone, Copy)]
+pub struct Round {
+    pub act: Act,
+    pub stack: Stack,
+    pub text: Text,
+    pub line: u32,
+    pub size: u32,
+    pub asked: u32,
+    pub ghost small: { size ≤ 4096 },
 }
 
 /// The store of a plan's pairs: linked raw blocks, or tables.
@@ -22,23 +55,26 @@ pub enum Store {
     Tables,
 }
 
-/// A plan: so many pairs one after the other, on each so many rounds of a write of `size` bytes, a turn and a read,
-/// while `standing` messages of one byte stand on the slave's head. A warm plan makes each pair as new after its rounds,
-/// and makes them again, on memory that was written before. Where lines are typed each write is one, which goes up as one, and its echo is
-/// read too.
+/// A plan: so many pairs one after the other, and on each so many rounds, while `standing` messages of one byte stand on the
+/// slave's head. A warm plan makes each pair as new after its rounds, and makes them again, on memory that was written before.
 #[derive(Clone, Copy)]
 pub struct Plan {
     pub pairs: u32,
     pub rounds: u32,
-    pub size: u32,
     pub standing: u32,
     pub blocks: u32,
     pub entries: u32,
     pub warm: bool,
-    pub typed: Typed,
     pub store: Store,
+    pub round: Round,
     pub ghost some_blocks: { 0 < blocks },
     pub ghost few_blocks: { blocks ≤ 65536 },
-    pub ghost small: { size ≤ 4096 },
-    pub ghost line: { typed ≡ Lines → size ≤ 256 },
+}
+
+/// What a plan tells: how many bytes were read, and how many entries and bytes the journal of its last pair has.
+#[derive(Clone, Copy)]
+pub struct Told {
+    pub read: u64,
+    pub entries: u64,
+    pub bytes: u64,
 }

@@ -1,148 +1,52 @@
-//! Rounds on pairs.
+//! Rounds on a pair. Each tells how many bytes were read, or nothing where a call or a turn was refused.
 
-ghost use Rattle.std.specs.Prelude.{◌≤◌, ◌*◌, if◌then◌else◌, length, IfSome};
+ghost use Rattle.std.specs.Prelude.{◌≤◌, length, IfSome};
 ghost use Rattle.std.specs.Bool.{OnTrue};
-ghost use Rattle.strm_bench.specs.Plans.{bytes_asked};
 
-use crate::plans::{Plan, Store, Typed};
-use std::alloc::Global;
-use strm_blocks::{Blocks, Reserve, TableStore};
+use crate::making::{MASTER, SLAVE, calls, turns};
+use crate::plans::{Act, Round};
+use strm_blocks::Blocks;
 use strm_pair::Pair;
-use strm_raw::RawStore;
-use strm_types::{
-    Caller, Config, Content, Event, InputModes, LocalModes, ModuleName, OutputModes, Side, TCSETS,
-    Termios,
-};
+use strm_types::{Answer, Band, Caller, Content, Event, Prio, TIOCGWINSZ, Wanted};
 
-const MASTER: Caller = Caller {
-    side: Side::Master,
-    group: 0,
-    ignores: false,
-    orphaned: false,
-};
+// How often a round writes, and reads behind each write, at most.
+const OFTEN: u32 = 4096;
 
-const SLAVE: Caller = Caller {
-    side: Side::Slave,
-    group: 0,
-    ignores: false,
-    orphaned: false,
-};
+// Who writes in a round, who reads, and whether the writer also reads what is echoed.
+#[derive(Clone, Copy)]
+struct Ends {
+    writer: Caller,
+    reader: Caller,
+    echoed: bool,
+}
 
-static BYTES: [u8; 4096] = [b'z'; 4096];
-
-// A line as long as one may be, with its delimiter.
-static LINE: &[u8; 256] =
-    b"zzzzzzzzzzzzzzzzzzzzzzzzzzzzzzzzzzzzzzzzzzzzzzzzzzzzzzzzzzzzzzzzzzzzzzzzzzzzzzzzzzzzzzzzzzzzzzzzzzzzzzzzzzzzzzzzzzzzzzzzzzzzzzzzzzzzzzzzzzzzzzzzzzzzzzzzzzzzzzzzzzzzzzzzzzzzzzzzzzzzzzzzzzzzzzzzzzzzzzzzzzzzzzzzzzzzzzzzzzzzzzzzzzzzzzzzzzzzzzzzzzzzzzzzzzzzzzz\n";
-
-// A new pair of a plan's sizes.
-fn new_pair<B: Reserve>(alloc: Global, plan: &Plan) -> Option<Pair<B>> {
-    let blocks = plan.blocks as usize;
-    let sizes = Config {
-        mblks: blocks,
-        dblks: blocks,
-        journal_events: plan.entries as usize,
-        journal_bytes: (plan.entries as usize) * 4096,
+fn ends_of(act: Act) -> Ends {
+    let (writer, reader) = match act {
+        Act::Keys => (MASTER, MASTER),
+        Act::Shows => (SLAVE, MASTER),
+        _ => (MASTER, SLAVE),
     };
-    let Ok(store) = B::reserve(alloc, blocks, blocks) else {
-        return None;
-    };
-    match Pair::new(alloc, sizes, store) {
-        Ok(pair) => Some(pair),
-        Err(_) => None,
+    Ends {
+        writer,
+        reader,
+        echoed: matches!(act, Act::TypesEchoed),
     }
 }
 
-// Makes a call; whether it was granted.
-fn calls<B: Blocks + Drop>(
-    pair: &mut Pair<B>,
-    caller: Caller,
-    event: &Event<&[u8]>,
-    out: &mut Content,
-) -> bool {
-    pair.call(caller, event, out).is_ok()
-}
-
-// Opens both sides of a new pair; whether that went well.
-fn opens<B: Blocks + Drop>(pair: &mut Pair<B>, out: &mut Content) -> bool {
-    calls(pair, MASTER, &Event::OpenMaster, out)
-        && calls(pair, MASTER, &Event::Unlock, out)
-        && calls(pair, SLAVE, &Event::OpenSlave, out)
-}
-
-// Pushes a module on the slave; whether it was granted.
-fn pushes<B: Blocks + Drop>(pair: &mut Pair<B>, name: ModuleName, out: &mut Content) -> bool {
-    calls(pair, SLAVE, &Event::Push { name: Some(name) }, out)
-}
-
-// Sets raw mode on the slave, and makes the turns that tell the master; whether all went well.
-fn makes_raw<B: Blocks + Drop>(pair: &mut Pair<B>, out: &mut Content) -> bool {
-    let mut raw = Termios::new();
-    raw.iflag = InputModes(0);
-    raw.oflag = OutputModes(0);
-    raw.lflag = LocalModes(0);
-    let body = raw.bytes();
-    let event = Event::Ioctl {
-        command: TCSETS,
-        body: &body[..],
-    };
-    calls(pair, SLAVE, &event, out) && turns(pair)
-}
-
-// What stands on the slave in a plan; whether all was granted.
-fn sets_up<B: Blocks + Drop>(pair: &mut Pair<B>, plan: &Plan, out: &mut Content) -> bool {
-    if plan.typed == Typed::Nothing {
-        return true;
-    }
-    pushes(pair, ModuleName::Ptem, out)
-        && pushes(pair, ModuleName::Ldterm, out)
-        && (matches!(plan.typed, Typed::Lines | Typed::Shown) || makes_raw(pair, out))
-}
-
-// Who writes in a plan, and who reads.
-fn ends(plan: &Plan) -> (Caller, Caller) {
-    if matches!(plan.typed, Typed::Shown | Typed::ShownRaw) {
-        (SLAVE, MASTER)
-    } else {
-        (MASTER, SLAVE)
-    }
-}
-
-// What a plan writes in each round: bytes, or the end of a line.
-fn written(plan: &Plan) -> &'static [u8] {
-    let size = plan.size as usize;
-    if plan.typed == Typed::Lines {
-        let line = &LINE[..];
-        return &line[256 - size..];
-    }
-    &BYTES[..size]
-}
-
-// The turns of queues that are enabled, sixteen at most; whether all were made.
-fn turns<B: Blocks + Drop>(pair: &mut Pair<B>) -> bool {
-    for _ in 0..16 {
-        let Some(queue) = pair.first_enabled() else {
-            break;
-        };
-        if pair.turn(queue).is_err() {
-            return false;
-        }
-    }
-    true
-}
-
-// A write, and the turns that carry it to the head across; whether all went well.
-fn sends<B: Blocks + Drop>(
+/// A write, and the turns that carry it to the head across; how many bytes it took.
+pub fn sends<B: Blocks + Drop>(
     pair: &mut Pair<B>,
     writer: Caller,
     bytes: &[u8],
     out: &mut Content,
-) -> bool {
-    calls(pair, writer, &Event::Write { bytes }, out) && turns(pair)
-}
-
-// A read of what is echoed on the master, where lines are typed; whether it was granted.
-fn echoes<B: Blocks + Drop>(pair: &mut Pair<B>, plan: &Plan, out: &mut Content) -> bool {
-    plan.typed != Typed::Lines || calls(pair, MASTER, &Event::Read { n: 4096 }, out)
+) -> Option<usize> {
+    let Ok(Answer::Count(taken)) = pair.call(writer, &Event::Write { bytes }, out) else {
+        return None;
+    };
+    if !turns(pair) {
+        return None;
+    }
+    Some(taken as usize)
 }
 
 // A read of up to so many bytes; whether it was granted.
@@ -152,65 +56,111 @@ fn reads<B: Blocks + Drop>(pair: &mut Pair<B>, reader: Caller, n: u32, out: &mut
     pair.call(reader, &Event::Read { n }, out).is_ok()
 }
 
-// The rounds on a pair: how many bytes were read.
-fn rounds<B: Blocks + Drop>(pair: &mut Pair<B>, plan: &Plan) -> Option<u64>
-    ensures { IfSome result (λ bytes. bytes ≤ plan.now.rounds * plan.now.size) }
+// Reads till nothing more stands, or so many bytes were read; how many of them are left.
+fn drains<B: Blocks + Drop>(pair: &mut Pair<B>, reader: Caller, n: u32, out: &mut Content) -> u32
+    ensures { result ≤ n }
 {
-    let mut out = Content::new();
-    if !opens(pair, &mut out) || !sets_up(pair, plan, &mut out) {
+    let mut left = n;
+    for _ in 0..OFTEN {
+        if left == 0 || !reads(pair, reader, left, out) {
+            break;
+        }
+        left -= out.len() as u32;
+    }
+    left
+}
+
+// Writes a text to its end, as much at a time as is taken, and reads what comes.
+fn moves<B: Blocks + Drop>(
+    pair: &mut Pair<B>,
+    round: &Round,
+    text: &[u8],
+    out: &mut Content,
+) -> Option<u32>
+    ensures { IfSome result (λ bytes. bytes ≤ round.now.asked) }
+{
+    let ends = ends_of(round.act);
+    let mut rest = text;
+    let mut left = round.asked;
+    for _ in 0..OFTEN {
+        let taken = sends(pair, ends.writer, rest, out)?;
+        rest = &rest[taken.min(rest.len())..];
+        left = drains(pair, ends.reader, left, out);
+        if ends.echoed && !calls(pair, ends.writer, &Event::Read { n: 4096 }, out) {
+            return None;
+        }
+        if !turns(pair) {
+            return None;
+        }
+        if rest.is_empty() {
+            break;
+        }
+    }
+    Some(round.asked - left)
+}
+
+// How many bytes were given, where they are no more than was asked for.
+fn given(round: &Round, out: &Content) -> Option<u32>
+    ensures { IfSome result (λ bytes. bytes ≤ round.now.asked) }
+{
+    let bytes = out.len() as u32;
+    if bytes > round.asked {
         return None;
     }
-    for _ in 0..plan.standing {
-        if !sends(pair, MASTER, &BYTES[..1], &mut out) {
-            return None;
-        }
-    }
-    let (writer, reader) = ends(plan);
-    let mut read = 0u64;
-    for _ in 0..plan.rounds {
-        if !sends(pair, writer, written(plan), &mut out) || !echoes(pair, plan, &mut out) {
-            return None;
-        }
-        if !reads(pair, reader, plan.size, &mut out) {
-            return None;
-        }
-        read = read.saturating_add(out.len() as u64);
-    }
-    Some(read)
+    Some(bytes)
 }
 
-// The rounds of a pair of its own, and where the plan is warm once more on the same pair, made as new.
-fn one_pair<B: Reserve>(alloc: Global, plan: &Plan) -> Option<u64>
-    ensures { IfSome result (λ bytes. bytes ≤ (if plan.now.warm then 2 else 1) * (plan.now.rounds * plan.now.size)) }
+// Sends a message with a control part, whose data part is the text, and takes it on the slave.
+fn messages<B: Blocks + Drop>(
+    pair: &mut Pair<B>,
+    round: &Round,
+    text: &[u8],
+    out: &mut Content,
+) -> Option<u32>
+    ensures { IfSome result (λ bytes. bytes ≤ round.now.asked) }
 {
-    let mut pair = new_pair::<B>(alloc, plan)?;
-    let first = rounds(&mut pair, plan)?;
-    if !plan.warm {
-        return Some(first);
+    let put = Event::Put {
+        prio: Prio::Band(Band(0)),
+        control: Some(&b"head"[..]),
+        body: Some(text),
+    };
+    let get = Event::Get {
+        wanted: Wanted::Any,
+        cmax: 64,
+        dmax: 256,
+    };
+    if !calls(pair, MASTER, &put, out) || !turns(pair) || !calls(pair, SLAVE, &get, out) {
+        return None;
     }
-    pair.reset();
-    let again = rounds(&mut pair, plan)?;
-    Some(first.saturating_add(again))
+    given(round, out)
 }
 
-// The rounds of a pair over the plan's store.
-fn on_its_store(alloc: Global, plan: &Plan) -> Option<u64>
-    ensures { IfSome result (λ bytes. bytes ≤ (if plan.now.warm then 2 else 1) * (plan.now.rounds * plan.now.size)) }
+// Asks for the size of the slave's window.
+fn winsizes<B: Blocks + Drop>(pair: &mut Pair<B>, round: &Round, out: &mut Content) -> Option<u32>
+    ensures { IfSome result (λ bytes. bytes ≤ round.now.asked) }
 {
-    match plan.store {
-        Store::Linked => one_pair::<RawStore>(alloc, plan),
-        Store::Tables => one_pair::<TableStore>(alloc, plan),
+    let ask = Event::Ioctl {
+        command: TIOCGWINSZ,
+        body: &b""[..],
+    };
+    if !calls(pair, SLAVE, &ask, out) {
+        return None;
     }
+    given(round, out)
 }
 
-/// Carries out a plan, and says how many bytes were read: no more than its rounds ask for. It says nothing where memory or
-/// a call was refused.
-pub fn run(alloc: Global, plan: &Plan) -> Option<u64>
-    ensures { IfSome result (λ bytes. bytes ≤ bytes_asked plan.now) }
+/// A round, whose text is this one.
+pub fn makes_round<B: Blocks + Drop>(
+    pair: &mut Pair<B>,
+    round: &Round,
+    text: &[u8],
+    out: &mut Content,
+) -> Option<u32>
+    ensures { IfSome result (λ bytes. bytes ≤ round.now.asked) }
 {
-    let mut read = 0u64;
-    for _ in 0..plan.pairs {
-        read = read.saturating_add(on_its_store(alloc, plan)?);
+    match round.act {
+        Act::Messages => messages(pair, round, text, out),
+        Act::Winsizes => winsizes(pair, round, out),
+        _ => moves(pair, round, text, out),
     }
-    Some(read)
 }
