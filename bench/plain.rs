@@ -1,4 +1,4 @@
-//! A pseudoterminal in plain Rust with no proof: blocks, queues with marks, a line discipline, refusals, books and a journal.
+//! A pseudoterminal in plain Rust with no proof: what rounds use of blocks, queues with marks and bands, a line discipline, refusals, books, a journal.
 use std::mem::{replace, take};
 
 const NONE: u32 = u32::MAX;
