@@ -43,7 +43,7 @@ pub obeyed_line : {B : Type 0} (command : Command) (old new : Engine B) (r : Res
     → reading old.line.items ≡ Spoken command → AnswersLine old new r
 obeyed_line command old new (Ok _) h lines line = record {
   text = printed_line (line_of new.out.items h.0.line);
-  goes = rw (lines, h.1.short) (goes_spoken (point_of old) command h.0 new.out.items (pair_of new) line h.1.leads);
+  goes = rw (lines, h.1.callers, h.1.short) (goes_spoken (point_of old) command h.0 new.out.items (pair_of new) line h.1.leads);
   answers = h.2;
 }
 obeyed_line command old new (Err Malformed) h lines line = absurd h
@@ -86,11 +86,11 @@ stop_join e m n i j k NoMemory x y = record {
 }
 
 -- a byte joins the line
-pub took_byte : {B : Type 0} (old new : Engine B) (b : ℕ) → pair_of new ≡ pair_of old → new.lines ≡ old.lines → new.short ≡ old.short
+pub took_byte : {B : Type 0} (old new : Engine B) (b : ℕ) → new.callers ≡ old.callers → pair_of new ≡ pair_of old → new.lines ≡ old.lines → new.short ≡ old.short
     → new.answers.items ≡ old.answers.items → new.line.items ≡ old.line.items ++ b ∷ [] → (b ≡ 10 → ⊥) → Took old new (b ∷ [])
-took_byte old new b pair lines short answers line ne = record {
+took_byte old new b callers pair lines short answers line ne = record {
   text = [];
-  goes = rw (pair, lines, short, line) (goes_byte (point_of old) b ne);
+  goes = rw (callers, pair, lines, short, line) (goes_byte (point_of old) b ne);
   answers = answers ∙ sym (append-nil old.answers.items);
 }
 

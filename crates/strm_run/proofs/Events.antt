@@ -5,7 +5,6 @@ use Rattle.strm_types.specs.declared.answers.Turn.{Turn}
 use Rattle.strm_types.specs.declared.events.Caller.{Caller}
 use Rattle.strm_types.specs.declared.names.QueueName.{QueueName}
 use Rattle.strm_types.specs.declared.refusals.Refusal.{Refusal}
-use Rattle.strm_types.specs.declared.names.Side.{Side}
 use Rattle.strm_types.specs.declared.events.FlushQueues.{FlushQueues}
 use Rattle.strm_types.specs.declared.entries.Entry.TheVariants.{Called, Turned}
 use Rattle.strm_types.specs.Cells as cells
@@ -26,7 +25,6 @@ use Rattle.strm_run.specs.ScriptRun.{Supply, Enough, TooFew, is_enough, PlainPai
 use Rattle.std.proofs.lemmas.Bool.{le-leb, lt-leb}
 use Rattle.std.proofs.lemmas.Bool.Decides.{nat_tests}
 use Rattle.strm_types.specs.declared.events.Event.TheVariants as calls
-use Rattle.strm_types.specs.declared.names.Side.TheVariants.{Master}
 use Rattle.strm_types.specs.declared.refusals.Refusal.TheVariants.{Einval, Enosr}
 use Rattle.strm_run.specs.declared.answers.Line.TheVariants as lines
 use Rattle.strm_run.specs.Plain.{plain}
@@ -336,11 +334,11 @@ leads_unanswered bytes command refusal pair found e same = record {
   leads = λ account. same account ∙ ap (λ x. answered_as x bytes pair account) (sym e);
 }
 
--- a look at a pair, which no call makes
-pub leads_looked : (bytes : List ℕ) (command : List Supply → script.Answered) (old : PlainPair) (found : Answered)
-    → ((account : List Supply) → command account ≡ record { line = line_of bytes found.line; pair = Some old; account = account; is_short = found.short })
-    → LeadsTo command found bytes (Some old)
-leads_looked bytes command old found same = record { events = []; leads = same }
+-- a look at a pair, which no call makes, and a command that asks nothing of it
+pub leads_looked : (bytes : List ℕ) (command : List Supply → script.Answered) (pair : Option PlainPair) (found : Answered)
+    → ((account : List Supply) → command account ≡ record { line = line_of bytes found.line; pair = pair; account = account; is_short = found.short })
+    → LeadsTo command found bytes pair
+leads_looked bytes command pair found same = record { events = []; leads = same }
 
 -- the same command
 pub leads_same : (bytes : List ℕ) (command said : List Supply → script.Answered) (pair : Option PlainPair) (found : Answered)
@@ -355,32 +353,32 @@ and_none true = refl
 and_none false = refl
 
 -- a flush, by its band
-pub flush_refused : (side : Side) (what : FlushQueues) (band : ℕ) (account : List Supply) (p : PlainPair) → 255 < band
-    → by_flush side what (Some band) account p ≡ unanswered Einval (Some p) account
+pub flush_refused : (caller : Caller) (what : FlushQueues) (band : ℕ) (account : List Supply) (p : PlainPair) → 255 < band
+    → by_flush caller what (Some band) account p ≡ unanswered Einval (Some p) account
 unfolding by_flush
-flush_refused side what band account p h = rw (lt-leb band 255 h) refl
+flush_refused caller what band account p h = rw (lt-leb band 255 h) refl
 
-pub flush_made : (side : Side) (what : FlushQueues) (band : ℕ) (account : List Supply) (p : PlainPair) → band ≤ 255
-    → by_flush side what (Some band) account p ≡ by_call (record { side = side }) (calls.Flush what (Some (record { 0 = band }))) account p
+pub flush_made : (caller : Caller) (what : FlushQueues) (band : ℕ) (account : List Supply) (p : PlainPair) → band ≤ 255
+    → by_flush caller what (Some band) account p ≡ by_call caller (calls.Flush what (Some (record { 0 = band }))) account p
 unfolding by_flush
-flush_made side what band account p h = rw (le-leb band 255 h) refl
+flush_made caller what band account p h = rw (le-leb band 255 h) refl
 
 -- a command that names what no call can name, and one that doesn't
-pub named_none : {A : Type 0} (side : Side) (asked : A → Request) (named : Option A) (account : List Supply) (p : PlainPair) → named ≡ None
-    → by_named side asked named account p ≡ unanswered Einval (Some p) account
-named_none side asked named account p h = ap (λ named. by_named side asked named account p) h
+pub named_none : {A : Type 0} (caller : Caller) (asked : A → Request) (named : Option A) (account : List Supply) (p : PlainPair) → named ≡ None
+    → by_named caller asked named account p ≡ unanswered Einval (Some p) account
+named_none caller asked named account p h = ap (λ named. by_named caller asked named account p) h
 
-pub named_some : {A : Type 0} (side : Side) (asked : A → Request) (named : Option A) (x : A) (account : List Supply) (p : PlainPair) → named ≡ Some x
-    → by_named side asked named account p ≡ by_call (record { side = side }) (asked x) account p
-named_some side asked named x account p h = ap (λ named. by_named side asked named account p) h
+pub named_some : {A : Type 0} (caller : Caller) (asked : A → Request) (named : Option A) (x : A) (account : List Supply) (p : PlainPair) → named ≡ Some x
+    → by_named caller asked named account p ≡ by_call caller (asked x) account p
+named_some caller asked named x account p h = ap (λ named. by_named caller asked named account p) h
 
 -- an `open`, by its number of blocks
-pub open_refused : (blocks : ℕ) (account : List Supply) → (blocks ≡ 0) ⊎ (4096 < blocks) → by_open blocks account ≡ unanswered Einval None account
+pub open_refused : (caller : Caller) (blocks : ℕ) (account : List Supply) → (blocks ≡ 0) ⊎ (4096 < blocks) → by_open caller blocks account ≡ unanswered Einval None account
 unfolding by_open
-open_refused blocks account (inl e) = rw (e) refl
-open_refused blocks account (inr h) = rw (lt-leb blocks 4096 h, and_none (leb 1 blocks)) refl
+open_refused caller blocks account (inl e) = rw (e) refl
+open_refused caller blocks account (inr h) = rw (lt-leb blocks 4096 h, and_none (leb 1 blocks)) refl
 
-pub open_made : (blocks : ℕ) (account : List Supply) → 0 < blocks → blocks ≤ 4096
-    → by_open blocks account ≡ by_call (record { side = Master }) calls.OpenMaster account (new_plain blocks)
+pub open_made : (caller : Caller) (blocks : ℕ) (account : List Supply) → 0 < blocks → blocks ≤ 4096
+    → by_open caller blocks account ≡ by_call caller calls.OpenMaster account (new_plain blocks)
 unfolding by_open
-open_made blocks account some most = rw (le-leb 1 blocks some, le-leb blocks 4096 most) refl
+open_made caller blocks account some most = rw (le-leb 1 blocks some, le-leb blocks 4096 most) refl

@@ -4,11 +4,11 @@ use Rattle.std.proofs.lemmas.Bool.{cond-true, cond-false, le-leb}
 use Rattle.std.proofs.lemmas.Bool.Decides.{leb_tells}
 use Rattle.strm_types.specs.declared.names.Side.{Side}
 use Rattle.strm_types.specs.declared.events.Event.TheVariants.{Ioctl, IoctlResult}
-use Rattle.strm_types.specs.declared.ioctls.TheConstants.{TCGETS, TCSETS, TCSETSW, TCSETSF, TIOCGWINSZ, TIOCSWINSZ, TIOCSIGNAL}
+use Rattle.strm_types.specs.declared.ioctls.TheConstants.{TCGETS, TCSETS, TCSETSW, TCSETSF, TIOCGPGRP, TIOCSPGRP, TIOCGWINSZ, TIOCSWINSZ, TIOCSIGNAL}
 use Rattle.strm_types.specs.Events.{Request}
 use Rattle.strm_run.specs.declared.commands.WindowSize.{WindowSize}
-use Rattle.strm_run.specs.Script.{Command, Call, byte_max, short_max, window_bytes, IsNumber, IsNumberTo, IsWindow, IsSender, Sets, SetsLater, SetsAnew, Raw, IsAsked, Gets, GetsWindow, SetsWindow, Signals, Sends, IsSpelled}
-use Rattle.strm_run.specs.ScriptReading.{and_then, after, Front, within, number_in, number_to, number_at, number_to_at, text_in, behind, behind_side, bare_in, height_got, width_got, columns_got, size_in, window_in, signal_in, sender_at, text_sent, sending_in, asked_in, ioctl_in, poll_in, control_in}
+use Rattle.strm_run.specs.Script.{Command, Call, byte_max, short_max, window_bytes, group_bytes, IsNumber, IsNumberTo, IsWindow, IsSender, Sets, SetsLater, SetsAnew, Raw, IsAsked, Gets, GetsWindow, GetsGroup, SetsGroup, SetsWindow, Signals, Sends, IsSpelled}
+use Rattle.strm_run.specs.ScriptReading.{and_then, after, Front, within, number_in, number_to, number_at, number_to_at, text_in, behind, behind_side, bare_in, height_got, width_got, columns_got, size_in, window_in, signal_in, foreground_in, sender_at, text_sent, sending_in, asked_in, ioctl_in, poll_in, control_in}
 use Rattle.strm_run.proofs.Grammar.{and_then-found, option_map-found, after-found, number-found, number-only, text-found, text-only}
 use Rattle.strm_run.proofs.Fronts.{either-found, whole-found, Begins, begins, number_at-found, number_at-only}
 use Rattle.strm_run.proofs.MessageSpellings.{behind-found, behind_side-found, sided}
@@ -98,9 +98,14 @@ bare-found line command h = elim (either-found _ _ command h) [
   | inl a ↦
       let w = whole-found (codes "TCGETS") TCGETS command line a in
       subst (λ k. IsAsked k [] line) w.0 (subst (λ k. IsAsked TCGETS [] k) (sym w.1) Gets)
-  | inr b ↦
-      let w = whole-found (codes "TIOCGWINSZ") TIOCGWINSZ command line b in
-      subst (λ k. IsAsked k [] line) w.0 (subst (λ k. IsAsked TIOCGWINSZ [] k) (sym w.1) GetsWindow)
+  | inr b ↦ elim (either-found _ _ command b) [
+    | inl a ↦
+        let w = whole-found (codes "TIOCGWINSZ") TIOCGWINSZ command line a in
+        subst (λ k. IsAsked k [] line) w.0 (subst (λ k. IsAsked TIOCGWINSZ [] k) (sym w.1) GetsWindow)
+    | inr b ↦
+        let w = whole-found (codes "TIOCGPGRP") TIOCGPGRP command line b in
+        subst (λ k. IsAsked k [] line) w.0 (subst (λ k. IsAsked TIOCGPGRP [] k) (sym w.1) GetsGroup)
+  ]
 ]
 
 window-found : (line : List ℕ) (size : WindowSize) → window_in line ≡ Some size → IsAsked TIOCSWINSZ (window_bytes size) line
@@ -116,6 +121,13 @@ signal-found line n h =
     let x = and_then-found (number_to byte_max) (after (codes "TIOCSIGNAL ") line) n h in
     subst (λ k. IsAsked TIOCSIGNAL (n ∷ []) k) (sym (after-found (codes "TIOCSIGNAL ") line x.value x.first))
     (Signals n x.value (number_to-found byte_max x.value n x.second))
+
+foreground-found : (line : List ℕ) (n : ℕ) → foreground_in line ≡ Some n → IsAsked TIOCSPGRP (group_bytes n) line
+unfolding foreground_in
+foreground-found line n h =
+    let x = and_then-found number_in (after (codes "TIOCSPGRP ") line) n h in
+    subst (λ k. IsAsked TIOCSPGRP (group_bytes n) k) (sym (after-found (codes "TIOCSPGRP ") line x.value x.first))
+    (SetsGroup n x.value (number-found x.value n x.second))
 
 sender_at-found : (line : List ℕ) (found : Front ℕ) → sender_at line ≡ Some found → Begins IsSender line found
 unfolding sender_at
@@ -164,23 +176,30 @@ asked-found line asked h = elim (either-found _ _ asked h) [
       | inl a ↦
           let m = option_map-found (λ n. Ioctl TIOCSIGNAL (n ∷ [])) (signal_in line) asked a in
           record { command = TIOCSIGNAL; sent = m.value ∷ []; asked_is = m.second; is_asked = signal-found line m.value m.first }
-      | inr b ↦ sending-found line asked b
+      | inr b ↦ elim (either-found _ _ asked b) [
+        | inl a ↦
+            let m = option_map-found (λ n. Ioctl TIOCSPGRP (group_bytes n)) (foreground_in line) asked a in
+            record { command = TIOCSPGRP; sent = group_bytes m.value; asked_is = m.second; is_asked = foreground-found line m.value m.first }
+        | inr b ↦ sending-found line asked b
+      ]
     ]
   ]
 ]
 
 sending-only : (command : ℕ) (text word part : List ℕ) → IsSender command word → text_in part ≡ Some text
     → asked_in (word ++ (codes " " ++ part)) ≡ Some (Ioctl command text)
-unfolding asked_in bare_in window_in signal_in sender_at sending_in
+unfolding asked_in bare_in window_in signal_in foreground_in sender_at sending_in
 sending-only _ text _ part Sets h = rw (h) refl
 sending-only _ text _ part SetsLater h = rw (h) refl
 sending-only _ text _ part SetsAnew h = rw (h) refl
 sending-only _ text _ part (Raw n digits is) h = rw (number_at-only digits part n is, h) refl
 
 pub asked-only : (command : ℕ) (sent line : List ℕ) → IsAsked command sent line → asked_in line ≡ Some (Ioctl command sent)
-unfolding asked_in bare_in window_in signal_in
+unfolding asked_in bare_in window_in signal_in foreground_in
 asked-only _ _ _ Gets = refl
 asked-only _ _ _ GetsWindow = refl
+asked-only _ _ _ GetsGroup = refl
+asked-only _ _ _ (SetsGroup n digits is) = rw (number-only digits n is) refl
 asked-only _ _ _ (SetsWindow size rest is) = rw (size-only size rest is) refl
 asked-only _ _ _ (Signals n digits is) = rw (number_to-only byte_max digits n is) refl
 asked-only _ _ _ (Sends command text word part sender (spelled, spells, e)) =

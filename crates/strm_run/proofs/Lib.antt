@@ -12,6 +12,7 @@ pub mod Grammar
 pub mod Fronts
 pub mod MessageSpellings
 pub mod IoctlSpellings
+pub mod GroupSpellings
 pub mod Spellings
 mod ScriptRows
 mod RunRows

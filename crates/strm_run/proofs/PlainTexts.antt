@@ -14,11 +14,13 @@ use Rattle.strm_types.specs.declared.events.Event.TheVariants as calls
 use Rattle.strm_types.specs.Events.{Request, Reply}
 use Rattle.strm_types.specs.Refused.{or_else, unless}
 use Rattle.strm_laws.specs.Refusals.{refused, refused_at_once, refused_by_state, blocks_asked}
-use Rattle.strm_run.specs.Script.{Command, Open, Call, Flush, Put, Get, Turn as TurnOf, Run, Show, Ledger}
+use Rattle.strm_run.specs.Script.{Command, Open, Call, Flush, Put, Get, Turn as TurnOf, Run, Show, Ledger, Group}
 use Rattle.strm_run.specs.ScriptReading.{Reading, Silent, Malformed, Spoken, reading}
 use Rattle.strm_run.specs.ScriptAnswers.{printed_line, reply_line, turn_line, Ran, Wrong}
 use Rattle.strm_run.specs.ScriptRun as script
-use Rattle.strm_run.specs.ScriptRun.{Supply, Enough, Within, TooFew, next_of, rest_of, PlainPair, Happened, call_refusal, turn_refusal, call_happens, turn_happens, told_of, call_of, turn_of, is_enosr, turns_of, by_call, by_flush, prio_of, wanted_of, by_named, by_put, by_get, by_show, by_ledger, by_turn, by_run, by_open, answered, told_from, told_after, first_of, line_if, Told, new_plain}
+use Rattle.strm_types.specs.declared.both.Both.{Both}
+use Rattle.strm_types.specs.Both.{get}
+use Rattle.strm_run.specs.ScriptRun.{Supply, Enough, Within, TooFew, next_of, rest_of, PlainPair, Happened, call_refusal, turn_refusal, call_happens, turn_happens, told_of, call_of, turn_of, is_enosr, turns_of, by_call, by_flush, prio_of, wanted_of, by_named, by_put, by_get, by_show, by_ledger, by_turn, by_run, by_open, answered, Session, session_behind, told_from, told_after, first_of, line_if, Told, new_plain}
 use Rattle.strm_run.proofs.Supplies.{is_want, call_happens-short, turn_happens-short, answered-enough}
 use Rattle.strm_run.proofs.Events.{turns_none, turns_err, turns_ok, turns_zero}
 
@@ -126,84 +128,85 @@ call_answer supply p caller asked account h =
     let same = call-same (next_of account) p caller asked h in
     record { line = ap (λ (x : Happened (Reply)). reply_line x.answer) same; pair = ap (λ (x : Happened (Reply)). Some x.pair) same }
 
-open-same : (blocks : ℕ) (account : List Supply) → (by_open blocks account).is_short ≡ false → SameAnswer (by_open blocks account) (by_open blocks [])
+open-same : (caller : Caller) (blocks : ℕ) (account : List Supply) → (by_open caller blocks account).is_short ≡ false → SameAnswer (by_open caller blocks account) (by_open caller blocks [])
 unfolding by_open by_call
-open-same blocks account h = elim (cases_Bool (nat_le 1 blocks && nat_le blocks 4096)) [
-  | inl e ↦ rw (e) (call_answer Enough (new_plain blocks) (record { side = Master }) calls.OpenMaster account (rw (e) at h))
+open-same caller blocks account h = elim (cases_Bool (nat_le 1 blocks && nat_le blocks 4096)) [
+  | inl e ↦ rw (e) (call_answer Enough (new_plain blocks) caller calls.OpenMaster account (rw (e) at h))
   | inr e ↦ rw (e) (record { line = refl; pair = refl })
 ]
 
-flush-same : (side : Side) (what : FlushQueues) (band : ℕ) (account : List Supply) (p : PlainPair)
-    → (by_flush side what (Some band) account p).is_short ≡ false
-    → SameAnswer (by_flush side what (Some band) account p) (by_flush side what (Some band) [] p)
+flush-same : (caller : Caller) (what : FlushQueues) (band : ℕ) (account : List Supply) (p : PlainPair)
+    → (by_flush caller what (Some band) account p).is_short ≡ false
+    → SameAnswer (by_flush caller what (Some band) account p) (by_flush caller what (Some band) [] p)
 unfolding by_flush by_call
-flush-same side what band account p h = elim (cases_Bool (nat_le band 255)) [
-  | inl e ↦ rw (e) (call_answer Enough p (record { side = side }) (calls.Flush what (Some (record { 0 = band }))) account (rw (e) at h))
+flush-same caller what band account p h = elim (cases_Bool (nat_le band 255)) [
+  | inl e ↦ rw (e) (call_answer Enough p caller (calls.Flush what (Some (record { 0 = band }))) account (rw (e) at h))
   | inr e ↦ rw (e) (record { line = refl; pair = refl })
 ]
 
-named-same : {A : Type 0} (side : Side) (asked : A → Request) (named : Option A) (account : List Supply) (p : PlainPair)
-    → (by_named side asked named account p).is_short ≡ false → SameAnswer (by_named side asked named account p) (by_named side asked named [] p)
+named-same : {A : Type 0} (caller : Caller) (asked : A → Request) (named : Option A) (account : List Supply) (p : PlainPair)
+    → (by_named caller asked named account p).is_short ≡ false → SameAnswer (by_named caller asked named account p) (by_named caller asked named [] p)
 unfolding by_call
-named-same side asked None account p h = record { line = refl; pair = refl }
-named-same side asked (Some x) account p h = call_answer Enough p (record { side = side }) (asked x) account h
+named-same caller asked None account p h = record { line = refl; pair = refl }
+named-same caller asked (Some x) account p h = call_answer Enough p caller (asked x) account h
 
-answered-same : (command : Command) (account : List Supply) (pair : Option PlainPair) → (answered command account pair).is_short ≡ false
-    → SameAnswer (answered command account pair) (answered command [] pair)
+answered-same : (callers : Both Caller) (command : Command) (account : List Supply) (pair : Option PlainPair) → (answered callers command account pair).is_short ≡ false
+    → SameAnswer (answered callers command account pair) (answered callers command [] pair)
 unfolding answered by_call by_flush by_put by_get by_show by_ledger by_turn by_run
-answered-same (Open blocks) account None h = open-same (unwrap_or blocks 256) account h
-answered-same (Open blocks) account (Some p) h = record { line = refl; pair = refl }
-answered-same (Call side asked) account None h = record { line = refl; pair = refl }
-answered-same (Call side asked) account (Some p) h = call_answer Enough p (record { side = side }) asked account h
-answered-same (Flush side what band) account None h = record { line = refl; pair = refl }
-answered-same (Flush side what None) account (Some p) h = call_answer Enough p (record { side = side }) (calls.Flush what None) account h
-answered-same (Flush side what (Some band)) account (Some p) h = flush-same side what band account p h
-answered-same (Put side prio control body) account None h = record { line = refl; pair = refl }
-answered-same (Put side prio control body) account (Some p) h = named-same side (λ prio. calls.Put prio control body) (prio_of prio) account p h
-answered-same (Get side wanted cmax dmax) account None h = record { line = refl; pair = refl }
-answered-same (Get side wanted cmax dmax) account (Some p) h = named-same side (λ wanted. calls.Get wanted cmax dmax) (wanted_of wanted) account p h
-answered-same (TurnOf name) account None h = record { line = refl; pair = refl }
-answered-same (TurnOf name) account (Some p) h =
+answered-same callers (Open blocks) account None h = open-same callers.master (unwrap_or blocks 256) account h
+answered-same callers (Open blocks) account (Some p) h = record { line = refl; pair = refl }
+answered-same callers (Call side asked) account None h = record { line = refl; pair = refl }
+answered-same callers (Call side asked) account (Some p) h = call_answer Enough p (get side callers) asked account h
+answered-same callers (Flush side what band) account None h = record { line = refl; pair = refl }
+answered-same callers (Flush side what None) account (Some p) h = call_answer Enough p (get side callers) (calls.Flush what None) account h
+answered-same callers (Flush side what (Some band)) account (Some p) h = flush-same (get side callers) what band account p h
+answered-same callers (Put side prio control body) account None h = record { line = refl; pair = refl }
+answered-same callers (Put side prio control body) account (Some p) h = named-same (get side callers) (λ prio. calls.Put prio control body) (prio_of prio) account p h
+answered-same callers (Get side wanted cmax dmax) account None h = record { line = refl; pair = refl }
+answered-same callers (Get side wanted cmax dmax) account (Some p) h = named-same (get side callers) (λ wanted. calls.Get wanted cmax dmax) (wanted_of wanted) account p h
+answered-same callers (TurnOf name) account None h = record { line = refl; pair = refl }
+answered-same callers (TurnOf name) account (Some p) h =
     let same = turn-same (next_of account) p name h in
     record { line = ap (λ (x : Happened Turn). turn_line x.answer) same; pair = ap (λ (x : Happened Turn). Some x.pair) same }
-answered-same (Run n) account None h = record { line = refl; pair = refl }
-answered-same (Run n) account (Some p) h =
+answered-same callers (Run n) account None h = record { line = refl; pair = refl }
+answered-same callers (Run n) account (Some p) h =
     let same = turns-same n account p h in
     record { line = ap Ran same.count; pair = ap Some same.pair }
-answered-same (Show side) account None h = record { line = refl; pair = refl }
-answered-same (Show side) account (Some p) h = record { line = refl; pair = refl }
-answered-same (Ledger direction) account None h = record { line = refl; pair = refl }
-answered-same (Ledger direction) account (Some p) h = record { line = refl; pair = refl }
+answered-same callers (Show side) account None h = record { line = refl; pair = refl }
+answered-same callers (Show side) account (Some p) h = record { line = refl; pair = refl }
+answered-same callers (Ledger direction) account None h = record { line = refl; pair = refl }
+answered-same callers (Ledger direction) account (Some p) h = record { line = refl; pair = refl }
+answered-same callers (Group caller) account pair h = record { line = refl; pair = refl }
 
 -- a line with a command, and the same line where the events get their blocks
-told_spoken : (n : ℕ) (account : List Supply) (pair : Option PlainPair) (line : List ℕ) (lines : List (List ℕ)) (command : Command) → reading line ≡ Spoken command
-    → told_from n account pair (line ∷ lines)
-    ≡ told_after (printed_line (answered command account pair).line) (line_if (answered command account pair).is_short n)
-    (told_from (suc n) (answered command account pair).account (answered command account pair).pair lines)
+told_spoken : (n : ℕ) (account : List Supply) (session : Session) (line : List ℕ) (lines : List (List ℕ)) (command : Command) → reading line ≡ Spoken command
+    → told_from n account session (line ∷ lines)
+    ≡ told_after (printed_line (answered session.callers command account session.pair).line) (line_if (answered session.callers command account session.pair).is_short n)
+    (told_from (suc n) (answered session.callers command account session.pair).account (session_behind command session (answered session.callers command account session.pair).pair) lines)
 unfolding told_from
-told_spoken n account pair line lines command e = rw (e, told_from) refl
+told_spoken n account session line lines command e = rw (e, told_from) refl
 
-told_plain : (n : ℕ) (account : List Supply) (pair : Option PlainPair) (line : List ℕ) (lines : List (List ℕ)) (command : Command) → reading line ≡ Spoken command
-    → (answered command account pair).is_short ≡ false
-    → told_from n [] pair (line ∷ lines)
-    ≡ told_after (printed_line (answered command account pair).line) None (told_from (suc n) [] (answered command account pair).pair lines)
-told_plain n account pair line lines command e h =
-    let same = answered-same command account pair h in
-    let enough = answered-enough command pair in
-    told_spoken n [] pair line lines command e
-    ∙ (λ i. told_after (printed_line (sym same.line i)) (line_if (enough.not_short i) n) (told_from (suc n) (enough.none_left i) (sym same.pair i) lines))
+told_plain : (n : ℕ) (account : List Supply) (session : Session) (line : List ℕ) (lines : List (List ℕ)) (command : Command) → reading line ≡ Spoken command
+    → (answered session.callers command account session.pair).is_short ≡ false
+    → told_from n [] session (line ∷ lines)
+    ≡ told_after (printed_line (answered session.callers command account session.pair).line) None (told_from (suc n) [] (session_behind command session (answered session.callers command account session.pair).pair) lines)
+told_plain n account session line lines command e h =
+    let same = answered-same session.callers command account session.pair h in
+    let enough = answered-enough session.callers command session.pair in
+    told_spoken n [] session line lines command e
+    ∙ (λ i. told_after (printed_line (sym same.line i)) (line_if (enough.not_short i) n) (told_from (suc n) (enough.none_left i) (session_behind command session (sym same.pair i)) lines))
 
-told_silent : (n : ℕ) (account : List Supply) (pair : Option PlainPair) (line : List ℕ) (lines : List (List ℕ)) → reading line ≡ Silent
-    → told_from n account pair (line ∷ lines) ≡ told_from (suc n) account pair lines
+told_silent : (n : ℕ) (account : List Supply) (session : Session) (line : List ℕ) (lines : List (List ℕ)) → reading line ≡ Silent
+    → told_from n account session (line ∷ lines) ≡ told_from (suc n) account session lines
 unfolding told_from
-told_silent n account pair line lines e = rw (e, told_from) refl
+told_silent n account session line lines e = rw (e, told_from) refl
 
-told_malformed : (n : ℕ) (account : List Supply) (pair : Option PlainPair) (line : List ℕ) (lines : List (List ℕ)) → reading line ≡ Malformed
-    → told_from n account pair (line ∷ lines) ≡ record { text = printed_line (Wrong n); short = None; fault = Some n }
+told_malformed : (n : ℕ) (account : List Supply) (session : Session) (line : List ℕ) (lines : List (List ℕ)) → reading line ≡ Malformed
+    → told_from n account session (line ∷ lines) ≡ record { text = printed_line (Wrong n); short = None; fault = Some n }
 unfolding told_from
-told_malformed n account pair line lines e = rw (e, told_from) refl
+told_malformed n account session line lines e = rw (e, told_from) refl
 
-told_end : (n : ℕ) (account : List Supply) (pair : Option PlainPair) → told_from n account pair [] ≡ record { text = []; short = None; fault = None }
+told_end : (n : ℕ) (account : List Supply) (session : Session) → told_from n account session [] ≡ record { text = []; short = None; fault = None }
 unfolding told_from
 told_end n account pair = refl
 
@@ -214,72 +217,72 @@ no_first false n later h = (refl, h)
 
 -- what lines come to that have no short line
 abbrev Plain-behind : ℕ → List (List ℕ) → Type 0
-Plain-behind n lines = (account : List Supply) (pair : Option PlainPair) → (told_from n account pair lines).short ≡ None → told_from n account pair lines ≡ told_from n [] pair lines
+Plain-behind n lines = (account : List Supply) (session : Session) → (told_from n account session lines).short ≡ None → told_from n account session lines ≡ told_from n [] session lines
 
-told-line : (n : ℕ) (account : List Supply) (pair : Option PlainPair) (line : List ℕ) (lines : List (List ℕ)) (r : Reading) → reading line ≡ r → Plain-behind (suc n) lines
-    → (told_from n account pair (line ∷ lines)).short ≡ None → told_from n account pair (line ∷ lines) ≡ told_from n [] pair (line ∷ lines)
-told-line n account pair line lines Silent e later h =
-    let all = told_silent n account pair line lines e in
-    all ∙ later account pair (ap (λ (t : Told). t.short) (sym all) ∙ h) ∙ sym (told_silent n [] pair line lines e)
-told-line n account pair line lines Malformed e later h = told_malformed n account pair line lines e ∙ sym (told_malformed n [] pair line lines e)
-told-line n account pair line lines (Spoken command) e later h =
-    let here = answered command account pair in
-    let all = told_spoken n account pair line lines command e in
+told-line : (n : ℕ) (account : List Supply) (session : Session) (line : List ℕ) (lines : List (List ℕ)) (r : Reading) → reading line ≡ r → Plain-behind (suc n) lines
+    → (told_from n account session (line ∷ lines)).short ≡ None → told_from n account session (line ∷ lines) ≡ told_from n [] session (line ∷ lines)
+told-line n account session line lines Silent e later h =
+    let all = told_silent n account session line lines e in
+    all ∙ later account session (ap (λ (t : Told). t.short) (sym all) ∙ h) ∙ sym (told_silent n [] session line lines e)
+told-line n account session line lines Malformed e later h = told_malformed n account session line lines e ∙ sym (told_malformed n [] session line lines e)
+told-line n account session line lines (Spoken command) e later h =
+    let here = answered session.callers command account session.pair in
+    let all = told_spoken n account session line lines command e in
     let none = no_first here.is_short n _ (ap (λ (t : Told). t.short) (sym all) ∙ h) in
     all
-    ∙ (λ i. told_after (printed_line here.line) (line_if (none.0 i) n) (later here.account here.pair none.1 i))
-    ∙ sym (told_plain n account pair line lines command e none.0)
+    ∙ (λ i. told_after (printed_line here.line) (line_if (none.0 i) n) (later here.account (session_behind command session here.pair) none.1 i))
+    ∙ sym (told_plain n account session line lines command e none.0)
 
 pub told-same : (n : ℕ) (lines : List (List ℕ)) → Plain-behind n lines
-told-same n [] account pair h = told_end n account pair ∙ sym (told_end n [] pair)
-told-same n (line ∷ lines) account pair h = told-line n account pair line lines (reading line) refl (told-same (suc n) lines) h
+told-same n [] account session h = told_end n account session ∙ sym (told_end n [] session)
+told-same n (line ∷ lines) account session h = told-line n account session line lines (reading line) refl (told-same (suc n) lines) h
 
 -- what lines come to before their first short line
-pub record BeginsPlain (n k : ℕ) (pair : Option PlainPair) (lines : List (List ℕ)) (text : List ℕ) : Type 0 where
+pub record BeginsPlain (n k : ℕ) (session : Session) (lines : List (List ℕ)) (text : List ℕ) : Type 0 where
   pub rest : List ℕ
   pub above : n ≤ k
-  pub text_is : text ≡ (told_from n [] pair (take (k - n) lines)).text ++ rest
+  pub text_is : text ≡ (told_from n [] session (take (k - n) lines)).text ++ rest
 
 abbrev Front-behind : ℕ → ℕ → List (List ℕ) → Type 0
-Front-behind k n lines = (account : List Supply) (pair : Option PlainPair) → (told_from n account pair lines).short ≡ Some k → BeginsPlain n k pair lines (told_from n account pair lines).text
+Front-behind k n lines = (account : List Supply) (session : Session) → (told_from n account session lines).short ≡ Some k → BeginsPlain n k session lines (told_from n account session lines).text
 
 -- the first short line is this one, or a later one
 first_cases : (b : Bool) (n k : ℕ) (later : Option ℕ) → first_of (line_if b n) later ≡ Some k → ((b ≡ true) × (n ≡ k)) ⊎ ((b ≡ false) × (later ≡ Some k))
 first_cases true n k later h = inl (refl, cc)
 first_cases false n k later h = inr (refl, h)
 
-front-line : (k n : ℕ) (account : List Supply) (pair : Option PlainPair) (line : List ℕ) (lines : List (List ℕ)) (r : Reading) → reading line ≡ r → Front-behind k (suc n) lines
-    → (told_from n account pair (line ∷ lines)).short ≡ Some k → BeginsPlain n k pair (line ∷ lines) (told_from n account pair (line ∷ lines)).text
-front-line k n account pair line lines Silent e later h =
-    let all = told_silent n account pair line lines e in
-    let x = later account pair (ap (λ (t : Told). t.short) (sym all) ∙ h) in
+front-line : (k n : ℕ) (account : List Supply) (session : Session) (line : List ℕ) (lines : List (List ℕ)) (r : Reading) → reading line ≡ r → Front-behind k (suc n) lines
+    → (told_from n account session (line ∷ lines)).short ≡ Some k → BeginsPlain n k session (line ∷ lines) (told_from n account session (line ∷ lines)).text
+front-line k n account session line lines Silent e later h =
+    let all = told_silent n account session line lines e in
+    let x = later account session (ap (λ (t : Told). t.short) (sym all) ∙ h) in
     let left : k - n ≡ suc (k - suc n) = omega (arith, x.above) in
     record {
       rest = x.rest;
       above = omega (arith, x.above);
       text_is = ap (λ (t : Told). t.text) all ∙ x.text_is
-          ∙ ap (λ (t : Told). t.text ++ x.rest) (sym (ap (λ m. told_from n [] pair (take m (line ∷ lines))) left ∙ told_silent n [] pair line (take (k - suc n) lines) e));
+          ∙ ap (λ (t : Told). t.text ++ x.rest) (sym (ap (λ m. told_from n [] session (take m (line ∷ lines))) left ∙ told_silent n [] session line (take (k - suc n) lines) e));
     }
-front-line k n account pair line lines Malformed e later h =
-    let all = told_malformed n account pair line lines e in
+front-line k n account session line lines Malformed e later h =
+    let all = told_malformed n account session line lines e in
     let no : None ≡ Some k = ap (λ (t : Told). t.short) (sym all) ∙ h in
     absurd cc
-front-line k n account pair line lines (Spoken command) e later h =
-    let here = answered command account pair in
-    let all = told_spoken n account pair line lines command e in
+front-line k n account session line lines (Spoken command) e later h =
+    let here = answered session.callers command account session.pair in
+    let all = told_spoken n account session line lines command e in
     elim (first_cases here.is_short n k _ (ap (λ (t : Told). t.short) (sym all) ∙ h)) [
       | inl now ↦
           let left : k - n ≡ 0 = omega (arith, now.1) in
           record {
-            rest = (told_from n account pair (line ∷ lines)).text;
+            rest = (told_from n account session (line ∷ lines)).text;
             above = omega (arith, now.1);
-            text_is = ap (λ (t : Told). t.text ++ (told_from n account pair (line ∷ lines)).text)
-                (sym (ap (λ m. told_from n [] pair (take m (line ∷ lines))) left ∙ told_end n [] pair));
+            text_is = ap (λ (t : Told). t.text ++ (told_from n account session (line ∷ lines)).text)
+                (sym (ap (λ m. told_from n [] session (take m (line ∷ lines))) left ∙ told_end n [] session));
           }
       | inr then ↦
-          let x = later here.account here.pair then.1 in
+          let x = later here.account (session_behind command session here.pair) then.1 in
           let left : k - n ≡ suc (k - suc n) = omega (arith, x.above) in
-          let plain = ap (λ m. told_from n [] pair (take m (line ∷ lines))) left ∙ told_plain n account pair line (take (k - suc n) lines) command e then.0 in
+          let plain = ap (λ m. told_from n [] session (take m (line ∷ lines))) left ∙ told_plain n account session line (take (k - suc n) lines) command e then.0 in
           record {
             rest = x.rest;
             above = omega (arith, x.above);
@@ -289,7 +292,7 @@ front-line k n account pair line lines (Spoken command) e later h =
     ]
 
 pub told-front : (k n : ℕ) (lines : List (List ℕ)) → Front-behind k n lines
-told-front k n [] account pair h =
-    let no : None ≡ Some k = ap (λ (t : Told). t.short) (sym (told_end n account pair)) ∙ h in
+told-front k n [] account session h =
+    let no : None ≡ Some k = ap (λ (t : Told). t.short) (sym (told_end n account session)) ∙ h in
     absurd cc
-told-front k n (line ∷ lines) account pair h = front-line k n account pair line lines (reading line) refl (told-front k (suc n) lines) h
+told-front k n (line ∷ lines) account session h = front-line k n account session line lines (reading line) refl (told-front k (suc n) lines) h

@@ -1,6 +1,6 @@
 -- Which lines spell which command: spellings of each command, and lines that are none.
 use Rattle.std.proofs.Common.{ℕ, ◌≢◌, List, [], ◌∷◌, refl, inl, inr, lit<, lit≤, arith}
-use Rattle.std.specs.Prelude.{codes, None, Some}
+use Rattle.std.specs.Prelude.{codes, true, false, None, Some}
 use Rattle.strm_types.specs.declared.names.Dir.TheVariants.{MasterToSlave, SlaveToMaster}
 use Rattle.strm_types.specs.declared.names.Side.TheVariants.{Master, Slave}
 use Rattle.strm_types.specs.declared.names.Way.TheVariants.{Up}
@@ -15,7 +15,7 @@ use Rattle.strm_types.specs.declared.modes.ReadMode.TheVariants.{MessageDiscard}
 use Rattle.strm_types.specs.declared.modes.ControlMode.TheVariants.{Refuse}
 use Rattle.strm_run.specs.declared.commands.NamedPrio.TheVariants as prios
 use Rattle.strm_run.specs.declared.commands.NamedWanted.TheVariants as wanteds
-use Rattle.strm_run.specs.Script.{Open, Call, Flush, Put, Get, Turn, Run, Show, Ledger, module_name, IsName, IsUnknown, IsNumber, Itself, Named, Coded, Sets, Raw, Gets, SetsWindow, Signals, Sends, IsSpelled, digit_of, hex_of, escaped}
+use Rattle.strm_run.specs.Script.{Open, Call, Flush, Put, Get, Turn, Run, Show, Ledger, Group, module_name, IsName, IsUnknown, IsNumber, Itself, Named, Coded, Sets, Raw, Gets, SetsGroup, SetsWindow, Signals, Sends, IsSpelled, digit_of, hex_of, escaped}
 
 twelve : IsNumber (codes "12") 12
 unfolding digit_of
@@ -156,6 +156,9 @@ ioctl-of-a-window-is-spelled = (
 pub ioctl-of-a-signal-is-spelled : IsSpelled (Call Slave (Ioctl 7 (12 ∷ []))) (codes "ioctl s TIOCSIGNAL 12")
 ioctl-of-a-signal-is-spelled = (codes "TIOCSIGNAL 12", Signals 12 (codes "12") (twelve, lit≤ tt), refl)
 
+pub ioctl-of-a-group-is-spelled : IsSpelled (Call Slave (Ioctl 9 (0 ∷ 0 ∷ 0 ∷ 12 ∷ []))) (codes "ioctl s TIOCSPGRP 12")
+ioctl-of-a-group-is-spelled = (codes "TIOCSPGRP 12", SetsGroup 12 (codes "12") twelve, refl)
+
 pub ioctl-of-a-text-is-spelled : IsSpelled (Call Slave (Ioctl 2 [])) (codes "ioctl s TCSETS \"\"")
 ioctl-of-a-text-is-spelled = (codes "TCSETS \"\"", Sends 2 [] (codes "TCSETS") (codes "\"\"") Sets ([], refl, refl), refl)
 
@@ -168,6 +171,10 @@ poll-is-spelled = (codes "12", twelve, refl)
 
 pub signals-is-spelled : IsSpelled (Call Slave calls.Signals) (codes "signals s")
 signals-is-spelled = refl
+
+-- a caller of a process group that ignores what would stop it
+pub group-is-spelled : IsSpelled (Group (record { side = Slave; group = 12; ignores = true; orphaned = false })) (codes "group s 12 i")
+group-is-spelled = record { digits = codes "12"; group_is = twelve; line_is = refl }
 
 -- a byte as it is, one by its name, one by its number
 pub write-is-spelled : IsSpelled (Call Master (Write (97 ∷ 10 ∷ 255 ∷ []))) (codes "write m \"a\\n\\xfF\"")

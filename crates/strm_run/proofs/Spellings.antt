@@ -1,6 +1,7 @@
 -- Each command is read where it is spelled, and only there.
 use Rattle.std.proofs.Common.{◌≡◌, ◌≢◌, ℕ, ◌≤◌, true, false, List, [], ◌∷◌, ◌++◌, length, Option, None, Some, option_map, refl, sym, ap, ◌∙◌, inl, inr, append_assoc, append-nil, codes, subst, ltb}
 use Rattle.std.proofs.lemmas.Bool.{cond-true, cond-false, le-ltb, lt-ltb, ltb-true, leb-true, le-leb, and_parts, cases_Bool}
+use Rattle.strm_types.specs.declared.events.Caller.{Caller}
 use Rattle.strm_types.specs.declared.names.Dir.{Dir}
 use Rattle.strm_types.specs.declared.names.Dir.TheVariants.{MasterToSlave, SlaveToMaster}
 use Rattle.strm_types.specs.declared.names.Side.{Side}
@@ -20,12 +21,13 @@ use Rattle.strm_types.specs.declared.modes.Mode.{Mode}
 use Rattle.strm_run.specs.declared.commands.NamedPrio.{NamedPrio}
 use Rattle.strm_run.specs.declared.commands.NamedWanted.{NamedWanted}
 use Rattle.std.specs.List.{AllByRecursion, list_all}
-use Rattle.strm_run.specs.Script.{Command, Open, Call, Flush, Put, Get, Turn, Run, Show, Ledger, mode_name, IsPut, IsGetOf, IsUsualGet, side_name, direction_name, place_name, way_name, queue_name, module_name, flush_name, is_letter, is_silent, with_side, IsName, IsNumber, IsWithNumber, IsFlush, IsIoctl, IsSpelled}
-use Rattle.strm_run.specs.ScriptReading.{Silent, Malformed, Spoken, spoken, reading, and_then, after, at_end, Front, number_in, text_in, side_in, place_in, way_in, queue_in, placed_in, sided_in, behind_side, side_alone, module_in, is_name, flush_queues_in, band_in, pushed_in, flushed_in, open_in, named_in, write_in, read_in, turn_in, run_in, sided_call_in, push_in, flush_in, show_in, stream_in, put_in, get_in, set_mode_in, message_in, ioctl_in, poll_in, control_in, direction_in, ledger_in, command_in}
+use Rattle.strm_run.specs.Script.{Command, Open, Call, Flush, Put, Get, Turn, Run, Show, Ledger, Group, mode_name, IsPut, IsGetOf, IsUsualGet, side_name, direction_name, place_name, way_name, queue_name, module_name, flush_name, is_letter, is_silent, with_side, IsName, IsNumber, IsWithNumber, IsFlush, IsIoctl, IsGroup, IsSpelled}
+use Rattle.strm_run.specs.ScriptReading.{Silent, Malformed, Spoken, spoken, reading, and_then, after, at_end, Front, number_in, text_in, side_in, place_in, way_in, queue_in, placed_in, sided_in, behind_side, side_alone, module_in, is_name, flush_queues_in, band_in, pushed_in, flushed_in, open_in, named_in, write_in, read_in, turn_in, run_in, sided_call_in, push_in, flush_in, show_in, stream_in, put_in, get_in, set_mode_in, message_in, ioctl_in, poll_in, control_in, group_of, direction_in, ledger_in, group_in, command_in}
 use Rattle.strm_run.proofs.Grammar.{and_then-found, option_map-found, after-found, number-found, number-only, text-found, text-only}
 use Rattle.strm_run.proofs.Fronts.{either-found, at_end-found, whole-found, Stands, before-found, side-found}
 use Rattle.strm_run.proofs.MessageSpellings.{behind_side-found, put-found, get-found, set_mode-found, put_on-only, get_of-only, mode_in-only}
 use Rattle.strm_run.proofs.IoctlSpellings.{asked-only, control-found}
+use Rattle.strm_run.proofs.GroupSpellings.{group-found, group_of-only}
 
 place-found : (line : List ℕ) (found : Front Place) → place_in line ≡ Some found → Stands place_name line found
 unfolding place_in
@@ -371,7 +373,10 @@ command-found line command h = elim (either-found _ _ command h) [
                 | inl a ↦ message-found line command a
                 | inr b ↦ elim (either-found _ _ command b) [
                   | inl a ↦ control-found line command a
-                  | inr b ↦ ledger-found line command b
+                  | inr b ↦ elim (either-found _ _ command b) [
+                    | inl a ↦ ledger-found line command a
+                    | inr b ↦ group-found line command b
+                  ]
                 ]
               ]
             ]
@@ -454,6 +459,12 @@ unfolding command_in open_in named_in write_in read_in turn_in run_in stream_in 
 ledger-only MasterToSlave line h = rw (h) (refl, refl)
 ledger-only SlaveToMaster line h = rw (h) (refl, refl)
 
+-- a caller, on the one side or the other
+group-on : (side : Side) (caller : Caller) (line rest : List ℕ) → line ≡ with_side (codes "group ") side ++ rest → group_of side rest ≡ Some (Group caller) → IsRead (Group caller) line
+unfolding command_in open_in named_in write_in read_in turn_in run_in stream_in sided_call_in push_in flush_in show_in message_in put_in get_in set_mode_in control_in ioctl_in poll_in ledger_in group_in side_in
+group-on Master caller line rest e h = rw (e, h) (refl, refl)
+group-on Slave caller line rest e h = rw (e, h) (refl, refl)
+
 -- each command is read where it is spelled, and its line isn't silent
 command-only : (command : Command) (line : List ℕ) → IsSpelled command line → IsRead command line
 unfolding command_in open_in named_in write_in read_in turn_in run_in stream_in sided_call_in push_in flush_in show_in side_in side_alone
@@ -496,6 +507,7 @@ command-only (Run n) line (digits, number, e) = rw (e, number-only digits n numb
 command-only (Show Master) line h = rw (h) (refl, refl)
 command-only (Show Slave) line h = rw (h) (refl, refl)
 command-only (Ledger direction) line h = ledger-only direction line h
+command-only (Group caller) line h = group-on caller.side caller line _ h.line_is (group_of-only caller line h)
 
 -- the whole line
 pub reading-only : (command : Command) (line : List ℕ) → IsSpelled command line → length line ≤ 4096 → reading line ≡ Spoken command

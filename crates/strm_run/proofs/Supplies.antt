@@ -1,12 +1,18 @@
 -- Events that get the blocks that they ask for: none of them is short.
-use Rattle.std.proofs.Common.{◌≡◌, ℕ, zero, suc, Bool, true, false, cond, List, [], ◌∷◌, Option, None, Some, Result, Ok, Err, refl, sym, ap, ◌∙◌, slice_get, inl, inr, unwrap_or, nat_le, ◌&&◌, ◌||◌}
+use Rattle.std.proofs.Common.{◌≡◌, ℕ, zero, suc, Bool, true, false, cond, List, [], ◌∷◌, Option, None, Some, Result, Ok, Err, refl, sym, ap, ◌∙◌, slice_get, inl, inr, unwrap_or, nat_le, ◌&&◌, ◌||◌, not}
 use Rattle.std.proofs.lemmas.Bool.{cases_Bool}
 use Rattle.strm_types.specs.declared.answers.Turn.{Turn}
 use Rattle.strm_types.specs.declared.events.Caller.{Caller}
 use Rattle.strm_types.specs.declared.names.QueueName.{QueueName}
 use Rattle.strm_types.specs.declared.refusals.Refusal.{Refusal}
-use Rattle.strm_types.specs.declared.refusals.Refusal.TheVariants.{Einval, Eagain, Ebadmsg, Enxio, Erange, JournalFull}
-use Rattle.strm_types.specs.declared.names.Side.{Side}
+use Rattle.strm_types.specs.declared.refusals.Refusal.TheVariants.{Einval, Eagain, Ebadmsg, Enxio, Erange, JournalFull, Eio}
+use Rattle.strm_types.specs.declared.both.Both.{Both}
+use Rattle.strm_types.specs.declared.job_control.Verdict.TheVariants.{Refused, Stopped, Allowed}
+use Rattle.strm_types.specs.declared.needs.Access.{Access}
+use Rattle.strm_types.specs.declared.needs.Access.TheVariants.{Reads, Writes}
+use Rattle.strm_types.specs.declared.signals.StopSignal.TheVariants.{Ttin, Ttou}
+use Rattle.strm_types.specs.Both.{get}
+use Rattle.strm_types.specs.JobControl.{foreground, held, is_background, refusal_behind}
 use Rattle.strm_types.specs.declared.events.FlushQueues.{FlushQueues}
 use Rattle.std.specs.Prelude.{◌==◌}
 use Rattle.strm_types.specs.declared.modes.ControlMode.{ControlMode}
@@ -23,11 +29,11 @@ use Rattle.strm_types.specs.declared.events.Event.TheVariants as calls
 use Rattle.strm_types.specs.Events.{Request}
 use Rattle.strm_types.specs.Needs.{needs}
 use Rattle.strm_types.specs.Refused.{or_else, unless}
-use Rattle.strm_laws.specs.Refusals.{at_end, refused_at_once, refused_by_state}
-use Rattle.strm_run.specs.Script.{Command, Open, Call, Flush, Put, Get, Turn as TurnOf, Run, Show, Ledger}
+use Rattle.strm_laws.specs.Refusals.{at_end, refused_at_once, refused_by_state, unfit}
+use Rattle.strm_run.specs.Script.{Command, Open, Call, Flush, Put, Get, Turn as TurnOf, Run, Show, Ledger, Group}
 use Rattle.strm_run.specs.ScriptReading.{Reading, Silent, Malformed, Spoken, reading}
 use Rattle.strm_run.specs.ScriptRun as script
-use Rattle.strm_run.specs.ScriptRun.{Supply, Enough, TooFew, PlainPair, Happened, call_refusal, turn_refusal, call_happens, turn_happens, call_of, turn_of, is_enosr, turns_of, no_turns, counted, by_call, by_flush, prio_of, wanted_of, by_named, by_put, by_get, by_show, by_ledger, by_turn, by_run, by_open, answered, told_from, new_plain}
+use Rattle.strm_run.specs.ScriptRun.{Supply, Enough, TooFew, PlainPair, Happened, call_refusal, turn_refusal, call_happens, turn_happens, call_of, turn_of, is_enosr, turns_of, no_turns, counted, by_call, by_flush, prio_of, wanted_of, by_named, by_put, by_get, by_show, by_ledger, by_turn, by_run, by_open, answered, Session, session_behind, told_from, new_plain}
 use Rattle.strm_run.proofs.Events.{turns_none, turns_err, turns_ok, turns_zero}
 
 -- a refusal is for want of blocks
@@ -114,19 +120,43 @@ answer-want asked Free = none_asked-want
 answer-want asked (Waiting number command) = same-want number asked (Some Eagain) wait-want
 answer-want asked (Answered number command acked error body) = same-want number asked None none-want
 
+-- a call that isn't held is refused as it doesn't fit
+unfit-want : (s : State ℕ) (caller : Caller) (asked : Request) → is_want (unfit s caller asked) ≡ false
+unfit-want s caller calls.OpenMaster = unless-want _ Einval refl
+unfit-want s caller calls.OpenSlave = or_else-want _ _ (unless-want _ Einval refl) (unless-want _ Eagain refl)
+unfit-want s caller (calls.Push name) = unless-want _ Einval refl
+unfit-want s caller calls.Pop = unless-want _ Einval refl
+unfit-want s caller calls.Look = unless-want _ Einval refl
+unfit-want s caller (calls.Write cells) = unless-want _ Eagain refl
+unfit-want s caller (calls.Read n) = let h = (stream caller.side s).head in read-want h.control_mode (at_end caller.side s) n h.queue.messages
+unfit-want s caller (calls.Put prio control body) = unless-want _ Eagain refl
+unfit-want s caller (calls.Get wanted cmax dmax) = get-want wanted (at_end caller.side s) (stream caller.side s).head.queue.messages
+unfit-want s caller (calls.Ioctl command sent) = unless-want _ Eagain refl
+unfit-want s caller (calls.IoctlResult number) = answer-want number (stream caller.side s).head.ioctl
+unfit-want s caller _ = none-want
+
+-- job control refuses it by EIO alone
+held-want : (access : Option Access) (tostop : Bool) (group : ℕ) (caller : Caller) (next : Option Refusal) → is_want next ≡ false → is_want (refusal_behind (held access tostop group caller) next) ≡ false
+unfolding is_want
+held-want None tostop group caller next h = h
+held-want (Some Reads) tostop group caller next h = by (is_background caller group) (caller.ignores || caller.orphaned)
+  where
+    by : (behind refuses : Bool) → is_want (refusal_behind (cond behind (cond refuses (Refused Eio) (Stopped Ttin)) Allowed) next) ≡ false
+    by false refuses = h
+    by true true = refl
+    by true false = refl
+held-want (Some Writes) tostop group caller next h = by (is_background caller group) (not tostop || caller.ignores) caller.orphaned
+  where
+    by : (behind goes refuses : Bool) → is_want (refusal_behind (cond behind (cond goes Allowed (cond refuses (Refused Eio) (Stopped Ttou))) Allowed) next) ≡ false
+    by false goes refuses = h
+    by true true refuses = h
+    by true false true = refl
+    by true false false = refl
+
 by_state-want : (s : State ℕ) (caller : Caller) (asked : Request) → is_want (refused_by_state s caller asked) ≡ false
-by_state-want s caller calls.OpenMaster = unless-want _ Einval refl
-by_state-want s caller calls.OpenSlave = or_else-want _ _ (unless-want _ Einval refl) (unless-want _ Eagain refl)
-by_state-want s caller (calls.Push name) = unless-want _ Einval refl
-by_state-want s caller calls.Pop = unless-want _ Einval refl
-by_state-want s caller calls.Look = unless-want _ Einval refl
-by_state-want s caller (calls.Write cells) = unless-want _ Eagain refl
-by_state-want s caller (calls.Read n) = let h = (stream caller.side s).head in read-want h.control_mode (at_end caller.side s) n h.queue.messages
-by_state-want s caller (calls.Put prio control body) = unless-want _ Eagain refl
-by_state-want s caller (calls.Get wanted cmax dmax) = get-want wanted (at_end caller.side s) (stream caller.side s).head.queue.messages
-by_state-want s caller (calls.Ioctl command sent) = unless-want _ Eagain refl
-by_state-want s caller (calls.IoctlResult number) = answer-want number (stream caller.side s).head.ioctl
-by_state-want s caller _ = none-want
+by_state-want s caller asked =
+    let h = (stream caller.side s).head in
+    held-want (needs asked).access h.tostop (foreground h.hung_up h.group) caller (unfit s caller asked) (unfit-want s caller asked)
 
 pub call_happens-short : (o : Option Refusal) (p : PlainPair) (caller : Caller) (asked : Request) → (call_happens o p caller asked).is_short ≡ is_want o
 unfolding is_want
@@ -192,63 +222,64 @@ turns-enough zero p = record {
 turns-enough (suc n) p = turns-first n (turns-enough n) p (slice_get p.state.enabled 0) refl
 
 -- an `open`
-open-enough : (blocks : ℕ) → AllEnough (by_open blocks []).is_short (by_open blocks []).account
+open-enough : (caller : Caller) (blocks : ℕ) → AllEnough (by_open caller blocks []).is_short (by_open caller blocks []).account
 unfolding by_open by_call
-open-enough blocks = elim (cases_Bool (nat_le 1 blocks && nat_le blocks 4096)) [
-  | inl e ↦ rw (e) (record { not_short = call-enough (new_plain blocks) _ calls.OpenMaster; none_left = refl })
+open-enough caller blocks = elim (cases_Bool (nat_le 1 blocks && nat_le blocks 4096)) [
+  | inl e ↦ rw (e) (record { not_short = call-enough (new_plain blocks) caller calls.OpenMaster; none_left = refl })
   | inr e ↦ rw (e) (record { not_short = refl; none_left = refl })
 ]
 
 -- a flush of one band
-flush-enough : (side : Side) (what : FlushQueues) (band : ℕ) (p : PlainPair)
-    → AllEnough (by_flush side what (Some band) [] p).is_short (by_flush side what (Some band) [] p).account
+flush-enough : (caller : Caller) (what : FlushQueues) (band : ℕ) (p : PlainPair)
+    → AllEnough (by_flush caller what (Some band) [] p).is_short (by_flush caller what (Some band) [] p).account
 unfolding by_flush by_call
-flush-enough side what band p = elim (cases_Bool (nat_le band 255)) [
-  | inl e ↦ rw (e) (record { not_short = call-enough p _ (calls.Flush what (Some (record { 0 = band }))); none_left = refl })
+flush-enough caller what band p = elim (cases_Bool (nat_le band 255)) [
+  | inl e ↦ rw (e) (record { not_short = call-enough p caller (calls.Flush what (Some (record { 0 = band }))); none_left = refl })
   | inr e ↦ rw (e) (record { not_short = refl; none_left = refl })
 ]
 
 -- a command that names what a call can name, or can't
-named-enough : {A : Type 0} (side : Side) (asked : A → Request) (named : Option A) (p : PlainPair)
-    → AllEnough (by_named side asked named [] p).is_short (by_named side asked named [] p).account
+named-enough : {A : Type 0} (caller : Caller) (asked : A → Request) (named : Option A) (p : PlainPair)
+    → AllEnough (by_named caller asked named [] p).is_short (by_named caller asked named [] p).account
 unfolding by_call
-named-enough side asked None p = record { not_short = refl; none_left = refl }
-named-enough side asked (Some x) p = record { not_short = call-enough p _ (asked x); none_left = refl }
+named-enough caller asked None p = record { not_short = refl; none_left = refl }
+named-enough caller asked (Some x) p = record { not_short = call-enough p caller (asked x); none_left = refl }
 
 -- a command whose events get their blocks
-pub answered-enough : (command : Command) (pair : Option PlainPair) → AllEnough (answered command [] pair).is_short (answered command [] pair).account
+pub answered-enough : (callers : Both Caller) (command : Command) (pair : Option PlainPair) → AllEnough (answered callers command [] pair).is_short (answered callers command [] pair).account
 unfolding answered by_call by_flush by_put by_get by_show by_ledger by_turn by_run by_open
-answered-enough (Open blocks) None = open-enough (unwrap_or blocks 256)
-answered-enough (Open blocks) (Some p) = record { not_short = refl; none_left = refl }
-answered-enough (Call side asked) None = record { not_short = refl; none_left = refl }
-answered-enough (Call side asked) (Some p) = record { not_short = call-enough p _ asked; none_left = refl }
-answered-enough (Flush side what band) None = record { not_short = refl; none_left = refl }
-answered-enough (Flush side what None) (Some p) = record { not_short = call-enough p _ (calls.Flush what None); none_left = refl }
-answered-enough (Flush side what (Some band)) (Some p) = flush-enough side what band p
-answered-enough (Put side prio control body) None = record { not_short = refl; none_left = refl }
-answered-enough (Put side prio control body) (Some p) = named-enough side (λ prio. calls.Put prio control body) (prio_of prio) p
-answered-enough (Get side wanted cmax dmax) None = record { not_short = refl; none_left = refl }
-answered-enough (Get side wanted cmax dmax) (Some p) = named-enough side (λ wanted. calls.Get wanted cmax dmax) (wanted_of wanted) p
-answered-enough (TurnOf name) None = record { not_short = refl; none_left = refl }
-answered-enough (TurnOf name) (Some p) = record { not_short = turn-enough p name; none_left = refl }
-answered-enough (Run n) None = record { not_short = refl; none_left = refl }
-answered-enough (Run n) (Some p) = turns-enough n p
-answered-enough (Show side) None = record { not_short = refl; none_left = refl }
-answered-enough (Show side) (Some p) = record { not_short = refl; none_left = refl }
-answered-enough (Ledger direction) None = record { not_short = refl; none_left = refl }
-answered-enough (Ledger direction) (Some p) = record { not_short = refl; none_left = refl }
+answered-enough callers (Open blocks) None = open-enough callers.master (unwrap_or blocks 256)
+answered-enough callers (Open blocks) (Some p) = record { not_short = refl; none_left = refl }
+answered-enough callers (Call side asked) None = record { not_short = refl; none_left = refl }
+answered-enough callers (Call side asked) (Some p) = record { not_short = call-enough p (get side callers) asked; none_left = refl }
+answered-enough callers (Flush side what band) None = record { not_short = refl; none_left = refl }
+answered-enough callers (Flush side what None) (Some p) = record { not_short = call-enough p (get side callers) (calls.Flush what None); none_left = refl }
+answered-enough callers (Flush side what (Some band)) (Some p) = flush-enough (get side callers) what band p
+answered-enough callers (Put side prio control body) None = record { not_short = refl; none_left = refl }
+answered-enough callers (Put side prio control body) (Some p) = named-enough (get side callers) (λ prio. calls.Put prio control body) (prio_of prio) p
+answered-enough callers (Get side wanted cmax dmax) None = record { not_short = refl; none_left = refl }
+answered-enough callers (Get side wanted cmax dmax) (Some p) = named-enough (get side callers) (λ wanted. calls.Get wanted cmax dmax) (wanted_of wanted) p
+answered-enough callers (TurnOf name) None = record { not_short = refl; none_left = refl }
+answered-enough callers (TurnOf name) (Some p) = record { not_short = turn-enough p name; none_left = refl }
+answered-enough callers (Run n) None = record { not_short = refl; none_left = refl }
+answered-enough callers (Run n) (Some p) = turns-enough n p
+answered-enough callers (Show side) None = record { not_short = refl; none_left = refl }
+answered-enough callers (Show side) (Some p) = record { not_short = refl; none_left = refl }
+answered-enough callers (Ledger direction) None = record { not_short = refl; none_left = refl }
+answered-enough callers (Ledger direction) (Some p) = record { not_short = refl; none_left = refl }
+answered-enough callers (Group caller) pair = record { not_short = refl; none_left = refl }
 
 -- a script whose events get their blocks has no short line
-told-line : (n : ℕ) (pair : Option PlainPair) (line : List ℕ) (lines : List (List ℕ)) (r : Reading) → reading line ≡ r
-    → ((later : Option PlainPair) → (told_from (suc n) [] later lines).short ≡ None) → (told_from n [] pair (line ∷ lines)).short ≡ None
+told-line : (n : ℕ) (session : Session) (line : List ℕ) (lines : List (List ℕ)) (r : Reading) → reading line ≡ r
+    → ((later : Session) → (told_from (suc n) [] later lines).short ≡ None) → (told_from n [] session (line ∷ lines)).short ≡ None
 unfolding told_from
-told-line n pair line lines Silent e later = rw (e, told_from) (later pair)
-told-line n pair line lines Malformed e later = rw (e, told_from) refl
-told-line n pair line lines (Spoken command) e later =
-    let one = answered-enough command pair in
-    rw (e, told_from, one.not_short, one.none_left) (later (answered command [] pair).pair)
+told-line n session line lines Silent e later = rw (e, told_from) (later session)
+told-line n session line lines Malformed e later = rw (e, told_from) refl
+told-line n session line lines (Spoken command) e later =
+    let one = answered-enough session.callers command session.pair in
+    rw (e, told_from, one.not_short, one.none_left) (later (session_behind command session (answered session.callers command [] session.pair).pair))
 
-pub told-enough : (n : ℕ) (pair : Option PlainPair) (lines : List (List ℕ)) → (told_from n [] pair lines).short ≡ None
+pub told-enough : (n : ℕ) (session : Session) (lines : List (List ℕ)) → (told_from n [] session lines).short ≡ None
 unfolding told_from
-told-enough n pair [] = refl
-told-enough n pair (line ∷ lines) = told-line n pair line lines (reading line) refl (λ later. told-enough (suc n) later lines)
+told-enough n session [] = refl
+told-enough n session (line ∷ lines) = told-line n session line lines (reading line) refl (λ later. told-enough (suc n) later lines)

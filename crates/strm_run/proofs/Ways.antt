@@ -6,7 +6,7 @@ use Rattle.strm_run.specs.Script.{Command}
 use Rattle.strm_run.specs.ScriptReading.{Silent, Malformed, Spoken, reading}
 use Rattle.strm_run.specs.ScriptAnswers.{printed_line, Wrong}
 use Rattle.strm_run.specs.ScriptRun as script
-use Rattle.strm_run.specs.ScriptRun.{Supply, PlainPair, Told, told_after, told_from, first_of, line_if, answered}
+use Rattle.strm_run.specs.ScriptRun.{Supply, PlainPair, Session, session_behind, Told, told_after, told_from, first_of, line_if, answered}
 use Rattle.strm_run.specs.Lines.{line_of}
 use Rattle.strm_run.specs.Outcomes.{LeadsTo, answered_as}
 use Rattle.strm_run.specs.declared.session.Answered.{Answered}
@@ -21,22 +21,22 @@ lines_within : (line : List ℕ) (b : ℕ) (bytes : List ℕ) → (b ≡ 10 → 
 unfolding lines_behind
 lines_within line b bytes ne = rw (ne_eqb b 10 ne) refl
 
-told_silent : (n : ℕ) (account : List Supply) (pair : Option PlainPair) (line : List ℕ) (lines : List (List ℕ))
-    → reading line ≡ Silent → told_from n account pair (line ∷ lines) ≡ told_from (suc n) account pair lines
+told_silent : (n : ℕ) (account : List Supply) (session : Session) (line : List ℕ) (lines : List (List ℕ))
+    → reading line ≡ Silent → told_from n account session (line ∷ lines) ≡ told_from (suc n) account session lines
 unfolding told_from
-told_silent n account pair line lines h = rw (h, told_from) refl
+told_silent n account session line lines h = rw (h, told_from) refl
 
-told_malformed : (n : ℕ) (account : List Supply) (pair : Option PlainPair) (line : List ℕ) (lines : List (List ℕ))
-    → reading line ≡ Malformed → told_from n account pair (line ∷ lines) ≡ record { text = printed_line (Wrong n); short = None; fault = Some n }
+told_malformed : (n : ℕ) (account : List Supply) (session : Session) (line : List ℕ) (lines : List (List ℕ))
+    → reading line ≡ Malformed → told_from n account session (line ∷ lines) ≡ record { text = printed_line (Wrong n); short = None; fault = Some n }
 unfolding told_from
-told_malformed n account pair line lines h = rw (h, told_from) refl
+told_malformed n account session line lines h = rw (h, told_from) refl
 
-told_spoken : (n : ℕ) (account : List Supply) (pair : Option PlainPair) (line : List ℕ) (lines : List (List ℕ)) (command : Command) (here : script.Answered)
-    → reading line ≡ Spoken command → answered command account pair ≡ here
-    → told_from n account pair (line ∷ lines) ≡ told_after (printed_line here.line) (line_if here.is_short n) (told_from (suc n) here.account here.pair lines)
+told_spoken : (n : ℕ) (account : List Supply) (session : Session) (line : List ℕ) (lines : List (List ℕ)) (command : Command) (here : script.Answered)
+    → reading line ≡ Spoken command → answered session.callers command account session.pair ≡ here
+    → told_from n account session (line ∷ lines) ≡ told_after (printed_line here.line) (line_if here.is_short n) (told_from (suc n) here.account (session_behind command session here.pair) lines)
 unfolding told_from
-told_spoken n account pair line lines command here h e =
-    rw (h, told_from) (ap (λ (x : script.Answered). told_after (printed_line x.line) (line_if x.is_short n) (told_from (suc n) x.account x.pair lines)) e)
+told_spoken n account session line lines command here h e =
+    rw (h, told_from) (ap (λ (x : script.Answered). told_after (printed_line x.line) (line_if x.is_short n) (told_from (suc n) x.account (session_behind command session x.pair) lines)) e)
 
 first_of-assoc : (a b c : Option ℕ) → first_of a (first_of b c) ≡ first_of (first_of a b) c
 first_of-assoc None b c = refl
@@ -114,34 +114,34 @@ unfolding told_at
 goes_byte p b ne = record {
   events = [];
   goes = λ account bytes.
-      ap (λ lines. told_after [] p.short (told_from (suc p.lines) account p.pair lines)) (lines_within p.line b bytes ne);
+      ap (λ lines. told_after [] p.short (told_from (suc p.lines) account p.session lines)) (lines_within p.line b bytes ne);
 }
 
 -- the end of a line that asks for nothing
 pub goes_silent : (p : Point) → reading p.line ≡ Silent
-    → Goes p (10 ∷ []) [] (record { pair = p.pair; lines = suc p.lines; line = []; short = p.short })
+    → Goes p (10 ∷ []) [] (record { session = p.session; lines = suc p.lines; line = []; short = p.short })
 unfolding told_at
 goes_silent p h = record {
   events = [];
   goes = λ account bytes.
       ap (told_after [] p.short)
-      (ap (told_from (suc p.lines) account p.pair) (lines_ended p.line bytes)
-      ∙ told_silent (suc p.lines) account p.pair p.line (lines_behind [] bytes) h);
+      (ap (told_from (suc p.lines) account p.session) (lines_ended p.line bytes)
+      ∙ told_silent (suc p.lines) account p.session p.line (lines_behind [] bytes) h);
 }
 
 -- the end of a line with a command
 pub goes_spoken : (p : Point) (command : Command) (found : Answered) (given : List ℕ) (after : Option PlainPair)
-    → reading p.line ≡ Spoken command → LeadsTo (λ account. answered command account p.pair) found given after
+    → reading p.line ≡ Spoken command → LeadsTo (λ account. answered p.session.callers command account p.session.pair) found given after
     → Goes p (10 ∷ []) (printed_line (line_of given found.line))
-    (record { pair = after; lines = suc p.lines; line = []; short = first_of p.short (line_if found.short (suc p.lines)) })
+    (record { session = session_behind command p.session after; lines = suc p.lines; line = []; short = first_of p.short (line_if found.short (suc p.lines)) })
 unfolding told_at
 goes_spoken p command found given after h lead = record {
   events = lead.events;
   goes = λ account bytes.
-      let rest = told_from (suc (suc p.lines)) account after (lines_behind [] bytes) in
+      let rest = told_from (suc (suc p.lines)) account (session_behind command p.session after) (lines_behind [] bytes) in
       ap (told_after [] p.short)
-      (ap (told_from (suc p.lines) (lead.events ++ account) p.pair) (lines_ended p.line bytes)
-      ∙ told_spoken (suc p.lines) (lead.events ++ account) p.pair p.line (lines_behind [] bytes) command (answered_as found given after account) h (lead.leads account))
+      (ap (told_from (suc p.lines) (lead.events ++ account) p.session) (lines_ended p.line bytes)
+      ∙ told_spoken (suc p.lines) (lead.events ++ account) p.session p.line (lines_behind [] bytes) command (answered_as found given after account) h (lead.leads account))
       ∙ (λ k. record {
         text = printed_line (line_of given found.line) ++ rest.text;
         short = first_of-assoc p.short (line_if found.short (suc p.lines)) rest.short k;
@@ -156,8 +156,8 @@ ends_malformed p h = record {
   events = [];
   ends = λ bytes.
       ap (told_after [] p.short)
-      (ap (told_from (suc p.lines) [] p.pair) (lines_ended p.line bytes)
-      ∙ told_malformed (suc p.lines) [] p.pair p.line (lines_behind [] bytes) h)
+      (ap (told_from (suc p.lines) [] p.session) (lines_ended p.line bytes)
+      ∙ told_malformed (suc p.lines) [] p.session p.line (lines_behind [] bytes) h)
       ∙ ap (λ short. record { text = printed_line (Wrong (suc p.lines)); short = short; fault = Some (suc p.lines) }) (first_of-none p.short);
 }
 
@@ -187,8 +187,8 @@ ends_long p b h ne = record {
   ends = λ bytes.
       let long = lines_long (p.line ++ b ∷ []) bytes (omega (arith, length-append p.line (b ∷ []))) in
       ap (told_after [] p.short)
-      (ap (told_from (suc p.lines) [] p.pair) (lines_within p.line b bytes ne ∙ long.2)
-      ∙ told_malformed (suc p.lines) [] p.pair long.0 long.1 (reading_long long.0 long.3))
+      (ap (told_from (suc p.lines) [] p.session) (lines_within p.line b bytes ne ∙ long.2)
+      ∙ told_malformed (suc p.lines) [] p.session long.0 long.1 (reading_long long.0 long.3))
       ∙ ap (λ short. record { text = printed_line (Wrong (suc p.lines)); short = short; fault = Some (suc p.lines) }) (first_of-none p.short);
 }
 
@@ -196,7 +196,7 @@ ends_long p b h ne = record {
 told_at-enough : (p : Point) (bytes : List ℕ) → (told_at [] p bytes).short ≡ p.short
 unfolding told_at
 told_at-enough p bytes =
-    ap (first_of p.short) (told-enough (suc p.lines) p.pair (lines_behind p.line bytes)) ∙ first_of-none p.short
+    ap (first_of p.short) (told-enough (suc p.lines) p.session (lines_behind p.line bytes)) ∙ first_of-none p.short
 
 -- what is said where a script breaks off, of all that comes
 pub Shows-broken : (a : Point) (i more t : List ℕ) (short : Option ℕ) → Breaks a i t short → Shows a (i ++ more) t short
@@ -265,7 +265,7 @@ last_is (b ∷ line) h = refl
 
 pub told_at-last : (account : List Supply) (p : Point) → (p.line ≡ [] → ⊥) → told_at account p [] ≡ told_at account p (10 ∷ [])
 unfolding told_at
-told_at-last account p h = ap (λ lines. told_after [] p.short (told_from (suc p.lines) account p.pair lines)) (last_is p.line h)
+told_at-last account p h = ap (λ lines. told_after [] p.short (told_from (suc p.lines) account p.session lines)) (last_is p.line h)
 
 pub Says-last : (p : Point) (t : List ℕ) (short fault : Option ℕ) → (p.line ≡ [] → ⊥) → Says p (10 ∷ []) t short fault → Says p [] t short fault
 Says-last p t short fault h x = record { events = x.events; told_is = told_at-last x.events p h ∙ x.told_is }

@@ -5,7 +5,7 @@ use Rattle.std.specs.Io.KnownBytes.{Appends, Keeps, Consumes, IsAtEnd}
 use Rattle.strm_run.specs.Script.{lines_of, begun_with}
 use Rattle.strm_run.specs.ScriptReading.{Reading, Silent, Malformed as MalformedLine, Spoken, reading}
 use Rattle.strm_run.specs.ScriptAnswers.{printed_line, Wrong}
-use Rattle.strm_run.specs.ScriptRun.{Supply, PlainPair, Told, told_from, told, answered}
+use Rattle.strm_run.specs.ScriptRun.{Supply, Session, new_session, session_behind, Told, told_from, told, answered}
 use Rattle.strm_run.specs.Points.{Point, beginning, last_line, lines_behind, told_at, Shows, Says}
 use Rattle.strm_run.specs.Steps.{point_of, Ready, Took, Steps, Finishes, EndsInput}
 use Rattle.strm_run.specs.Output.{Writes}
@@ -52,40 +52,40 @@ lines_behind-is line (b ∷ bytes) =
 -- from the beginning the script comes to what the whole of it does
 told_begins : (account : List Supply) (bytes : List ℕ) → told_at account beginning bytes ≡ told account bytes
 unfolding told_at
-told_begins account bytes = ap (told_from 1 account None) (lines_behind-is [] bytes ∙ put_front-none (lines_of bytes))
+told_begins account bytes = ap (told_from 1 account new_session) (lines_behind-is [] bytes ∙ put_front-none (lines_of bytes))
 
 -- the text of a script with a malformed line ends with that line's number
 pub record EndsWith (text : List ℕ) (n : ℕ) : Type 0 where
   pub front : List ℕ
   pub text_is : text ≡ front ++ printed_line (Wrong n)
 
-fault-line : (n k : ℕ) (account : List Supply) (pair : Option PlainPair) (line : List ℕ) (lines : List (List ℕ)) (r : Reading) → reading line ≡ r
-    → ((later : List Supply) (p : Option PlainPair) → (told_from (suc n) later p lines).fault ≡ Some k → EndsWith (told_from (suc n) later p lines).text k)
-    → (told_from n account pair (line ∷ lines)).fault ≡ Some k → EndsWith (told_from n account pair (line ∷ lines)).text k
+fault-line : (n k : ℕ) (account : List Supply) (session : Session) (line : List ℕ) (lines : List (List ℕ)) (r : Reading) → reading line ≡ r
+    → ((later : List Supply) (p : Session) → (told_from (suc n) later p lines).fault ≡ Some k → EndsWith (told_from (suc n) later p lines).text k)
+    → (told_from n account session (line ∷ lines)).fault ≡ Some k → EndsWith (told_from n account session (line ∷ lines)).text k
 unfolding told_from
-fault-line n k account pair line lines Silent e later h = rw (e, told_from) (later account pair (rw (e, told_from) at h))
-fault-line n k account pair line lines MalformedLine e later h =
+fault-line n k account session line lines Silent e later h = rw (e, told_from) (later account session (rw (e, told_from) at h))
+fault-line n k account session line lines MalformedLine e later h =
     let same : n ≡ k = cc (rw (e, told_from) at h) in
     rw (e, told_from) (record { front = []; text_is = ap (λ m. printed_line (Wrong m)) same })
-fault-line n k account pair line lines (Spoken command) e later h =
-    let here = answered command account pair in
-    let rest = later here.account here.pair (rw (e, told_from) at h) in
+fault-line n k account session line lines (Spoken command) e later h =
+    let here = answered session.callers command account session.pair in
+    let rest = later here.account (session_behind command session here.pair) (rw (e, told_from) at h) in
     rw (e, told_from) (record {
       front = printed_line here.line ++ rest.front;
       text_is = ap (λ t. printed_line here.line ++ t) rest.text_is ∙ sym (append_assoc (printed_line here.line) rest.front (printed_line (Wrong k)));
     })
 
-fault-last : (n k : ℕ) (account : List Supply) (pair : Option PlainPair) (lines : List (List ℕ))
-    → (told_from n account pair lines).fault ≡ Some k → EndsWith (told_from n account pair lines).text k
+fault-last : (n k : ℕ) (account : List Supply) (session : Session) (lines : List (List ℕ))
+    → (told_from n account session lines).fault ≡ Some k → EndsWith (told_from n account session lines).text k
 unfolding told_from
-fault-last n k account pair [] h = absurd cc
-fault-last n k account pair (line ∷ lines) h =
-    fault-line n k account pair line lines (reading line) refl (λ later p. fault-last (suc n) k later p lines) h
+fault-last n k account session [] h = absurd cc
+fault-last n k account session (line ∷ lines) h =
+    fault-line n k account session line lines (reading line) refl (λ later p. fault-last (suc n) k later p lines) h
 
 -- a script agrees with its plain text up to its first short line
 agrees : (account : List Supply) (short : Option ℕ) (bytes : List ℕ) → (told account bytes).short ≡ short → Agrees account short bytes
-agrees account None bytes h = ap (λ (t : Told). t.text) (told-same 1 (lines_of bytes) account None h)
-agrees account (Some n) bytes h = let x = told-front n 1 (lines_of bytes) account None h in (x.rest, x.text_is)
+agrees account None bytes h = ap (λ (t : Told). t.text) (told-same 1 (lines_of bytes) account new_session h)
+agrees account (Some n) bytes h = let x = told-front n 1 (lines_of bytes) account new_session h in (x.rest, x.text_is)
 
 -- the three ways in which a script ends
 script_cut : (bytes written : List ℕ) (short : Option ℕ) → Shows beginning bytes written short → IsScript ends.Broken short bytes written
@@ -109,7 +109,7 @@ script_whole bytes written short x =
 script_faulty : (bytes written : List ℕ) (short : Option ℕ) (n : ℕ) → Says beginning bytes written short (Some n) → IsScript ends.Malformed short bytes written
 script_faulty bytes written short n x =
     let all = sym (told_begins x.events bytes) ∙ x.told_is in
-    let last = fault-last 1 n x.events None (lines_of bytes) (ap (λ (t : Told). t.fault) all) in
+    let last = fault-last 1 n x.events new_session (lines_of bytes) (ap (λ (t : Told). t.fault) all) in
     record {
       account = x.events;
       wrote = record {

@@ -1,18 +1,18 @@
 -- A script on its way, and what a run of it comes to.
 use Rattle.std.specs.Prelude.{◌≡◌, ℕ, suc, ◌==◌, if◌then◌else◌, List, [], ◌∷◌, ◌++◌, Option, None, Some}
-use Rattle.strm_run.specs.ScriptRun.{Supply, PlainPair, Told, told_after, told_from}
+use Rattle.strm_run.specs.ScriptRun.{Supply, Session, new_session, Told, told_after, told_from}
 
--- A script on its way: the pair, how many lines have ended, the bytes so far of the next, and the first line in which the pool was
+-- A script on its way: its session, how many lines have ended, the bytes so far of the next, and the first line in which the pool was
 -- short of blocks for an event.
 pub record Point : Type 0 where
-  pub pair : Option PlainPair
+  pub session : Session
   pub lines : ℕ
   pub line : List ℕ
   pub short : Option ℕ
 
 -- where a script begins
 abbrev pub beginning : Point
-beginning = record { pair = None; lines = 0; line = []; short = None }
+beginning = record { session = new_session; lines = 0; line = []; short = None }
 
 -- the line so far as the last one, if it has bytes
 abbrev pub last_line : List ℕ → List (List ℕ)
@@ -28,7 +28,7 @@ lines_behind line (b ∷ bytes) =
 -- what the script comes to from a point on, for the account of the events behind it
 unfoldable pub told_at : List Supply → Point → List ℕ → Told
 told_at account p bytes =
-    told_after [] p.short (told_from (suc p.lines) account p.pair (lines_behind p.line bytes))
+    told_after [] p.short (told_from (suc p.lines) account p.session (lines_behind p.line bytes))
 
 -- what comes behind a text
 abbrev pub behind : List ℕ → Told → Told

@@ -1,7 +1,8 @@
 -- The commands of a script, and how each is spelled: one command a line, words parted by one space.
-use Rattle.std.specs.Prelude.{◌≡◌, ◌≢◌, ℕ, ◌≤◌, ◌<◌, ◌+◌, ◌-◌, ◌*◌, nat_le, ◌==◌, ◌&&◌, Bool, true, if◌then◌else◌, List, [], ◌∷◌, ◌++◌, length, codes, Option, None, Some, ◌⊎◌}
-use Rattle.std.specs.Int.{w16, to_be_bytes}
+use Rattle.std.specs.Prelude.{◌≡◌, ◌≢◌, ℕ, ◌≤◌, ◌<◌, ◌+◌, ◌-◌, ◌*◌, nat_le, ◌==◌, ◌&&◌, Bool, true, false, if◌then◌else◌, List, [], ◌∷◌, ◌++◌, length, codes, Option, None, Some, ◌⊎◌}
+use Rattle.std.specs.Int.{w16, w32, to_be_bytes}
 use Rattle.std.specs.List.{AllByRecursion}
+use Rattle.strm_types.specs.declared.events.Caller.{Caller}
 use Rattle.strm_types.specs.declared.names.Dir.{Dir}
 use Rattle.strm_types.specs.declared.names.Dir.TheVariants.{MasterToSlave, SlaveToMaster}
 use Rattle.strm_types.specs.declared.names.Side.{Side}
@@ -21,7 +22,7 @@ use Rattle.strm_types.specs.declared.modes.Mode.{Mode}
 use Rattle.strm_types.specs.declared.modes.Mode.TheVariants as modes
 use Rattle.strm_types.specs.declared.modes.ReadMode.TheVariants.{ByteStream, MessageKeep, MessageDiscard}
 use Rattle.strm_types.specs.declared.modes.ControlMode.TheVariants.{Refuse, Data, Discard}
-use Rattle.strm_types.specs.declared.ioctls.TheConstants.{TCGETS, TCSETS, TCSETSW, TCSETSF, TIOCGWINSZ, TIOCSWINSZ, TIOCSIGNAL}
+use Rattle.strm_types.specs.declared.ioctls.TheConstants.{TCGETS, TCSETS, TCSETSW, TCSETSF, TIOCGPGRP, TIOCSPGRP, TIOCGWINSZ, TIOCSWINSZ, TIOCSIGNAL}
 use Rattle.strm_types.specs.Events.{Request}
 use Rattle.strm_run.specs.declared.commands.NamedPrio.{NamedPrio}
 use Rattle.strm_run.specs.declared.commands.NamedPrio.TheVariants as prios
@@ -40,6 +41,7 @@ pub data Command : Type 0 where
   Run : ℕ → Command  -- so many turns at most
   Show : Side → Command  -- what stands on the queues of a side's stream
   Ledger : Dir → Command  -- where the bytes of a direction are
+  Group : Caller → Command  -- who makes the later calls on the caller's side
 
 -- the most bytes of a line, without its LF
 abbrev pub line_max : ℕ
@@ -79,6 +81,14 @@ abbrev pub module_name : ModuleName → List ℕ
 module_name modules.Ldterm = codes "ldterm"
 module_name modules.Ptem = codes "ptem"
 module_name modules.Pckt = codes "pckt"
+
+-- how job control treats a caller that isn't in the foreground: whether SIGTTIN and SIGTTOU are ignored, and whether its process group is
+-- orphaned
+abbrev pub flags_name : Bool → Bool → List ℕ
+flags_name false false = codes "-"
+flags_name true false = codes "i"
+flags_name false true = codes "o"
+flags_name true true = codes "io"
 
 -- which queues a flush is for
 abbrev pub flush_name : FlushQueues → List ℕ
@@ -250,6 +260,10 @@ pub record IsWindow (size : WindowSize) (line : List ℕ) : Type 0 where
 abbrev pub window_bytes : WindowSize → List ℕ
 window_bytes size = to_be_bytes w16 size.rows ++ (to_be_bytes w16 size.columns ++ (to_be_bytes w16 size.width ++ to_be_bytes w16 size.height))
 
+-- what TIOCSPGRP sends (tcsetpgrp(3C)): the process group in four bytes, the most significant first
+abbrev pub group_bytes : ℕ → List ℕ
+group_bytes n = to_be_bytes w32 n
+
 -- a command that sends a text: by its name, or by `raw` and its number
 pub data IsSender : ℕ → List ℕ → Type 0 where
   Sets : IsSender TCSETS (codes "TCSETS")
@@ -257,10 +271,12 @@ pub data IsSender : ℕ → List ℕ → Type 0 where
   SetsAnew : IsSender TCSETSF (codes "TCSETSF")  -- behind it, and without what is typed already
   Raw : (n : ℕ) (digits : List ℕ) → IsNumber digits n → IsSender n (codes "raw " ++ digits)
 
--- what an ioctl asks for: its command, and the bytes that it sends (streamio(7I), termio(7I), ptm(7D))
+-- what an ioctl asks for: its command, and the bytes that it sends (streamio(7I), termio(7I), ptm(7D), tcgetpgrp(3C))
 pub data IsAsked : ℕ → List ℕ → List ℕ → Type 0 where
   Gets : IsAsked TCGETS [] (codes "TCGETS")
   GetsWindow : IsAsked TIOCGWINSZ [] (codes "TIOCGWINSZ")
+  GetsGroup : IsAsked TIOCGPGRP [] (codes "TIOCGPGRP")
+  SetsGroup : (n : ℕ) (digits : List ℕ) → IsNumber digits n → IsAsked TIOCSPGRP (group_bytes n) (codes "TIOCSPGRP " ++ digits)
   SetsWindow : (size : WindowSize) (rest : List ℕ) → IsWindow size rest → IsAsked TIOCSWINSZ (window_bytes size) (codes "TIOCSWINSZ " ++ rest)
   Signals : (n : ℕ) (digits : List ℕ) → IsNumberTo byte_max n digits → IsAsked TIOCSIGNAL (n ∷ []) (codes "TIOCSIGNAL " ++ digits)
   Sends : (command : ℕ) (text word part : List ℕ) → IsSender command word → IsPart (Some text) part → IsAsked command text (word ++ (codes " " ++ part))
@@ -290,6 +306,12 @@ IsCall side (calls.Ioctl command sent) line = IsIoctl side command sent line
 IsCall side (IoctlResult number) line = IsWithNumber (with_side (codes "poll ") side) number line
 IsCall side calls.Signals line = line ≡ codes "signals " ++ side_name side
 
+-- the caller of a side: its process group, and how job control treats it
+pub record IsGroup (caller : Caller) (line : List ℕ) : Type 0 where
+  pub digits : List ℕ
+  pub group_is : IsNumber digits caller.group
+  pub line_is : line ≡ with_side (codes "group ") caller.side ++ (digits ++ (codes " " ++ flags_name caller.ignores caller.orphaned))
+
 -- how a command is spelled
 abbrev pub IsSpelled : Command → List ℕ → Type 0
 IsSpelled (Open None) line = line ≡ codes "open"
@@ -302,6 +324,7 @@ IsSpelled (Turn name) line = line ≡ codes "turn " ++ queue_name name
 IsSpelled (Run n) line = IsWithNumber (codes "run ") n line
 IsSpelled (Show side) line = line ≡ codes "show " ++ side_name side
 IsSpelled (Ledger direction) line = line ≡ codes "ledger " ++ direction_name direction
+IsSpelled (Group caller) line = IsGroup caller line
 
 -- a line that asks for nothing: an empty one, and a comment
 abbrev pub is_silent : List ℕ → Bool

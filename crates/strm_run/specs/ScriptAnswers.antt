@@ -5,7 +5,7 @@ use Rattle.std.specs.Fmt.{decimal}
 use Rattle.strm_types.specs.declared.answers.Turn.{Turn}
 use Rattle.strm_types.specs.declared.answers.Turn.TheVariants.{Moved, Blocked, Idle}
 use Rattle.strm_types.specs.declared.refusals.Refusal.{Refusal}
-use Rattle.strm_types.specs.declared.refusals.Refusal.TheVariants.{Einval, Eagain, Enxio, Ebadmsg, Enosr, Erange, JournalFull, NoMinor, NoMemory, StillShared}
+use Rattle.strm_types.specs.declared.refusals.Refusal.TheVariants.{Einval, Eagain, Enxio, Ebadmsg, Enosr, Erange, JournalFull, NoMinor, NoMemory, StillShared, Eio}
 use Rattle.strm_types.specs.declared.answers.Answer.TheVariants.{Done, Name, Count, Bytes, Msg, Nak}
 use Rattle.strm_types.specs.declared.answers.Answer.TheVariants as answers
 use Rattle.strm_types.specs.declared.modes.Prio.{Prio}
@@ -16,7 +16,9 @@ use Rattle.strm_types.specs.declared.names.ModuleName.{ModuleName}
 use Rattle.strm_types.specs.declared.names.Side.{Side}
 use Rattle.strm_types.specs.declared.rules.Rule.{Rule}
 use Rattle.strm_types.specs.declared.rules.Rule.TheVariants.{Read, Igncr, EraseKey, Erased, Killed, EofKey, SignalKey, FlowKey, LnextKey, ReprintKey, LineFull, LineOver, Flushed, RestDiscarded, ControlDropped, Doubled, ModulePopped, EndClosed, Replaced, Onocr, EchoFull}
+use Rattle.strm_types.specs.declared.signals.StopSignal.{StopSignal}
 use Rattle.strm_types.specs.Events.{Reply}
+use Rattle.strm_types.specs.JobControl.{stop_number}
 use Rattle.strm_types.specs.Rules.{number_of}
 use Rattle.strm_run.specs.Script.{side_name, direction_name, queue_in_stream, module_name}
 use Rattle.strm_run.specs.declared.answers.QueueSize.{QueueSize}
@@ -32,6 +34,7 @@ pub data Line : Type 0 where
   Pending : ℕ → Line  -- the number of an ioctl that is under way
   Denied : Refusal → Line  -- why an ioctl was answered with M_IOCNAK
   Signals : List ℕ → Line
+  Stopped : StopSignal → Line  -- the caller is in the background, and this signal stops it
   Held : Line
   Empty : Line
   Ran : ℕ → Line
@@ -76,6 +79,7 @@ refusal_name JournalFull = codes "JournalFull"
 refusal_name NoMinor = codes "NoMinor"
 refusal_name NoMemory = codes "NoMemory"
 refusal_name StillShared = codes "StillShared"
+refusal_name Eio = codes "EIO"
 
 -- how much stands on a queue: its name without the side, how many messages, and how many bytes they have
 abbrev pub size_text : QueueSize → List ℕ
@@ -104,7 +108,9 @@ signal_text n =
     if n == 2 then codes "INT"
     else (if n == 3 then codes "QUIT"
     else (if n == 20 then codes "WINCH"
-    else (if n == 24 then codes "TSTP" else decimal n)))
+    else (if n == 24 then codes "TSTP"
+    else (if n == 26 then codes "TTIN"
+    else (if n == 27 then codes "TTOU" else decimal n)))))
 
 -- each signal behind a space, or `-` where there is none
 abbrev pub spaced_signal : ℕ → List ℕ
@@ -166,6 +172,7 @@ line_text (Waiting first messages) = codes "ok " ++ (decimal first ++ (codes " "
 line_text (Pending n) = codes "pending " ++ decimal n
 line_text (Denied refusal) = codes "nak " ++ refusal_name refusal
 line_text (Signals ns) = codes "signals" ++ signals_text ns
+line_text (Stopped signal) = codes "stop " ++ signal_text (stop_number signal)
 line_text Held = codes "blocked"
 line_text Empty = codes "idle"
 line_text (Ran n) = codes "ran " ++ decimal n
@@ -190,6 +197,7 @@ reply_line (Ok (answers.Sizes first messages)) = Waiting first messages
 reply_line (Ok (answers.Pending n)) = Pending n
 reply_line (Ok (Nak refusal)) = Denied refusal
 reply_line (Ok (answers.Signals ns)) = Signals ns
+reply_line (Ok (answers.Stop signal)) = Stopped signal
 reply_line (Err refusal) = Refused refusal
 
 -- what a turn is answered by

@@ -2,6 +2,7 @@
 -- the contract of public functions of the crate that reads scripts.
 use Rattle.std.specs.Prelude.{ℕ, ◌+◌, ◌*◌, nat_lt, nat_le, ◌==◌, ◌&&◌, ◌||◌, suc, Bool, true, false, if◌then◌else◌, List, [], ◌∷◌, ◌++◌, length, take, drop, codes, Option, None, Some, option_map}
 use Rattle.std.specs.List.{position_or_len, list_all}
+use Rattle.strm_types.specs.declared.events.Caller.{Caller}
 use Rattle.strm_types.specs.declared.names.Dir.{Dir}
 use Rattle.strm_types.specs.declared.names.Dir.TheVariants.{MasterToSlave, SlaveToMaster}
 use Rattle.strm_types.specs.declared.names.Side.{Side}
@@ -25,10 +26,10 @@ use Rattle.strm_run.specs.declared.commands.NamedPrio.{NamedPrio}
 use Rattle.strm_run.specs.declared.commands.NamedPrio.TheVariants as prios
 use Rattle.strm_run.specs.declared.commands.NamedWanted.{NamedWanted}
 use Rattle.strm_run.specs.declared.commands.NamedWanted.TheVariants as wanteds
-use Rattle.strm_types.specs.declared.ioctls.TheConstants.{TCGETS, TCSETS, TCSETSW, TCSETSF, TIOCGWINSZ, TIOCSWINSZ, TIOCSIGNAL}
+use Rattle.strm_types.specs.declared.ioctls.TheConstants.{TCGETS, TCSETS, TCSETSW, TCSETSF, TIOCGPGRP, TIOCSPGRP, TIOCGWINSZ, TIOCSWINSZ, TIOCSIGNAL}
 use Rattle.strm_types.specs.Events.{Request}
 use Rattle.strm_run.specs.declared.commands.WindowSize.{WindowSize}
-use Rattle.strm_run.specs.Script.{Command, Open, Call, Flush, Put, Get, Turn, Run, Show, Ledger, usual_size, byte_max, short_max, window_bytes, line_max, number_max, digit_of, is_letter, hex_of, escaped, is_silent}
+use Rattle.strm_run.specs.Script.{Command, Open, Call, Flush, Put, Get, Turn, Run, Show, Ledger, Group, usual_size, byte_max, short_max, window_bytes, group_bytes, line_max, number_max, digit_of, is_letter, hex_of, escaped, is_silent}
 
 -- what a line says
 pub data Reading : Type 0 where
@@ -371,7 +372,10 @@ message_in line =
 
 -- a command that sends nothing
 unfoldable pub bare_in : List ℕ → Option ℕ
-bare_in line = either_of (whole (codes "TCGETS") TCGETS line) (whole (codes "TIOCGWINSZ") TIOCGWINSZ line)
+bare_in line =
+    either_of (whole (codes "TCGETS") TCGETS line)
+    (either_of (whole (codes "TIOCGWINSZ") TIOCGWINSZ line)
+    (whole (codes "TIOCGPGRP") TIOCGPGRP line))
 
 -- the size of a window, number by number
 abbrev pub height_got : ℕ → ℕ → ℕ → List ℕ → Option WindowSize
@@ -387,12 +391,15 @@ columns_got rows line = behind (width_got rows) (number_to_at short_max line)
 abbrev pub size_in : List ℕ → Option WindowSize
 size_in line = behind columns_got (number_to_at short_max line)
 
--- what TIOCSWINSZ and TIOCSIGNAL send
+-- what TIOCSWINSZ, TIOCSIGNAL and TIOCSPGRP send
 unfoldable pub window_in : List ℕ → Option WindowSize
 window_in line = and_then size_in (after (codes "TIOCSWINSZ ") line)
 
 unfoldable pub signal_in : List ℕ → Option ℕ
 signal_in line = and_then (number_to byte_max) (after (codes "TIOCSIGNAL ") line)
+
+unfoldable pub foreground_in : List ℕ → Option ℕ
+foreground_in line = and_then number_in (after (codes "TIOCSPGRP ") line)
 
 -- a command that sends a text, at the front
 unfoldable pub sender_at : List ℕ → Option (Front ℕ)
@@ -414,7 +421,8 @@ asked_in line =
     either_of (option_map (λ command. Ioctl command []) (bare_in line))
     (either_of (option_map (λ size. Ioctl TIOCSWINSZ (window_bytes size)) (window_in line))
     (either_of (option_map (λ n. Ioctl TIOCSIGNAL (n ∷ [])) (signal_in line))
-    (sending_in line)))
+    (either_of (option_map (λ n. Ioctl TIOCSPGRP (group_bytes n)) (foreground_in line))
+    (sending_in line))))
 
 unfoldable pub ioctl_in : List ℕ → Option Command
 ioctl_in line =
@@ -432,6 +440,24 @@ control_in line = either_of (ioctl_in line) (poll_in line)
 unfoldable pub ledger_in : List ℕ → Option Command
 ledger_in line = option_map (λ direction. Ledger direction) (and_then direction_in (after (codes "ledger ") line))
 
+-- the caller of this side and this process group whose flags a text has
+unfoldable pub caller_in : Side → ℕ → List ℕ → Option Caller
+caller_in side group line =
+    either_of (whole (codes "-") (record { side = side; group = group; ignores = false; orphaned = false }) line)
+    (either_of (whole (codes "i") (record { side = side; group = group; ignores = true; orphaned = false }) line)
+    (either_of (whole (codes "o") (record { side = side; group = group; ignores = false; orphaned = true }) line)
+    (whole (codes "io") (record { side = side; group = group; ignores = true; orphaned = true }) line)))
+
+-- a process group on a side, where its flags follow
+abbrev pub flags_got : Side → ℕ → List ℕ → Option Command
+flags_got side group line = option_map (λ caller. Group caller) (caller_in side group line)
+
+abbrev pub group_of : Side → List ℕ → Option Command
+group_of side line = behind (flags_got side) (number_at line)
+
+unfoldable pub group_in : List ℕ → Option Command
+group_in line = and_then (behind_side group_of) (after (codes "group ") line)
+
 -- the command that a line spells
 unfoldable pub command_in : List ℕ → Option Command
 command_in line =
@@ -444,7 +470,8 @@ command_in line =
     (either_of (stream_in line)
     (either_of (message_in line)
     (either_of (control_in line)
-    (ledger_in line)))))))))
+    (either_of (ledger_in line)
+    (group_in line))))))))))
 
 -- the command, if the line is well formed
 abbrev pub spoken : Option Command → Reading

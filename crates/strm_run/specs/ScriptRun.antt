@@ -3,9 +3,10 @@ use Rattle.std.specs.Prelude.{ℕ, zero, suc, nat_le, nat_lt, ◌&&◌, ◌||◌
 use Rattle.strm_types.specs.declared.limits.Config.{Config}
 use Rattle.strm_types.specs.declared.answers.Turn.{Turn}
 use Rattle.strm_types.specs.declared.answers.Turn.TheVariants.{Moved, Blocked, Idle}
+use Rattle.strm_types.specs.declared.both.Both.{Both}
 use Rattle.strm_types.specs.declared.events.Caller.{Caller}
 use Rattle.strm_types.specs.declared.names.Dir.{Dir}
-use Rattle.strm_types.specs.declared.names.Side.TheVariants.{Master}
+use Rattle.strm_types.specs.declared.names.Side.TheVariants.{Master, Slave}
 use Rattle.strm_types.specs.declared.names.Place.{Place}
 use Rattle.strm_types.specs.declared.names.Place.TheVariants.{Head, Ldterm, Driver}
 use Rattle.strm_types.specs.declared.names.QueueName.{QueueName}
@@ -15,6 +16,8 @@ use Rattle.strm_types.specs.declared.refusals.Refusal.TheVariants.{Einval, Enxio
 use Rattle.strm_laws.specs.ModuleTurns.{place_named}
 use Rattle.strm_laws.specs.Kept.{told_by}
 use Rattle.strm_laws.specs.Ledgers.{ledger_of}
+use Rattle.strm_types.specs.Both.{get, set}
+use Rattle.strm_types.specs.JobControl.{caller_of}
 use Rattle.strm_types.specs.Rules.{no_fates}
 use Rattle.strm_laws.specs.State.{State, opening, stream}
 use Rattle.strm_types.specs.Names.{head_of, driver_of}
@@ -35,9 +38,9 @@ use Rattle.strm_types.specs.Events.{Request, Reply}
 use Rattle.strm_laws.specs.Calls.{called}
 use Rattle.strm_types.specs.Journal.{PlainEntry}
 use Rattle.strm_laws.specs.Refusals.{refused, turn_refused, blocks_asked}
-use Rattle.strm_run.specs.Script.{Command, Open, Call, Flush, Put, Get, Turn as TurnOf, Run, Show, Ledger, lines_of}
+use Rattle.strm_run.specs.Script.{Command, Open, Call, Flush, Put, Get, Turn as TurnOf, Run, Show, Ledger, Group, lines_of}
 use Rattle.strm_run.specs.ScriptReading.{Silent, Malformed, Spoken, reading}
-use Rattle.strm_run.specs.ScriptAnswers.{Line, Sizes, Booked, Refused, Wrong, Ran, printed_line, reply_line, turn_line}
+use Rattle.strm_run.specs.ScriptAnswers.{Line, Plain, Sizes, Booked, Refused, Wrong, Ran, printed_line, reply_line, turn_line}
 use Rattle.strm_run.specs.declared.answers.QueueSize.{QueueSize}
 use Rattle.strm_run.specs.declared.commands.NamedPrio.{NamedPrio}
 use Rattle.strm_run.specs.declared.commands.NamedPrio.TheVariants as prios
@@ -177,11 +180,11 @@ by_call caller asked account p =
     }
 
 -- a flush by a command; a band above 255 is refused before any call
-unfoldable pub by_flush : Side → FlushQueues → Option ℕ → List Supply → PlainPair → Answered
-by_flush side what None account p = by_call (record { side = side }) (calls.Flush what None) account p
-by_flush side what (Some band) account p =
+unfoldable pub by_flush : Caller → FlushQueues → Option ℕ → List Supply → PlainPair → Answered
+by_flush caller what None account p = by_call caller (calls.Flush what None) account p
+by_flush caller what (Some band) account p =
     if nat_le band 255
-    then by_call (record { side = side }) (calls.Flush what (Some (record { 0 = band }))) account p
+    then by_call caller (calls.Flush what (Some (record { 0 = band }))) account p
     else unanswered Einval (Some p) account
 
 -- the band of a number that a call can name: none above 255
@@ -199,16 +202,16 @@ wanted_of wanteds.High = Some wanted.High
 wanted_of (wanteds.Band n) = option_map wanted.Band (band_of n)
 
 -- a call by a command, where what the command names is what a call can name, else it is refused before any call
-abbrev pub by_named : {A : Type 0} → Side → (A → Request) → Option A → List Supply → PlainPair → Answered
-by_named side asked None account p = unanswered Einval (Some p) account
-by_named side asked (Some x) account p = by_call (record { side = side }) (asked x) account p
+abbrev pub by_named : {A : Type 0} → Caller → (A → Request) → Option A → List Supply → PlainPair → Answered
+by_named caller asked None account p = unanswered Einval (Some p) account
+by_named caller asked (Some x) account p = by_call caller (asked x) account p
 
 -- a put and a get by a command; a band above 255 is refused before any call
-unfoldable pub by_put : Side → NamedPrio → Option (List ℕ) → Option (List ℕ) → List Supply → PlainPair → Answered
-by_put side prio control body account p = by_named side (λ prio. calls.Put prio control body) (prio_of prio) account p
+unfoldable pub by_put : Caller → NamedPrio → Option (List ℕ) → Option (List ℕ) → List Supply → PlainPair → Answered
+by_put caller prio control body account p = by_named caller (λ prio. calls.Put prio control body) (prio_of prio) account p
 
-unfoldable pub by_get : Side → NamedWanted → ℕ → ℕ → List Supply → PlainPair → Answered
-by_get side wanted cmax dmax account p = by_named side (λ wanted. calls.Get wanted cmax dmax) (wanted_of wanted) account p
+unfoldable pub by_get : Caller → NamedWanted → ℕ → ℕ → List Supply → PlainPair → Answered
+by_get caller wanted cmax dmax account p = by_named caller (λ wanted. calls.Get wanted cmax dmax) (wanted_of wanted) account p
 
 -- the queues of the module on a side's stream that has queues, the read queue first
 abbrev pub module_queues : Side → State ℕ → List QueueName
@@ -289,29 +292,55 @@ by_run n account p =
     record { line = Ran turns.count; pair = Some turns.pair; account = turns.account; is_short = turns.is_short }
 
 -- the pair is made and its master opened, once, with 1 to 4096 blocks of each kind
-unfoldable pub by_open : ℕ → List Supply → Answered
-by_open blocks account =
+unfoldable pub by_open : Caller → ℕ → List Supply → Answered
+by_open caller blocks account =
     if nat_le 1 blocks && nat_le blocks 4096
-    then by_call (record { side = Master }) calls.OpenMaster account (new_plain blocks)
+    then by_call caller calls.OpenMaster account (new_plain blocks)
     else unanswered Einval None account
+
+-- another caller on its side makes no call, and needs no pair
+abbrev pub by_group : Option PlainPair → List Supply → Answered
+by_group pair account = record { line = Plain; pair = pair; account = account; is_short = false }
 
 -- where a pair is needed
 abbrev pub with_pair : (List Supply → PlainPair → Answered) → List Supply → Option PlainPair → Answered
 with_pair answer account None = unanswered Enxio None account
 with_pair answer account (Some p) = answer account p
 
--- what a command leads to
-unfoldable pub answered : Command → List Supply → Option PlainPair → Answered
-answered (Open blocks) account None = by_open (unwrap_or blocks usual_blocks) account
-answered (Open blocks) account (Some p) = unanswered Einval (Some p) account
-answered (Call side asked) account pair = with_pair (by_call (record { side = side }) asked) account pair
-answered (Flush side what band) account pair = with_pair (by_flush side what band) account pair
-answered (Put side prio control body) account pair = with_pair (by_put side prio control body) account pair
-answered (Get side wanted cmax dmax) account pair = with_pair (by_get side wanted cmax dmax) account pair
-answered (TurnOf name) account pair = with_pair (by_turn name) account pair
-answered (Run n) account pair = with_pair (by_run n) account pair
-answered (Show side) account pair = with_pair (by_show side) account pair
-answered (Ledger direction) account pair = with_pair (by_ledger direction) account pair
+-- what a command leads to, where these make the calls on each side
+unfoldable pub answered : Both Caller → Command → List Supply → Option PlainPair → Answered
+answered callers (Open blocks) account None = by_open callers.master (unwrap_or blocks usual_blocks) account
+answered callers (Open blocks) account (Some p) = unanswered Einval (Some p) account
+answered callers (Call side asked) account pair = with_pair (by_call (get side callers) asked) account pair
+answered callers (Flush side what band) account pair = with_pair (by_flush (get side callers) what band) account pair
+answered callers (Put side prio control body) account pair = with_pair (by_put (get side callers) prio control body) account pair
+answered callers (Get side wanted cmax dmax) account pair = with_pair (by_get (get side callers) wanted cmax dmax) account pair
+answered callers (TurnOf name) account pair = with_pair (by_turn name) account pair
+answered callers (Run n) account pair = with_pair (by_run n) account pair
+answered callers (Show side) account pair = with_pair (by_show side) account pair
+answered callers (Ledger direction) account pair = with_pair (by_ledger direction) account pair
+answered callers (Group caller) account pair = by_group pair account
+
+-- who makes the calls behind a command
+abbrev pub callers_behind : Command → Both Caller → Both Caller
+callers_behind (Group caller) callers = set caller.side caller callers
+callers_behind _ callers = callers
+
+-- Where a script stands between two lines: who makes the calls on each side, and the pair, once there is one.
+pub record Session : Type 0 where
+  pub callers : Both Caller
+  pub pair : Option PlainPair
+
+-- it begins without a pair, and with callers that have no process group
+abbrev pub new_callers : Both Caller
+new_callers = record { master = caller_of Master; slave = caller_of Slave }
+
+abbrev pub new_session : Session
+new_session = record { callers = new_callers; pair = None }
+
+-- where it stands behind a command that left this pair
+abbrev pub session_behind : Command → Session → Option PlainPair → Session
+session_behind command session pair = record { callers = callers_behind command session.callers; pair = pair }
 
 -- What lines lead to: the text, the first line in which the pool was short of blocks for an event, and the first malformed line, at
 -- which the script ends.
@@ -335,21 +364,21 @@ abbrev pub told_after : List ℕ → Option ℕ → Told → Told
 told_after text short later =
     record { text = text ++ later.text; short = first_of short later.short; fault = later.fault }
 
--- lines from one of this number on, for this account, on this pair
-unfoldable pub told_from : ℕ → List Supply → Option PlainPair → List (List ℕ) → Told
-told_from n account pair [] = record { text = []; short = None; fault = None }
-told_from n account pair (line ∷ lines) =
+-- lines from one of this number on, for this account, in this session
+unfoldable pub told_from : ℕ → List Supply → Session → List (List ℕ) → Told
+told_from n account session [] = record { text = []; short = None; fault = None }
+told_from n account session (line ∷ lines) =
     elim (reading line) [
-      | Silent ↦ told_from (suc n) account pair lines
+      | Silent ↦ told_from (suc n) account session lines
       | Malformed ↦ record { text = printed_line (Wrong n); short = None; fault = Some n }
       | Spoken command ↦
-          let here = answered command account pair in
-          told_after (printed_line here.line) (line_if here.is_short n) (told_from (suc n) here.account here.pair lines)
+          let here = answered session.callers command account session.pair in
+          told_after (printed_line here.line) (line_if here.is_short n) (told_from (suc n) here.account (session_behind command session here.pair) lines)
     ]
 
 -- a script, for an account of what the pool had for its events
 abbrev pub told : List Supply → List ℕ → Told
-told account bytes = told_from 1 account None (lines_of bytes)
+told account bytes = told_from 1 account new_session (lines_of bytes)
 
 -- the text of a script
 abbrev pub script_lines : List Supply → List ℕ → List ℕ
@@ -358,7 +387,7 @@ script_lines account bytes = (told account bytes).text
 -- the text of lines whose events all had the blocks that they asked for, and whose turns all went to the end of their message, and of a
 -- whole script
 abbrev pub plain_lines : List (List ℕ) → List ℕ
-plain_lines lines = (told_from 1 [] None lines).text
+plain_lines lines = (told_from 1 [] new_session lines).text
 
 abbrev pub plain_text : List ℕ → List ℕ
 plain_text bytes = plain_lines (lines_of bytes)

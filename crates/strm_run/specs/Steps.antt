@@ -2,7 +2,7 @@
 use Rattle.std.specs.Prelude.{◌≡◌, ℕ, suc, List, [], ◌∷◌, ◌++◌, Option, None, Some, Result, Ok, Err, option_map, ◌⊎◌}
 use Rattle.strm_run.specs.Script.{Command}
 use Rattle.strm_run.specs.ScriptAnswers.{printed_line, Wrong}
-use Rattle.strm_run.specs.ScriptRun.{answered, first_of, line_if, PlainPair}
+use Rattle.strm_run.specs.ScriptRun.{answered, callers_behind, first_of, line_if, PlainPair, Session}
 use Rattle.strm_run.specs.Plain.{plain}
 use Rattle.strm_run.specs.Lines.{line_of}
 use Rattle.strm_run.specs.Outcomes.{LeadsTo}
@@ -16,13 +16,17 @@ use Rattle.strm_run.specs.declared.engine.Stop.TheVariants.{Malformed, NoMemory}
 abbrev pub pair_of : {B : Type 0} → Engine B → Option PlainPair
 pair_of e = option_map plain e.pair
 
+-- its session
+abbrev pub session_of : {B : Type 0} → Engine B → Session
+session_of e = record { callers = e.callers; pair = pair_of e }
+
 -- how far the engine's script has come
 abbrev pub point_of : {B : Type 0} → Engine B → Point
-point_of e = record { pair = pair_of e; lines = e.lines; line = e.line.items; short = e.short }
+point_of e = record { session = session_of e; lines = e.lines; line = e.line.items; short = e.short }
 
 -- how far it has come once the line that ends is answered
 abbrev pub point_behind : {B : Type 0} → Engine B → Point
-point_behind e = record { pair = pair_of e; lines = suc e.lines; line = []; short = e.short }
+point_behind e = record { session = session_of e; lines = suc e.lines; line = []; short = e.short }
 
 -- an engine that has read nothing
 pub record Ready {B : Type 0} (e : Engine B) : Type 0 where
@@ -36,7 +40,8 @@ Refused old new NoMemory = (new.short ≡ old.short) × (new.answers.items ≡ o
 
 -- a command led to an outcome
 pub record Obeys {B : Type 0} (command : Command) (old new : Engine B) (found : Answered) : Type 0 where
-  pub leads : LeadsTo (λ account. answered command account (pair_of old)) found new.out.items (pair_of new)
+  pub leads : LeadsTo (λ account. answered old.callers command account (pair_of old)) found new.out.items (pair_of new)
+  pub callers : new.callers ≡ callers_behind command old.callers
   pub short : new.short ≡ first_of old.short (line_if found.short (suc old.lines))
 
 -- the engine has carried out a command, and said its answer; or it had no memory for the one or the other

@@ -174,6 +174,7 @@ fn name(refusal: Refusal) -> &'static str
         Refusal::NoMinor => "NoMinor",
         Refusal::NoMemory => "NoMemory",
         Refusal::StillShared => "StillShared",
+        Refusal::Eio => "EIO",
     }
 }
 
@@ -324,6 +325,8 @@ impl fmt::Display for ShownSignal {
             3 => write!(f, "QUIT"),
             20 => write!(f, "WINCH"),
             24 => write!(f, "TSTP"),
+            26 => write!(f, "TTIN"),
+            27 => write!(f, "TTOU"),
             number => write!(f, "{number}"),
         }
     }
@@ -424,6 +427,10 @@ impl fmt::Display for ShownAnswer<'_> {
             Answer::Signals(len) => {
                 let signals = ShownSignals(front(self.bytes, *len));
                 write!(f, "signals{signals}")
+            }
+            Answer::Stop(signal) => {
+                let signal = ShownSignal(signal.number());
+                write!(f, "stop {signal}")
             }
         }
     }

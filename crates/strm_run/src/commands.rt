@@ -1,6 +1,6 @@
 //! The commands of a script.
 
-use strm_types::{Dir, Event, FlushQueues, QueueName, Side};
+use strm_types::{Caller, Dir, Event, FlushQueues, QueueName, Side};
 
 /// A priority, as a script names it. The number may be none that a band has.
 #[derive(Clone, Copy)]
@@ -74,6 +74,10 @@ pub enum Command {
     /// Tells where the bytes of a direction are.
     Ledger {
         direction: Dir,
+    },
+    /// Has the later calls on the caller's side made by it.
+    Group {
+        caller: Caller,
     },
 }
 

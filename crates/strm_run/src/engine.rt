@@ -9,11 +9,11 @@ ghost use Rattle.strm_run.specs.Lines.{line_of};
 use crate::answers::{Line, Shown};
 use crate::commands::{Command, Reading};
 use crate::lines::{LINE_MAX, reading};
-use crate::session::answer;
+use crate::session::{answer, callers_behind};
 use std::alloc::{AllocError, Global};
 use strm_blocks::Reserve;
 use strm_pair::Pair;
-use strm_types::Content;
+use strm_types::{Both, Caller, Content, Side};
 
 /// Why a script ends before its input does.
 #[derive(Clone, Copy)]
@@ -24,11 +24,13 @@ pub enum Stop {
     NoMemory,
 }
 
-/// A script on its way: its pair, the line that is read, and the answers that aren't written yet.
+/// A script on its way: its pair and who makes the calls on it, the line that is read, and the answers that aren't written yet.
 #[derive(Drop)]
 pub struct Engine<B: Reserve> {
     /// The pair, once there was an `open`.
     pub pair: Option<Pair<B>>,
+    /// Who makes the calls on each side.
+    pub callers: Both<Caller>,
     /// How many lines have ended.
     pub lines: u64,
     /// The bytes so far of the next line, at most 4096.
@@ -61,6 +63,10 @@ impl<B: Reserve> Engine<B> {
     {
         Engine {
             pair: None,
+            callers: Both {
+                master: Caller::of(Side::Master),
+                slave: Caller::of(Side::Slave),
+            },
             lines: 0,
             line: Vec::new(alloc),
             short: None,
@@ -99,9 +105,11 @@ impl<B: Reserve> Engine<B> {
         ensures obeyed { Obeyed (command_of command.now) self.old self.new result }
         ensures lines { self.new.lines ≡ self.old.lines }
     {
-        let Ok(answered) = answer(alloc, &mut self.pair, command, &mut self.out) else {
+        let callers = self.callers;
+        let Ok(answered) = answer(alloc, &mut self.pair, &callers, command, &mut self.out) else {
             return Err(Stop::NoMemory);
         };
+        self.callers = callers_behind(callers, command);
         self.note(answered.short);
         if say(
             alloc,

@@ -2,19 +2,23 @@
 
 ghost use Rattle.std.specs.Prelude.{◌≡◌, IfOk, option_map};
 ghost use Rattle.strm_types.specs.declared.events.Event.TheVariants.{Ioctl};
-ghost use Rattle.strm_run.specs.Script.{window_bytes};
-ghost use Rattle.strm_run.specs.ScriptReading.{bare_in, size_in, window_in, signal_in, sender_at, sending_in, asked_in};
+ghost use Rattle.strm_run.specs.Script.{window_bytes, group_bytes};
+ghost use Rattle.strm_run.specs.ScriptReading.{bare_in, size_in, window_in, signal_in, foreground_in};
+ghost use Rattle.strm_run.specs.ScriptReading.{sender_at, sending_in, asked_in};
 ghost use Rattle.strm_run.specs.Commands.{request_of, requests_of};
 ghost use Rattle.strm_run.specs.Views.{front_of};
 
 use crate::commands::WindowSize;
-use crate::numbers::{byte, number_at, short, short_at};
+use crate::numbers::{byte, number, number_at, short, short_at};
 use crate::texts::text;
 use crate::words::after;
 use std::alloc::{AllocError, Global};
-use strm_types::{Event, TCGETS, TCSETS, TCSETSF, TCSETSW, TIOCGWINSZ, TIOCSIGNAL, TIOCSWINSZ};
+use strm_types::{
+    Event, TCGETS, TCSETS, TCSETSF, TCSETSW, TIOCGPGRP, TIOCGWINSZ, TIOCSIGNAL, TIOCSPGRP,
+    TIOCSWINSZ,
+};
 
-/// The command of an ioctl that sends nothing: `TCGETS`, `TIOCGWINSZ`.
+/// The command of an ioctl that sends nothing: `TCGETS`, `TIOCGWINSZ`, `TIOCGPGRP`.
 #[tactic(auto, unfolding(crate::specs::ScriptReading::bare_in))]
 fn bare(line: &[u8]) -> Option<u32>
     ensures { result ≡ bare_in line.now }
@@ -22,6 +26,7 @@ fn bare(line: &[u8]) -> Option<u32>
     match line {
         b"TCGETS" => Some(TCGETS),
         b"TIOCGWINSZ" => Some(TIOCGWINSZ),
+        b"TIOCGPGRP" => Some(TIOCGPGRP),
         _ => None,
     }
 }
@@ -69,6 +74,14 @@ fn signal(line: &[u8]) -> Option<u8>
     ensures { result ≡ signal_in line.now }
 {
     byte(after(line, b"TIOCSIGNAL ")?)
+}
+
+/// The process group that `TIOCSPGRP N` sends.
+#[tactic(auto, unfolding(crate::specs::ScriptReading::foreground_in))]
+fn foreground(line: &[u8]) -> Option<u32>
+    ensures { result ≡ foreground_in line.now }
+{
+    number(after(line, b"TIOCSPGRP ")?)
 }
 
 /// The command of an ioctl that sends a text, at the front, and what follows it: `TCSETS`, `TCSETSW`, `TCSETSF` or `raw N`.
@@ -129,6 +142,10 @@ pub fn asked(alloc: Global, line: &[u8]) -> Result<Option<Event<Vec<u8>>>, Alloc
     }
     if let Some(number) = signal(line) {
         let event = sent(alloc, TIOCSIGNAL, &[number])?;
+        return Ok(Some(event));
+    }
+    if let Some(group) = foreground(line) {
+        let event = sent(alloc, TIOCSPGRP, &group.to_be_bytes())?;
         return Ok(Some(event));
     }
     sending(alloc, line)

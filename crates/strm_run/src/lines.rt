@@ -6,7 +6,7 @@ ghost use Rattle.strm_run.specs.Script.{IsSpelled};
 ghost use Rattle.strm_run.specs.ScriptReading.{open_in, named_in, write_in, read_in, turn_in, run_in};
 ghost use Rattle.strm_run.specs.ScriptReading.{sided_call_in, push_in, flush_in, show_in, stream_in};
 ghost use Rattle.strm_run.specs.ScriptReading.{parts_put, put_in, get_of, get_in, set_mode_in, message_in};
-ghost use Rattle.strm_run.specs.ScriptReading.{ioctl_in, poll_in, control_in, ledger_in};
+ghost use Rattle.strm_run.specs.ScriptReading.{ioctl_in, poll_in, control_in, ledger_in, group_in};
 ghost use Rattle.strm_run.specs.ScriptReading.{command_in, reading, Spoken};
 ghost use Rattle.strm_run.specs.Commands.{commands_of, reading_of};
 
@@ -15,8 +15,8 @@ use crate::ioctls::asked;
 use crate::numbers::{number, number_at};
 use crate::texts::{part, text};
 use crate::words::{
-    after, band, direction, flush_queues, is_name, mode, module, prio, queue, side, side_behind,
-    wanted,
+    after, band, caller, direction, flush_queues, is_name, mode, module, prio, queue, side,
+    side_behind, wanted,
 };
 use std::alloc::{AllocError, Global};
 use strm_types::{Event, Side};
@@ -341,6 +341,17 @@ fn ledger(line: &[u8]) -> Option<Command>
     Some(Command::Ledger { direction })
 }
 
+/// `group X N FLAGS`.
+#[tactic(auto, unfolding(crate::specs::ScriptReading::group_in))]
+fn group(line: &[u8]) -> Option<Command>
+    ensures { commands_of result ≡ group_in line.now }
+{
+    let (side, rest) = side(after(line, b"group ")?)?;
+    let (number, rest) = number_at(after(rest, b" ")?)?;
+    let caller = caller(side, number, after(rest, b" ")?)?;
+    Some(Command::Group { caller })
+}
+
 /// The command that a line spells.
 #[tactic(auto, unfolding(crate::specs::ScriptReading::command_in))]
 fn command(alloc: Global, line: &[u8]) -> Result<Option<Command>, AllocError>
@@ -373,7 +384,10 @@ fn command(alloc: Global, line: &[u8]) -> Result<Option<Command>, AllocError>
     if let Some(command) = of_control(alloc, line)? {
         return Ok(Some(command));
     }
-    Ok(ledger(line))
+    if let Some(command) = ledger(line) {
+        return Ok(Some(command));
+    }
+    Ok(group(line))
 }
 
 /// What a line says, by its length, its first byte and its command.

@@ -3,9 +3,10 @@
 ghost use Rattle.std.specs.Prelude.{◌≡◌, ◌||◌, false, Some, None, IfOk, OnErr, option_map, is_some};
 ghost use Rattle.strm_types.specs.Events.{request};
 ghost use Rattle.strm_run.specs.ScriptAnswers as script;
-ghost use Rattle.strm_run.specs.ScriptRun.{by_call, by_flush, by_turn, by_run, by_open, answered};
+ghost use Rattle.strm_run.specs.ScriptRun.{by_call, by_flush, by_turn, by_run, by_open, answered, callers_behind};
 ghost use Rattle.strm_run.specs.ScriptRun.{by_put, by_get, band_of, prio_of, wanted_of};
 ghost use Rattle.strm_run.specs.ScriptRun.{script_limits, is_enosr, reach, size_at};
+ghost use Rattle.strm_types.specs.Both.{get};
 ghost use Rattle.strm_types.specs.Names.{head_of, driver_of};
 ghost use Rattle.strm_types.specs.Cells as cells;
 ghost use Rattle.strm_laws.specs.Kept.{told_by};
@@ -24,8 +25,8 @@ use std::alloc::{AllocError, Global};
 use strm_blocks::{Blocks, Reserve};
 use strm_pair::Pair;
 use strm_types::{
-    Band, Caller, Config, Content, Dir, Event, FlushQueues, Place, Prio, QueueName, Refusal, Side,
-    Turn, Wanted, Way,
+    Answer, Band, Both, Caller, Config, Content, Dir, Event, FlushQueues, Place, Prio, QueueName,
+    Refusal, Side, Turn, Wanted, Way,
 };
 
 /// How many blocks of each kind a pair gets where a script names no number.
@@ -62,6 +63,16 @@ fn refused(refusal: Refusal) -> Answered
     }
 }
 
+/// A command that is done, and made no call.
+fn done() -> Answered
+    ensures { result ≡ record { line = Line.Done Answer.Done; short = false } }
+{
+    Answered {
+        line: Line::Done(Answer::Done),
+        short: false,
+    }
+}
+
 /// Whether a refusal is for want of blocks.
 fn is_short(refusal: Refusal) -> bool
     ensures { result ≡ is_enosr refusal }
@@ -75,14 +86,14 @@ fn is_short(refusal: Refusal) -> bool
 /// A call by a command.
 fn call<B: Blocks + Drop>(
     pair: &mut Pair<B>,
-    side: Side,
+    caller: Caller,
     event: &Event<&[u8]>,
     out: &mut Content,
 ) -> Answered
-    ensures { LeadsTo (λ account. by_call (record { side = side }) (request event.now) account (plain pair.old))
+    ensures { LeadsTo (λ account. by_call caller (request event.now) account (plain pair.old))
         result out.new.items (Some (plain pair.new)) }
 {
-    match pair.call(Caller { side }, event, out) {
+    match pair.call(caller, event, out) {
         Ok(answer) => Answered {
             line: Line::Done(answer),
             short: false,
@@ -97,12 +108,12 @@ fn call<B: Blocks + Drop>(
 /// A flush by a command. A band above 255 is refused before any call.
 fn flush<B: Blocks + Drop>(
     pair: &mut Pair<B>,
-    side: Side,
+    caller: Caller,
     what: FlushQueues,
     band: Option<u32>,
     out: &mut Content,
 ) -> Answered
-    ensures { LeadsTo (λ account. by_flush side what band account (plain pair.old))
+    ensures { LeadsTo (λ account. by_flush caller what band account (plain pair.old))
         result out.new.items (Some (plain pair.new)) }
 {
     let band = match band {
@@ -114,7 +125,7 @@ fn flush<B: Blocks + Drop>(
             Some(Band(number as u8))
         }
     };
-    call(pair, side, &Event::Flush { what, band }, out)
+    call(pair, caller, &Event::Flush { what, band }, out)
 }
 
 /// The band of a number that a call can name: none above 255.
@@ -169,13 +180,13 @@ fn lend(part: &Option<Vec<u8>>) -> Option<&[u8]>
 /// A put by a command. A band above 255 is refused before any call.
 fn put<B: Blocks + Drop>(
     pair: &mut Pair<B>,
-    side: Side,
+    caller: Caller,
     named: NamedPrio,
     control: Option<&[u8]>,
     body: Option<&[u8]>,
     out: &mut Content,
 ) -> Answered
-    ensures { LeadsTo (λ account. by_put side named (option_map (λ bytes. bytes.now) control.entry)
+    ensures { LeadsTo (λ account. by_put caller named (option_map (λ bytes. bytes.now) control.entry)
         (option_map (λ bytes. bytes.now) body.entry) account (plain pair.old))
         result out.new.items (Some (plain pair.new)) }
 {
@@ -187,25 +198,25 @@ fn put<B: Blocks + Drop>(
         control,
         body,
     };
-    call(pair, side, &event, out)
+    call(pair, caller, &event, out)
 }
 
 /// A get by a command. A band above 255 is refused before any call.
 fn get<B: Blocks + Drop>(
     pair: &mut Pair<B>,
-    side: Side,
+    caller: Caller,
     named: NamedWanted,
     cmax: u32,
     dmax: u32,
     out: &mut Content,
 ) -> Answered
-    ensures { LeadsTo (λ account. by_get side named cmax dmax account (plain pair.old))
+    ensures { LeadsTo (λ account. by_get caller named cmax dmax account (plain pair.old))
         result out.new.items (Some (plain pair.new)) }
 {
     let Some(wanted) = wanted(named) else {
         return refused(Refusal::Einval);
     };
-    call(pair, side, &Event::Get { wanted, cmax, dmax }, out)
+    call(pair, caller, &Event::Get { wanted, cmax, dmax }, out)
 }
 
 /// How much stands on a queue.
@@ -352,31 +363,44 @@ fn run<B: Blocks + Drop>(pair: &mut Pair<B>, turns: u32) -> Answered
     Answered { line, short }
 }
 
-/// A command where the pair is there.
-fn on_pair<B: Blocks + Drop>(pair: &mut Pair<B>, command: &Command, out: &mut Content) -> Answered
-    ensures { LeadsTo (λ account. answered (command_of command.now) account (Some (plain pair.old)))
+/// A command where the pair is there, and these make the calls on each side.
+fn on_pair<B: Blocks + Drop>(
+    pair: &mut Pair<B>,
+    callers: &Both<Caller>,
+    command: &Command,
+    out: &mut Content,
+) -> Answered
+    ensures { LeadsTo (λ account. answered callers.now (command_of command.now) account (Some (plain pair.old)))
         result out.new.items (Some (plain pair.new)) }
 {
     match command {
         Command::Open { blocks: _ } => refused(Refusal::Einval),
-        Command::Call { side, event } => call(pair, *side, &event.lend(), out),
-        Command::Flush { side, what, band } => flush(pair, *side, *what, *band, out),
+        Command::Call { side, event } => call(pair, *callers.get(*side), &event.lend(), out),
+        Command::Flush { side, what, band } => flush(pair, *callers.get(*side), *what, *band, out),
         Command::Put {
             side,
             prio,
             control,
             body,
-        } => put(pair, *side, *prio, lend(control), lend(body), out),
+        } => put(
+            pair,
+            *callers.get(*side),
+            *prio,
+            lend(control),
+            lend(body),
+            out,
+        ),
         Command::Get {
             side,
             wanted,
             cmax,
             dmax,
-        } => get(pair, *side, *wanted, *cmax, *dmax, out),
+        } => get(pair, *callers.get(*side), *wanted, *cmax, *dmax, out),
         Command::Turn { name } => turn(pair, *name),
         Command::Run { turns } => run(pair, *turns),
         Command::Show { side } => show(pair, *side),
         Command::Ledger { direction } => ledger(pair, *direction),
+        Command::Group { caller: _ } => done(),
     }
 }
 
@@ -392,16 +416,17 @@ fn limits(blocks: u32) -> Config
     }
 }
 
-/// Makes a pair over a new store and opens its master, where the number of blocks is from 1 to 4096. Want of
+/// Makes a pair over a new store and has its master opened by this caller, where the number of blocks is from 1 to 4096. Want of
 /// memory, for the store or for the pair, changes nothing.
 fn open<B: Reserve>(
     alloc: Global,
     pair: &mut Option<Pair<B>>,
+    caller: Caller,
     blocks: u32,
     out: &mut Content,
 ) -> Result<Answered, AllocError>
     requires { pair.old ≡ None }
-    ensures ok { IfOk result (λ found. LeadsTo (by_open blocks) found out.new.items (option_map plain pair.new)) }
+    ensures ok { IfOk result (λ found. LeadsTo (by_open caller blocks) found out.new.items (option_map plain pair.new)) }
     ensures err { OnErr result (pair.new ≡ pair.old) }
 {
     if blocks == 0 || blocks > BLOCKS_MAX {
@@ -412,28 +437,53 @@ fn open<B: Reserve>(
     let Ok(mut fresh) = Pair::new(alloc, sizes, store) else {
         return Err(AllocError);
     };
-    let answered = call(&mut fresh, Side::Master, &Event::OpenMaster, out);
+    let answered = call(&mut fresh, caller, &Event::OpenMaster, out);
     *pair = Some(fresh);
     Ok(answered)
 }
 
-/// What a command leads to, with the bytes that it gives in `out`. Want of memory changes nothing of the pair.
+/// Who makes the calls on each side behind a command.
+pub fn callers_behind(callers: Both<Caller>, command: &Command) -> Both<Caller>
+    ensures { result ≡ callers_behind (command_of command.now) callers }
+{
+    let Command::Group { caller } = command else {
+        return callers;
+    };
+    match caller.side {
+        Side::Master => Both {
+            master: *caller,
+            ..callers
+        },
+        Side::Slave => Both {
+            slave: *caller,
+            ..callers
+        },
+    }
+}
+
+/// What a command leads to where these make the calls on each side, with the bytes that it gives in `out`. Want of memory changes nothing of
+/// the pair.
 pub fn answer<B: Reserve>(
     alloc: Global,
     pair: &mut Option<Pair<B>>,
+    callers: &Both<Caller>,
     command: &Command,
     out: &mut Content,
 ) -> Result<Answered, AllocError>
     ensures ok { IfOk result (λ found. LeadsTo
-        (λ account. answered (command_of command.now) account (option_map plain pair.old))
+        (λ account. answered callers.now (command_of command.now) account (option_map plain pair.old))
         found out.new.items (option_map plain pair.new)) }
     ensures err { OnErr result (pair.new ≡ pair.old) }
 {
     if let Some(pair) = pair {
-        return Ok(on_pair(pair, command, out));
+        return Ok(on_pair(pair, callers, command, out));
     }
     match command {
-        Command::Open { blocks } => open(alloc, pair, blocks.unwrap_or(USUAL_BLOCKS), out),
+        Command::Open { blocks } => {
+            let blocks = blocks.unwrap_or(USUAL_BLOCKS);
+            open(alloc, pair, callers.master, blocks, out)
+        }
+        Command::Group { caller: _ } => Ok(done()),
         _ => Ok(refused(Refusal::Enxio)),
     }
 }

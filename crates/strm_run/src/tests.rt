@@ -2,6 +2,7 @@
 
 mod echo;
 mod ioctls;
+mod job_control;
 mod keys;
 mod ledgers;
 mod messages;
@@ -99,7 +100,7 @@ fn plays(
 }
 
 // All tables of scenes, in the order in which docs/SCENES.md has their manual pages.
-const TABLES: [&str; 25] = [
+const TABLES: [&str; 26] = [
     terms::TERMS,
     scripts::OPENING,
     scripts::WRITING_AND_READING,
@@ -123,6 +124,7 @@ const TABLES: [&str; 25] = [
     ptem::PTEM,
     pckt::PCKT,
     sessions::SESSIONS,
+    job_control::JOB_CONTROL,
     scripts::LINES_AND_TEXTS,
     ledgers::LEDGERS,
 ];

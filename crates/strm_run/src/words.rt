@@ -6,13 +6,13 @@ ghost use Rattle.std.specs.List.{list_all};
 ghost use Rattle.strm_run.specs.Script.{is_letter};
 ghost use Rattle.strm_run.specs.ScriptReading.{and_then, after, side_in, place_in, way_in, queue_in};
 ghost use Rattle.strm_run.specs.ScriptReading.{side_alone, module_in, is_name, flush_queues_in, band_in};
-ghost use Rattle.strm_run.specs.ScriptReading.{prio_at, wanted_at, mode_in, direction_in};
+ghost use Rattle.strm_run.specs.ScriptReading.{prio_at, wanted_at, mode_in, direction_in, caller_in};
 ghost use Rattle.strm_run.specs.Views.{front_of};
 
 use crate::commands::{NamedPrio, NamedWanted};
 use crate::numbers::{number, number_at};
 use strm_types::{
-    ControlMode, Dir, FlushQueues, Mode, ModuleName, Place, QueueName, ReadMode, Side, Way,
+    Caller, ControlMode, Dir, FlushQueues, Mode, ModuleName, Place, QueueName, ReadMode, Side, Way,
 };
 
 /// What follows a word at the front of a text.
@@ -207,4 +207,25 @@ pub fn direction(text: &[u8]) -> Option<Dir>
         b"sm" => Some(Dir::SlaveToMaster),
         _ => None,
     }
+}
+
+/// The caller of a side and of a process group, by the flags that a text has: `-`, `i` where SIGTTIN and SIGTTOU are ignored, `o` where the
+/// group is orphaned, `io`.
+#[tactic(auto, unfolding(crate::specs::ScriptReading::caller_in))]
+pub fn caller(side: Side, group: u32, text: &[u8]) -> Option<Caller>
+    ensures { result ≡ caller_in side group text.now }
+{
+    let (ignores, orphaned) = match text {
+        b"-" => (false, false),
+        b"i" => (true, false),
+        b"o" => (false, true),
+        b"io" => (true, true),
+        _ => return None,
+    };
+    Some(Caller {
+        side,
+        group,
+        ignores,
+        orphaned,
+    })
 }

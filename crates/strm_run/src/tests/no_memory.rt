@@ -12,9 +12,19 @@ use strm_types::{
     ReadMode, Refusal, Side, TIOCGWINSZ, Wanted, Way,
 };
 
-const MASTER: Caller = Caller { side: Side::Master };
+const MASTER: Caller = Caller {
+    side: Side::Master,
+    group: 0,
+    ignores: false,
+    orphaned: false,
+};
 
-const SLAVE: Caller = Caller { side: Side::Slave };
+const SLAVE: Caller = Caller {
+    side: Side::Slave,
+    group: 0,
+    ignores: false,
+    orphaned: false,
+};
 
 const SLAVE_HEAD: QueueName = QueueName {
     side: Side::Slave,

@@ -31,3 +31,6 @@ returns-in-NoMemory c = ap refusal_name (sym c.in-NoMemory.is)
 
 pub returns-in-StillShared : goal.returns-in-StillShared
 returns-in-StillShared c = ap refusal_name (sym c.in-StillShared.is)
+
+pub returns-in-Eio : goal.returns-in-Eio
+returns-in-Eio c = ap refusal_name (sym c.in-Eio.is)

@@ -10,14 +10,14 @@ pub returns-in_default : goal.returns-in_default
 unfolding by_get
 returns-in_default g c =
     let p = plain c.args.pair.now in
-    leads_unanswered _ (λ account. by_get c.args.side c.args.named c.args.cmax c.args.dmax account p) Einval _ _ c.refused.ensures
-    (λ account. named_none c.args.side (λ wanted. calls.Get wanted c.args.cmax c.args.dmax) (wanted_of c.args.named) account p (sym c.wanted.ensures ∙ c.in_default.is))
+    leads_unanswered _ (λ account. by_get c.args.caller c.args.named c.args.cmax c.args.dmax account p) Einval _ _ c.refused.ensures
+    (λ account. named_none c.args.caller (λ wanted. calls.Get wanted c.args.cmax c.args.dmax) (wanted_of c.args.named) account p (sym c.wanted.ensures ∙ c.in_default.is))
 
 pub returns : goal.returns
 unfolding by_get
 returns g c =
     let p = plain c.args.pair.now in
-    leads_same _ (λ account. by_get c.args.side c.args.named c.args.cmax c.args.dmax account p)
-    (λ account. by_call (record { side = c.args.side }) (calls.Get c.in-Some.wanted c.args.cmax c.args.dmax) account p) _ _
-    (λ account. named_some c.args.side (λ wanted. calls.Get wanted c.args.cmax c.args.dmax) (wanted_of c.args.named) c.in-Some.wanted account p (sym c.wanted.ensures ∙ c.in-Some.is))
+    leads_same _ (λ account. by_get c.args.caller c.args.named c.args.cmax c.args.dmax account p)
+    (λ account. by_call c.args.caller (calls.Get c.in-Some.wanted c.args.cmax c.args.dmax) account p) _ _
+    (λ account. named_some c.args.caller (λ wanted. calls.Get wanted c.args.cmax c.args.dmax) (wanted_of c.args.named) c.in-Some.wanted account p (sym c.wanted.ensures ∙ c.in-Some.is))
     c.call.ensures

@@ -1,6 +1,6 @@
 use Rattle.std.proofs.Common.{◌≡◌, false, refl, ap, sym}
 use Rattle.strm_types.specs.declared.refusals.Refusal.{Refusal}
-use Rattle.strm_types.specs.declared.refusals.Refusal.TheVariants.{Einval, Eagain, Enxio, Ebadmsg, Enosr, Erange, JournalFull, NoMinor, NoMemory, StillShared}
+use Rattle.strm_types.specs.declared.refusals.Refusal.TheVariants.{Einval, Eagain, Enxio, Ebadmsg, Enosr, Erange, JournalFull, NoMinor, NoMemory, StillShared, Eio}
 use Rattle.strm_run.specs.ScriptRun.{is_enosr}
 use Rattle.strm_run.proofs.session.is_short.Goals as goal
 
@@ -19,6 +19,7 @@ other JournalFull h = refl
 other NoMinor h = refl
 other NoMemory h = refl
 other StillShared h = refl
+other Eio h = refl
 
 pub returns-in_default : goal.returns-in_default
 returns-in_default c = other c.args.refusal c.in_default.not-Enosr

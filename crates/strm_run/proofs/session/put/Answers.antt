@@ -12,8 +12,8 @@ returns-in_default g c =
     let p = plain c.args.pair.now in
     let control = option_map (λ bytes. bytes.now) c.args.control in
     let body = option_map (λ bytes. bytes.now) c.args.body in
-    leads_unanswered _ (λ account. by_put c.args.side c.args.named control body account p) Einval _ _ c.refused.ensures
-    (λ account. named_none c.args.side (λ prio. calls.Put prio control body) (prio_of c.args.named) account p (sym c.prio.ensures ∙ c.in_default.is))
+    leads_unanswered _ (λ account. by_put c.args.caller c.args.named control body account p) Einval _ _ c.refused.ensures
+    (λ account. named_none c.args.caller (λ prio. calls.Put prio control body) (prio_of c.args.named) account p (sym c.prio.ensures ∙ c.in_default.is))
 
 pub returns : goal.returns
 unfolding by_put
@@ -21,7 +21,7 @@ returns g c =
     let p = plain c.args.pair.now in
     let control = option_map (λ bytes. bytes.now) c.args.control in
     let body = option_map (λ bytes. bytes.now) c.args.body in
-    leads_same _ (λ account. by_put c.args.side c.args.named control body account p)
-    (λ account. by_call (record { side = c.args.side }) (calls.Put c.in-Some.prio control body) account p) _ _
-    (λ account. named_some c.args.side (λ prio. calls.Put prio control body) (prio_of c.args.named) c.in-Some.prio account p (sym c.prio.ensures ∙ c.in-Some.is))
+    leads_same _ (λ account. by_put c.args.caller c.args.named control body account p)
+    (λ account. by_call c.args.caller (calls.Put c.in-Some.prio control body) account p) _ _
+    (λ account. named_some c.args.caller (λ prio. calls.Put prio control body) (prio_of c.args.named) c.in-Some.prio account p (sym c.prio.ensures ∙ c.in-Some.is))
     c.call.ensures
