@@ -1,9 +1,10 @@
 -- What a call under the lock tells its caller, by what it did to the book.
-use Rattle.std.proofs.Common.{◌≡◌, ℕ, zero, suc, ◌+◌, ◌-◌, ◌<◌, ◌≤◌, List, [], ◌∷◌, ◌++◌, ◌⊎◌, inl, inr, ⊎_elim, sym, ap, ◌∙◌, arith, append-nil, drop, length}
+use Rattle.std.proofs.Common.{◌≡◌, ℕ, zero, suc, ◌+◌, ◌-◌, ◌<◌, ◌≤◌, List, [], ◌∷◌, ◌++◌, ◌⊎◌, inl, inr, ⊎_elim, sym, ap, subst, ◌∙◌, arith, append-nil, drop, length}
 use Rattle.std.proofs.Math.Seq.{drop-append_seam, drop-length}
 use Rattle.std.specs.Prelude.{Ok, Err, MatchResult, Some}
 use mathlib.Core.Logic.{dite}
 use native.Mathlib.Decide.{ℕ_discrete}
+use Rattle.atomic_table.specs.Table.{rest}
 use Rattle.strm_types.specs.declared.answers.Answer.{Answer}
 use Rattle.strm_types.specs.declared.events.Caller.{Caller}
 use Rattle.strm_types.specs.declared.events.Event.TheVariants.{OpenMaster}
@@ -13,10 +14,10 @@ use Rattle.strm_laws.specs.Pair.{call_refused}
 use Rattle.strm_locks.specs.declared.end.TheConstants.{ALL_PARTS}
 use Rattle.strm_locks.specs.declared.told.Told.{Told}
 use Rattle.strm_locks.specs.declared.view.View.{View}
-use Rattle.strm_locks.specs.Ends.{Gains, IsRefused, OpenedAs, Share}
+use Rattle.strm_locks.specs.Ends.{Calls, OpenedAs, Share}
 use Rattle.strm_locks.specs.Books.{pick, nothing, plus, minus, IsBelow, Fits, Book, Kept, Adds, tally_of}
 use Rattle.strm_locks.specs.Rules.{share, fresh, holding, grown, Knows, Mine}
-use Rattle.strm_locks.specs.Shares.{MayGive, Tells, Applied, Did, Grew, IsSeated, Opens, Opened, Outcome, entry_of, opener}
+use Rattle.strm_locks.specs.Shares.{Became, MayGive, Tells, Applied, Did, Grew, IsSeated, Opens, Opened, Outcome, entry_of, opener}
 use Rattle.strm_locks.proofs.Sums.{same_told, pick-minus, pick-nothing, pick-plus}
 
 -- the view that is told what a call added to the book, and the one where nothing was added
@@ -47,6 +48,13 @@ has_part m t n s = let is : m.0.parts ≡ n = ap (λ (x : Mine). x.0.parts) s.sh
 abbrev pub first_of : {A : Type 0} → A → List (ℕ × A) → A
 first_of d [] = d
 first_of d (x ∷ xs) = x.1
+
+-- what its holder does to the pair that a seat lends is done to the one that the seat has
+pub lent : (slots : List (ℕ × Kept)) → (k : Kept) × (slots ≡ (0, k) ∷ []) → (k : Kept) × (slots ≡ (0, k) ∷ rest slots)
+lent slots has = (has.0, has.1 ∙ ap (λ l. (0, has.0) ∷ rest l) (sym has.1))
+
+pub became : (done : Kept → Kept → Type 0) (slots : List (ℕ × Kept)) (a b : Kept) → slots ≡ (0, a) ∷ rest slots → done a b → Became done slots ((0, b) ∷ rest slots)
+became done slots a b is was k e = (b, ap (λ l. (0, b) ∷ rest l) e, subst (λ (x : Kept). done x b) (sym (ap (first_of k) (sym e ∙ is))) was)
 
 module _ (a : Kept) (caller : Caller) (asked : Request) (before bytes : List ℕ) (b : Kept) where
   abbrev WasDone : Outcome → Type 0
@@ -138,10 +146,7 @@ module _ (a : Kept) (asked : Request) (before bytes : List ℕ) (b : Kept) (e : 
     call_seated = was r.0 done
 
     module _ (e' : Share) (made : e.made ≡ me.0.made) (is : e' ≡ record e { told = p; made = m'.0.made }) where
-      abbrev Tells_end : Outcome → Type 0
-      Tells_end x = MatchResult x (λ y. Gains e (entry_of e.caller asked bytes y) e') (λ z. (e' ≡ e) × (bytes ≡ before) × IsRefused e.caller asked z)
-
-      tells_end : (x : Outcome) → Was x → Tells_end x
+      tells_end : (x : Outcome) → Was x → Calls e asked before bytes x e'
       tells_end (Ok y) d = (r.1, d.0, is ∙ (λ k. record e { told = sum k; made = list k }))
         where
           list : m'.0.made ≡ e.made ++ entry_of e.caller asked bytes y ∷ []
@@ -154,7 +159,7 @@ module _ (a : Kept) (asked : Request) (before bytes : List ℕ) (b : Kept) (e : 
           list : m'.0.made ≡ e.made
           list = ap (λ (m : Mine). m.0.made) d.1 ∙ sym made
 
-      pub call_told : Tells_end r.0
+      pub call_told : Calls e asked before bytes r.0 e'
       call_told = tells_end r.0 done
 
 module _ (a : Kept) (bytes : List ℕ) (b : Kept) where

@@ -1,5 +1,5 @@
 -- An end, as contracts see it, and what calls do to it.
-use Rattle.std.specs.Prelude.{◌≡◌, ◌≢◌, ℕ, ◌+◌, ◌-◌, ◌/◌, ◌⊎◌, List, [], ◌∷◌, ◌++◌, Some, MatchResult}
+use Rattle.std.specs.Prelude.{◌≡◌, ◌≢◌, ℕ, Bool, ◌+◌, ◌-◌, ◌/◌, ◌⊎◌, List, [], ◌∷◌, ◌++◌, Some, MatchResult}
 use Rattle.atomic_table.specs.Seated.{TableId}
 use Rattle.strm_types.specs.declared.answers.Answer.{Answer}
 use Rattle.strm_types.specs.declared.events.Caller.{Caller}
@@ -8,6 +8,7 @@ use Rattle.strm_types.specs.declared.names.Side.TheVariants.{Slave}
 use Rattle.strm_types.specs.declared.refusals.Refusal.{Refusal}
 use Rattle.strm_types.specs.declared.refusals.Refusal.TheVariants.{Einval, Erange}
 use Rattle.strm_types.specs.Events.{Request}
+use Rattle.strm_types.specs.JobControl.{caller_of}
 use Rattle.strm_types.specs.Journal.{PlainEntry}
 use Rattle.strm_laws.specs.Pair.{PairState, call_refused}
 use Rattle.strm_locks.specs.declared.end.TheConstants.{ALL_PARTS}
@@ -32,6 +33,10 @@ IsOf lock e = e.table ≡ lock
 abbrev pub Gains : Share → PlainEntry → Share → Type 0
 Gains a e b = (more : Told) × Tells e more × (b ≡ record a { told = plus a.told more; made = a.made ++ e ∷ [] })
 
+-- the end whose later calls a process of this group makes: only job control asks for that
+abbrev pub grouped_end : ℕ → Bool → Bool → Share → Share
+grouped_end group ignores orphaned e = record e { caller = record e.caller { group = group; ignores = ignores; orphaned = orphaned } }
+
 -- the end that keeps what it was told where it is cut in two, and the other, with half of the parts, rounded down
 abbrev pub kept_end : Share → Share
 kept_end e = record e { parts = e.parts - e.parts / 2 }
@@ -41,7 +46,7 @@ split_end e = record e { told = nothing; made = []; parts = e.parts / 2 }
 
 -- the slave's end that is cut off one that opens the slave
 abbrev pub slave_end : Share → Share
-slave_end e = record { table = e.table; caller = record { side = Slave }; told = nothing; made = []; parts = e.parts / 2 }
+slave_end e = record { table = e.table; caller = caller_of Slave; told = nothing; made = []; parts = e.parts / 2 }
 
 -- an end was told of its call that opened the slave, and is cut in two
 abbrev pub OpensSlave : Share → Share → Type 0
@@ -54,6 +59,12 @@ joined_end a b = record a { told = plus a.told b.told; made = a.made ++ b.made; 
 -- some pair refuses the call for this
 abbrev pub IsRefused : Caller → Request → Refusal → Type 0
 IsRefused caller asked z = (p : PairState) × (call_refused p caller asked ≡ Some z)
+
+-- A call by an end, with the bytes of the caller's buffer before and behind it: the end was told of it with this answer; or some pair refuses it for this reason, and the end and the bytes stay
+abbrev pub Calls : Share → Request → List ℕ → List ℕ → Outcome → Share → Type 0
+Calls a asked before bytes r b = MatchResult r
+    (λ x. Gains a (entry_of a.caller asked bytes x) b)
+    (λ z. (b ≡ a) × (bytes ≡ before) × IsRefused a.caller asked z)
 
 -- why an end opens no slave: it has one part, which is told by ERANGE; or some pair refuses its call for this, which is never ERANGE
 abbrev pub OpensNoSlave : Share → Refusal → Type 0

@@ -9,6 +9,7 @@ use Rattle.strm_types.specs.declared.names.Side.TheVariants.{Master}
 use Rattle.strm_types.specs.declared.refusals.Refusal.{Refusal}
 use Rattle.strm_types.specs.declared.refusals.Refusal.TheVariants.{Einval}
 use Rattle.strm_types.specs.Events.{Request}
+use Rattle.strm_types.specs.JobControl.{caller_of}
 use Rattle.strm_types.specs.Journal.{PlainEntry, reply_in}
 use Rattle.strm_laws.specs.Pair.{call_refused}
 use Rattle.strm_locks.specs.declared.end.TheConstants.{ALL_PARTS}
@@ -29,6 +30,14 @@ IsFree s = (s.me.1 ≡ []) × (s.me.0.holds ≡ 0)
 -- one seat, of the same table
 abbrev pub IsSame : Seat Kept View → Seat Kept View → Type 0
 IsSame s t = (t.table_id ≡ s.table_id) × (t.id ≡ s.id)
+
+-- the seat has the pair
+abbrev pub HasPair : Seat Kept View → Type 0
+HasPair s = (k : Kept) × (s.me.1 ≡ (0, k) ∷ [])
+
+-- what was done to the pair that a seat has: it has another one then, made so of the first
+abbrev pub Became : (Kept → Kept → Type 0) → List (ℕ × Kept) → List (ℕ × Kept) → Type 0
+Became done before behind = (k : Kept) → before ≡ (0, k) ∷ [] → (k' : Kept) × (behind ≡ (0, k') ∷ []) × done k k'
 
 -- the seat whose view was v has the lock, and found this pair with its book
 pub record HasLock (v : View) (k : Kept) (s : Seat Kept View) : Type 0 where
@@ -75,7 +84,7 @@ pub record Applied (a : Kept) (caller : Caller) (asked : Request) (before bytes 
 
 -- the master, as it is opened
 abbrev pub opener : Caller
-opener = record { side = Master }
+opener = caller_of Master
 
 -- The call that opens the master takes all parts out of the book. It is refused as the pair refuses it, and by EINVAL where an end has a part
 abbrev pub Opens : Kept → List ℕ → Outcome → Kept → Type 0

@@ -1,7 +1,7 @@
 -- What a call adds to the numbers of its pair: the bytes that it wrote and those that it read, each in their direction (write(2), read(2),
 -- putmsg(2), getmsg(2)).
 use Rattle.std.specs.Prelude.{◌≡◌, ℕ, ◌+◌, List, [], ◌∷◌, length, slice_index_or}
-use Rattle.strm_types.specs.declared.answers.Answer.TheVariants.{Count}
+use Rattle.strm_types.specs.declared.answers.Answer.TheVariants.{Done, Count}
 use Rattle.strm_types.specs.declared.entries.Entry.TheVariants.{Called, Turned}
 use Rattle.strm_types.specs.declared.events.Event.TheVariants.{Write, Read, Put, Get}
 use Rattle.strm_types.specs.declared.names.Dir.{Dir}
@@ -17,13 +17,13 @@ use Rattle.strm_types.specs.Rules.{fates_of, number_of}
 use Rattle.strm_laws.specs.Pair.{PairState}
 use Rattle.strm_laws.specs.State.{book}
 
--- how many bytes a call wrote: those that a write took, and both parts of a putmsg
+-- how many bytes a call wrote: those that a write took, and both parts of a putmsg that is done. Who was stopped wrote none
 abbrev pub written_by : Request → Reply → ℕ
 written_by (Write bytes) (Count taken) = taken
-written_by (Put prio control body) answer = length (part control) + length (part body)
+written_by (Put prio control body) Done = length (part control) + length (part body)
 written_by _ _ = 0
 
--- how many bytes a call read: those that a read gave, and both parts that a getmsg gave
+-- how many bytes a call read: those that a read gave, and both parts that a getmsg gave. Who was stopped read none
 abbrev pub read_by : Request → Reply → ℕ
 read_by (Read n) answer = length (content_of answer)
 read_by (Get wanted cmax dmax) answer = length (content_of answer)

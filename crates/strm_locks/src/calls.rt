@@ -1,14 +1,14 @@
 //! What ends do on a pair under its lock.
 
-ghost use Rattle.std.specs.Prelude.{◌≡◌, ◌≢◌, ◌⊎◌, [], ◌∷◌, Err, MatchResult};
+ghost use Rattle.std.specs.Prelude.{◌≡◌, ◌≢◌, ◌⊎◌, [], MatchResult};
 ghost use Rattle.strm_types.specs.declared.events.Event.TheVariants.{OpenMaster, OpenSlave};
 ghost use Rattle.strm_types.specs.declared.refusals.Refusal.TheVariants.{Einval, Erange};
 ghost use Rattle.strm_types.specs.Events.{request};
-ghost use Rattle.strm_locks.specs.Books.{closed_book, Kept};
-ghost use Rattle.strm_locks.specs.Ends.{IsOf, IsOpened, IsRefused, Gains, OpenedAs, OpensNoSlave, OpensSlave, joined_end, kept_end, slave_end, split_end};
+ghost use Rattle.strm_locks.specs.Books.{closed_book};
+ghost use Rattle.strm_locks.specs.Ends.{IsOf, IsOpened, IsRefused, Calls, OpenedAs, OpensNoSlave, OpensSlave, joined_end, kept_end, slave_end, split_end};
 ghost use Rattle.strm_locks.specs.Rules.{fresh};
 ghost use Rattle.strm_locks.specs.Settles.{IsClosed, IsSettled};
-ghost use Rattle.strm_locks.specs.Shares.{IsSame, IsSeated, Applied, Opened, entry_of, opener};
+ghost use Rattle.strm_locks.specs.Shares.{IsSame, IsSeated, HasPair, Became, Applied, Opened, opener};
 ghost use Rattle.strm_locks.specs.Turns.{IsVisit, Visits};
 
 use crate::end::{ALL_PARTS, End, StillShared};
@@ -33,10 +33,9 @@ impl<P: Object> Lock<P> {
         out: &mut Content,
     ) -> (Result<Answer<u32>, Refusal>, Told)
         requires own { seat.old.table_id ≡ self.now }
-        requires lock { (k : Kept) × (seat.old.me.1 ≡ (0, k) ∷ []) }
+        requires lock { HasPair seat.old }
         ensures same { IsSame seat.old seat.new × (seat.new.me.0 ≡ seat.old.me.0) }
-        ensures did { (k : Kept) → seat.old.me.1 ≡ (0, k) ∷ []
-            → (k' : Kept) × (seat.new.me.1 ≡ (0, k') ∷ []) × Applied k caller (request event.now) out.old.items out.new.items result k' }
+        ensures did { Became (λ k k'. Applied k caller (request event.now) out.old.items out.new.items result k') seat.old.me.1 seat.new.me.1 }
     {
         let held = seat.slot_mut(&self.table.shared, 0);
         held.call_told(caller, event, out)
@@ -48,10 +47,9 @@ impl<P: Object> Lock<P> {
         out: &mut Content,
     ) -> (Result<Answer<u32>, Refusal>, Told)
         requires own { seat.old.table_id ≡ self.now }
-        requires lock { (k : Kept) × (seat.old.me.1 ≡ (0, k) ∷ []) }
+        requires lock { HasPair seat.old }
         ensures same { IsSame seat.old seat.new × (seat.new.me.0 ≡ seat.old.me.0) }
-        ensures did { (k : Kept) → seat.old.me.1 ≡ (0, k) ∷ []
-            → (k' : Kept) × (seat.new.me.1 ≡ (0, k') ∷ []) × Opened k out.new.items result k' }
+        ensures did { Became (λ k k'. Opened k out.new.items result k') seat.old.me.1 seat.new.me.1 }
     {
         let held = seat.slot_mut(&self.table.shared, 0);
         held.open(out)
@@ -59,10 +57,9 @@ impl<P: Object> Lock<P> {
 
     fn turn_held(&self, seat: &mut Place<P>) -> Option<Made>
         requires own { seat.old.table_id ≡ self.now }
-        requires lock { (k : Kept) × (seat.old.me.1 ≡ (0, k) ∷ []) }
+        requires lock { HasPair seat.old }
         ensures same { IsSame seat.old seat.new × (seat.new.me.0 ≡ seat.old.me.0) }
-        ensures did { (k : Kept) → seat.old.me.1 ≡ (0, k) ∷ []
-            → (k' : Kept) × (seat.new.me.1 ≡ (0, k') ∷ []) × (k'.book ≡ k.book) × Visits k.pair result k'.pair }
+        ensures did { Became (λ k k'. (k'.book ≡ k.book) × Visits k.pair result k'.pair) seat.old.me.1 seat.new.me.1 }
     {
         let held = seat.slot_mut(&self.table.shared, 0);
         held.turn_first()
@@ -70,10 +67,9 @@ impl<P: Object> Lock<P> {
 
     fn close_held(&self, seat: &mut Place<P>) -> Settled
         requires own { seat.old.table_id ≡ self.now }
-        requires lock { (k : Kept) × (seat.old.me.1 ≡ (0, k) ∷ []) }
+        requires lock { HasPair seat.old }
         ensures same { IsSame seat.old seat.new × (seat.new.me.0 ≡ seat.old.me.0) }
-        ensures did { (k : Kept) → seat.old.me.1 ≡ (0, k) ∷ []
-            → (k' : Kept) × (seat.new.me.1 ≡ (0, k') ∷ []) × (k'.book ≡ closed_book) × IsClosed k result }
+        ensures did { Became (λ k k'. (k'.book ≡ closed_book) × IsClosed k result) seat.old.me.1 seat.new.me.1 }
     {
         let held = seat.slot_mut(&self.table.shared, 0);
         held.close()
@@ -90,7 +86,7 @@ impl<P: Object> Lock<P> {
         answer?;
         Ok(End {
             seat,
-            caller: Caller { side: Side::Master },
+            caller: Caller::of(Side::Master),
             told,
             parts: ALL_PARTS,
         })
@@ -124,9 +120,7 @@ impl<P: Object> Lock<P> {
         out: &mut Content,
     ) -> Result<Answer<u32>, Refusal>
         requires { IsOf self.now end.old }
-        ensures { MatchResult result
-            (λ a. Gains end.old (entry_of end.old.caller (request event.now) out.new.items a) end.new)
-            (λ z. (end.new ≡ end.old) × (out.new.items ≡ out.old.items) × IsRefused end.old.caller (request event.now) z) }
+        ensures { Calls end.old (request event.now) out.old.items out.new.items result end.new }
     {
         self.take(rt, &mut end.seat);
         let (answer, more) = self.call_held(&mut end.seat, end.caller, event, out);
@@ -155,7 +149,7 @@ impl<P: Object> Lock<P> {
         end.parts -= half;
         Ok(End {
             seat: given,
-            caller: Caller { side: Side::Slave },
+            caller: Caller::of(Side::Slave),
             told: Told::nothing(),
             parts: half,
         })
@@ -235,12 +229,7 @@ impl<P: Object> Lock<P> {
         if end.parts != ALL_PARTS {
             return Err((StillShared, end));
         }
-        let End {
-            mut seat,
-            caller: _,
-            told: _,
-            parts: _,
-        } = end;
+        let End { mut seat, .. } = end;
         Ok(self.settle_by(rt, &mut seat))
     }
 

@@ -43,11 +43,27 @@ impl<P: Object> Model for End<P> {
 }
 
 impl<P: Object> End<P> {
+    ghost use Rattle.strm_locks.specs.Ends.{grouped_end};
+
     /// Whom it calls as.
     pub fn caller(&self) -> Caller
         ensures { result ≡ self.now.caller }
     {
         self.caller
+    }
+
+    /// Sets who makes the end's later calls (POSIX, General Terminal Interface: Process Groups): a process of this group, 0 for none; whether
+    /// it ignores or blocks SIGTTIN and SIGTTOU; and whether its group is orphaned. A server calls it where a job comes into the foreground or
+    /// leaves it. It takes no lock and waits for nothing. The side stays, and so does what the end was told and its parts.
+    pub fn set_group(&mut self, group: u32, ignores: bool, orphaned: bool)
+        ensures { self.new ≡ grouped_end group ignores orphaned self.old }
+    {
+        self.caller = Caller {
+            group,
+            ignores,
+            orphaned,
+            ..self.caller
+        };
     }
 
     /// What its calls were, wrote and read, with those of the ends that were joined to it.

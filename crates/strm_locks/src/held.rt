@@ -158,7 +158,7 @@ impl<P: Object> Held<P> {
             let told = self.told();
             return (Err(Refusal::Einval), told.minus(&told));
         }
-        let caller = Caller { side: Side::Master };
+        let caller = Caller::of(Side::Master);
         let (answer, more) = self.call_told(caller, &Event::OpenMaster, out);
         if answer.is_ok() {
             self.left = 0;

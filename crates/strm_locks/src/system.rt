@@ -6,9 +6,9 @@ ghost use Rattle.strm_types.specs.declared.refusals.Refusal.TheVariants.{Einval}
 ghost use Rattle.strm_types.specs.Events.{request};
 ghost use Rattle.strm_minors.specs.Openers.{opening};
 ghost use Rattle.strm_locks.specs.Books.{IsNew};
-ghost use Rattle.strm_locks.specs.Ends.{Gains, IsOpened, IsRefused, OpensNoSlave, OpensSlave, joined_end, kept_end, slave_end, split_end};
+ghost use Rattle.strm_locks.specs.Ends.{Calls, IsOpened, IsRefused, OpensNoSlave, OpensSlave, grouped_end, joined_end, kept_end, slave_end, split_end};
 ghost use Rattle.strm_locks.specs.Settles.{IsSettled};
-ghost use Rattle.strm_locks.specs.Shares.{entry_of, opener};
+ghost use Rattle.strm_locks.specs.Shares.{opener};
 ghost use Rattle.strm_locks.specs.Systems.{IsOne};
 ghost use Rattle.strm_locks.specs.Turns.{IsVisit};
 
@@ -73,6 +73,13 @@ impl<P: Object> PairEnd<P> {
         ensures { result.now ≡ self.now.end }
     {
         &self.end
+    }
+
+    /// Sets who makes the end's later calls, as [`End::set_group`] does.
+    pub fn set_group(&mut self, group: u32, ignores: bool, orphaned: bool)
+        ensures { self.new ≡ record self.old { end = grouped_end group ignores orphaned self.old.end } }
+    {
+        self.end.set_group(group, ignores, orphaned);
     }
 }
 
@@ -148,9 +155,7 @@ impl<P: Object> System<P> {
     ) -> Result<Answer<u32>, Refusal>
         requires { IsOne self.now end.old }
         ensures pair { end.new.pair ≡ end.old.pair }
-        ensures told { MatchResult result
-            (λ a. Gains end.old.end (entry_of end.old.end.caller (request event.now) out.new.items a) end.new.end)
-            (λ z. (end.new.end ≡ end.old.end) × (out.new.items ≡ out.old.items) × IsRefused end.old.end.caller (request event.now) z) }
+        ensures told { Calls end.old.end (request event.now) out.old.items out.new.items result end.new.end }
     {
         self.lock(end.pair).call(rt, &mut end.end, event, out)
     }

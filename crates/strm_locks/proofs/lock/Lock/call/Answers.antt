@@ -1,10 +1,9 @@
 use Rattle.std.proofs.Common.{◌≡◌, [], refl, sym, ap, ◌∙◌, subst}
-use Rattle.std.specs.Prelude.{MatchResult}
 use Rattle.strm_types.specs.Events.{request}
 use Rattle.strm_locks.specs.Books.{Fits, plus}
-use Rattle.strm_locks.specs.Ends.{Gains, IsRefused, Share}
+use Rattle.strm_locks.specs.Ends.{Calls, Share}
 use Rattle.strm_locks.specs.Rules.{Mine, holding, grown}
-use Rattle.strm_locks.specs.Shares.{MayGive, entry_of}
+use Rattle.strm_locks.specs.Shares.{MayGive}
 use Rattle.strm_locks.proofs.Calling.{call_seated, call_told, fits_told, gives_applied, has_part}
 use Rattle.strm_locks.proofs.lock.Lock.call.Goals as goal
 
@@ -37,7 +36,7 @@ returns g c = let i = c.end.inside in let k = c.take.ensures.lock.0 in let h = c
     let e : Share = record { table = i.seat.table_id; caller = i.caller; told = i.told; made = i.seat.me.0.made; parts = i.parts } in
     let n : Share = record { table = c.give.new.seat.table_id; caller = i.caller; told = c.plus-end-inside.result; made = c.give.new.seat.me.0.made; parts = i.parts } in
     let table : c.give.new.seat.table_id ≡ i.seat.table_id = c.give.ensures.same.0 ∙ c.call_held-answer.ensures.same.0.0 ∙ c.take.ensures.same.0 in
-    subst (λ (x : Share). MatchResult c.call_held-answer.result.0 (λ a. Gains x (entry_of x.caller asked bytes a) n) (λ z. (n ≡ x) × (bytes ≡ c.args.out.now.items) × IsRefused x.caller asked z)) c.end.view_is
+    subst (λ (x : Share). Calls x asked c.args.out.now.items bytes c.call_held-answer.result.0 n) c.end.view_is
     (call_told k asked c.args.out.now.items bytes did.0 e i.seat.me c.give.new.seat.me c.call_held-answer.result c.plus-end-inside.result
     c.end.invariant did.2 (c.give.ensures.told did.0 did.1 ∙ ap (λ w. (grown w w.found did.0.book, [])) is) c.plus-end-inside.ensures n refl
     (λ j. let x : Share = record { table = table j; caller = i.caller; told = c.plus-end-inside.result; made = c.give.new.seat.me.0.made; parts = i.parts } in x))

@@ -1,18 +1,9 @@
-use Rattle.std.proofs.Common.{rules, ◌≡◌, ◌∷◌, sym, ap, ◌∙◌, subst}
-use Rattle.atomic_table.specs.Table.{rest}
-use Rattle.strm_types.specs.Events.{request}
-use Rattle.strm_locks.specs.Shares.{Applied}
-use Rattle.strm_locks.proofs.Calling.{first_of}
+use Rattle.std.proofs.Common.{rules}
+use Rattle.strm_locks.proofs.Calling.{became, lent}
 use Rattle.strm_locks.proofs.lock.Lock.call_held.Goals as goal
 
 pub slot_mut-held-requires : goal.slot_mut-held-requires
-slot_mut-held-requires g c = let t = c.requires.lock in (search rules, (t.0, t.1 ∙ ap (λ l. (0, t.0) ∷ rest l) (sym t.1)))
+slot_mut-held-requires g c = (search rules, lent _ c.requires.lock)
 
 pub returns-clause-did : goal.returns-clause-did
-returns-clause-did g c = λ k e. let same : k ≡ c.slot_mut-held.result.now = ap (first_of k) (sym e ∙ c.slot_mut-held.ensures.value) in
-    let w = c.call_told.new.self in (
-      w,
-      ap (λ l. (0, w) ∷ rest l) e,
-      subst (λ z. Applied z c.args.caller (request c.args.event.now) c.args.out.now.items c.call_told.new.out.items c.call_told.result w) (sym same)
-          record { answer = c.call_told.ensures.answer; grew = record { below = c.call_told.ensures.below; fits = c.call_told.ensures.fits; growth = c.call_told.ensures.growth } },
-    )
+returns-clause-did g c = became _ _ c.slot_mut-held.result.now c.call_told.new.self c.slot_mut-held.ensures.value record { answer = c.call_told.ensures.answer; grew = record { below = c.call_told.ensures.below; fits = c.call_told.ensures.fits; growth = c.call_told.ensures.growth } }

@@ -13,7 +13,7 @@ pub returns : goal.returns
 returns g c =
     let t = subst (λ x. OpenedAs c.open_by-answer.new.out.items c.open_by-answer.result.1 c.open_by-answer.new.seat.me x) c.in_ok-answer.was c.open_by-answer.ensures.opened in record {
       here = search rules;
-      caller = refl;
+      caller = c.of.ensures;
       parts = refl;
       told = (c.in_ok-answer.field-0, c.open_by-answer.new.out.items, t.0, ap (λ (m : Mine). m.0.made) t.1);
     }

@@ -20,5 +20,5 @@ returns g c = let b : Share = c.call.new.end in let i = c.end-2.inside in
         (λ k. let z : Share = record { table = first.0.0 k; caller = i.caller; told = i.told; made = made k; parts = i.parts - i.parts / 2 } in z)
             ∙ ap (λ (x : Share). let z : Share = record x { parts = x.parts - x.parts / 2 } in z) c.end-2.view_is,
       ),
-      (λ k. let z : Share = record { table = (second.0 ∙ sym c.requires) k; caller = record { side = Slave }; told = c.nothing.ensures k; made = given k; parts = half k } in z),
+      (λ k. let z : Share = record { table = (second.0 ∙ sym c.requires) k; caller = (c.of.ensures) k; told = c.nothing.ensures k; made = given k; parts = half k } in z),
     )

@@ -5,9 +5,9 @@ use Rattle.strm_locks.proofs.lock.Lock.settle_by.Goals as goal
 
 pub give_closed-requires-clause-lock : goal.give_closed-requires-clause-lock
 give_closed-requires-clause-lock g c = let k = c.take.ensures.lock.0 in let h = c.take.ensures.lock.1 in
-    let did = c.close_held-settled.ensures.did k (ap (λ (m : Mine). m.1) h.seen) in (did.0, did.1, did.2)
+    let did = c.close_held-settled.ensures.did k (ap (λ (m : Mine). m.1) h.seen) in (did.0, did.1, did.2.0)
 
 pub returns-clause-settled : goal.returns-clause-settled
 returns-clause-settled g c = let k = c.take.ensures.lock.0 in let h = c.take.ensures.lock.1 in
     let did = c.close_held-settled.ensures.did k (ap (λ (m : Mine). m.1) h.seen) in
-    settled-all c.args.seat.now.me.0 k c.close_held-settled.result h.knows (ap (λ (m : Mine). m.0.parts) c.requires.all.shown) did.3
+    settled-all c.args.seat.now.me.0 k c.close_held-settled.result h.knows (ap (λ (m : Mine). m.0.parts) c.requires.all.shown) did.2.1

@@ -5,7 +5,7 @@ use Rattle.strm_locks.proofs.lock.Lock.visit.Goals as goal
 pub pass-requires-clause-lock : goal.pass-requires-clause-lock
 pass-requires-clause-lock g c = let k = c.take.ensures.lock.0 in let h = c.take.ensures.lock.1 in
     let did = c.turn_held-made.ensures.did k (ap (λ (m : Mine). m.1) h.seen) in
-    (did.0, did.1, did.2 ∙ sym (ap (λ v. v.found) (c.turn_held-made.ensures.same.1 ∙ ap (λ (m : Mine). m.0) h.seen)))
+    (did.0, did.1, did.2.0 ∙ sym (ap (λ v. v.found) (c.turn_held-made.ensures.same.1 ∙ ap (λ (m : Mine). m.0) h.seen)))
 
 pub returns : goal.returns
 returns g c = let k = c.take.ensures.lock.0 in let h = c.take.ensures.lock.1 in
@@ -16,5 +16,5 @@ returns g c = let k = c.take.ensures.lock.0 in let h = c.take.ensures.lock.1 in
       k.pair,
       did.0.pair,
       ap (λ (m : Mine). m.0.met) now,
-      did.3,
+      did.2.1,
     )
