@@ -1,5 +1,5 @@
 -- An end, as contracts see it, and what calls do to it.
-use Rattle.std.specs.Prelude.{◌≡◌, ◌≢◌, ℕ, Bool, ◌+◌, ◌-◌, ◌/◌, ◌⊎◌, List, [], ◌∷◌, ◌++◌, Some, MatchResult}
+use Rattle.std.specs.Prelude.{◌≡◌, ◌≢◌, ℕ, Bool, ◌+◌, ◌-◌, ◌/◌, ◌⊎◌, List, [], ◌∷◌, ◌++◌, Some, Result, MatchResult}
 use Rattle.atomic_table.specs.Seated.{TableId}
 use Rattle.strm_types.specs.declared.answers.Answer.{Answer}
 use Rattle.strm_types.specs.declared.events.Caller.{Caller}
@@ -70,6 +70,22 @@ Calls a asked before bytes r b = MatchResult r
 abbrev pub OpensNoSlave : Share → Refusal → Type 0
 OpensNoSlave e z = ((e.parts ≡ 1) × (z ≡ Erange)) ⊎ ((e.parts ≢ 1) × (z ≢ Erange) × IsRefused e.caller OpenSlave z)
 
+-- Why no master is opened: an end has the pair, or some pair refuses the call for this
+abbrev pub OpensNoMaster : Refusal → Type 0
+OpensNoMaster z = (z ≡ Einval) ⊎ IsRefused opener OpenMaster z
+
+-- An end is cut in two, or comes back where it has one part. Here and below an end stands alone, or in what a system gives out.
+abbrev pub Splits : {E : Type 0} → (Share → E) → Share → Result (E × E) E → Type 0
+Splits stands e r = MatchResult r
+    (λ two. (e.parts ≢ 1) × (two.0 ≡ stands (kept_end e)) × (two.1 ≡ stands (split_end e)))
+    (λ one. (e.parts ≡ 1) × (one ≡ stands e))
+
+-- the end a is c since it called for the slave, whose end is given out; or it stays
+abbrev pub CallsSlave : {E : Type 0} → (Share → E) → Share → Result E Refusal → Share → Type 0
+CallsSlave stands a r c = MatchResult r
+    (λ slave. (a.parts ≢ 1) × OpensSlave a c × (slave ≡ stands (slave_end a)))
+    (λ z. (c ≡ a) × OpensNoSlave a z)
+
 -- the end that opened the pair: it has all parts, and was told of that call alone
 pub record IsOpened (lock : TableId) (e : Share) : Type 0 where
   pub here : IsOf lock e
@@ -81,4 +97,4 @@ pub record IsOpened (lock : TableId) (e : Share) : Type 0 where
 abbrev pub OpenedAs : List ℕ → Told → Mine → Outcome → Type 0
 OpenedAs bytes told m r = MatchResult r
     (λ a. let e = entry_of opener OpenMaster bytes a in (told ≡ tally_of e) × (m ≡ (share told (e ∷ []) ALL_PARTS, [])))
-    (λ z. (m ≡ (fresh, [])) × ((z ≡ Einval) ⊎ IsRefused opener OpenMaster z))
+    (λ z. (m ≡ (fresh, [])) × OpensNoMaster z)

@@ -1,14 +1,17 @@
 -- What is told where the book of a pair is closed.
-use Rattle.std.specs.Prelude.{◌≡◌, List, slice_index_or}
+use Rattle.std.specs.Prelude.{◌≡◌, ◌≢◌, List, Result, MatchResult, slice_index_or}
 use Rattle.strm_types.specs.declared.names.Dir.TheVariants.{MasterToSlave, SlaveToMaster}
 use Rattle.strm_types.specs.Cells.{plain}
 use Rattle.strm_types.specs.Journal.{PlainEntry}
 use Rattle.strm_laws.specs.Ledgers.{ledger_of}
 use Rattle.strm_laws.specs.Pair.{PairState}
 use Rattle.strm_laws.specs.Step.{IsLegal, replay}
+use Rattle.strm_locks.specs.declared.end.StillShared.{StillShared}
+use Rattle.strm_locks.specs.declared.end.TheConstants.{ALL_PARTS}
 use Rattle.strm_locks.specs.declared.held.Settled.{Settled}
 use Rattle.strm_locks.specs.declared.told.Told.{Told}
 use Rattle.strm_locks.specs.Books.{Kept, IsCounted, IsReordered, each, told_of}
+use Rattle.strm_locks.specs.Ends.{Share}
 use Rattle.strm_locks.specs.Tallies.{calls_in}
 
 -- the ledgers of this pair, to whose state its journal leads
@@ -36,3 +39,9 @@ pub record IsSettled (told : Told) (made : List PlainEntry) (s : Settled) : Type
   pub numbers : told ≡ told_of told.calls pair
   pub written : s.told.written ≡ each s.ms.written s.sm.written
   pub read : s.told.read ≡ each (slice_index_or s.ms.fates 0 0) (slice_index_or s.sm.fates 0 0)
+
+-- An end settles the pair that it has all parts of, or comes back: alone, or in what a system gives out.
+abbrev pub Settles : {E : Type 0} → (Share → E) → Share → Result Settled (StillShared × E) → Type 0
+Settles stands e r = MatchResult r
+    (λ s. (e.parts ≡ ALL_PARTS) × IsSettled e.told e.made s)
+    (λ back. (e.parts ≢ ALL_PARTS) × (back.1 ≡ stands e))

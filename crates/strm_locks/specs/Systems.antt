@@ -14,6 +14,9 @@ pub record Numbered : Type 0 where
   pub pair : ℕ
   pub end : Share
 
+abbrev pub numbered : ℕ → Share → Numbered
+numbered pair end = record { pair = pair; end = end }
+
 -- the end is of the pair that has its number in this system
 abbrev pub IsOne : Plan → Numbered → Type 0
 IsOne system e = slice_get system.locks e.pair ≡ Some e.end.table

@@ -1,14 +1,12 @@
 //! What ends do on a pair under its lock.
 
-ghost use Rattle.std.specs.Prelude.{◌≡◌, ◌≢◌, ◌⊎◌, [], MatchResult};
-ghost use Rattle.strm_types.specs.declared.events.Event.TheVariants.{OpenMaster, OpenSlave};
-ghost use Rattle.strm_types.specs.declared.refusals.Refusal.TheVariants.{Einval, Erange};
+ghost use Rattle.std.specs.Prelude.{◌≡◌, [], MatchResult};
 ghost use Rattle.strm_types.specs.Events.{request};
 ghost use Rattle.strm_locks.specs.Books.{closed_book};
-ghost use Rattle.strm_locks.specs.Ends.{IsOf, IsOpened, IsRefused, Calls, OpenedAs, OpensNoSlave, OpensSlave, joined_end, kept_end, slave_end, split_end};
+ghost use Rattle.strm_locks.specs.Ends.{IsOf, IsOpened, Calls, CallsSlave, OpenedAs, OpensNoMaster, Splits, joined_end};
 ghost use Rattle.strm_locks.specs.Rules.{fresh};
-ghost use Rattle.strm_locks.specs.Settles.{IsClosed, IsSettled};
-ghost use Rattle.strm_locks.specs.Shares.{IsSame, IsSeated, HasPair, Became, Applied, Opened, opener};
+ghost use Rattle.strm_locks.specs.Settles.{IsClosed, IsSettled, Settles};
+ghost use Rattle.strm_locks.specs.Shares.{IsSame, IsSeated, HasPair, Became, Applied, Opened};
 ghost use Rattle.strm_locks.specs.Turns.{IsVisit, Visits};
 
 use crate::end::{ALL_PARTS, End, StillShared};
@@ -78,7 +76,7 @@ impl<P: Object> Lock<P> {
     /// Opens the master of a pair that no end has a part of: `open(2)` of the master device. The end has all parts, and was told of this call
     /// alone. It is refused as the pair refuses the call, and by EINVAL where an end has the pair.
     pub fn open<R: Wait>(&self, rt: &R) -> Result<End<P>, Refusal>
-        ensures { MatchResult result (λ e. IsOpened self.now e) (λ z. (z ≡ Einval) ⊎ IsRefused opener OpenMaster z) }
+        ensures { MatchResult result (IsOpened self.now) OpensNoMaster }
     {
         let mut seat = self.sit();
         let mut out = Content::new();
@@ -135,9 +133,7 @@ impl<P: Object> Lock<P> {
     #[tactic(auto, using(crate::proofs::Refusing::not_erange))]
     pub fn open_slave<R: Wait>(&self, rt: &R, end: &mut End<P>) -> Result<End<P>, Refusal>
         requires { IsOf self.now end.old }
-        ensures { MatchResult result
-            (λ e. (end.old.parts ≢ 1) × OpensSlave end.old end.new × (e ≡ slave_end end.old))
-            (λ z. (end.new ≡ end.old) × OpensNoSlave end.old z) }
+        ensures { CallsSlave (λ e. e) end.old result end.new }
     {
         if end.parts == 1 {
             return Err(Refusal::Erange);
@@ -159,9 +155,7 @@ impl<P: Object> Lock<P> {
     /// down. An end of one part comes back.
     pub fn split(&self, end: End<P>) -> Result<(End<P>, End<P>), End<P>>
         requires { IsOf self.now end }
-        ensures { MatchResult result
-            (λ r. (end.parts ≢ 1) × (r.0 ≡ kept_end end) × (r.1 ≡ split_end end))
-            (λ e. (end.parts ≡ 1) × (e ≡ end)) }
+        ensures { Splits (λ e. e) end result }
     {
         if end.parts == 1 {
             return Err(end);
@@ -222,9 +216,7 @@ impl<P: Object> Lock<P> {
     /// An end that lacks parts comes back: another end has them, or was dropped with them.
     pub fn settle<R: Wait>(&self, rt: &R, end: End<P>) -> Result<Settled, (StillShared, End<P>)>
         requires { IsOf self.now end }
-        ensures { MatchResult result
-            (λ s. (end.parts ≡ ALL_PARTS) × IsSettled end.told end.made s)
-            (λ r. (end.parts ≢ ALL_PARTS) × (r.1 ≡ end)) }
+        ensures { Settles (λ e. e) end result }
     {
         if end.parts != ALL_PARTS {
             return Err((StillShared, end));

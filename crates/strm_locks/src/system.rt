@@ -1,15 +1,12 @@
 //! Pairs that threads share, a lock each, and the numbers by which they are opened.
 
-ghost use Rattle.std.specs.Prelude.{◌≡◌, ◌≢◌, ◌⊎◌, ◌<◌, ◌≤◌, All, Some, IfOk, MatchResult, length, slice_get};
-ghost use Rattle.strm_types.specs.declared.events.Event.TheVariants.{OpenMaster, OpenSlave};
-ghost use Rattle.strm_types.specs.declared.refusals.Refusal.TheVariants.{Einval};
+ghost use Rattle.std.specs.Prelude.{◌≡◌, ◌≢◌, ◌<◌, ◌≤◌, All, Some, IfOk, MatchResult, length, slice_get};
 ghost use Rattle.strm_types.specs.Events.{request};
 ghost use Rattle.strm_minors.specs.Openers.{opening};
 ghost use Rattle.strm_locks.specs.Books.{IsNew};
-ghost use Rattle.strm_locks.specs.Ends.{Calls, IsOpened, IsRefused, OpensNoSlave, OpensSlave, grouped_end, joined_end, kept_end, slave_end, split_end};
-ghost use Rattle.strm_locks.specs.Settles.{IsSettled};
-ghost use Rattle.strm_locks.specs.Shares.{opener};
-ghost use Rattle.strm_locks.specs.Systems.{IsOne};
+ghost use Rattle.strm_locks.specs.Ends.{Calls, CallsSlave, IsOpened, OpensNoMaster, Splits, grouped_end, joined_end};
+ghost use Rattle.strm_locks.specs.Settles.{Settles};
+ghost use Rattle.strm_locks.specs.Systems.{IsOne, numbered};
 ghost use Rattle.strm_locks.specs.Turns.{IsVisit};
 
 use crate::end::{ALL_PARTS, End, StillShared};
@@ -77,7 +74,7 @@ impl<P: Object> PairEnd<P> {
 
     /// Sets who makes the end's later calls, as [`End::set_group`] does.
     pub fn set_group(&mut self, group: u32, ignores: bool, orphaned: bool)
-        ensures { self.new ≡ record self.old { end = grouped_end group ignores orphaned self.old.end } }
+        ensures { self.new ≡ numbered self.old.pair (grouped_end group ignores orphaned self.old.end) }
     {
         self.end.set_group(group, ignores, orphaned);
     }
@@ -138,7 +135,7 @@ impl<P: Object> System<P> {
         requires { minor.now < length self.now.locks }
         ensures { MatchResult result
             (λ e. (e.pair ≡ minor.now) × IsOne self.now e × IsOpened e.end.table e.end)
-            (λ z. (z ≡ Einval) ⊎ IsRefused opener OpenMaster z) }
+            OpensNoMaster }
     {
         let pair = minor.number();
         let end = self.lock(pair).open(rt)?;
@@ -164,9 +161,7 @@ impl<P: Object> System<P> {
     pub fn open_slave<R: Wait>(&self, rt: &R, end: &mut PairEnd<P>) -> Result<PairEnd<P>, Refusal>
         requires { IsOne self.now end.old }
         ensures pair { end.new.pair ≡ end.old.pair }
-        ensures opened { MatchResult result
-            (λ e. (end.old.end.parts ≢ 1) × OpensSlave end.old.end end.new.end × (e ≡ record { pair = end.old.pair; end = slave_end end.old.end }))
-            (λ z. (end.new.end ≡ end.old.end) × OpensNoSlave end.old.end z) }
+        ensures opened { CallsSlave (numbered end.old.pair) end.old.end result end.new.end }
     {
         let slave = self.lock(end.pair).open_slave(rt, &mut end.end)?;
         Ok(PairEnd {
@@ -178,9 +173,7 @@ impl<P: Object> System<P> {
     /// Cuts an end in two, as [`Lock::split`] does. An end of one part comes back.
     pub fn split(&self, end: PairEnd<P>) -> Result<(PairEnd<P>, PairEnd<P>), PairEnd<P>>
         requires { IsOne self.now end }
-        ensures { MatchResult result
-            (λ r. (end.end.parts ≢ 1) × (r.0 ≡ record end { end = kept_end end.end }) × (r.1 ≡ record end { end = split_end end.end }))
-            (λ e. (end.end.parts ≡ 1) × (e ≡ end)) }
+        ensures { Splits (numbered end.pair) end.end result }
     {
         let PairEnd { pair, end } = end;
         match self.lock(pair).split(end) {
@@ -201,7 +194,7 @@ impl<P: Object> System<P> {
         requires first { IsOne self.now first }
         requires second { IsOne self.now second }
         ensures { MatchResult result
-            (λ e. (first.pair ≡ second.pair) × (e ≡ record first { end = joined_end first.end second.end }))
+            (λ e. (first.pair ≡ second.pair) × (e ≡ numbered first.pair (joined_end first.end second.end)))
             (λ r. (first.pair ≢ second.pair) × (r.0 ≡ first) × (r.1 ≡ second)) }
     {
         if first.pair != second.pair {
@@ -223,9 +216,7 @@ impl<P: Object> System<P> {
         end: PairEnd<P>,
     ) -> Result<Settled, (StillShared, PairEnd<P>)>
         requires { IsOne self.now end }
-        ensures { MatchResult result
-            (λ s. (end.end.parts ≡ ALL_PARTS) × IsSettled end.end.told end.end.made s)
-            (λ r. (end.end.parts ≢ ALL_PARTS) × (r.1 ≡ end)) }
+        ensures { Settles (numbered end.pair) end.end result }
     {
         let PairEnd { pair, end } = end;
         match self.lock(pair).settle(rt, end) {

@@ -23,6 +23,15 @@ pub struct Report {
     pub idle: u64,
 }
 
+// One worker that made no visit.
+const BEGUN: Report = Report {
+    started: 1,
+    turns: 0,
+    blocked: 0,
+    refused: 0,
+    idle: 0,
+};
+
 impl Report {
     // With one visit more.
     fn counted(&self, made: &Option<Made>) -> Report
@@ -87,13 +96,7 @@ pub(crate) fn work<V: Round>(round: &mut V, pairs: u32, worker: u32, visits: u32
     ensures tours { Tours V.leads pairs worker visits round.old result round.new }
     ensures exact { IsReportOf 1 visits result }
 {
-    let mut report = Report {
-        started: 1,
-        turns: 0,
-        blocked: 0,
-        refused: 0,
-        idle: 0,
-    };
+    let mut report = BEGUN;
     for visit in 0..visits {
         let pair = ((worker as u64 + visit as u64) % pairs as u64) as u32;
         report = report.counted(&round.visit(worker, pair));
@@ -135,11 +138,8 @@ fn work_at<P: Object, R: Wait, G: Gate>(
     let pairs = system.pairs();
     if pairs == 0 {
         return Report {
-            started: 1,
-            turns: 0,
-            blocked: 0,
-            refused: 0,
             idle: visits as u64,
+            ..BEGUN
         };
     }
     work(&mut Floor { system, rt, gate }, pairs, worker, visits)
@@ -206,10 +206,7 @@ impl<P: Object + Send> System<P> {
         if workers == 0 {
             return Report {
                 started: 0,
-                turns: 0,
-                blocked: 0,
-                refused: 0,
-                idle: 0,
+                ..BEGUN
             };
         }
         work_from(rt, self, gate, Crew { first: 0, workers }, visits)
