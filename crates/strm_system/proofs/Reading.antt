@@ -2,9 +2,10 @@
 use Rattle.std.proofs.Common.{ℕ, ◌≡◌, ◌+◌, Bool, true, false, cond, List, [], ◌∷◌, ◌++◌, length, refl, sym, ap, ◌∙◌, arith, length-append}
 use Rattle.std.specs.Prelude.{not, min, Option, None, Some, option_map}
 use lib.ListN.{length-map}
+use Rattle.strm_types.specs.declared.answers.Answer.TheVariants.{Stop}
 use Rattle.strm_types.specs.declared.entries.Entry.TheVariants.{Called, Turned}
 use Rattle.strm_types.specs.declared.events.Caller.{Caller}
-use Rattle.strm_types.specs.declared.events.Event.TheVariants.{OpenMaster, Unlock, OpenSlave, Shut, Push, Pop, Look, Flush, Write, Read, Put, Get, Mode, Nread, Ioctl, IoctlResult, Signals}
+use Rattle.strm_types.specs.declared.events.Event.TheVariants.{Shut, Push, Pop, Flush, Write, Read, Put, Get, Ioctl}
 use Rattle.strm_types.specs.declared.limits.TheConstants.{READ_MAX}
 use Rattle.strm_types.specs.declared.modes.ControlMode.{ControlMode}
 use Rattle.strm_types.specs.declared.modes.ReadMode.{ReadMode}
@@ -14,26 +15,30 @@ use Rattle.strm_types.specs.declared.names.Dir.TheVariants.{MasterToSlave, Slave
 use Rattle.strm_types.specs.declared.names.Side.{Side}
 use Rattle.strm_types.specs.declared.names.Side.TheVariants.{Master, Slave}
 use Rattle.strm_types.specs.declared.names.Way.TheVariants.{Down}
+use Rattle.strm_types.specs.declared.signals.StopSignal.{StopSignal}
 use Rattle.strm_types.specs.Events.{Reply, Request}
-use Rattle.strm_laws.specs.Calls.{called, ioctl_begun, message_put, put_at, write_sent}
+use Rattle.strm_laws.specs.Calls.{Outcome, called, group_at, ioctl_at, ioctl_begun, ioctl_sent, message_put, performed, put_at, write_sent}
+use Rattle.strm_laws.specs.Closes.{closed_at}
 use Rattle.strm_types.specs.Cells.{Cells, bytes_of, cells_written}
 use Rattle.strm_types.specs.Deliver.{Fate, Goes}
 use Rattle.strm_types.specs.Flushing.{asked_of, flush_bytes, flush_message}
 use Rattle.strm_types.specs.GetQueues.{cells_got, get_gone}
 use Rattle.strm_types.specs.Gets.{Got, got_none, head_get, is_wanted, parts_of}
 use Rattle.strm_types.specs.Ioctls.{asking, ioctl_message}
+use Rattle.strm_types.specs.JobControl.{asks_group}
 use Rattle.strm_types.specs.Journal.{PlainEntry}
 use Rattle.strm_laws.specs.Kept.{gone}
 use Rattle.strm_types.specs.Message.{Message, data_message, part}
 use Rattle.strm_types.specs.Names.{direction_from, direction_of, head_of}
-use Rattle.strm_laws.specs.Puts.{delivered}
-use Rattle.strm_laws.specs.Pushes.{named_by}
+use Rattle.strm_laws.specs.Puts.{delivered, flushed_on}
+use Rattle.strm_laws.specs.Pushes.{named_by, popped, pushed_named}
 use Rattle.strm_types.specs.Reads.{Drawn, head_draw, read_fates, read_gone, takes_none}
 use Rattle.strm_laws.specs.State.{State, book, stream}
 use Rattle.strm_laws.specs.Step.{Step}
 use Rattle.strm_types.specs.Write.{chunk_count, chunks_of}
 use Rattle.strm_laws.specs.Writes.{Wrote, below_head, chunks_sent, is_full_below}
 use Rattle.strm_types.proofs.ReadRefuses.{takes-none}
+use Rattle.strm_laws.proofs.Stopping.{of-called}
 use Rattle.strm_locks.specs.Tallies.{read_by, read_in, received_by}
 use Rattle.strm_system.proofs.Unread.{delivered-unread, none-both, only_in, reads}
 use Rattle.strm_system.proofs.UnreadTurns.{close-unread, pop-unread, push-unread, turn-unread}
@@ -94,41 +99,55 @@ module _ {C : Type 0} (dir : Dir) where
     put-unread side prio (Some xs) b s = delivered-unread dir cells (record { side = side; at = 1; way = Down }) (message_put cells side prio (Some xs) b s) s
 
     module _ (s : State C) where
-      abbrev Right : Caller → Request → Reply → Type 0
-      Right caller asked answer = reads dir (gone cells s (Called caller asked answer)) ≡ only_in dir (direction_of (head_of caller.side)) (read_by asked (called cells caller asked s).answer)
+      -- what goes to readers is what the answer gives
+      abbrev Reads : Caller → Request → Outcome C → Type 0
+      Reads caller asked outcome = reads dir outcome.gone ≡ only_in dir (direction_of (head_of caller.side)) (read_by asked outcome.answer)
 
       quiet : (caller : Caller) (told : List (Fate C)) → reads dir told ≡ 0 → reads dir told ≡ only_in dir (direction_of (head_of caller.side)) 0
       quiet caller told none = none ∙ sym (only-none dir (direction_of (head_of caller.side)))
 
-      -- a call
-      pub call-read : (caller : Caller) (asked : Request) (answer : Reply) → Right caller asked answer
-      call-read caller (Read n) answer =
+      -- a call that is carried out
+      performed-read : (caller : Caller) (asked : Request) → Reads caller asked (performed cells caller asked s)
+      performed-read caller (Read n) =
           let d = direction_of (head_of caller.side) in
           let h = (stream caller.side s).head in
           let drew = head_draw h.read_mode h.control_mode (min n READ_MAX) h.queue.messages in
           read-goes d h.read_mode h.control_mode (min n READ_MAX) h.queue.messages ∙ ap (λ k. only_in dir d k) (sym (length-map drew.given cells.byte))
-      call-read caller (Get wanted cmax dmax) answer =
+      performed-read caller (Get wanted cmax dmax) =
           let d = direction_of (head_of caller.side) in
           let q = (stream caller.side s).head.queue.messages in
           get-goes d wanted (min cmax READ_MAX) (min dmax READ_MAX) q ∙ ap (λ k. only_in dir d k) (sym (got-long (head_get wanted (min cmax READ_MAX) (min dmax READ_MAX) q)))
-      call-read caller (Write bytes) answer =
+      performed-read caller (Write bytes) =
           let d = direction_from caller.side in
           let xs = cells_written cells d (book d s).written bytes in
           quiet caller (write_sent cells caller.side bytes s).gone (chunks-unread caller.side (chunks_of (chunk_count (length xs)) xs) s)
-      call-read caller (Put prio control body) answer = quiet caller (put_at cells caller.side prio control body s).gone (put-unread caller.side prio control body s)
-      call-read caller (Flush what band) answer = quiet caller (gone cells s (Called caller (Flush what band) answer)) (delivered-unread dir cells (record { side = caller.side; at = 1; way = Down }) (flush_message (flush_bytes (asked_of what band))) s)
-      call-read caller (Ioctl command body) answer = quiet caller (gone cells s (Called caller (Ioctl command body) answer)) (delivered-unread dir cells (record { side = caller.side; at = 1; way = Down }) (ioctl_message (asking command s.next_ioctl) body) (ioctl_begun caller.side command s))
-      call-read caller Shut answer = quiet caller (gone cells s (Called caller Shut answer)) (close-unread dir cells caller.side s)
-      call-read caller (Push name) answer = quiet caller (gone cells s (Called caller (Push name) answer)) (push-unread dir cells caller.side (named_by name) s)
-      call-read caller Pop answer = quiet caller (gone cells s (Called caller Pop answer)) (pop-unread dir cells caller.side s)
-      call-read caller OpenMaster answer = quiet caller [] refl
-      call-read caller Unlock answer = quiet caller [] refl
-      call-read caller OpenSlave answer = quiet caller [] refl
-      call-read caller Look answer = quiet caller [] refl
-      call-read caller (Mode mode) answer = quiet caller [] refl
-      call-read caller Nread answer = quiet caller [] refl
-      call-read caller (IoctlResult number) answer = quiet caller [] refl
-      call-read caller Signals answer = quiet caller [] refl
+      performed-read caller (Put prio control body) = quiet caller (put_at cells caller.side prio control body s).gone (put-unread caller.side prio control body s)
+      performed-read caller (Flush what band) =
+          quiet caller (flushed_on cells band caller.side what s).gone (delivered-unread dir cells (record { side = caller.side; at = 1; way = Down }) (flush_message (flush_bytes (asked_of what band))) s)
+      performed-read caller (Ioctl command body) = at (asks_group caller.side command)
+        where
+          at : (group : Bool) → Reads caller (Ioctl command body) (cond group (group_at caller.side command body s) (ioctl_at cells caller.side command body s))
+          at true = quiet caller [] refl
+          at false =
+              quiet caller (ioctl_sent cells caller.side command body s).gone
+              (delivered-unread dir cells (record { side = caller.side; at = 1; way = Down }) (ioctl_message (asking command s.next_ioctl) body) (ioctl_begun caller.side command s))
+      performed-read caller Shut = quiet caller (closed_at caller.side s).gone (close-unread dir cells caller.side s)
+      performed-read caller (Push name) = quiet caller (pushed_named caller.side (named_by name) s).gone (push-unread dir cells caller.side (named_by name) s)
+      performed-read caller Pop = quiet caller (popped caller.side s).gone (pop-unread dir cells caller.side s)
+      performed-read caller _ = quiet caller [] refl
+
+      -- who is stopped reads nothing
+      none-read : (asked : Request) (signal : StopSignal) → read_by asked (Stop signal) ≡ 0
+      none-read (Read n) signal = refl
+      none-read (Get wanted cmax dmax) signal = refl
+      none-read _ signal = refl
+
+      -- a call
+      pub call-read : (caller : Caller) (asked : Request) → Reads caller asked (called cells caller asked s)
+      call-read caller asked =
+          of-called cells caller asked s (Reads caller asked)
+          (λ signal. sym (only-none dir (direction_of (head_of caller.side))) ∙ ap (λ n. only_in dir (direction_of (head_of caller.side)) n) (sym (none-read asked signal)))
+          (performed-read caller asked)
 
       received-by : (d : Dir) (side : Side) (n : ℕ) → only_in d (direction_of (head_of side)) n ≡ received_by side d n
       received-by MasterToSlave Master n = refl
@@ -139,6 +158,6 @@ module _ {C : Type 0} (dir : Dir) where
       -- a step
       pub step-read : (entry : PlainEntry) (t : State C) → Step cells s entry t → reads dir (gone cells s entry) ≡ read_in dir entry
       step-read (Called caller asked answer) t step =
-          call-read caller asked answer ∙ ap (λ (r : Reply). only_in dir (direction_of (head_of caller.side)) (read_by asked r)) step.answered
+          call-read caller asked ∙ ap (λ (r : Reply). only_in dir (direction_of (head_of caller.side)) (read_by asked r)) step.answered
           ∙ received-by dir caller.side (read_by asked answer)
       step-read (Turned name turn) t step = turn-unread dir cells name turn s

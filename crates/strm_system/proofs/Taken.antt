@@ -20,11 +20,10 @@ use Rattle.strm_types.specs.Queue.{Queue, left_with, relieved, weight}
 use Rattle.strm_types.specs.Reads.{Drawn, head_draw, none_went, queue_drawn, read_fates, read_gone, read_queue, takes_none}
 use Rattle.strm_types.proofs.ReadKeeps.{head_draw-keeps}
 use Rattle.strm_types.proofs.Weights.{count-join}
-use Rattle.strm_laws.specs.Calls.{get_at, read_at}
-use Rattle.strm_laws.specs.Kept.{read_loses}
+use Rattle.strm_laws.specs.Calls.{Outcome, get_at, read_at}
 use Rattle.strm_laws.specs.Ledgers.{inline, queued}
 use Rattle.strm_laws.specs.Places.{weight_gone, weight_made}
-use Rattle.strm_laws.specs.State.{State, stream}
+use Rattle.strm_laws.specs.State.{State}
 use Rattle.strm_laws.proofs.GotQueues.{get_queue-keeps}
 use Rattle.strm_system.proofs.Counting.{gone_in}
 use Rattle.strm_system.proofs.Unread.{only_in}
@@ -93,20 +92,15 @@ module _ {C : Type 0} where
         once-made none d Rattle.strm_types.specs.declared.rules.Rule.TheVariants.Read got,
       )
 
+  -- what a call of a side takes stood on the queues of the direction that the side reads, and nothing else changes there
+  abbrev pub Takes : Side → State C → Outcome C → Type 0
+  Takes side s outcome = let d = direction_of (head_of side) in (inline d outcome.state ≡ inline d s) × (gone_in d outcome.gone + queued d outcome.state ≡ queued d s)
+
   module _ (cells : Cells C) where
-    pub read-queued : (side : Side) (n : ℕ) (s : State C) → let d = direction_of (head_of side) in gone_in d (read_loses side n s) + queued d (read_at cells side n s).state ≡ queued d s
-    read-queued Master n s = let h = s.ends.master.head in omega (arith, read-leaves SlaveToMaster h.read_mode h.control_mode (min n READ_MAX) h.queue)
-    read-queued Slave n s = let h = s.ends.slave.head in omega (arith, read-leaves MasterToSlave h.read_mode h.control_mode (min n READ_MAX) h.queue)
+    pub read-takes : (side : Side) (n : ℕ) (s : State C) → Takes side s (read_at cells side n s)
+    read-takes Master n s = let h = s.ends.master.head in (refl, omega (arith, read-leaves SlaveToMaster h.read_mode h.control_mode (min n READ_MAX) h.queue))
+    read-takes Slave n s = let h = s.ends.slave.head in (refl, omega (arith, read-leaves MasterToSlave h.read_mode h.control_mode (min n READ_MAX) h.queue))
 
-    pub get-queued : (side : Side) (wanted : Wanted) (cmax dmax : ℕ) (s : State C) → let d = direction_of (head_of side) in
-        gone_in d (get_gone d wanted (min cmax READ_MAX) (min dmax READ_MAX) (stream side s).head.queue.messages) + queued d (get_at cells side wanted cmax dmax s).state ≡ queued d s
-    get-queued Master wanted cmax dmax s = omega (arith, get-leaves SlaveToMaster wanted (min cmax READ_MAX) (min dmax READ_MAX) s.ends.master.head.queue)
-    get-queued Slave wanted cmax dmax s = omega (arith, get-leaves MasterToSlave wanted (min cmax READ_MAX) (min dmax READ_MAX) s.ends.slave.head.queue)
-
-    pub read-inline : (side : Side) (n : ℕ) (s : State C) → let d = direction_of (head_of side) in inline d (read_at cells side n s).state ≡ inline d s
-    read-inline Master n s = refl
-    read-inline Slave n s = refl
-
-    pub get-inline : (side : Side) (wanted : Wanted) (cmax dmax : ℕ) (s : State C) → let d = direction_of (head_of side) in inline d (get_at cells side wanted cmax dmax s).state ≡ inline d s
-    get-inline Master wanted cmax dmax s = refl
-    get-inline Slave wanted cmax dmax s = refl
+    pub get-takes : (side : Side) (wanted : Wanted) (cmax dmax : ℕ) (s : State C) → Takes side s (get_at cells side wanted cmax dmax s)
+    get-takes Master wanted cmax dmax s = (refl, omega (arith, get-leaves SlaveToMaster wanted (min cmax READ_MAX) (min dmax READ_MAX) s.ends.master.head.queue))
+    get-takes Slave wanted cmax dmax s = (refl, omega (arith, get-leaves MasterToSlave wanted (min cmax READ_MAX) (min dmax READ_MAX) s.ends.slave.head.queue))

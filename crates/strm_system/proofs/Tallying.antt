@@ -15,7 +15,7 @@ use Rattle.strm_types.specs.Events.{Reply, Request}
 use Rattle.strm_types.specs.Journal.{PlainEntry}
 use Rattle.strm_types.specs.Names.{direction_of, head_of}
 use Rattle.strm_types.specs.Rules.{fates_of}
-use Rattle.strm_laws.specs.Calls.{called}
+use Rattle.strm_laws.specs.Calls.{called, performed}
 use Rattle.strm_laws.specs.Kept.{gone}
 use Rattle.strm_laws.specs.Ledgers.{inline, queued}
 use Rattle.strm_laws.specs.Pair.{AddsEntry, PairState}
@@ -23,11 +23,12 @@ use Rattle.strm_laws.specs.State.{State, book}
 use Rattle.strm_laws.specs.Step.{Step}
 use Rattle.strm_laws.proofs.Balances.{still-same}
 use Rattle.strm_laws.proofs.PutsBook.{SameBooks, books-are}
+use Rattle.strm_laws.proofs.Stopping.{of-called}
 use Rattle.strm_locks.specs.Tallies.{Tallies, bytes_read, read_by, received_by}
 use Rattle.strm_system.specs.Known.{AreCounts, IsKnown}
 use Rattle.strm_system.proofs.Counting.{all-grow, gone_in, reads-grow, sum_of}
 use Rattle.strm_system.proofs.Reading.{call-read, step-read}
-use Rattle.strm_system.proofs.Taken.{get-inline, get-queued, read-inline, read-queued}
+use Rattle.strm_system.proofs.Taken.{Takes, get-takes, read-takes}
 use Rattle.strm_system.proofs.Unread.{only_in, reads}
 use Rattle.strm_system.proofs.Written.{step-written}
 
@@ -65,17 +66,21 @@ module _ (caller : Caller) (answer : Reply) (s t : State ℕ) (f : Fates) where
   abbrev d : Dir
   d = direction_of (head_of caller.side)
 
+  -- who is stopped takes nothing
+  stopped-or : (asked : Request) → Takes caller.side s (performed plain caller asked s) → Takes caller.side s (called plain caller asked s)
+  stopped-or asked = of-called plain caller asked s (Takes caller.side s) (λ signal. (refl, omega arith))
+
   -- a call that takes from the queues of the direction that its side reads
   takes : (asked : Request) → let told = gone plain s (Called caller asked answer) in let u = (called plain caller asked s).state in
-      AreCounts f → AreCounts (tallied told f) → SameBooks s u → inline d u ≡ inline d s → gone_in d told + queued d u ≡ queued d s
+      AreCounts f → AreCounts (tallied told f) → SameBooks s u → Takes caller.side s (called plain caller asked s)
       → Balance d s f → Balance d t (tallied told f) → u ≡ t → (dir : Dir) → Grows dir told f
-  takes asked counts after same lines stood before behind leads dir =
+  takes asked counts after same taken before behind leads dir =
       let told = gone plain s (Called caller asked answer) in
       let u = (called plain caller asked s).state in
       let now : Balance d u (tallied told f) = subst (λ (v : State ℕ). Balance d v (tallied told f)) (sym leads) behind in
       either-dir dir d (Grows dir told f)
-      (λ is. subst (λ (e : Dir). Grows e told f) (sym is) (all-grow d told f (counts d).0 (after d).1 (full d s u f (tallied told f) told (books-are s u same d) lines stood before now)))
-      (λ apart. quiet dir told f counts (call-read dir plain s caller asked answer ∙ apart (read_by asked (called plain caller asked s).answer)))
+      (λ is. subst (λ (e : Dir). Grows e told f) (sym is) (all-grow d told f (counts d).0 (after d).1 (full d s u f (tallied told f) told (books-are s u same d) taken.0 taken.1 before now)))
+      (λ apart. quiet dir told f counts (call-read dir plain s caller asked ∙ apart (read_by asked (called plain caller asked s).answer)))
 
   -- one that reads nothing
   rests : (asked : Request) → read_by asked answer ≡ 0 → AreCounts f → Step plain s (Called caller asked answer) t → (dir : Dir) → Grows dir (gone plain s (Called caller asked answer)) f
@@ -86,9 +91,9 @@ module _ (caller : Caller) (answer : Reply) (s t : State ℕ) (f : Fates) where
   call-grows : (asked : Request) → let told = gone plain s (Called caller asked answer) in AreCounts f → AreCounts (tallied told f) → Balance d s f → Balance d t (tallied told f)
       → Step plain s (Called caller asked answer) t → (dir : Dir) → Grows dir told f
   call-grows (Read n) counts after before behind step dir =
-      takes (Read n) counts after (still-same plain caller (Read n) s refl) (read-inline plain caller.side n s) (read-queued plain caller.side n s) before behind step.leads dir
+      takes (Read n) counts after (still-same plain caller (Read n) s refl) (stopped-or (Read n) (read-takes plain caller.side n s)) before behind step.leads dir
   call-grows (Get wanted cmax dmax) counts after before behind step dir =
-      takes (Get wanted cmax dmax) counts after (still-same plain caller (Get wanted cmax dmax) s refl) (get-inline plain caller.side wanted cmax dmax s) (get-queued plain caller.side wanted cmax dmax s) before behind step.leads dir
+      takes (Get wanted cmax dmax) counts after (still-same plain caller (Get wanted cmax dmax) s refl) (stopped-or (Get wanted cmax dmax) (get-takes plain caller.side wanted cmax dmax s)) before behind step.leads dir
   call-grows asked counts after before behind step dir = rests asked refl counts step dir
 
 entry-grows : (p q : PairState) (e : PlainEntry) → IsKnown e p → IsKnown e q → AddsEntry p q e → (dir : Dir) → Grows dir (gone plain p.state e) p.fates

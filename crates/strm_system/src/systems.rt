@@ -12,7 +12,7 @@ use std::test::Fail;
 use std::thread::{Threads, join, yield_now};
 use strm_locks::{Gate, NoGate, PairEnd, System};
 use strm_minors::{Minor, Opener};
-use strm_types::{Config, Content, Event, FlushQueues, Refusal};
+use strm_types::{Answer, Config, Content, Event, FlushQueues, Refusal, StopSignal, TIOCSPGRP};
 
 pub(crate) type PairSystem = System<Locked<Store>>;
 
@@ -162,6 +162,37 @@ fn an_end_of_one_part_opens_no_slave(rt: HostRuntime) -> Result<(), Fail> {
     assert!(rt; end.end().parts() == 1);
     assert!(rt; matches!(&system.open_slave(&rt, &mut end), Err(Refusal::Erange)));
     assert!(rt; system.settle(&rt, end).is_err());
+    Ok(())
+}
+
+#[test]
+fn an_end_in_the_background_is_stopped_where_another_reads(rt: HostRuntime) -> Result<(), Fail> {
+    let (system, mut opener) = system(rt.alloc(), 1, SIZES)?;
+    let mut out = Content::new();
+    let minor = system.minors().claim(&mut opener)?;
+    let Ok((mut master, slave)) = opened(&rt, &system, &minor) else {
+        panic!(rt; "refused")
+    };
+    let Ok((mut shell, mut job)) = system.split(slave) else {
+        panic!(rt; "one part")
+    };
+    shell.set_group(5, false, false);
+    job.set_group(7, false, false);
+    let foreground = Event::Ioctl {
+        command: TIOCSPGRP,
+        body: [0, 0, 0, 5].as_slice(),
+    };
+    let set = system.call(&rt, &mut shell, &foreground, &mut out);
+    let bytes = b"abc".as_slice();
+    let written = system.call(&rt, &mut master, &Event::Write { bytes }, &mut out);
+    let report = system.run_workers(&rt, 1, 1, &NoGate);
+    assert!(rt; set.is_ok() && written.is_ok() && report.turns == 1);
+    let stopped = system.call(&rt, &mut job, &Event::Read { n: 10 }, &mut out);
+    assert!(rt; matches!(&stopped, Ok(Answer::Stop(StopSignal::Ttin))));
+    let read = system.call(&rt, &mut shell, &Event::Read { n: 10 }, &mut out);
+    assert!(rt; read.is_ok() && out.as_slice() == bytes);
+    assert!(rt; job.end().told().calls == 1 && job.end().told().read.from_master == 0);
+    assert!(rt; shell.end().told().calls == 2 && shell.end().told().read.from_master == 3);
     Ok(())
 }
 
