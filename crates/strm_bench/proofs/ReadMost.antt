@@ -4,7 +4,7 @@ use Rattle.std.specs.Prelude.{min, Result, Ok, Err, IfOk, is_ok}
 use Rattle.std.specs.Bool.{OnTrue}
 use Rattle.std.proofs.lemmas.List.{length-map}
 use Rattle.strm_types.specs.declared.answers.Answer.{Answer}
-use Rattle.strm_types.specs.declared.answers.Answer.TheVariants.{Done, Name, Count, Bytes, Msg, Sizes, Pending, Nak, Signals}
+use Rattle.strm_types.specs.declared.answers.Answer.TheVariants.{Done, Name, Count, Bytes, Msg, Sizes, Pending, Nak, Signals, Stop}
 use Rattle.strm_types.specs.declared.entries.Entry.TheVariants.{Called}
 use Rattle.strm_types.specs.declared.events.Caller.{Caller}
 use Rattle.strm_types.specs.declared.events.Event.TheVariants.{Read}
@@ -29,6 +29,7 @@ counted (Msg prio control body more_control more_data) out given len is = absurd
 counted (Sizes first messages) out given len is = absurd (cc)
 counted (Pending number) out given len is = absurd (cc)
 counted (Nak refusal) out given len is = absurd (cc)
+counted (Stop signal) out given len is = absurd (cc)
 counted (Signals n) out given len is = absurd (cc)
 
 pub read-most : (old new : PairState) (caller : Caller) (n : ℕ) (out : List ℕ) (r : Result (Answer ℕ) Refusal)
