@@ -1,19 +1,11 @@
 -- What a service procedure may ask, where it may stop, and what it leaves room for.
 use Rattle.std.specs.Prelude.{ℕ, ◌≡◌, ◌<◌, ◌+◌, min, Bool, true, false, if◌then◌else◌, List, Option, None, Some}
-use Rattle.strm_types.specs.declared.limits.TheConstants.{BANDS}
 use Rattle.strm_types.specs.declared.spots.Spot.{Spot}
 use Rattle.strm_types.specs.Message.{Message}
 use Rattle.strm_types.specs.Deliver.{Parcel}
 use Rattle.strm_blocks.specs.Blocks.{StoreValue, free_m, free_d}
-use Rattle.strm_types.specs.declared.spots.Asks.{Asks}
-use Rattle.strm_types.specs.declared.spots.Asks.TheVariants.{Room}
 use Rattle.strm_frame.specs.declared.service.Served.{Served}
 use Rattle.strm_types.specs.Costs.{cost_of}
-
--- a band that is asked for is one that queues have
-abbrev pub IsBand : Asks → Type 0
-IsBand (Room band) = band.0 < BANDS
-IsBand _ = Unit {0}
 
 -- what is in hand is the same, and the store has as many blocks
 pub record SameHand (old new : StoreValue) : Type 0 where

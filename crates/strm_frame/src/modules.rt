@@ -13,7 +13,7 @@ ghost use Rattle.strm_types.specs.Message.{Message};
 ghost use Rattle.strm_types.specs.LdtermCalls.{most_made};
 ghost use Rattle.strm_types.specs.Queue.{first_size, Queue, bytes_of, count_of};
 ghost use Rattle.strm_types.specs.declared.keys.TheConstants.{LINE_MAX};
-ghost use Rattle.strm_types.specs.declared.limits.TheConstants.{BANDS, MODULES, STOP_BLOCKS};
+ghost use Rattle.strm_types.specs.declared.limits.TheConstants.{MODULES, STOP_BLOCKS};
 ghost use Rattle.strm_types.specs.Deliver.{Acted, AreLower, tallied};
 ghost use Rattle.strm_types.specs.Refused.{has_no_data};
 ghost use Rattle.strm_types.specs.ModuleQueues.{has_queue, messages_at, full_at, waits, queue_changed};
@@ -22,7 +22,7 @@ ghost use Rattle.strm_blocks.specs.Blocks.{StoreValue, in_hand, token};
 ghost use Rattle.strm_msg.specs.Messages.{IsChain};
 ghost use Rattle.strm_frame.specs.Outboxes.{message_in, sent_of, times_sent, parcels_in, AreChains};
 ghost use Rattle.strm_queue.specs.Stored.{FreesBlocks};
-ghost use Rattle.strm_frame.specs.Serves.{IsBand, SameHand, least_free, stop_of, later_cost};
+ghost use Rattle.strm_frame.specs.Serves.{SameHand, least_free, stop_of, later_cost};
 ghost use Rattle.strm_frame.specs.Hands.{AreIn, CanPut, Handles, Hands, SamePool, SameOwn, OnlyOwn, HasRoom, Spends};
 
 use crate::parcels::Outbox;
@@ -172,13 +172,11 @@ pub trait Module: Drop {
     /// Whether a band of its queue of a way is full. Without such a queue it isn't.
     fn is_full<B: Blocks>(&self, store: &B, way: Way, band: Band) -> bool
         requires held { IsHeld (B.value store.now) self.now }
-        requires band { band.0 < BANDS }
         ensures { result ≡ full_at queue_of way band.0 (plain (B.value store.now) self.now) };
 
     /// How many bytes count in a band of its queue of a way; none without such a queue.
     fn count<B: Blocks>(&self, store: &B, way: Way, band: Band) -> usize
         requires held { IsHeld (B.value store.now) self.now }
-        requires band { band.0 < BANDS }
         ensures { result ≡ count_of band.0 (messages_at queue_of way (plain (B.value store.now) self.now)) };
 
     /// How many messages stand on its queue of a way, and how many bytes they have; nothing without such a queue.
@@ -205,7 +203,6 @@ pub trait Module: Drop {
 
     /// Has a writer of a band wait at its queue of a way, until there is room again: want-write is set there.
     fn let_wait(&mut self, way: Way, band: Band)
-        requires band { band.0 < BANDS }
         ensures state { (s : StoreValue) →
             plain s self.new ≡ waits queue_of with_queue way band.0 (plain s self.old) }
         ensures held { (s : StoreValue) → IsHeld s self.old → IsHeld s self.new }
@@ -217,7 +214,6 @@ pub trait Module: Drop {
     fn asks<B: Blocks>(&self, store: &B, way: Way) -> Asks
         requires held { IsHeld (B.value store.now) self.now }
         ensures asks { result ≡ asks way (plain (B.value store.now) self.now) }
-        ensures band { IsBand result }
         ensures few { first_size (messages_at queue_of way (plain (B.value store.now) self.now)) ≤ 16777216 };
 
     /// Treats the first message of its queue of a way: `srv(9E)`. `again` is for one more call in the same turn, once all

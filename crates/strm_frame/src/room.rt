@@ -3,7 +3,6 @@
 
 ghost use Rattle.std.specs.Prelude.{ℕ, ◌≡◌, ◌<◌, ◌≤◌, ◌-◌, false, not, [], length, map, slice_index_or};
 ghost use Rattle.std.specs.List.{AllByRecursion, list_any};
-ghost use Rattle.strm_types.specs.declared.limits.TheConstants.{BANDS};
 ghost use Rattle.strm_types.specs.Queue.{bytes_of, count_of, first_size};
 ghost use Rattle.strm_types.specs.declared.names.Way.TheVariants.{Up};
 ghost use Rattle.strm_types.specs.Modules.{change_among};
@@ -54,7 +53,6 @@ fn is_full_among<B: Blocks, M: Module>(
 ) -> bool
     requires within { at < length modules.now }
     requires held { AreHeld M.IsHeld M.owns (B.value store.now) modules.now }
-    requires band { band.0 < BANDS }
     ensures { result ≡ slice_index_or (map (full_at M.queue_of way band.0) (map (M.plain (B.value store.now)) modules.now))
         at false }
 {
@@ -71,7 +69,6 @@ fn room_at<B: Blocks, M: Module>(
 ) -> Option<bool>
     requires place { IsPlace (length modules.now) place }
     requires held { AreHeld M.IsHeld M.owns (B.value store.now) modules.now }
-    requires band { band.0 < BANDS }
     ensures { result ≡ room_at M.queue_of way band.0 (map (M.plain (B.value store.now)) modules.now) place }
 {
     match place {
@@ -83,7 +80,6 @@ fn room_at<B: Blocks, M: Module>(
 // Has a writer of a band wait at a queue of one of several modules, counted from 0.
 fn let_wait_among<M: Module>(modules: &mut [M], at: usize, way: Way, band: Band)
     requires within { at < length modules.old }
-    requires band { band.0 < BANDS }
     ensures length { length modules.new ≡ length modules.old }
     ensures state { (s : StoreValue) → map (M.plain s) modules.new ≡
         change_among (waits M.queue_of M.with_queue way band.0) at (map (M.plain s) modules.old) }
@@ -97,7 +93,6 @@ fn let_wait_among<M: Module>(modules: &mut [M], at: usize, way: Way, band: Band)
 // The same at a place, where there is one.
 fn let_wait_at<M: Module>(modules: &mut [M], place: Option<usize>, way: Way, band: Band)
     requires place { IsPlace (length modules.old) place }
-    requires band { band.0 < BANDS }
     ensures length { length modules.new ≡ length modules.old }
     ensures state { (s : StoreValue) → map (M.plain s) modules.new ≡
         waits_at M.queue_of M.with_queue way band.0 (map (M.plain s) modules.old) place }
@@ -121,7 +116,6 @@ fn count_among<B: Blocks, M: Module>(
 ) -> usize
     requires within { at < length modules.now }
     requires held { AreHeld M.IsHeld M.owns (B.value store.now) modules.now }
-    requires band { band.0 < BANDS }
     ensures { result ≡ count_of band.0 (slice_index_or (map (messages_at M.queue_of way)
         (map (M.plain (B.value store.now)) modules.now)) at []) }
 {
@@ -199,7 +193,6 @@ impl<M: Module + Default> Stream<M> {
     /// behind the modules is asked. Nobody waits for room by this.
     pub fn can_pass<B: Blocks>(&self, store: &B, way: Way, band: Band, at: usize) -> Option<bool>
         requires held { AreHeld M.IsHeld M.owns (B.value store.now) self.now.modules.items }
-        requires band { band.0 < BANDS }
         ensures { result ≡ can_pass M.queue_of way band.0 at
             (map (M.plain (B.value store.now)) self.now.modules.items) }
     {
@@ -210,7 +203,6 @@ impl<M: Module + Default> Stream<M> {
     /// Has a service procedure wait for room in a band of the nearest queue past a place, as messages of a way go:
     /// want-write is set there. Nothing where no module there has a queue.
     pub fn let_wait_past(&mut self, way: Way, band: Band, at: usize)
-        requires { band.0 < BANDS }
         ensures length { length self.new.modules.items ≡ length self.old.modules.items }
         ensures state { (s : StoreValue) → map (M.plain s) self.new.modules.items ≡
             waits_past M.queue_of M.with_queue way band.0 at (map (M.plain s) self.old.modules.items) }
@@ -261,7 +253,6 @@ impl<M: Module + Default> Stream<M> {
         requires inside { 0 < place }
         requires within { place ≤ length self.now.modules.items }
         requires held { AreHeld M.IsHeld M.owns (B.value store.now) self.now.modules.items }
-        requires band { band.0 < BANDS }
         ensures { result ≡ count_of band.0 (at_place (messages_at M.queue_of way) [] place
             (map (M.plain (B.value store.now)) self.now.modules.items)) }
     {
@@ -273,7 +264,6 @@ impl<M: Module + Default> Stream<M> {
         requires inside { 0 < place }
         requires within { place ≤ length self.now.modules.items }
         requires held { AreHeld M.IsHeld M.owns (B.value store.now) self.now.modules.items }
-        requires band { band.0 < BANDS }
         ensures { result ≡ at_place (full_at M.queue_of way band.0) false place
             (map (M.plain (B.value store.now)) self.now.modules.items) }
     {

@@ -15,7 +15,7 @@ ghost use Rattle.strm_types.specs.LdtermCalls.{most_made};
 ghost use Rattle.strm_types.specs.Queue.{first_size};
 ghost use Rattle.strm_frame.specs.Hands.{AreIn, Handles, OnlyOwn, SamePool, HasRoom};
 ghost use Rattle.strm_frame.specs.Outboxes.{sent_of, times_sent, parcels_in, AreChains};
-ghost use Rattle.strm_frame.specs.Serves.{IsBand, least_free, stop_of, later_cost};
+ghost use Rattle.strm_frame.specs.Serves.{least_free, stop_of, later_cost};
 ghost use Rattle.strm_frame.specs.Stacks.{all_of, AreHeld};
 
 use crate::modules::Module;
@@ -29,7 +29,6 @@ fn asks_among<B: Blocks, M: Module>(store: &B, modules: &[M], at: usize, way: Wa
     requires within { at < length modules.now }
     requires held { AreHeld M.IsHeld M.owns (B.value store.now) modules.now }
     ensures asks { result ≡ slice_index_or (map (M.asks way) (map (M.plain (B.value store.now)) modules.now)) at Empty }
-    ensures band { IsBand result }
     ensures few { slice_index_or (map (λ p. first_size (messages_at M.queue_of way p))
         (map (M.plain (B.value store.now)) modules.now)) at 0 ≤ 16777216 }
 {
@@ -122,7 +121,6 @@ impl<M: Module + Default> Stream<M> {
         requires held { AreHeld M.IsHeld M.owns (B.value store.now) self.now.modules.items }
         ensures asks { result ≡ at_place (M.asks way) Empty place
             (map (M.plain (B.value store.now)) self.now.modules.items) }
-        ensures band { IsBand result }
         ensures few { at_place (λ p. first_size (messages_at M.queue_of way p)) 0 place
             (map (M.plain (B.value store.now)) self.now.modules.items) ≤ 16777216 }
     {

@@ -87,7 +87,7 @@ module _ (k : MsgKind) (front behind : List Block) (some : 0 < length front) (is
       ∙ ap (λ o. record { kind = k; band = (block_at 0 chain).band; control = o; body = part_of (data_blocks chain); plain = [] }) (part-some front some)
       ∙ ap (λ xs. parts_in k (block_at 0 chain).band (bytes_of front) (part_of xs)) (data-behind k front behind is of_kind of_data)
 
-  pub both-chain : (is_high_priority k ≡ true → (block_at 0 (front ++ behind)).band ≡ 0) → (block_at 0 (front ++ behind)).band < 8 → IsChain (front ++ behind)
+  pub both-chain : (is_high_priority k ≡ true → (block_at 0 (front ++ behind)).band ≡ 0) → (block_at 0 (front ++ behind)).band < 256 → IsChain (front ++ behind)
   both-chain high low =
       let kind = first-kind k front behind some of_kind in
       record {
@@ -106,7 +106,7 @@ module _ (blocks : List Block) (some : 0 < length blocks) (all : AreData blocks)
   pub data-message : message_of blocks ≡ data_in (block_at 0 blocks).band (bytes_of blocks)
   data-message = data-shown blocks some data-kind ∙ ap (λ xs. data_in (block_at 0 blocks).band (bytes_of xs)) (data-all blocks all)
 
-  data-chain : (block_at 0 blocks).band < 8 → IsChain blocks
+  data-chain : (block_at 0 blocks).band < 256 → IsChain blocks
   data-chain low = record {
     some = some;
     all_data = λ m_data. all;

@@ -82,10 +82,10 @@ held-keeps s got new q q' i within p chain ready one kind b list counted =
     list counted
 
 -- a message counts in one of the bands
-pub band-within : (chain : List Block) → IsChain chain → counted_band (block_at 0 chain).kind (block_at 0 chain).band < 8
+pub band-within : (chain : List Block) → IsChain chain → counted_band (block_at 0 chain).kind (block_at 0 chain).band < 256
 band-within chain one = at (is_high_priority (block_at 0 chain).kind)
   where
-    at : (b : Bool) → cond b 0 (block_at 0 chain).band < 8
+    at : (b : Bool) → cond b 0 (block_at 0 chain).band < 256
     at true = omega arith
     at false = one.low
 

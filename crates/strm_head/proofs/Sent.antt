@@ -51,9 +51,9 @@ module _ (prio : Prio) (control body : Option (List ℕ)) (none : put_refusal pr
       let few : nat_lt 256 (length (part body)) ≡ false = (either-false (nat_lt 64 (length (part control))) (nat_lt 256 (length (part body))) (allowed prio control body none).short).1 in
       grind (arith, nat_tests)
 
-band-low : (prio : Prio) (control : Option (List ℕ)) → is_no_prio prio control ≡ false → put_band prio < 8
+band-low : (prio : Prio) (control : Option (List ℕ)) → is_no_prio prio control ≡ false → put_band prio < 256
 band-low High control is = omega arith
-band-low (Band band) control is = let low : nat_le 8 band.0 ≡ false = is in grind (arith, nat_tests)
+band-low (Band band) control is = let low : nat_le 256 band.0 ≡ false = is in grind (arith, nat_tests)
 
 -- one of high priority has a control part
 never-high : (body : Option (List ℕ)) → put_refusal High None body ≡ None → ⊥
@@ -84,7 +84,7 @@ unfolding is_high_priority
 data-low is = absurd (cc)
 
 -- a block of a control part, and the data part behind it
-module _ (prio : Prio) (low : put_band prio < 8) (number : ℕ) (bytes : List ℕ) (behind : List Block) (all : AreData behind) where
+module _ (prio : Prio) (low : put_band prio < 256) (number : ℕ) (bytes : List ℕ) (behind : List Block) (all : AreData behind) where
   abbrev block : Block
   block = copy_of number (filled_block (control_kind prio) (put_band prio) bytes)
 
@@ -107,7 +107,7 @@ module _ (prio : Prio) (low : put_band prio < 8) (number : ℕ) (bytes : List �
       ∙ ap (λ xs. record { kind = control_kind prio; band = put_band prio; control = Some xs; body = part_of behind; plain = [] }) (append-nil bytes)
 
 -- an M_DATA block
-module _ (band number : ℕ) (low : band < 8) (bytes : List ℕ) where
+module _ (band number : ℕ) (low : band < 256) (bytes : List ℕ) where
   abbrev data_block : Block
   data_block = copy_of number (filled_block kinds.Data band bytes)
 

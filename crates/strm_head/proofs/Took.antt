@@ -104,8 +104,8 @@ module _ (s got cut : StoreValue) (q : Queue) (i cmax dmax n d : ℕ) (within : 
   pub rest-some : more ≡ true → 0 < length (bytes_of (in_hand cut i))
   rest-some is = subst (λ c. 0 < length (bytes_of c)) (sym in_cut) (some_left is)
 
-  pub rest-low : more ≡ true → kept.band_of (without_emptied (in_hand cut i)) < 8
-  rest-low is = subst (λ c. kept.band_of (without_emptied c) < 8) (sym in_cut) (chain-low rest (rest_one is))
+  pub rest-low : more ≡ true → kept.band_of (without_emptied (in_hand cut i)) < 256
+  rest-low is = subst (λ c. kept.band_of (without_emptied c) < 256) (sym in_cut) (chain-low rest (rest_one is))
 
   -- what was given
   module _ (result : Gotten) (out : List ℕ) (out_is : out ≡ take n (control_bytes (in_hand got i)) ++ take d (data_bytes (in_hand got i)))

@@ -24,7 +24,7 @@ use strm_blocks::{Blocks, InHand};
 use strm_msg::{control_len, data_len, free_emptied, take_control, take_data};
 use strm_queue::Queue;
 use strm_queue::standing::relieve;
-use strm_types::{BANDS, Band, Content, Dir, Fates, Prio, Rule, Wanted};
+use strm_types::{Band, Content, Dir, Fates, Prio, Rule, Wanted};
 
 /// What a getmsg(2) gave of the first message.
 #[derive(Clone, Copy, Debug, PartialEq)]
@@ -157,7 +157,6 @@ fn put_rest<B: Blocks>(store: &mut B, queue: &mut Queue, message: InHand, left: 
     requires counted { AreCounted queue.old.flows (list_at (B.value store.old) queue.old.list) }
     requires in_hand { IsInHand (B.value store.old) (token message) }
     requires some { left ≡ true → 0 < length (bytes_of (in_hand (B.value store.old) (token message))) }
-    requires band { left ≡ true → band_of (without_emptied (in_hand (B.value store.old) (token message))) < BANDS }
     ensures left { B.value store.new ≡ put_rest left (B.value store.old) (token message) queue.old.list
         (without_emptied (in_hand (B.value store.old) (token message))) }
     ensures counted { AreCounted queue.new.flows (list_at (B.value store.new) queue.new.list) }

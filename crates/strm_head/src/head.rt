@@ -10,7 +10,7 @@ use crate::signals::Signals;
 use crate::standing::{finds_none, starts_refused};
 use crate::{reading, standing};
 use strm_blocks::Blocks;
-use strm_queue::Queue;
+use strm_queue::{HEAD_HIGH, HEAD_LOW, Queue};
 use strm_queue::lengths::first_data;
 use strm_queue::standing::sizes;
 use strm_types::{
@@ -46,7 +46,9 @@ pub struct Waiting {
 
 impl Head {
     ghost use Rattle.strm_blocks.specs.Blocks.{StoreValue};
-    ghost use Rattle.strm_types.specs.Heads.{with_mode};
+    ghost use Rattle.strm_blocks.specs.Blocks.{list_at};
+    ghost use Rattle.strm_queue.specs.Kept.{AreCounted};
+    ghost use Rattle.strm_types.specs.Heads.{new_head, with_mode};
     ghost use Rattle.strm_types.specs.JobControl as job_control;
     ghost use Rattle.strm_types.specs.JobControl.{foreground};
     ghost use Rattle.strm_head.specs.Leaving.{Frees};
@@ -73,6 +75,22 @@ impl Head {
             signals: Signals::new(),
             ioctl: Slot::Free,
         }
+    }
+
+    /// Makes the head as new, in place, where nothing stands on its queue.
+    pub fn renew(&mut self)
+        ensures list { self.new.queue.list ≡ self.old.queue.list }
+        ensures counted { AreCounted self.new.queue.flows [] }
+        ensures head { (s : StoreValue) → list_at s self.old.queue.list ≡ [] → head_in s self.new ≡ new_head }
+    {
+        self.queue.renew(HEAD_HIGH, HEAD_LOW);
+        self.read_mode = ReadMode::ByteStream;
+        self.control_mode = ControlMode::Refuse;
+        self.tostop = false;
+        self.group = 0;
+        self.hung_up = false;
+        self.signals = Signals::new();
+        self.ioctl = Slot::Free;
     }
 
     ghost use Rattle.strm_types.specs.declared.modes.ReadMode.TheVariants.{ByteStream};

@@ -7,7 +7,6 @@ ghost use Rattle.strm_types.specs.Flushing.{asked_by, is_flush};
 ghost use Rattle.strm_types.specs.Heads.{is_pcproto, waits_for_readers, head_flushed, flush_up, with_marks_given, with_options, nak_down, obeyed, head_put};
 ghost use Rattle.strm_types.specs.Ioctls.{read_ioc};
 ghost use Rattle.strm_types.specs.Options.{are_marks, options_in};
-ghost use Rattle.strm_types.specs.Refused.{is_a_band};
 ghost use Rattle.strm_types.specs.Flush.{is_data_kind};
 ghost use Rattle.strm_types.specs.Signals.{signal_in, with_signal};
 ghost use Rattle.strm_types.specs.Slots.{slot_answered};
@@ -92,7 +91,6 @@ fn has_pcproto<B: Blocks>(store: &B, queue: &Queue) -> bool
 fn asked<B: Blocks>(store: &B, message: &InHand) -> FlushAsked
     requires { IsInHand (B.value store.now) (token message.now) }
     ensures asked { result ≡ asked_by (bytes_of (in_hand (B.value store.now) (token message.now))) }
-    ensures band { is_a_band result.band ≡ true }
 {
     let mut bytes = [0u8; 2];
     let count = first_bytes(store, message, &mut bytes);
@@ -156,7 +154,6 @@ impl Head {
         told: &mut Fates,
     ) -> bool
         requires ready { IsHeadQueue (B.value store.old) self.old.queue }
-        requires band { is_a_band asked.band ≡ true }
         ensures state { let s = B.value store.old in
             head_in (B.value store.new) self.new ≡ (head_flushed here asked (head_in s self.old)).state }
         ensures notes { let s = B.value store.old in
@@ -182,7 +179,6 @@ impl Head {
         told: &mut Fates,
     ) -> Came
         requires ready { IsHeadQueue (B.value store.old) self.old.queue }
-        requires band { is_a_band asked.band ≡ true }
         ensures state { let s = B.value store.old in
             head_in (B.value store.new) self.new ≡ (flush_up here asked (head_in s self.old)).state }
         ensures notes { let s = B.value store.old in

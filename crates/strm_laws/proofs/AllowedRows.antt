@@ -1,5 +1,5 @@
 -- What refuses flushes, closes and turns, and where input ends, case by case.
-use Rattle.std.proofs.Common.{ℕ, ◌≡◌, ◌-◌, Bool, true, false, List, [], ◌∷◌, map, refl}
+use Rattle.std.proofs.Common.{ℕ, ◌≡◌, ◌-◌, Bool, true, false, List, [], ◌∷◌, map, refl, replicate}
 use Rattle.std.specs.Prelude.{Option, None, Some}
 use Rattle.strm_types.specs.declared.limits.Config.{Config}
 use Rattle.strm_types.specs.declared.answers.Answer.{Answer}
@@ -37,7 +37,7 @@ use Rattle.strm_types.specs.Message.{Message, cells_of, size_of, is_held, is_hig
 use Rattle.strm_types.specs.Names.{driver_of, is_closed}
 use Rattle.strm_laws.specs.Refusals.{blocks_asked, blocks_taken, at_end, in_range, refused, turn_refused}
 use Rattle.strm_types.specs.Needs.{needs}
-use Rattle.strm_types.specs.Refused.{is_a_band, has_no_data}
+use Rattle.strm_types.specs.Refused.{has_no_data}
 use Rattle.strm_laws.specs.Stacked.{OfLdterm}
 use Rattle.strm_laws.specs.State.{State, Stream, with_stream}
 use Rattle.strm_laws.proofs.Samples.{head_with, flow, queue, ordinary, proto, urgent, options}
@@ -78,8 +78,8 @@ stored-changes = refl
 pub modules-are-known : map (λ name. (needs (Push name)).wrong) (None ∷ Some Ldterm ∷ Some Ptem ∷ Some Pckt ∷ []) ≡ Some Einval ∷ None ∷ None ∷ None ∷ []
 modules-are-known = refl
 
-pub bands-up-to-seven : map is_a_band (None ∷ band 0 ∷ band 7 ∷ band 8 ∷ band 255 ∷ []) ≡ true ∷ true ∷ true ∷ false ∷ false ∷ []
-bands-up-to-seven = refl
+pub every-band-may-be-flushed : map (λ which. (needs (Flush flushes.Both which)).wrong) (None ∷ band 0 ∷ band 8 ∷ band 255 ∷ []) ≡ replicate 4 None
+every-band-may-be-flushed = refl
 
 pub closed-sides : map is_closed (Never ∷ Open ∷ Closed ∷ []) ≡ false ∷ false ∷ true ∷ []
 closed-sides = refl
@@ -154,14 +154,11 @@ ranged r = r ∷ always Erange ∷ always Erange ∷ always Erange ∷ always Er
 pub writes-want-room-in-the-books : map (answers (Write (97 ∷ []))) (booked Open false) ≡ ranged (at_last None)
 writes-want-room-in-the-books = refl
 
-pub flushes-want-room-in-the-books : map (answers (Flush flushes.Both (band 7))) (booked Open false) ≡ ranged (at_last None)
+pub flushes-want-room-in-the-books : map (answers (Flush flushes.Both (band 255))) (booked Open false) ≡ ranged (at_last None)
 flushes-want-room-in-the-books = refl
 
 pub pops-want-room-in-the-books : map (answers Pop) (booked Open false) ≡ ranged (at_last (Some Einval))
 pops-want-room-in-the-books = refl
-
-pub bands-are-asked-for-before-the-books : map (answers (Flush flushes.Both (band 8))) (booked Open false) ≡ whatever (always Einval)
-bands-are-asked-for-before-the-books = refl
 
 pub modules-are-asked-for-before-the-books : map (λ name. map (answers (Push name)) (booked Open false)) (None ∷ []) ≡ whatever (always Einval) ∷ []
 modules-are-asked-for-before-the-books = refl

@@ -32,10 +32,10 @@ band n = Some (record { 0 = n })
 pub flags-are-read : map asked_by ((1 ∷ []) ∷ (2 ∷ []) ∷ (3 ∷ []) ∷ (0 ∷ []) ∷ (8 ∷ []) ∷ []) ≡ asked true false None ∷ asked false true None ∷ asked true true None ∷ asked false false None ∷ asked false false None ∷ []
 flags-are-read = refl
 
-pub bands-are-read : map asked_by ((5 ∷ 3 ∷ []) ∷ (6 ∷ 7 ∷ 1 ∷ []) ∷ (7 ∷ 0 ∷ []) ∷ (1 ∷ 3 ∷ []) ∷ []) ≡ asked true false (band 3) ∷ asked false true (band 7) ∷ asked true true (band 0) ∷ asked true false None ∷ []
+pub bands-are-read : map asked_by ((5 ∷ 3 ∷ []) ∷ (6 ∷ 7 ∷ 1 ∷ []) ∷ (7 ∷ 0 ∷ []) ∷ (7 ∷ 255 ∷ []) ∷ (1 ∷ 3 ∷ []) ∷ []) ≡ asked true false (band 3) ∷ asked false true (band 7) ∷ asked true true (band 0) ∷ asked true true (band 255) ∷ asked true false None ∷ []
 bands-are-read = refl
 
-pub nothing-is-asked : map asked_by ([] ∷ (7 ∷ []) ∷ (7 ∷ 8 ∷ []) ∷ []) ≡ asked false false None ∷ asked false false None ∷ asked false false None ∷ []
+pub nothing-is-asked : map asked_by ([] ∷ (7 ∷ []) ∷ []) ≡ asked false false None ∷ asked false false None ∷ []
 nothing-is-asked = refl
 
 pub flush-for-readers : map read_flush (None ∷ band 2 ∷ []) ≡ (1 ∷ []) ∷ (5 ∷ 2 ∷ []) ∷ []
@@ -58,7 +58,7 @@ resting = new_queue 512 128
 
 -- a queue whose writer waits, with two bytes in band 0 and three control and data bytes in band 2
 abbrev waiting : Queue ℕ
-waiting = queue (proto ∷ ordinary (8 ∷ 9 ∷ []) ∷ []) (flow 512 1 true ∷ replicate 7 (flow 512 128 false))
+waiting = queue (proto ∷ ordinary (8 ∷ 9 ∷ []) ∷ []) (flow 512 1 true ∷ replicate 255 (flow 512 128 false))
 
 abbrev flush : List ℕ → Message ℕ
 flush = flush_message
@@ -87,7 +87,7 @@ signals-are-freed = refl
 -- FLUSHW: the own queue, whose writer is let go, and then the readers across, where that side is open
 abbrev emptied_own : List (Parcel ℕ) → Acted ℕ (Queue ℕ)
 emptied_own sent = record {
-  state = record waiting { messages = []; flows = flow 512 1 false ∷ replicate 7 (flow 512 128 false) };
+  state = record waiting { messages = []; flows = flow 512 1 false ∷ replicate 255 (flow 512 128 false) };
   notes = Room Down ∷ [];
   sent = sent;
   gone = Goes MasterToSlave Flushed (1 ∷ 2 ∷ 3 ∷ 4 ∷ 5 ∷ 8 ∷ 9 ∷ []) ∷ [];

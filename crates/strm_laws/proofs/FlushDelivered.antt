@@ -29,23 +29,22 @@ use Rattle.strm_types.specs.Message.{cells_of}
 use Rattle.strm_types.specs.Names.{direction_at, enable_some, is_open, other}
 use Rattle.strm_laws.specs.Puts.{across_of, earlier_at, flushed_on, noted, put_at_module, put_in}
 use Rattle.strm_types.specs.Queue.{Queue}
-use Rattle.strm_types.specs.Refused.{is_a_band}
 use Rattle.strm_laws.specs.State.{State, stream, with_stream, with_head_queue, with_driver_queue}
 use Rattle.strm_laws.proofs.Earlier.{few-behind, none-on}
 use Rattle.strm_types.proofs.BySide.{set-all}
 
--- what the bytes of an M_FLUSH ask for is what they were made of, where a band is one that queues have
-pub bytes-ask : (what : FlushQueues) (band : Option Band) → is_a_band band ≡ true → asked_by (flush_bytes (asked_of what band)) ≡ asked_of what band
-bytes-ask Read None is = refl
-bytes-ask Write None is = refl
-bytes-ask Both None is = refl
-bytes-ask Read (Some band) is = ap (λ (known : Bool). cond known (asked_of Read (Some band)) nothing_asked) is
-bytes-ask Write (Some band) is = ap (λ (known : Bool). cond known (asked_of Write (Some band)) nothing_asked) is
-bytes-ask Both (Some band) is = ap (λ (known : Bool). cond known (asked_of Both (Some band)) nothing_asked) is
+-- what the bytes of an M_FLUSH ask for is what they were made of
+pub bytes-ask : (what : FlushQueues) (band : Option Band) → asked_by (flush_bytes (asked_of what band)) ≡ asked_of what band
+bytes-ask Read None = refl
+bytes-ask Write None = refl
+bytes-ask Both None = refl
+bytes-ask Read (Some band) = refl
+bytes-ask Write (Some band) = refl
+bytes-ask Both (Some band) = refl
 
-reads-ask : (band : Option Band) → is_a_band band ≡ true → asked_by (read_flush band) ≡ asked_of Read band
-reads-ask None is = refl
-reads-ask (Some band) is = ap (λ (known : Bool). cond known (asked_of Read (Some band)) nothing_asked) is
+reads-ask : (band : Option Band) → asked_by (read_flush band) ≡ asked_of Read band
+reads-ask None = refl
+reads-ask (Some band) = refl
 
 -- the spots of a side's head, and of its driver on the way up and down
 abbrev up_spot : Side → ℕ → Spot
@@ -116,24 +115,24 @@ module _ {C : Type 0} (cells : Cells C) where
         gone = (head_emptied Flushed chosen side s).gone;
       }) (room-noted side (Some places.Head) (earlier_at side 0 s) Up (writer_goes chosen above.head.queue) s.enabled)
 
-  head-carried : (hops : ℕ) (band : Option Band) (side : Side) (s : State C) → is_a_band band ≡ true → is_open (stream side s).opened ≡ true
+  head-carried : (hops : ℕ) (band : Option Band) (side : Side) (s : State C) → is_open (stream side s).opened ≡ true
       → carried (put_in cells) (suc hops) (flush_to (head_spot side) (read_flush band)) s ≡ head_emptied Flushed (of_data band) side s
-  head-carried hops band side s known is =
+  head-carried hops band side s is =
       carries hops (flush_to (head_spot side) (read_flush band)) s
       ∙ ap (λ (t : Took C (State C)). went_on hops t) (head-takes side (read_flush band) s is)
-      ∙ ap (λ (asked : FlushAsked). went_on hops (head_took side asked s)) (reads-ask band known)
+      ∙ ap (λ (asked : FlushAsked). went_on hops (head_took side asked s)) (reads-ask band)
       ∙ ap (λ (t : Took C (State C)). went_on hops t) (head-flushes band side s)
 
   -- what a driver sends up a stream
-  reads-reach : (hops : ℕ) (band : Option Band) (side : Side) (s : State C) → is_a_band band ≡ true
+  reads-reach : (hops : ℕ) (band : Option Band) (side : Side) (s : State C)
       → in_turn (carried (put_in cells) (suc hops)) (reader_flush (is_open (stream side s).opened) (asked_of Read band) (head_spot side)) s ≡ reached (of_data band) side s
-  reads-reach hops band side s known = at (is_open (stream side s).opened) refl
+  reads-reach hops band side s = at (is_open (stream side s).opened) refl
     where
       at : (opened : Bool) → is_open (stream side s).opened ≡ opened
           → in_turn (carried (put_in cells) (suc hops)) (reader_flush opened (asked_of Read band) (head_spot side)) s ≡ cond opened (head_emptied Flushed (of_data band) side s) (none_gone s)
       at true is =
           turns-one (carried (put_in cells) (suc hops)) (flush_to (head_spot side) (read_flush band)) s
-          ∙ head-carried hops band side s known is
+          ∙ head-carried hops band side s is
       at false is = refl
 
   -- at a driver
@@ -190,31 +189,31 @@ module _ {C : Type 0} (cells : Cells C) where
   across-takes side bytes s = ap (λ (stands : Bool). cond stands (put_at_module cells (across_spot side) (flush_message bytes) s) (across_took side (asked_by bytes) s)) (few-behind side s)
 
   -- what a driver sends up behind its own queue's flush
-  up-behind : (hops : ℕ) (band : Option Band) (side : Side) (s : State C) → is_a_band band ≡ true → NoModules s
+  up-behind : (hops : ℕ) (band : Option Band) (side : Side) (s : State C) → NoModules s
       → let behind = driver_behind (of_data band) side s in
       in_turn (carried (put_in cells) (suc hops)) (reader_flush (is_open (stream (other side) s).opened) (asked_of Read band) (up_spot (other side) (modules_on (other side) s))) behind
       ≡ reached (of_data band) (other side) behind
-  up-behind hops band side s known none =
+  up-behind hops band side s none =
       let behind = driver_behind (of_data band) side s in
-      rw (none-on (other side) s none, stays-opened (of_data band) side s) (reads-reach hops band (other side) behind known)
+      rw (none-on (other side) s none, stays-opened (of_data band) side s) (reads-reach hops band (other side) behind)
 
-  across-carried : (hops : ℕ) (band : Option Band) (side : Side) (s : State C) → is_a_band band ≡ true → NoModules s
+  across-carried : (hops : ℕ) (band : Option Band) (side : Side) (s : State C) → NoModules s
       → carried (put_in cells) (suc (suc hops)) (flush_to (across_spot side) (read_flush band)) s ≡ write_flushed (of_data band) side s
-  across-carried hops band side s known none =
+  across-carried hops band side s none =
       let up = reader_flush (is_open (stream (other side) s).opened) (asked_of Read band) (up_spot (other side) (modules_on (other side) s)) in
       let first = driver_emptied Flushed (of_data band) side s in
       carries (suc hops) (flush_to (across_spot side) (read_flush band)) s
       ∙ ap (λ (t : Took C (State C)). went_on (suc hops) t) (across-takes side (read_flush band) s)
-      ∙ ap (λ (asked : FlushAsked). went_on (suc hops) (across_took side asked s)) (reads-ask band known)
+      ∙ ap (λ (asked : FlushAsked). went_on (suc hops) (across_took side asked s)) (reads-ask band)
       ∙ ap (λ (t : Took C (State C)). went_on (suc hops) t) (driver-flushes (asked_of Read band) side up s)
-      ∙ ap (λ (u : Carried C (State C)). record { state = u.state; gone = first.gone ++ u.gone }) (up-behind hops band side s known none)
+      ∙ ap (λ (u : Carried C (State C)). record { state = u.state; gone = first.gone ++ u.gone }) (up-behind hops band side s none)
 
   -- the driver across, and then the side's own readers
-  reads-carried : (hops : ℕ) (band : Option Band) (side : Side) (s : State C) → is_a_band band ≡ true → NoModules s
+  reads-carried : (hops : ℕ) (band : Option Band) (side : Side) (s : State C) → NoModules s
       → in_turn (carried (put_in cells) (suc (suc hops))) (flush_to (across_spot (other side)) (read_flush band) ∷ []) s ≡ read_flushed (of_data band) side s
-  reads-carried hops band side s known none =
+  reads-carried hops band side s none =
       turns-one (carried (put_in cells) (suc (suc hops))) (flush_to (across_spot (other side)) (read_flush band)) s
-      ∙ across-carried hops band (other side) s known none
+      ∙ across-carried hops band (other side) s none
       ∙ back side
     where
       back : (side : Side) → write_flushed (of_data band) (other side) s ≡ read_flushed (of_data band) side s
@@ -228,19 +227,19 @@ module _ {C : Type 0} (cells : Cells C) where
   down-takes : (side : Side) (bytes : List ℕ) (s : State C) → NoModules s → put_in cells (down_spot side) (flush_message bytes) s ≡ down_took side (asked_by bytes) s
   down-takes side bytes s none = ap (λ (count : ℕ). cond (nat_le 1 count) (put_at_module cells (down_spot side) (flush_message bytes) s) (down_took side (asked_by bytes) s)) (none-on side s none)
 
-  went-down : (hops : ℕ) (band : Option Band) (side : Side) (what : FlushQueues) (s : State C) → is_a_band band ≡ true → NoModules s
+  went-down : (hops : ℕ) (band : Option Band) (side : Side) (what : FlushQueues) (s : State C) → NoModules s
       → went_on (suc (suc hops)) (down_took side (asked_of what band) s) ≡ flush_effect (of_data band) side what s
-  went-down hops band side Read s known none =
+  went-down hops band side Read s none =
       let across = flush_to (across_spot (other side)) (read_flush band) ∷ [] in
       ap (λ (t : Took C (State C)). went_on (suc (suc hops)) t) (driver-frees side across s)
-      ∙ reads-carried hops band side s known none
-  went-down hops band side Write s known none =
+      ∙ reads-carried hops band side s none
+  went-down hops band side Write s none =
       let up = reader_flush (is_open (stream (other side) s).opened) (asked_of Read band) (up_spot (other side) (modules_on (other side) s)) in
       let first = driver_emptied Flushed (of_data band) side s in
       ap (λ (t : Took C (State C)). went_on (suc (suc hops)) t) (driver-flushes (asked_of Write band) side (up ++ []) s)
       ∙ ap (λ (ps : List (Parcel C)). went_on (suc (suc hops)) (record { state = first.state; sent = ps; gone = first.gone })) (append-nil up)
-      ∙ ap (λ (u : Carried C (State C)). record { state = u.state; gone = first.gone ++ u.gone }) (up-behind (suc hops) band side s known none)
-  went-down hops band side Both s known none =
+      ∙ ap (λ (u : Carried C (State C)). record { state = u.state; gone = first.gone ++ u.gone }) (up-behind (suc hops) band side s none)
+  went-down hops band side Both s none =
       let carry = carried (put_in cells) (suc (suc hops)) in
       let up = reader_flush (is_open (stream (other side) s).opened) (asked_of Read band) (up_spot (other side) (modules_on (other side) s)) in
       let across = flush_to (across_spot (other side)) (read_flush band) ∷ [] in
@@ -249,16 +248,16 @@ module _ {C : Type 0} (cells : Cells C) where
       let behind : Carried C (State C) → Carried C (State C) = λ u. record { state = u.state; gone = first.gone ++ u.gone } in
       ap (λ (t : Took C (State C)). went_on (suc (suc hops)) t) (driver-flushes (asked_of Both band) side (up ++ across) s)
       ∙ ap behind (turns-join carry up across first.state)
-      ∙ ap (λ (u : Carried C (State C)). behind (and_then u (in_turn carry across))) (up-behind (suc hops) band side s known none)
-      ∙ ap (λ (u : Carried C (State C)). behind (record { state = u.state; gone = second.gone ++ u.gone })) (reads-carried hops band side second.state known (reached-none (of_data band) (other side) first.state (driver-none (of_data band) side s none)))
+      ∙ ap (λ (u : Carried C (State C)). behind (and_then u (in_turn carry across))) (up-behind (suc hops) band side s none)
+      ∙ ap (λ (u : Carried C (State C)). behind (record { state = u.state; gone = second.gone ++ u.gone })) (reads-carried hops band side second.state (reached-none (of_data band) (other side) first.state (driver-none (of_data band) side s none)))
 
-  pub flush-carried : (hops : ℕ) (band : Option Band) (side : Side) (what : FlushQueues) (s : State C) → is_a_band band ≡ true → NoModules s
+  pub flush-carried : (hops : ℕ) (band : Option Band) (side : Side) (what : FlushQueues) (s : State C) → NoModules s
       → carried (put_in cells) (suc (suc (suc hops))) (flush_to (down_spot side) (flush_bytes (asked_of what band))) s ≡ flush_effect (of_data band) side what s
-  flush-carried hops band side what s known none =
+  flush-carried hops band side what s none =
       carries (suc (suc hops)) (flush_to (down_spot side) (flush_bytes (asked_of what band))) s
       ∙ ap (λ (t : Took C (State C)). went_on (suc (suc hops)) t) (down-takes side (flush_bytes (asked_of what band)) s none)
-      ∙ ap (λ (asked : FlushAsked). went_on (suc (suc hops)) (down_took side asked s)) (bytes-ask what band known)
-      ∙ went-down hops band side what s known none
+      ∙ ap (λ (asked : FlushAsked). went_on (suc (suc hops)) (down_took side asked s)) (bytes-ask what band)
+      ∙ went-down hops band side what s none
 
-  pub flush-delivered : (band : Option Band) (side : Side) (what : FlushQueues) (s : State C) → is_a_band band ≡ true → NoModules s → flushed_on cells band side what s ≡ flush_effect (of_data band) side what s
-  flush-delivered band side what s known none = flush-carried 13 band side what s known none
+  pub flush-delivered : (band : Option Band) (side : Side) (what : FlushQueues) (s : State C) → NoModules s → flushed_on cells band side what s ≡ flush_effect (of_data band) side what s
+  flush-delivered band side what s none = flush-carried 13 band side what s none

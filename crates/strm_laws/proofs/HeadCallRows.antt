@@ -35,7 +35,6 @@ use Rattle.strm_laws.specs.Kept.{came, gone}
 use Rattle.strm_types.specs.Message.{Message, rank_of, band_of, size_of, cells_of, is_held, is_high_priority}
 use Rattle.strm_types.specs.Names.{driver_of}
 use Rattle.strm_types.specs.Queue.{Queue, Flow}
-use Rattle.strm_types.specs.Needs.{asks_a_band}
 use Rattle.strm_laws.specs.Refusals.{blocks_asked, refused_at_once, refused_by_state}
 use Rattle.strm_types.specs.Heads.{Head}
 use Rattle.strm_laws.specs.State.{State, Stream, with_stream}
@@ -131,12 +130,9 @@ pub get-of-the-master-at-the-end : map (λ slave. refused_by_state (with_stream 
 unfolding is_held
 get-of-the-master-at-the-end = refl
 
--- a band above 7 is EINVAL, behind ENXIO
-pub bands-that-gets-ask-for : map asks_a_band (Any ∷ High ∷ of_band 0 ∷ of_band 7 ∷ of_band 8 ∷ []) ≡ true ∷ true ∷ true ∷ true ∷ false ∷ []
-bands-that-gets-ask-for = refl
-
-pub bad-bands-are-refused : map (λ side. refused_at_once (with_stream Master (record one_waits.ends.master { opened = Closed }) one_waits) (caller side) (Get (of_band 8) 9 9)) (Slave ∷ Master ∷ []) ≡ Some Einval ∷ Some Enxio ∷ []
-bad-bands-are-refused = refl
+-- a get may ask for any band, and is refused at once only by a side that isn't open
+pub gets-ask-for-any-band : map (λ side. map (λ wanted. refused_at_once (with_stream Master (record one_waits.ends.master { opened = Closed }) one_waits) (caller side) (Get wanted 9 9)) (Any ∷ High ∷ of_band 0 ∷ of_band 8 ∷ of_band 255 ∷ [])) (Slave ∷ Master ∷ []) ≡ replicate 5 None ∷ replicate 5 (Some Enxio) ∷ []
+gets-ask-for-any-band = refl
 
 -- at most 4096 bytes of each part, and room in the journal for both
 pub gets-give-4096-at-most : map content_max (Get Any 4095 4096 ∷ Get High 4097 9 ∷ Mode (modes.Read ByteStream) ∷ Nread ∷ []) ≡ 8191 ∷ 4105 ∷ 0 ∷ 0 ∷ []

@@ -158,7 +158,7 @@ no-output = refl
 -- turns of the read queue
 
 abbrev flows : List Flow
-flows = replicate 8 (flow 512 128 false)
+flows = replicate 256 (flow 512 128 false)
 
 -- one on whose read queue these messages stand
 abbrev reading : List (Message ℕ) → Ldterm ℕ

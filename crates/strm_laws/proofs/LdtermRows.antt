@@ -22,7 +22,7 @@ use Rattle.strm_laws.proofs.Samples.{flow, ordinary, without_parts}
 
 -- one as it is pushed: it runs, and its queues are empty, with the marks 512 and 128
 abbrev new_one : Queue ℕ
-new_one = record { messages = []; flows = replicate 8 (flow 512 128 false); want_read = true; no_enable = false }
+new_one = record { messages = []; flows = replicate 256 (flow 512 128 false); want_read = true; no_enable = false }
 
 pub pushed : new_ldterm {C = ℕ} ≡ record {
   termios = first_termios;
@@ -172,8 +172,8 @@ no-echo-to-flush = refl
 abbrev passes : Ldterm ℕ → Parcel ℕ → Acted ℕ (Ldterm ℕ)
 passes p sent = record { state = p; notes = []; sent = sent ∷ []; gone = [] }
 
-pub flushes-of-nothing : map (λ bytes. ldterm_puts (at Slave Up) (flushing bytes) busy) ([] ∷ (0 ∷ []) ∷ (7 ∷ 8 ∷ []) ∷ [])
-    ≡ map (λ bytes. passes busy (up (flushing bytes))) ([] ∷ (0 ∷ []) ∷ (7 ∷ 8 ∷ []) ∷ [])
+pub flushes-of-nothing : map (λ bytes. ldterm_puts (at Slave Up) (flushing bytes) busy) ([] ∷ (0 ∷ []) ∷ (7 ∷ []) ∷ [])
+    ≡ map (λ bytes. passes busy (up (flushing bytes))) ([] ∷ (0 ∷ []) ∷ (7 ∷ []) ∷ [])
 flushes-of-nothing = refl
 
 -- other kinds

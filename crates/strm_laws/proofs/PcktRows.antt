@@ -118,8 +118,8 @@ pub flush-of-a-band : map from_below (flush (6 ∷ 2 ∷ []) ∷ flush (7 ∷ 2 
 unfolding band_of cells_of is_high_priority kind_number
 flush-of-a-band = refl
 
--- a band that queues don't have asks for nothing
-pub flush-of-no-band : from_below (flush (6 ∷ 8 ∷ [])) ≡ packed (up (packet_of 0 134 (Some (6 ∷ 8 ∷ []))) ∷ []) (134 ∷ 6 ∷ 8 ∷ [])
+-- FLUSHBAND without a band asks for nothing
+pub flush-of-no-band : from_below (flush (6 ∷ [])) ≡ packed (up (packet_of 0 134 (Some (6 ∷ []))) ∷ []) (134 ∷ 6 ∷ [])
 unfolding band_of cells_of is_high_priority kind_number
 flush-of-no-band = refl
 

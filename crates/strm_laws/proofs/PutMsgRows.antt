@@ -53,10 +53,10 @@ pub kinds-that-are-put : put_message High (Some (1 ∷ [])) (Some (2 ∷ [])) �
     ≡ message Pcproto 0 (Some (1 ∷ [])) (Some (2 ∷ [])) ∷ message Proto 3 (Some []) None ∷ message Data 3 None (Some (2 ∷ [])) ∷ []
 kinds-that-are-put = refl
 
--- high priority wants a control part, be there a data part or none; bands go up to 7, whatever is put
+-- high priority wants a control part, be there a data part or none; every band may be put, whatever is put
 
 pub priorities-that-no-message-has : put_refusal {C = ℕ} High None None ∷ put_refusal {C = ℕ} High None (Some (2 ∷ [])) ∷ put_refusal {C = ℕ} High (Some []) None ∷ put_refusal {C = ℕ} (banded 7) None None ∷ put_refusal {C = ℕ} (banded 8) None None ∷ put_refusal {C = ℕ} (banded 255) None (Some (2 ∷ [])) ∷ []
-    ≡ Some Einval ∷ Some Einval ∷ None ∷ None ∷ Some Einval ∷ Some Einval ∷ []
+    ≡ Some Einval ∷ Some Einval ∷ None ∷ None ∷ None ∷ None ∷ []
 priorities-that-no-message-has = refl
 
 -- 64 bytes of control and 256 of data, and EINVAL before ERANGE
@@ -67,8 +67,8 @@ parts-that-are-too-long = refl
 pub data-that-is-too-long : map (λ n. put_refusal {C = ℕ} (banded 0) (Some []) (Some (replicate n 1))) (256 ∷ 257 ∷ []) ≡ None ∷ Some Erange ∷ []
 data-that-is-too-long = refl
 
-pub bad-bands-before-long-parts : put_refusal {C = ℕ} (banded 8) (Some (replicate 65 1)) None ≡ Some Einval
-bad-bands-before-long-parts = refl
+pub missing-control-before-long-parts : put_refusal {C = ℕ} High None (Some (replicate 257 1)) ≡ Some Einval
+missing-control-before-long-parts = refl
 
 -- blocks: one for each part, and 32 beside them
 
@@ -171,13 +171,13 @@ pub hung-up-sides-take-no-put : map (heard Open true) four ∷ map (heard Open f
 hung-up-sides-take-no-put = refl
 
 -- ENXIO before EINVAL before ERANGE, of parts as of books
-pub refusals-of-puts-in-order : map (λ hung_up. heard Open hung_up (Put (banded 8) None (Some (97 ∷ [])))) (true ∷ false ∷ []) ≡ Some Enxio ∷ Some Einval ∷ []
+pub refusals-of-puts-in-order : map (λ hung_up. heard Open hung_up (Put High None (Some (97 ∷ [])))) (true ∷ false ∷ []) ≡ Some Enxio ∷ Some Einval ∷ []
 refusals-of-puts-in-order = refl
 
 abbrev with_full_book : State ℕ
 with_full_book = pair (end Open false (queue [] [])) (end Open false (queue [] [])) (record { written = 4611686018427387904; made = 0 }) []
 
-pub full-books-take-no-put : map (refused_at_once with_full_book (caller Slave)) (Put (banded 8) None None ∷ Put (banded 0) None None ∷ Get Any 9 9 ∷ []) ≡ Some Einval ∷ Some Erange ∷ None ∷ []
+pub full-books-take-no-put : map (refused_at_once with_full_book (caller Slave)) (Put High None None ∷ Put (banded 0) None None ∷ Get Any 9 9 ∷ []) ≡ Some Einval ∷ Some Erange ∷ None ∷ []
 full-books-take-no-put = refl
 
 -- the journal has the control part's bytes and then those of the data part, and none of an absent one

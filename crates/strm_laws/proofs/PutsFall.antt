@@ -7,7 +7,7 @@ use Rattle.strm_types.specs.declared.ioctls.Ioc.{Ioc}
 use Rattle.strm_types.specs.declared.kinds.Band.{Band}
 use Rattle.strm_types.specs.declared.kinds.MsgKind.{MsgKind}
 use Rattle.strm_types.specs.declared.kinds.MsgKind.TheVariants.{Flush, Ioctl}
-use Rattle.strm_types.specs.declared.limits.TheConstants.{BANDS, MODULES, HOPS}
+use Rattle.strm_types.specs.declared.limits.TheConstants.{MODULES, HOPS}
 use Rattle.strm_types.specs.declared.names.Side.{Side}
 use Rattle.strm_types.specs.declared.names.Way.{Way}
 use Rattle.strm_types.specs.declared.names.Way.TheVariants.{Up, Down}
@@ -30,13 +30,9 @@ use Rattle.strm_laws.proofs.ModulePuts.{among-lower}
 use Rattle.strm_laws.proofs.PutsKeep.{stands-among}
 
 -- an M_FLUSH for readers isn't turned round
-named-reads : (b : Bool) (asked : FlushAsked) → asked.for_write ≡ false → (cond b asked nothing_asked).for_write ≡ false
-named-reads true asked is = is
-named-reads false asked is = refl
-
 pub reads-alone : (band : Option Band) → (asked_by (read_flush band)).for_write ≡ false
 reads-alone None = refl
-reads-alone (Some band) = named-reads (nat_lt band.0 BANDS) _ refl
+reads-alone (Some band) = refl
 
 far-less : (way : Way) (turnable : Bool) (at : ℕ) → at ≤ 4 → far_at way turnable at < HOPS
 far-less Up true at low = omega (arith, low)

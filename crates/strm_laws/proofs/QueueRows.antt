@@ -113,7 +113,7 @@ full-from-the-mark-on = refl
 pub band-behind-the-last-is-empty : flow_of 1 (queue [] (flow 3 2 true ∷ [])) ≡ flow 1 0 false
 band-behind-the-last-is-empty = refl
 
-pub new-queue-is-empty : new_queue {C = ℕ} 512 128 ≡ queue [] (replicate 8 (flow 512 128 false))
+pub new-queue-is-empty : new_queue {C = ℕ} 512 128 ≡ queue [] (replicate 256 (flow 512 128 false))
 new-queue-is-empty = refl
 
 -- what a put enables: by message of high priority, of a band and of band 0, with the flags want-read and no-enable

@@ -232,7 +232,7 @@ stored-signals = refl
 -- a side that is closed, and a slave that is opened anew, have a new head: no signal, no ioctl, and the modes and marks of a new one
 
 abbrev new : Head ℕ
-new = record { queue = queue [] (replicate 8 (flow 5120 1024 false)); read_mode = ByteStream; control_mode = Refuse; tostop = false; group = 0; hung_up = false; signals = []; ioctl = Free }
+new = record { queue = queue [] (replicate 256 (flow 5120 1024 false)); read_mode = ByteStream; control_mode = Refuse; tostop = false; group = 0; hung_up = false; signals = []; ioctl = Free }
 
 pub nothing-waits-at-a-slave-opened-anew : called plain (caller Master) OpenSlave (pair (end Open two) (end Closed two))
     ≡ record { answer = Done; state = record (pair (end Open two) (record (end Open two) { head = new })) { enabled = driver_of Master ∷ [] }; came = []; gone = [] }

@@ -58,7 +58,7 @@ idle_end = end Open (queue [] []) (queue [] [])
 pub made-locked : opening {C = ℕ} ≡ pair new_stream new_stream []
 made-locked = refl
 
-pub streams-are-made-so : new_stream {C = ℕ} ≡ end Never (queue [] (replicate 8 (flow 5120 1024 false))) (queue [] (replicate 8 (flow 512 128 false)))
+pub streams-are-made-so : new_stream {C = ℕ} ≡ end Never (queue [] (replicate 256 (flow 5120 1024 false))) (queue [] (replicate 256 (flow 512 128 false)))
 streams-are-made-so = refl
 
 pub messages-are-counted : messages_in (pair (end Open (queue (proto ∷ []) []) (queue (proto ∷ proto ∷ []) [])) (end Open (queue (proto ∷ proto ∷ proto ∷ proto ∷ []) []) (queue (replicate 8 proto) [])) []) ≡ 15
@@ -76,7 +76,7 @@ unlocked = refl
 abbrev waiting : List (Message ℕ) → Stream ℕ
 waiting messages = end Open (queue [] []) (busy messages [])
 
-pub slave-opens-anew : called plain (caller Slave) OpenSlave (pair (waiting (proto ∷ [])) (end Closed (queue (proto ∷ []) []) (busy (proto ∷ []) [])) []) ≡ record { answer = Done; state = pair (waiting (proto ∷ [])) (end Open (queue [] (replicate 8 (flow 5120 1024 false))) (busy (proto ∷ []) [])) (driver_of Master ∷ []); came = []; gone = [] }
+pub slave-opens-anew : called plain (caller Slave) OpenSlave (pair (waiting (proto ∷ [])) (end Closed (queue (proto ∷ []) []) (busy (proto ∷ []) [])) []) ≡ record { answer = Done; state = pair (waiting (proto ∷ [])) (end Open (queue [] (replicate 256 (flow 5120 1024 false))) (busy (proto ∷ []) [])) (driver_of Master ∷ []); came = []; gone = [] }
 slave-opens-anew = refl
 
 pub slave-opens-on-nothing : (called plain (caller Slave) OpenSlave (pair (waiting []) (waiting (proto ∷ [])) [])).state.enabled ≡ []

@@ -57,7 +57,7 @@ low-rank : (k : MsgKind) → k ≡ kinds.Data → is_high_priority k ≡ false
 unfolding is_high_priority
 low-rank k is = rw is refl
 
-data-chain : (c : List Block) → 0 < length c → AreData c → (block_at 0 c).band < 8 → IsChain c
+data-chain : (c : List Block) → 0 < length c → AreData c → (block_at 0 c).band < 256 → IsChain c
 data-chain c some all low =
     let kind = first-kind c some all in
     record {
@@ -114,7 +114,7 @@ module _ (s t : StoreValue) (i : ℕ) (c : List Block) (st : IsStore s) (is : Is
 
   pub grown-by : (bytes : List ℕ) (n : ℕ) → 0 < length c → AreData c → (block_at 0 c).band ≡ (block_at 0 (in_hand s i)).band → bytes_of c ≡ bytes_of (in_hand s i) ++ bytes → free_m s ≤ free_m t + n → free_d s ≤ free_d t + n → Grown s t i bytes n
   grown-by bytes n some all band shows mblks dblks =
-      let low : (block_at 0 c).band < 8 = (let l = is.chain.low in omega arith) in
+      let low : (block_at 0 c).band < 256 = (let l = is.chain.low in omega arith) in
       record {
         after = after ∙ ap (changed s i) (sym now-chain);
         are = record { chain = subst IsChain (sym now-chain) (data-chain c some all low); kind = ap (λ v. (block_at 0 v).kind) now-chain ∙ first-kind c some all };

@@ -4,7 +4,6 @@ use Rattle.std.proofs.lemmas.Bool.{false≢true}
 use Rattle.std.specs.Prelude.{None, Some}
 use Rattle.std.proofs.lemmas.List.Sums.{sum_by-cons}
 use Rattle.strm_types.specs.declared.kinds.MsgKind.TheVariants as kinds
-use Rattle.strm_types.specs.declared.limits.TheConstants.{BANDS}
 use Rattle.strm_types.specs.declared.names.Way.{Way}
 use Rattle.strm_types.specs.declared.names.Way.TheVariants.{Down}
 use Rattle.strm_types.specs.declared.rules.Fates.{Fates}
@@ -43,7 +42,7 @@ record Rebanded (chain : List Block) (band : ℕ) : Type 0 where
   pub same : length (banded band chain) ≡ length chain
   pub names : (d : ℕ) → names_of d (banded band chain) ≡ names_of d chain
 
-rebanded : (chain : List Block) (band : ℕ) → IsChain chain → (block_at 0 chain).kind ≡ kinds.Data → band < BANDS → Rebanded chain band
+rebanded : (chain : List Block) (band : ℕ) → IsChain chain → (block_at 0 chain).kind ≡ kinds.Data → band < 256 → Rebanded chain band
 unfolding is_high_priority
 rebanded [] band one kind low = absurd (let l = one.some in omega arith)
 rebanded (b ∷ rest) band one kind low =
@@ -66,7 +65,7 @@ rebanded (b ∷ rest) band one kind low =
           let z = sum_by-cons (λ (x : Block). cond {A = ℕ} (eqb x.number d) 1 0) next rest in omega arith;
     }
 
-module _ (s t : StoreValue) (i band : ℕ) (is : IsInHand s i) (msg : IsData s i) (low : band < BANDS) (after : t ≡ changed s i (banded band (in_hand s i))) where
+module _ (s t : StoreValue) (i band : ℕ) (is : IsInHand s i) (msg : IsData s i) (low : band < 256) (after : t ≡ changed s i (banded band (in_hand s i))) where
   abbrev new : List Block
   new = banded band (in_hand s i)
 

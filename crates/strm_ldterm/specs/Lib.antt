@@ -14,7 +14,6 @@ pub mod Began
 pub mod Becoming
 pub mod SignalKeys
 pub mod Popped
-pub mod Blank
 pub mod Called
 pub mod Served
 pub mod ServedLaws

@@ -1,7 +1,6 @@
 -- What a turn of the write queue did (ldterm(7M), "Write-side Behavior"; srv(9E); putbq(9F)).
 use Rattle.std.specs.Prelude.{ℕ, ◌≡◌, ◌<◌, Bool, true, false, List, [], ◌∷◌, length, map, Option, None, Some}
 use Rattle.strm_types.specs.declared.kinds.MsgKind.TheVariants as kinds
-use Rattle.strm_types.specs.declared.limits.TheConstants.{BANDS}
 use Rattle.strm_types.specs.declared.names.Way.TheVariants.{Down}
 use Rattle.strm_types.specs.declared.rules.Fates.{Fates}
 use Rattle.strm_types.specs.declared.spots.Spot.{Spot}
@@ -56,7 +55,6 @@ module _ (old new : StoreValue) (here : Spot) (x x' : Ldterm) where
     pub output : opost (ldterm_in old x).termios ≡ true
     pub some : 0 < bytes
     pub size : bytes ≡ length (cells_of message)
-    pub low : band < BANDS
     pub idle : (ldterm_in old x).in_work ≡ None
     pub none : (ldterm_in old x).gathered ≡ []
     pub quiet : (ldterm_in old x).echoing ≡ false

@@ -1,7 +1,6 @@
 //! What an M_FLUSH takes from the module (ldterm(7M); STREAMS Programming Guide, "Flush Handling").
 
 ghost use Rattle.std.specs.Prelude.{ℕ, ◌≡◌, ◌<◌, Some, ◌&&◌, true, false, is_some, [], ◌∷◌, if◌then◌else◌};
-ghost use Rattle.strm_types.specs.declared.limits.TheConstants.{BANDS};
 ghost use Rattle.strm_types.specs.Message.{Message};
 ghost use Rattle.strm_types.specs.declared.names.Way.TheVariants.{Up, Down};
 ghost use Rattle.strm_types.specs.declared.rules.Rule.TheVariants.{Flushed};
@@ -10,7 +9,6 @@ ghost use Rattle.strm_types.specs.Deliver.{Goes, counted_with, tallied};
 ghost use Rattle.strm_types.specs.Emptied.{of_data, stayed, cells_gone, queue_behind, writer_goes};
 ghost use Rattle.strm_types.specs.Ldterms.{takes_band_0, queue_flushed, line_flushed, read_flushed, write_flushed};
 ghost use Rattle.strm_types.specs.Names.{direction_at};
-ghost use Rattle.strm_types.specs.Refused.{is_a_band};
 ghost use Rattle.strm_blocks.specs.Blocks.{StoreValue};
 ghost use Rattle.strm_queue.specs.Stored.{queue_in, messages_on, IsReady, Changes, FreesBlocks};
 ghost use Rattle.strm_frame.specs.Hands.{AreIn};
@@ -57,7 +55,6 @@ fn flush_queue<B: Blocks>(
     told: &mut Fates,
 ) -> bool
     requires ready { IsReady (B.value store.old) queue.old }
-    requires band { is_a_band band ≡ true }
     ensures queue { queue_in (B.value store.new) queue.new ≡ queue_behind (of_data band) (queue_in (B.value store.old) queue.old) }
     ensures went { result ≡ writer_goes (of_data band) (queue_in (B.value store.old) queue.old) }
     ensures told { told.new ≡ counted_with
@@ -91,7 +88,6 @@ pub(crate) fn flush_read<B: Blocks>(
     told: &mut Fates,
 ) -> bool
     requires held { IsHeld (B.value store.old) ldterm.old }
-    requires band { is_a_band asked.band ≡ true }
     ensures { let s = B.value store.old in
         Flushes s (B.value store.new) ldterm.old ldterm.new (if result then Room Up ∷ [] else []) told.old told.new
         (read_flushed here asked (ldterm_in s ldterm.old)) }
@@ -115,7 +111,6 @@ fn flush_listed<B: Blocks>(
 ) -> bool
     requires held { IsHeld (B.value store.old) ldterm.old }
     requires none { is_some ldterm.old.echo ≡ false }
-    requires band { is_a_band band ≡ true }
     ensures { let s = B.value store.old in
         Flushes s (B.value store.new) ldterm.old ldterm.new (if result then Room Down ∷ [] else []) told.old told.new
         (queue_flushed Down here band (ldterm_in s ldterm.old)) }
@@ -127,7 +122,6 @@ fn flush_listed<B: Blocks>(
 // Takes the messages of data of a band from a queue. Its flags stay.
 fn drop_band<B: Blocks>(store: &mut B, queue: &mut Queue, band: Band)
     requires ready { IsReady (B.value store.old) queue.old }
-    requires band { band.0 < BANDS }
     ensures queue { let q = queue_in (B.value store.old) queue.old in
         queue_in (B.value store.new) queue.new ≡ record q { messages = stayed (of_data (Some band)) q.messages } }
     ensures changes { Changes (B.value store.old) (B.value store.new) queue.old queue.new }
@@ -143,7 +137,6 @@ fn drop_band<B: Blocks>(store: &mut B, queue: &mut Queue, band: Band)
 // many bytes.
 fn flush_before<B: Blocks>(store: &mut B, queue: &mut Queue, more: usize, band: Band) -> bool
     requires ready { IsReady (B.value store.old) queue.old }
-    requires band { band.0 < BANDS }
     requires above { 0 < band.0 }
     ensures queue { (m : Message ℕ) → m.band ≡ 0 → AddsBytes more (m ∷ []) →
         with_last (Some m) (queue_in (B.value store.new) queue.new)
@@ -170,7 +163,6 @@ fn flush_beside<B: Blocks>(
     told: &mut Fates,
 ) -> bool
     requires held { IsHeld (B.value store.old) ldterm.old }
-    requires band { is_a_band band ≡ true }
     requires other { takes_band_0 band ≡ false }
     ensures { let s = B.value store.old in
         Flushes s (B.value store.new) ldterm.old ldterm.new (if result then Room Down ∷ [] else []) told.old told.new
@@ -197,7 +189,6 @@ pub(crate) fn flush_write<B: Blocks>(
 ) -> bool
     requires held { IsHeld (B.value store.old) ldterm.old }
     requires kept { AreIn (B.value store.old) (λ _. 0) (keeps ldterm.old) }
-    requires band { is_a_band asked.band ≡ true }
     ensures { let s = B.value store.old in
         Flushes s (B.value store.new) ldterm.old ldterm.new (if result then Room Down ∷ [] else []) told.old told.new
         (write_flushed here asked (ldterm_in s ldterm.old)) }

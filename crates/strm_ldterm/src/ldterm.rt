@@ -12,7 +12,8 @@ ghost use Rattle.strm_ldterm.specs.Stands.{ldterm_in, owns, keeps, IsHeld};
 use crate::lines::Line;
 use arrayvec::ArrayVec;
 use strm_blocks::InHand;
-use strm_queue::{OTHER_HIGH, OTHER_LOW, Queue};
+use std::alloc::{AllocError, Global};
+use strm_queue::{OTHER_HIGH, OTHER_LOW, Queue, Table};
 use strm_types::{ModuleName, Termios};
 
 /// How far a turn of the read queue has come with a byte.
@@ -44,10 +45,27 @@ pub struct Ldterm {
     pub stage: Stage,
 }
 
+/// The tables of the two queues of one module, which it gives back when it goes.
+#[derive(Drop)]
+pub struct Tables {
+    pub read: Table,
+    pub write: Table,
+}
+
+impl Tables {
+    /// Asks for the memory of both.
+    pub fn new(alloc: Global) -> Result<Tables, AllocError> {
+        Ok(Tables {
+            read: Table::new(alloc)?,
+            write: Table::new(alloc)?,
+        })
+    }
+}
+
 impl Ldterm {
     /// One as it is pushed, with these lists of its own, on which nothing stands. The read queue's comes first, so that who sees a
     /// store's lists knows which is which.
-    pub fn new(read_list: usize, write_list: usize) -> Ldterm
+    pub fn new(read_list: usize, write_list: usize, tables: Tables) -> Ldterm
         requires read { read_list < 8 }
         requires write { write_list < 8 }
         requires apart { read_list < write_list }
@@ -64,12 +82,20 @@ impl Ldterm {
             after_lnext: false,
             column: 0,
             line: Line::new(),
-            read_queue: Queue::new(read_list, OTHER_HIGH, OTHER_LOW),
-            write_queue: Queue::new(write_list, OTHER_HIGH, OTHER_LOW),
+            read_queue: Queue::new(read_list, OTHER_HIGH, OTHER_LOW, tables.read),
+            write_queue: Queue::new(write_list, OTHER_HIGH, OTHER_LOW, tables.write),
             in_work: None,
             gathered: None,
             echo: None,
             stage: Stage::Between,
+        }
+    }
+
+    /// Gives the tables of its queues back, for the next one that is pushed.
+    pub fn into_tables(self) -> Tables {
+        Tables {
+            read: self.read_queue.into_table(),
+            write: self.write_queue.into_table(),
         }
     }
 
@@ -82,18 +108,6 @@ impl Ldterm {
         if let Stage::Answered { echo } = &self.stage {
             let _ = echo.len();
         }
-    }
-}
-
-impl Default for Ldterm {
-    ghost use Rattle.strm_ldterm.specs.Blank.{IsNew};
-
-    ghost is_default = { λ x. IsNew x 0 1 };
-
-    /// One as it is pushed, on lists 0 and 1: what stands in the unused places of an array. One that is pushed has lists of its own,
-    /// by `new`.
-    fn default() -> Ldterm {
-        Ldterm::new(0, 1)
     }
 }
 

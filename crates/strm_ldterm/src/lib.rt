@@ -35,7 +35,7 @@ mod wholes;
 pub use clearing::clear;
 pub use echoes::{ECHO_MAX, Echo, RUN_MAX, echo_of};
 pub use ending::end_turn;
-pub use ldterm::{Ldterm, Stage, name};
+pub use ldterm::{Ldterm, Stage, Tables, name};
 pub use lines::Line;
 pub use posts::post;
 pub use putting::put;

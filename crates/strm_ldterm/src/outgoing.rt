@@ -2,7 +2,7 @@
 //! "Output Modes"; srv(9E); putbq(9F)).
 
 ghost use Rattle.std.specs.Prelude.{ℕ, Bool, ◌≡◌, ◌<◌, ◌≤◌, [], false, length, map, None, is_some};
-ghost use Rattle.strm_types.specs.declared.limits.TheConstants.{BANDS, MODULES};
+ghost use Rattle.strm_types.specs.declared.limits.TheConstants.{MODULES};
 ghost use Rattle.strm_types.specs.declared.names.Way.TheVariants.{Down};
 ghost use Rattle.strm_types.specs.declared.rules.Fates.{Fates};
 ghost use Rattle.strm_types.specs.Input.{back_on, cells_left};
@@ -53,7 +53,6 @@ fn return_output<B: Blocks>(ldterm: &mut Ldterm, store: &mut B)
 pub(crate) fn reband<B: Blocks>(store: &mut B, message: &InHand, band: Band)
     requires in_hand { IsInHand (B.value store.old) (token message.now) }
     requires is { IsData (B.value store.old) (token message.now) }
-    requires low { band.0 < BANDS }
     ensures became { let i = token message.now in
         Becomes (B.value store.old) (B.value store.new) i i (data_of band.0 (cells_of (message_in (B.value store.old) i))) }
     ensures blocks { FreesNone (B.value store.old) (B.value store.new) }
@@ -68,7 +67,6 @@ fn send_output<B: Blocks>(ldterm: &mut Ldterm, store: &mut B, here: Spot, band: 
     requires kept { AreIn (B.value store.old) (λ _. 0) (keeps ldterm.old) }
     requires inside { 0 < here.at }
     requires small { here.at ≤ MODULES }
-    requires low { band.0 < BANDS }
     ensures did { (f : Fates) → let s = B.value store.old in let p = ldterm_in s ldterm.old in
         Proceeds s (B.value store.new) ldterm.old ldterm.new 0 [] (sent_of result) f f
         (sends (map (onward Down here) (with_given p.gathered (data_of band.0 []))) (record p { gathered = [] })) }
@@ -94,7 +92,6 @@ fn let_go<B: Blocks>(ldterm: &mut Ldterm, store: &mut B, here: Spot, band: Band)
     requires quiet { is_some ldterm.old.echo ≡ false }
     requires inside { 0 < here.at }
     requires small { here.at ≤ MODULES }
-    requires low { band.0 < BANDS }
     ensures did { (f : Fates) → let s = B.value store.old in
         Proceeds s (B.value store.new) ldterm.old ldterm.new 0 [] (sent_of result) f f
         (let_go here band.0 (ldterm_in s ldterm.old)) }

@@ -2,14 +2,12 @@
 
 ghost use Rattle.std.specs.Prelude.{ℕ, ◌≡◌, ◌<◌, ◌≤◌, ◌+◌, ◌++◌, nat_le, length, [], ◌∷◌, IfSome, OnSome, MatchOption};
 ghost use Rattle.std.specs.Option.{option_to_list};
-ghost use Rattle.strm_types.specs.declared.limits.TheConstants.{BANDS};
 ghost use Rattle.strm_types.specs.declared.names.Way.TheVariants.{Up};
 ghost use Rattle.strm_types.specs.Queue.{bytes_of, flow_of, count_of, first_size};
 ghost use Rattle.strm_types.specs.ModuleQueues.{messages_at, full_at};
 ghost use Rattle.strm_types.specs.Message.{Message};
 ghost use Rattle.strm_types.specs.Refused.{has_no_data};
 ghost use Rattle.strm_queue.specs.Stored.{queue_in, messages_on, IsReady};
-ghost use Rattle.strm_frame.specs.Serves.{IsBand};
 ghost use Rattle.strm_ldterm.specs.Stands.{ldterm_in, kept_in, IsHeld, IsOrdinary};
 ghost use Rattle.strm_types.specs.Asking.{asked_by, asked_first, ldterm_asks};
 ghost use Rattle.strm_ldterm.specs.Calls.{queue_of};
@@ -36,7 +34,6 @@ pub(crate) fn echo_size<B: Blocks>(store: &B, echo: &Option<InHand>) -> usize
 // Whether a band of a queue is full, where so many more bytes count in it.
 fn is_full_with<B: Blocks>(store: &B, queue: &Queue, band: Band, more: usize) -> bool
     requires ready { IsReady (B.value store.now) queue.now }
-    requires band { band.0 < BANDS }
     ensures { let q = queue_in (B.value store.now) queue.now in
         result ≡ nat_le (flow_of band.0 q).high (count_of band.0 q.messages + more) }
 {
@@ -48,7 +45,6 @@ fn is_full_with<B: Blocks>(store: &B, queue: &Queue, band: Band, more: usize) ->
 /// Whether a band of its queue of a way is full. The turn's echo counts on the write queue.
 pub fn is_full<B: Blocks>(ldterm: &Ldterm, store: &B, way: Way, band: Band) -> bool
     requires held { IsHeld (B.value store.now) ldterm.now }
-    requires band { band.0 < BANDS }
     ensures { result ≡ full_at queue_of way band.0 (ldterm_in (B.value store.now) ldterm.now) }
 {
     match way {
@@ -64,7 +60,6 @@ pub fn is_full<B: Blocks>(ldterm: &Ldterm, store: &B, way: Way, band: Band) -> b
 /// How many bytes count in a band of its queue of a way. The turn's echo counts in band 0 of the write queue.
 pub fn count<B: Blocks>(ldterm: &Ldterm, store: &B, way: Way, band: Band) -> usize
     requires held { IsHeld (B.value store.now) ldterm.now }
-    requires band { band.0 < BANDS }
     ensures { result ≡ count_of band.0 (messages_at queue_of way (ldterm_in (B.value store.now) ldterm.now)) }
 {
     match way {
@@ -138,7 +133,6 @@ pub fn none_waits_up<B: Blocks>(ldterm: &Ldterm, store: &B) -> bool
 // What a message of a kind and a band asks, while output is stopped or not.
 fn asked_by(way: Way, stopped: bool, kind: MsgKind, band: Band) -> Asks
     ensures asks { result ≡ asked_by way stopped kind band.0 }
-    ensures band { band.0 < BANDS → IsBand result }
 {
     match (kind, way) {
         (MsgKind::Data, Way::Up) => Asks::Room(Band(0)),
@@ -153,7 +147,6 @@ fn asked_on<B: Blocks>(store: &B, queue: &Queue, way: Way, stopped: bool) -> Opt
     requires { IsReady (B.value store.now) queue.now }
     ensures asks { MatchOption result (messages_on (B.value store.now) queue.now.list ≡ [])
         (λ asks. asked_first way stopped (messages_on (B.value store.now) queue.now.list) ≡ asks) }
-    ensures band { IfSome result IsBand }
     ensures some { (m : Message ℕ) → OnSome result (asked_first way stopped (messages_on (B.value store.now) queue.now.list ++ m ∷ [])
         ≡ asked_first way stopped (messages_on (B.value store.now) queue.now.list)) }
 {
@@ -166,7 +159,6 @@ fn asked_on<B: Blocks>(store: &B, queue: &Queue, way: Way, stopped: bool) -> Opt
 pub fn asks<B: Blocks>(ldterm: &Ldterm, store: &B, way: Way) -> Asks
     requires held { IsHeld (B.value store.now) ldterm.now }
     ensures asks { result ≡ ldterm_asks way (ldterm_in (B.value store.now) ldterm.now) }
-    ensures band { IsBand result }
     ensures few { first_size (messages_at queue_of way (ldterm_in (B.value store.now) ldterm.now)) ≤ 16777216 }
 {
     store.audit();

@@ -4,7 +4,7 @@ ghost use Rattle.std.specs.Prelude.{ℕ, ◌≡◌, ◌≤◌, []};
 ghost use Rattle.strm_blocks.specs.Blocks.{list_at, times_in};
 ghost use Rattle.strm_frame.specs.Outboxes.{sent_of, times_sent};
 
-use crate::Ldterm;
+use crate::{Ldterm, Tables};
 use crate::sending::{end_file, end_line, stop};
 use std::process::Abort;
 use std::test::Fail;
@@ -43,7 +43,7 @@ fn goes<B: Blocks>(
 }
 
 // A line ends twice, the second time as an empty one, and then output is stopped twice.
-fn sends<B: Blocks>(rt: &impl Abort, store: &mut B) -> Result<(), Fail>
+fn sends<B: Blocks>(rt: &impl Abort, store: &mut B, tables: Tables) -> Result<(), Fail>
     requires read { list_at (B.value store.old) 3 ≡ [] }
     requires write { list_at (B.value store.old) 4 ≡ [] }
 {
@@ -52,7 +52,7 @@ fn sends<B: Blocks>(rt: &impl Abort, store: &mut B) -> Result<(), Fail>
         return Err(NoBlocks.into());
     }
     let mut told = Fates::none();
-    let mut ldterm = Ldterm::new(3, 4);
+    let mut ldterm = Ldterm::new(3, 4, tables);
     assert!(rt; ldterm.line.has_room());
     ldterm.line.push(b'l');
     let sent = end_line(&mut ldterm, store, HERE, b'\n');
@@ -73,5 +73,5 @@ fn sends<B: Blocks>(rt: &impl Abort, store: &mut B) -> Result<(), Fail>
 #[test]
 fn keys_send(rt: HostRuntime) -> Result<(), Fail> {
     let mut store = TableStore::new(rt.alloc(), 8, 8)?;
-    sends(&rt, &mut store)
+    sends(&rt, &mut store, Tables::new(rt.alloc())?)
 }

@@ -3,7 +3,7 @@
 
 ghost use Rattle.std.specs.Prelude.{ℕ, ◌≡◌, ◌<◌, ◌≤◌, ◌+◌, [], ◌∷◌, true, false, is_some, length, slice_index_or, None};
 ghost use Rattle.std.specs.List.{AllByRecursion};
-ghost use Rattle.strm_types.specs.declared.limits.TheConstants.{BANDS, MODULES, STOP_BLOCKS};
+ghost use Rattle.strm_types.specs.declared.limits.TheConstants.{MODULES, STOP_BLOCKS};
 ghost use Rattle.strm_types.specs.declared.output.TheConstants.{COLUMN_MAX};
 ghost use Rattle.strm_types.specs.declared.rules.Fates.{Fates};
 ghost use Rattle.strm_types.specs.Input.{cells_left};
@@ -86,7 +86,6 @@ pub(crate) fn pass_work<B: Blocks>(
     requires kept { AreIn (B.value store.old) (λ _. 0) (keeps ldterm.old) }
     requires inside { 0 < here.at }
     requires small { here.at ≤ MODULES }
-    requires low { band.0 < BANDS }
     requires work { is_some ldterm.old.in_work ≡ true }
     ensures { (f : Fates) → let s = B.value store.old in let p = ldterm_in s ldterm.old in
         Proceeds s (B.value store.new) ldterm.old ldterm.new 0 [] (sent_of result) f f
@@ -148,7 +147,6 @@ pub(crate) fn post_whole<B: Blocks>(
     requires kept { AreIn (B.value store.old) (λ _. 0) (keeps ldterm.old) }
     requires inside { 0 < here.at }
     requires small { here.at ≤ MODULES }
-    requires low { band.0 < BANDS }
     requires work { is_some ldterm.old.in_work ≡ true }
     requires none { (ldterm_in (B.value store.old) ldterm.old).gathered ≡ [] }
     requires bytes { bytes ≡ length (cells_left (ldterm_in (B.value store.old) ldterm.old)) }

@@ -39,13 +39,13 @@ pub record IsParted (kind : MsgKind) (chain : List Block) : Type 0 where
 
 -- A chain that is a message. An M_DATA message has M_DATA blocks; an M_PROTO or M_PCPROTO message has blocks of its kind
 -- and then M_DATA blocks; what stands behind the first block of any other one is free. A message of high priority has band
--- 0, any other one a band below 8.
+-- 0.
 pub record IsChain (chain : List Block) : Type 0 where
   pub some : 0 < length chain
   pub all_data : (block_at 0 chain).kind ≡ kinds.Data → AreData chain
   pub parted : is_control_kind (block_at 0 chain).kind ≡ true → IsParted (block_at 0 chain).kind chain
   pub high : is_high_priority (block_at 0 chain).kind ≡ true → (block_at 0 chain).band ≡ 0
-  pub low : (block_at 0 chain).band < 8
+  pub low : (block_at 0 chain).band < 256
 
 -- chains that are messages, in order of rank, as a list of a store has them
 pub record AreMessages (q : List (List Block)) : Type 0 where

@@ -27,7 +27,6 @@ use Rattle.strm_laws.proofs.Replay.{met, unless-none}
 use Rattle.strm_laws.proofs.Balances.{both-true}
 use Rattle.strm_blocks.specs.Blocks.{StoreValue, free_d, free_m}
 use Rattle.strm_pair.specs.Pairs.{free_in}
-use Rattle.strm_pair.specs.Parts.{IsLow}
 
 -- an ioctl that isn't refused at once sends few bytes, and a number is left for it
 pub few-asked : (s : State ℕ) (caller : Caller) (command : ℕ) (body : List ℕ) → refused_at_once s caller (Ioctl command body) ≡ None → length body ≤ IOCTL_MAX
@@ -110,18 +109,6 @@ allowed-over A B P Q (Some r) x y h = let never = h.0 in absurd (cc)
 -- where nothing refuses a putmsg at once, more may be written
 pub put-in_range : (s : State ℕ) (caller : Caller) (prio : Prio) (control body : Option (List ℕ)) → refused_at_once s caller (Put prio control body) ≡ None → in_range s ≡ true
 put-in_range s caller prio control body at_once = (met s caller.side (needs (Put prio control body)) at_once).booked
-
--- and the band of its message is one of those that queues have
-low-band : (prio : Prio) (control body : Option (List ℕ)) → put_refusal prio control body ≡ None → IsLow prio
-low-band High control body goes = tt
-low-band (Band band) control body goes = by (nat_le 8 band.0) refl goes
-  where
-    by : (v : Bool) → nat_le 8 band.0 ≡ v → cond v (Some Einval) (cond (is_too_long control body) (Some Erange) None) ≡ None → band.0 < 8
-    by true e told = absurd (cc)
-    by false e told = grind (arith, nat_tests)
-
-pub put-low : (s : State ℕ) (caller : Caller) (prio : Prio) (control body : Option (List ℕ)) → refused_at_once s caller (Put prio control body) ≡ None → IsLow prio
-put-low s caller prio control body at_once = low-band prio control body (met s caller.side (needs (Put prio control body)) at_once).right
 
 -- the first refusal is the one that is told
 pub first-told : (r : Refusal) (first rest : Option Refusal) → Some r ≡ first → Some r ≡ or_else first rest

@@ -2,7 +2,6 @@
 use Rattle.std.specs.Prelude.{ℕ, ◌<◌, Bool, false, max}
 use Rattle.strm_types.specs.declared.answers.Answer.{Answer}
 use Rattle.strm_types.specs.declared.answers.Answer.TheVariants.{Bytes, Msg, Signals}
-use Rattle.strm_types.specs.declared.limits.TheConstants.{BANDS}
 use Rattle.strm_types.specs.declared.modes.Prio.{Prio}
 use Rattle.strm_types.specs.declared.modes.Prio.TheVariants.{High, Band}
 use Rattle.strm_types.specs.Journal.{part_len}
@@ -19,7 +18,3 @@ abbrev pub is_held_back : Prio → (ℕ → Bool) → Bool
 is_held_back High full = false
 is_held_back (Band band) full = full band.0
 
--- the band of a priority is one of those that queues have
-abbrev pub IsLow : Prio → Type 0
-IsLow High = Unit {0}
-IsLow (Band band) = band.0 < BANDS

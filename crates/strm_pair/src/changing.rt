@@ -14,6 +14,8 @@ ghost use Rattle.strm_types.specs.Queue.{is_none_left};
 ghost use Rattle.strm_laws.specs.State.{stream};
 ghost use Rattle.strm_frame.specs.Hands.{HasRoom};
 ghost use Rattle.strm_pair.specs.Parts.{longest_part};
+ghost use Rattle.strm_pair.specs.Lists.{first_list};
+ghost use Rattle.strm_pair.specs.Stacks.{stack_owns};
 ghost use Rattle.strm_pair.specs.Taken.{TookNone, TookTop, WithoutTop};
 
 use crate::earlier::note;
@@ -79,7 +81,8 @@ impl Streams {
     ) -> Option<Taken>
         requires held { AreHeld (B.value store.old) self.old }
         requires idle { AreIdle (state_in (B.value store.old) self.old) }
-        ensures streams { self.new ≡ with_end side (record (end_at side self.old) { stack = (end_at side self.new).stack }) self.old }
+        ensures streams { self.new ≡ with_end side (record (end_at side self.old) { stack = (end_at side self.new).stack; shelf = (end_at side self.new).shelf }) self.old }
+        ensures shelf { stack_owns (end_at side self.new).stack (first_list side + 2) ≡ 0 → is_some (end_at side self.new).shelf ≡ true }
         ensures took { let s = B.value store.old in let t = B.value store.new in
             let x = (end_at side self.old).stack in let y = (end_at side self.new).stack in
             MatchOption result (TookNone s t x y told.old told.new) (λ taken. TookTop side rule s t x y told.old told.new taken) }
@@ -87,7 +90,7 @@ impl Streams {
             (λ taken. taken.met ≡ is_met seeking (below_top (stream side (state_in (B.value store.old) self.old)).modules)) }
     {
         take_top(
-            &mut self.ends.get_mut(side).stack,
+            self.ends.get_mut(side),
             store,
             side,
             rule,
@@ -256,8 +259,10 @@ impl Streams {
             (λ p. state_in (B.value store.now) self.new ≡ with_modules side (p ∷ (stream side s).modules) s) }
         ensures held { AreHeld (B.value store.now) self.new }
     {
+        let end = self.ends.get_mut(side);
         push_named(
-            &mut self.ends.get_mut(side).stack,
+            &mut end.stack,
+            &mut end.shelf,
             store,
             name,
             first_list(side),

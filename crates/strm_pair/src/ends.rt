@@ -1,16 +1,20 @@
 //! One side's stream.
 
-ghost use Rattle.std.specs.Prelude.{◌≡◌, ◌≤◌};
+ghost use Rattle.std.specs.Prelude.{ℕ, ◌≡◌, ◌≤◌};
+ghost use Rattle.strm_blocks.specs.Blocks.{StoreValue};
+ghost use Rattle.strm_laws.specs.State.{new_stream};
+ghost use Rattle.strm_pair.specs.Streams.{IsBlank, IsSide, stream_in};
 ghost use Rattle.strm_pair.specs.Lists.{first_list};
 ghost use Rattle.strm_types.specs.declared.names.Openness.TheVariants.{Open, Closed};
 ghost use Rattle.strm_types.specs.Heads.{new_head};
 ghost use Rattle.strm_queue.specs.Stored.{IsReady, Keeps};
 ghost use Rattle.strm_head.specs.Heads.{head_in};
 
-use crate::stacks::Stack;
+use crate::stacks::{Stack, take_modules};
 use strm_blocks::Blocks;
 use strm_head::Head;
-use strm_queue::{Flush, HEAD_HIGH, HEAD_LOW, Queue};
+use strm_ldterm::Tables;
+use strm_queue::{Flush, OTHER_HIGH, OTHER_LOW, Queue};
 use strm_types::{Openness, Side};
 
 /// The first of the four lists on which a side's queues stand.
@@ -24,13 +28,16 @@ pub(crate) fn first_list(side: Side) -> usize
     }
 }
 
-/// The stream of one side: its head, its modules and its driver's queue, and whether it was opened.
+/// The stream of one side: its head, its modules and its driver's queue, and whether it was opened. The tables of the bands of all its
+/// queues are made with it, so that a push asks for no memory.
 #[derive(Drop)]
 pub(crate) struct StreamEnd {
     pub opened: Openness,
     pub head: Head,
     pub stack: Stack,
     pub driver: Queue,
+    /// The tables for the queues of a module, while no module that has queues stands on the stack.
+    pub shelf: Option<Tables>,
 }
 
 impl StreamEnd {
@@ -41,11 +48,12 @@ impl StreamEnd {
         ensures opened { self.new.opened ≡ self.old.opened }
         ensures driver { self.new.driver ≡ self.old.driver }
         ensures stack { self.new.stack ≡ self.old.stack }
+        ensures shelf { self.new.shelf ≡ self.old.shelf }
         ensures keeps { Keeps (B.value store.old) (B.value store.new) self.old.head.queue self.new.head.queue }
     {
         store.audit();
         self.head.queue.flushq(store, Flush::All);
-        self.head = Head::new(Queue::new(self.head.queue.list, HEAD_HIGH, HEAD_LOW));
+        self.head.renew();
     }
 
     /// Opens the stream, with a head as new.
@@ -55,6 +63,7 @@ impl StreamEnd {
         ensures opened { self.new.opened ≡ Open }
         ensures driver { self.new.driver ≡ self.old.driver }
         ensures stack { self.new.stack ≡ self.old.stack }
+        ensures shelf { self.new.shelf ≡ self.old.shelf }
         ensures keeps { Keeps (B.value store.old) (B.value store.new) self.old.head.queue self.new.head.queue }
     {
         self.opened = Openness::Open;
@@ -68,9 +77,21 @@ impl StreamEnd {
         ensures opened { self.new.opened ≡ Closed }
         ensures driver { self.new.driver ≡ self.old.driver }
         ensures stack { self.new.stack ≡ self.old.stack }
+        ensures shelf { self.new.shelf ≡ self.old.shelf }
         ensures keeps { Keeps (B.value store.old) (B.value store.new) self.old.head.queue self.new.head.queue }
     {
         self.opened = Openness::Closed;
         self.renew_head(store);
+    }
+
+    /// Makes the stream as new, in place, where nothing stands on its lists: nobody opened it, and no module stands there.
+    pub fn renew(&mut self)
+        ensures side { (s t : StoreValue) (first : ℕ) → IsSide s first self.old → IsBlank t first → IsSide t first self.new }
+        ensures stream { (s t : StoreValue) (first : ℕ) → IsSide s first self.old → IsBlank t first → stream_in t self.new ≡ new_stream }
+    {
+        self.opened = Openness::Never;
+        self.head.renew();
+        take_modules(&mut self.stack, &mut self.shelf);
+        self.driver.renew(OTHER_HIGH, OTHER_LOW);
     }
 }

@@ -9,7 +9,7 @@ use crate::streams::Streams;
 use strm_blocks::Blocks;
 use strm_queue::lengths::first_size;
 use strm_queue::standing::{count, is_full, sizes};
-use strm_types::{BANDS, Band, Place, QueueName, Way};
+use strm_types::{Band, Place, QueueName, Way};
 
 impl Streams {
     ghost use Rattle.strm_pair.specs.Pairs.{state_in, AreHeld};
@@ -17,7 +17,6 @@ impl Streams {
     /// How many bytes count in a band of a queue.
     pub fn count<B: Blocks>(&self, store: &B, queue: QueueName, band: Band) -> usize
         requires held { AreHeld (B.value store.now) self.now }
-        requires band { band.0 < BANDS }
         ensures { result ≡ count_at queue band.0 (state_in (B.value store.now) self.now) }
     {
         let end = self.end(queue.side);
@@ -76,7 +75,6 @@ impl Streams {
     /// Whether a band of a queue is full.
     pub fn is_full<B: Blocks>(&self, store: &B, queue: QueueName, band: Band) -> bool
         requires held { AreHeld (B.value store.now) self.now }
-        requires band { band.0 < BANDS }
         ensures { result ≡ full_at queue band.0 (state_in (B.value store.now) self.now) }
     {
         let end = self.end(queue.side);

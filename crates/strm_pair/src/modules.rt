@@ -1,14 +1,15 @@
 //! The modules that may stand on a side's stream: ldterm (ldterm(7M)), ptem (ptem(7M)) and pckt (pckt(7M)), each as it is by itself.
 
-ghost use Rattle.std.specs.Prelude.{ℕ, ◌≡◌, ◌≤◌, ◌+◌};
+ghost use Rattle.std.specs.Prelude.{ℕ, ◌≡◌, ◌<◌, ◌≤◌, ◌+◌, true, is_some};
 ghost use Rattle.strm_types.specs.Ptems.{new_ptem};
 ghost use Rattle.strm_laws.specs.Stacked.{OfPtem};
 ghost use Rattle.strm_blocks.specs.Blocks.{StoreValue};
-ghost use Rattle.strm_pair.specs.AnyModules.{IsMade, module_in};
+ghost use Rattle.strm_types.specs.declared.names.ModuleName.TheVariants as names;
+ghost use Rattle.strm_pair.specs.AnyModules.{IsMade, module_in, owns};
 
 use strm_blocks::{Blocks, InHand};
 use strm_frame::{Acts, LetGo, Module, Served, TurnEnd};
-use strm_ldterm::Ldterm;
+use strm_ldterm::{Ldterm, Tables};
 use strm_pty::{Pckt, Ptem};
 use strm_types::{Asks, Band, Fates, ModuleName, Rule, Side, Spot, Way};
 
@@ -30,15 +31,32 @@ impl Default for AnyModule {
 }
 
 impl AnyModule {
-    /// One as its name makes it, with two lists of its own from a number on, where it has queues.
-    pub(crate) fn made(name: ModuleName, first: usize) -> AnyModule
-        requires { first ≤ 6 }
-        ensures { IsMade first name result }
+    /// One as its name makes it, with two lists of its own from a number on, where it has queues: their tables are taken off the shelf.
+    pub(crate) fn made(name: ModuleName, first: usize, shelf: &mut Option<Tables>) -> AnyModule
+        requires first { first ≤ 6 }
+        requires shelf { name ≡ names.Ldterm → is_some shelf.old ≡ true }
+        ensures made { IsMade first name result }
+        ensures shelf { owns result first ≡ 0 → shelf.new ≡ shelf.old }
     {
         match name {
-            ModuleName::Ldterm => AnyModule::Ldterm(Ldterm::new(first, first + 1)),
+            ModuleName::Ldterm => {
+                let Some(tables) = shelf.take() else {
+                    unreachable!()
+                };
+                AnyModule::Ldterm(Ldterm::new(first, first + 1, tables))
+            }
             ModuleName::Ptem => AnyModule::Ptem(Ptem::new()),
             ModuleName::Pckt => AnyModule::Pckt(Pckt),
+        }
+    }
+
+    /// Gives the tables of its queues back, where it has queues.
+    pub(crate) fn into_tables(self) -> Option<Tables>
+        ensures { (k : ℕ) → 0 < owns self k → is_some result ≡ true }
+    {
+        match self {
+            AnyModule::Ldterm(ldterm) => Some(ldterm.into_tables()),
+            AnyModule::Ptem(_) | AnyModule::Pckt(_) => None,
         }
     }
 }

@@ -1,7 +1,6 @@
 //! The module of a stack whose queues have a name, and what stands on them. Places count from 1 for the module on top.
 
 ghost use Rattle.std.specs.Prelude.{ℕ, ◌≡◌, ◌<◌, false, length};
-ghost use Rattle.strm_types.specs.declared.limits.TheConstants.{BANDS};
 ghost use Rattle.strm_types.specs.ModuleQueues.{full_at};
 ghost use Rattle.strm_laws.specs.ModuleTurns.{place_named};
 ghost use Rattle.strm_laws.specs.Pushes.{is_there};
@@ -79,7 +78,6 @@ pub(crate) fn count_named<B: Blocks>(
     band: Band,
 ) -> usize
     requires held { IsStackHeld (B.value store.now) stack.now }
-    requires band { band.0 < BANDS }
     ensures { result ≡ count_of band.0 (messages_named place way (modules_in (B.value store.now) stack.now)) }
 {
     match place_named(stack, place) {
@@ -97,7 +95,6 @@ pub(crate) fn is_full_named<B: Blocks>(
     band: Band,
 ) -> bool
     requires held { IsStackHeld (B.value store.now) stack.now }
-    requires band { band.0 < BANDS }
     ensures { result ≡ at_named place (full_at module_queue way band.0) false (modules_in (B.value store.now) stack.now) }
 {
     match place_named(stack, place) {

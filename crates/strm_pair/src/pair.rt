@@ -25,12 +25,12 @@ use crate::answers::own;
 use crate::journal::Journal;
 use crate::ledgers::sum;
 use crate::refusals::or_else;
-use crate::streams::Streams;
+use crate::streams::{Streams, queue_tables};
 use std::alloc::Global;
 use std::marker::Model;
 use strm_blocks::Blocks;
 use strm_types::{
-    Answer, BANDS, Band, Caller, Config, Content, Dir, Entry, Event, Fates, LISTS, Ledger,
+    Answer, Band, Caller, Config, Content, Dir, Entry, Event, Fates, LISTS, Ledger,
     NoMemory, Place, QueueName, READ_MAX, ReadBytes, Refusal, Side, StopSignal, Turn, Verdict,
     turn_blocks, unless,
 };
@@ -67,8 +67,8 @@ impl<B: Blocks + Drop> Model for Pair<B> {
 
 impl<B: Blocks + Drop> Pair<B> {
     /// A pair which nobody opened, over a store that holds nothing: its lists are empty, and nothing is in hand. The
-    /// sizes of its journal are those of `sizes`, its numbers of blocks are the store's. The memory of the journal is
-    /// reserved here, and no later call takes any; where that is refused, the store comes back.
+    /// sizes of its journal are those of `sizes`, its numbers of blocks are the store's. The memory of the journal
+    /// and of the queues' bands is reserved here, and no later call takes any; where that is refused, the store comes back.
     pub fn new(alloc: Global, sizes: Config, store: B) -> Result<Pair<B>, (NoMemory, B)>
         requires lists { (B.value store).lists ≡ replicate LISTS [] }
         requires hand { (B.value store).hand ≡ [] }
@@ -76,6 +76,9 @@ impl<B: Blocks + Drop> Pair<B> {
             (λ p. p ≡ new_pair (sizes_over (B.value store) sizes))
             (λ e. B.value e.1 ≡ B.value store) }
     {
+        let Ok(tables) = queue_tables(alloc) else {
+            return Err((NoMemory, store));
+        };
         let Ok(journal) = Journal::new(alloc, sizes.journal_events, sizes.journal_bytes) else {
             return Err((NoMemory, store));
         };
@@ -87,7 +90,7 @@ impl<B: Blocks + Drop> Pair<B> {
         };
         Ok(Pair {
             store,
-            streams: Streams::new(),
+            streams: Streams::new(tables),
             journal,
             limits,
             fates: Fates::none(),
@@ -100,7 +103,7 @@ impl<B: Blocks + Drop> Pair<B> {
         ensures { self.new ≡ new_pair self.old.limits }
     {
         self.store.reset();
-        self.streams = Streams::new();
+        self.streams.renew();
         self.journal.clear();
         self.fates = Fates::none();
     }
@@ -169,10 +172,9 @@ impl<B: Blocks + Drop> Pair<B> {
         &self.store
     }
 
-    /// How many bytes count in a band, from 0 to 7, of a queue, which is what its marks are compared with: those of its
+    /// How many bytes count in a band, of a queue, which is what its marks are compared with: those of its
     /// messages of that band, and in band 0 those of high priority too. A queue that doesn't exist counts none.
     pub fn count(&self, queue: QueueName, band: Band) -> usize
-        requires { band.0 < BANDS }
         ensures { result ≡ count_at queue band.0 self.now.state }
     {
         self.streams.count(&self.store, queue, band)
@@ -209,10 +211,9 @@ impl<B: Blocks + Drop> Pair<B> {
         self.streams.module_named(side, place).is_some()
     }
 
-    /// Whether a band, from 0 to 7, of a queue is full: its count is at or above its high-water mark. A queue that
+    /// Whether a band, of a queue is full: its count is at or above its high-water mark. A queue that
     /// doesn't exist isn't full.
     pub fn is_full(&self, queue: QueueName, band: Band) -> bool
-        requires { band.0 < BANDS }
         ensures { result ≡ full_at queue band.0 self.now.state }
     {
         self.streams.is_full(&self.store, queue, band)

@@ -8,7 +8,7 @@ ghost use Rattle.strm_types.specs.JobControl.{foreground, held, judged};
 ghost use Rattle.strm_types.specs.Needs.{needs};
 ghost use Rattle.strm_types.specs.Refused.{unless, or_else};
 ghost use Rattle.strm_laws.specs.Writes.{is_full_below};
-ghost use Rattle.strm_pair.specs.Parts.{IsLow, is_held_back};
+ghost use Rattle.strm_pair.specs.Parts.{is_held_back};
 ghost use Rattle.strm_types.specs.declared.refusals.Refusal.TheVariants.{Eagain, Einval};
 ghost use Rattle.strm_types.specs.Names.{is_never, is_open};
 ghost use Rattle.strm_laws.specs.State.{stream};
@@ -118,7 +118,6 @@ impl Streams {
     // nothing.
     fn is_held_back<B: Blocks>(&self, store: &B, side: Side, prio: Prio) -> bool
         requires held { AreHeld (B.value store.now) self.now }
-        requires low { IsLow prio }
         ensures { let state = state_in (B.value store.now) self.now in
             result ≡ is_held_back prio (λ band. is_full_below band side state) }
     {

@@ -3,7 +3,6 @@
 //! driver's.
 
 ghost use Rattle.std.specs.Prelude.{ℕ, ◌≡◌, ◌<◌};
-ghost use Rattle.strm_types.specs.declared.limits.TheConstants.{BANDS};
 ghost use Rattle.strm_types.specs.ModuleQueues.{place_past, with_waiting};
 ghost use Rattle.strm_laws.specs.Past.{end_queue, has_room_past, may_pass, waits_on, with_end_queue, writer_waits};
 ghost use Rattle.strm_types.specs.Queue.{is_full};
@@ -25,7 +24,6 @@ impl StreamEnd {
     fn is_end_full<B: Blocks>(&self, store: &B, way: Way, band: Band) -> bool
         requires head { IsReady (B.value store.now) self.now.head.queue }
         requires driver { IsReady (B.value store.now) self.now.driver }
-        requires band { band.0 < BANDS }
         ensures { result ≡ is_full band.0 (end_queue way (stream_in (B.value store.now) self.now)) }
     {
         match way {
@@ -39,7 +37,6 @@ impl StreamEnd {
         requires head { IsReady (B.value store.now) self.now.head.queue }
         requires driver { IsReady (B.value store.now) self.now.driver }
         requires stack { IsStackHeld (B.value store.now) self.now.stack }
-        requires band { band.0 < BANDS }
         ensures { result ≡ may_pass way at band.0 (stream_in (B.value store.now) self.now) }
     {
         match self.stack.can_pass(store, way, band, at) {
@@ -50,7 +47,6 @@ impl StreamEnd {
 
     // Has a writer wait for room in a band of the queue at the end of a way.
     fn wait_at_end(&mut self, way: Way, band: Band)
-        requires { band.0 < BANDS }
         ensures stream { (s : StoreValue) → let t = stream_in s self.old in
             stream_in s self.new ≡ with_end_queue way (with_waiting band.0 (end_queue way t)) t }
         ensures side { (s : StoreValue) (first : ℕ) → IsSide s first self.old → IsSide s first self.new }
@@ -63,7 +59,6 @@ impl StreamEnd {
 
     // Has a writer wait for room in a band of the nearest queue past a place.
     fn wait_past(&mut self, way: Way, at: usize, band: Band)
-        requires { band.0 < BANDS }
         ensures stream { (s : StoreValue) → let t = stream_in s self.old in
             stream_in s self.new ≡ waits_on way band.0 (place_past module_queue way at t.modules) t }
         ensures side { (s : StoreValue) (first : ℕ) → IsSide s first self.old → IsSide s first self.new }
@@ -88,7 +83,6 @@ impl Streams {
         band: Band,
     ) -> bool
         requires beside { AreBeside (B.value store.now) self.now }
-        requires band { band.0 < BANDS }
         ensures { result ≡ has_room_past side way at band.0 (state_in (B.value store.now) self.now) }
     {
         self.ends.get(side).may_pass(store, way, at, band)
@@ -97,7 +91,6 @@ impl Streams {
     /// Whether a band is full of the first queue below a side's head (canput(9F)).
     pub(crate) fn is_full_below<B: Blocks>(&self, store: &B, side: Side, band: Band) -> bool
         requires beside { AreBeside (B.value store.now) self.now }
-        requires band { band.0 < BANDS }
         ensures { result ≡ is_full_below band.0 side (state_in (B.value store.now) self.now) }
     {
         !self.has_room_past(store, side, Way::Down, 0, band)
@@ -106,7 +99,6 @@ impl Streams {
     /// Has a writer wait for room in a band past a place of a side's stream, as messages of a way go: want-write is set on the nearest
     /// queue there.
     pub(crate) fn wait_past(&mut self, side: Side, way: Way, at: usize, band: Band)
-        requires { band.0 < BANDS }
         ensures state { (s : StoreValue) → state_in s self.new
             ≡ writer_waits side way at band.0 (state_in s self.old) }
         ensures held { (s : StoreValue) → AreHeld s self.old → AreHeld s self.new }

@@ -1,7 +1,7 @@
 //! The modules of a side's stream (streamio(7I): I_PUSH, I_POP, I_LOOK; STREAMS Programming Guide, "Modules"). Places count from 1 for the
 //! module on top.
 
-ghost use Rattle.std.specs.Prelude.{ℕ, ◌≡◌, ◌<◌, ◌≤◌, ◌+◌, ◌-◌, true, [], ◌∷◌, length, slice_index_or, IfSome, MatchOption, None, Some};
+ghost use Rattle.std.specs.Prelude.{ℕ, ◌≡◌, ◌<◌, ◌≤◌, ◌+◌, ◌-◌, true, [], ◌∷◌, length, slice_index_or, is_some, IfSome, MatchOption, None, Some, List};
 ghost use Rattle.strm_types.specs.Dropped.{is_met};
 ghost use Rattle.strm_laws.specs.Earlier.{places_of};
 ghost use Rattle.strm_laws.specs.Pushes.{below_top, may_stand, named_by};
@@ -9,10 +9,12 @@ ghost use Rattle.strm_blocks.specs.Blocks.{StoreValue, list_at};
 ghost use Rattle.strm_pair.specs.Stacks.{modules_in, IsStackHeld, stack_owns, stack_keeps};
 ghost use Rattle.strm_pair.specs.Taken.{TookNone, TookTop};
 
+use crate::ends::StreamEnd;
 use crate::modules::AnyModule;
 use arrayvec::ArrayVec;
 use strm_blocks::Blocks;
 use strm_frame::{Module, Stream};
+use strm_ldterm::Tables;
 use strm_types::{Fates, ModuleName, Note, Place, Rule, Side};
 
 /// The modules of a side's stream.
@@ -46,27 +48,52 @@ pub(crate) fn place_at(stack: &Stack, at: usize) -> Option<Place>
     }
 }
 
+/// Takes the module on top off its stack, if there is one, and puts the tables of its queues onto the shelf.
+pub(crate) fn pop_top(stack: &mut Stack, shelf: &mut Option<Tables>)
+    ensures rest { (x : AnyModule) (xs : List AnyModule) → stack.old.modules.items ≡ x ∷ xs → stack.new.modules.items ≡ xs }
+    ensures shelf { (k : ℕ) → (stack_owns stack.old k ≡ 0 → is_some shelf.old ≡ true) → stack_owns stack.new k ≡ 0 → is_some shelf.new ≡ true }
+{
+    let Some(module) = stack.pop() else {
+        return;
+    };
+    if let Some(tables) = module.into_tables() {
+        *shelf = Some(tables);
+    }
+}
+
+/// Takes all modules off a stack, and puts the tables of their queues onto the shelf.
+pub(crate) fn take_modules(stack: &mut Stack, shelf: &mut Option<Tables>)
+    ensures none { stack.new.modules.items ≡ [] }
+    ensures shelf { (k : ℕ) → (stack_owns stack.old k ≡ 0 → is_some shelf.old ≡ true) → is_some shelf.new ≡ true }
+{
+    while !stack.modules.is_empty() {
+        pop_top(stack, shelf);
+    }
+}
+
 /// Takes the module on top off its stack, which keeps nothing in hand: what stands on the queues and in the line of the
-/// module goes by a rule. It tells whether the M_IOCTL of a number went with them, where one is sought. `None` where no module stands
+/// module goes by a rule, and its tables onto the shelf. It tells whether the M_IOCTL of a number went with them, where one is sought. `None` where no module stands
 /// (streamio(7I): I_POP; close(2)).
 pub(crate) fn take_top<B: Blocks>(
-    stack: &mut Stack,
+    end: &mut StreamEnd,
     store: &mut B,
     side: Side,
     rule: Rule,
     seeking: Option<u32>,
     told: &mut Fates,
 ) -> Option<Taken>
-    requires held { IsStackHeld (B.value store.old) stack.old }
-    requires rests { (i : ℕ) → stack_keeps stack.old i ≡ 0 }
+    requires held { IsStackHeld (B.value store.old) end.old.stack }
+    requires rests { (i : ℕ) → stack_keeps end.old.stack i ≡ 0 }
     ensures took { MatchOption result
-        (TookNone (B.value store.old) (B.value store.new) stack.old stack.new told.old told.new)
-        (λ taken. TookTop side rule (B.value store.old) (B.value store.new) stack.old stack.new told.old told.new taken) }
-    ensures met { IfSome result (λ taken. taken.met ≡ is_met seeking (below_top (modules_in (B.value store.old) stack.old))) }
+        (TookNone (B.value store.old) (B.value store.new) end.old.stack end.new.stack told.old told.new)
+        (λ taken. TookTop side rule (B.value store.old) (B.value store.new) end.old.stack end.new.stack told.old told.new taken) }
+    ensures met { IfSome result (λ taken. taken.met ≡ is_met seeking (below_top (modules_in (B.value store.old) end.old.stack))) }
+    ensures end { end.new ≡ record end.old { stack = end.new.stack; shelf = end.new.shelf } }
+    ensures shelf { (k : ℕ) → (stack_owns end.old.stack k ≡ 0 → is_some end.old.shelf ≡ true) → stack_owns end.new.stack k ≡ 0 → is_some end.new.shelf ≡ true }
 {
-    let name = stack.look()?;
-    let gone = stack.clear_top(store, side, rule, seeking, told);
-    stack.pop();
+    let name = end.stack.look()?;
+    let gone = end.stack.clear_top(store, side, rule, seeking, told);
+    pop_top(&mut end.stack, &mut end.shelf);
     Some(Taken {
         name,
         notes: gone.notes,
@@ -76,12 +103,20 @@ pub(crate) fn take_top<B: Blocks>(
 
 /// Pushes a module on top of a stack, as its name makes it: one that may stand there (streamio(7I): I_PUSH). The queues of the
 /// stack stand on two lists, behind those of its stream's ends, which start from a number on.
-pub(crate) fn push_named<B: Blocks>(stack: &mut Stack, store: &B, name: ModuleName, first: usize)
+pub(crate) fn push_named<B: Blocks>(
+    stack: &mut Stack,
+    shelf: &mut Option<Tables>,
+    store: &B,
+    name: ModuleName,
+    first: usize,
+)
     requires small { first ≤ 4 }
     requires may_stand { may_stand (named_by (Some name)) (modules_in (B.value store.now) stack.old) ≡ true }
     requires held { IsStackHeld (B.value store.now) stack.old }
     requires owned { (k : ℕ) → 0 < stack_owns stack.old k → (first + 2 ≤ k) × (k < first + 4) }
     requires spare { (k : ℕ) → first + 2 ≤ k → k < first + 4 → stack_owns stack.old k ≡ 0 → list_at (B.value store.now) k ≡ [] }
+    requires shelf { stack_owns stack.old (first + 2) ≡ 0 → is_some shelf.old ≡ true }
+    ensures shelf { stack_owns stack.new (first + 2) ≡ 0 → is_some shelf.new ≡ true }
     ensures modules { IfSome (named_by (Some name)) (λ p. modules_in (B.value store.now) stack.new ≡ p ∷ modules_in (B.value store.now) stack.old) }
     ensures held { IsStackHeld (B.value store.now) stack.new }
     ensures owned { (k : ℕ) → 0 < stack_owns stack.new k → (first + 2 ≤ k) × (k < first + 4) }
@@ -89,5 +124,5 @@ pub(crate) fn push_named<B: Blocks>(stack: &mut Stack, store: &B, name: ModuleNa
     ensures keeps { (i : ℕ) → stack_keeps stack.new i ≡ stack_keeps stack.old i }
 {
     let _ = store;
-    let _ = stack.push(AnyModule::made(name, first + 2));
+    let _ = stack.push(AnyModule::made(name, first + 2, shelf));
 }

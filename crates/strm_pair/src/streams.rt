@@ -23,10 +23,12 @@ ghost use Rattle.strm_pair.specs.Streams.{IsBlank, IsSide, stream_in};
 ghost use Rattle.strm_pair.specs.Parts.{longest_part};
 
 use crate::ends::{StreamEnd, first_list};
+use std::alloc::{AllocError, Global};
 use strm_blocks::Blocks;
 use strm_frame::{Enabled, Stream};
 use strm_head::Head;
-use strm_queue::{HEAD_HIGH, HEAD_LOW, OTHER_HIGH, OTHER_LOW, Queue};
+use strm_ldterm::Tables;
+use strm_queue::{HEAD_HIGH, HEAD_LOW, OTHER_HIGH, OTHER_LOW, Queue, Table};
 use strm_types::{
     Answer, Book, Both, Caller, Content, Event, Fates, Mode, Openness, Place, QueueName, READ_MAX,
     Side, Turn, Way,
@@ -43,34 +45,62 @@ pub(crate) struct Streams {
     pub books: Both<Book>,
 }
 
+/// The tables of all queues that one side may have.
+#[derive(Drop)]
+pub(crate) struct SideTables {
+    head: Table,
+    driver: Table,
+    modules: Tables,
+}
+
+impl SideTables {
+    /// Asks for the memory.
+    pub fn new(alloc: Global) -> Result<SideTables, AllocError> {
+        Ok(SideTables {
+            head: Table::new(alloc)?,
+            driver: Table::new(alloc)?,
+            modules: Tables::new(alloc)?,
+        })
+    }
+}
+
+/// The tables of the queues of both sides, 32 KB in all.
+pub(crate) fn queue_tables(alloc: Global) -> Result<Both<SideTables>, AllocError> {
+    Ok(Both {
+        master: SideTables::new(alloc)?,
+        slave: SideTables::new(alloc)?,
+    })
+}
+
 // A stream that nobody opened, whose queues stand on the lists from a number on: the head's, the driver's, and two that
 // are kept for the queues of a module.
-fn new_end(first: usize) -> StreamEnd
+fn new_end(first: usize, tables: SideTables) -> StreamEnd
     requires { first ≤ 4 }
     ensures side { (s : StoreValue) → IsBlank s first → IsSide s first result }
     ensures stream { (s : StoreValue) → IsBlank s first → stream_in s result ≡ new_stream }
 {
     StreamEnd {
         opened: Openness::Never,
-        head: Head::new(Queue::new(first, HEAD_HIGH, HEAD_LOW)),
+        head: Head::new(Queue::new(first, HEAD_HIGH, HEAD_LOW, tables.head)),
         stack: Stream::new(),
-        driver: Queue::new(first + 1, OTHER_HIGH, OTHER_LOW),
+        driver: Queue::new(first + 1, OTHER_HIGH, OTHER_LOW, tables.driver),
+        shelf: Some(tables.modules),
     }
 }
 
 impl Streams {
     ghost use Rattle.strm_types.specs.declared.names.Side.TheVariants.{Master};
-    ghost use Rattle.strm_pair.specs.Pairs.{state_in, end_at, with_end, AreHeld, SamePool};
+    ghost use Rattle.strm_pair.specs.Pairs.{state_in, end_at, with_end, AreBeside, AreHeld, SamePool};
 
     /// The streams of a new pair.
-    pub fn new() -> Streams
+    pub fn new(tables: Both<SideTables>) -> Streams
         ensures state { (mblks dblks : ℕ) → state_in (empty_store mblks dblks) result ≡ opening }
         ensures held { (mblks dblks : ℕ) → AreHeld (empty_store mblks dblks) result }
     {
         Streams {
             ends: Both {
-                master: new_end(first_list(Side::Master)),
-                slave: new_end(first_list(Side::Slave)),
+                master: new_end(first_list(Side::Master), tables.master),
+                slave: new_end(first_list(Side::Slave), tables.slave),
             },
             locked: true,
             enabled: Enabled::new(),
@@ -80,6 +110,20 @@ impl Streams {
                 slave: Book::new(),
             },
         }
+    }
+
+    /// Makes the streams as new, in place, where nothing stands in the store.
+    pub fn renew(&mut self)
+        ensures state { (s : StoreValue) (mblks dblks : ℕ) → AreBeside s self.old → state_in (empty_store mblks dblks) self.new ≡ opening }
+        ensures held { (s : StoreValue) (mblks dblks : ℕ) → AreBeside s self.old → AreHeld (empty_store mblks dblks) self.new }
+    {
+        self.ends.master.renew();
+        self.ends.slave.renew();
+        self.locked = true;
+        self.enabled = Enabled::new();
+        self.next_ioctl = 1;
+        self.books.master = Book::new();
+        self.books.slave = Book::new();
     }
 
     // Opens the master.

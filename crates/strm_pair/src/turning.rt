@@ -1,7 +1,6 @@
 //! A turn of a driver: what goes from it up the other side's stream (STREAMS Programming Guide, "Service Procedures").
 
 ghost use Rattle.std.specs.Prelude.{ℕ, ◌≡◌, ◌+◌, ◌≤◌, ◌<◌, ◌&&◌, [], not, true, false, MatchOption};
-ghost use Rattle.strm_types.specs.declared.limits.TheConstants.{BANDS};
 ghost use Rattle.strm_types.specs.declared.names.Way.TheVariants.{Up};
 ghost use Rattle.strm_types.specs.Cells.{plain};
 ghost use Rattle.strm_types.specs.Deliver.{tallied};
@@ -117,7 +116,6 @@ impl Streams {
     // Whether flow control stops a message of this kind and band at the nearest queue past a side's driver, on the way up.
     fn is_stopped<B: Blocks>(&self, store: &B, side: Side, kind: MsgKind, band: Band) -> bool
         requires beside { AreBeside (B.value store.now) self.now }
-        requires band { band.0 < BANDS }
         ensures { let st = state_in (B.value store.now) self.now in
             result ≡ (is_held kind && not (has_room_past side Up (driver_place side st) band.0 st)) }
     {

@@ -35,7 +35,7 @@ stop-plain kinds.Start is = refl
 stop-plain _ is = absurd (cc)
 
 -- the M_PROTO block, in front of blocks that are M_DATA
-module _ (band number byte : ℕ) (low : band < 8) (behind : List Block) (all : AreData behind) where
+module _ (band number byte : ℕ) (low : band < 256) (behind : List Block) (all : AreData behind) where
   abbrev front : Block
   front = copy_of number (filled_block kinds.Proto band (byte ∷ []))
 

@@ -6,7 +6,6 @@ ghost use Rattle.strm_types.specs.Drivers.{bottom_across, driver_across, own_flu
 ghost use Rattle.strm_types.specs.Drivers.{reader_flush, flush_down, flush_across};
 ghost use Rattle.strm_types.specs.Flush.{is_data_kind};
 ghost use Rattle.strm_types.specs.Flushing.{asked_by};
-ghost use Rattle.strm_types.specs.Refused.{is_a_band};
 ghost use Rattle.strm_blocks.specs.Blocks.{IsInHand, in_hand, block_at, token};
 ghost use Rattle.strm_queue.specs.Stored.{queue_in, IsReady};
 ghost use Rattle.strm_frame.specs.Hands.{HasRoom};
@@ -55,7 +54,6 @@ fn flush_own<B: Blocks>(
     told: &mut Fates,
 ) -> ArrayVec<Note, 4>
     requires ready { IsReady (B.value store.old) queue.old }
-    requires band { is_a_band asked.band ≡ true }
     ensures { let s = B.value store.old in let q = queue_in s queue.old in
         Alters s (B.value store.new) queue.old queue.new result.items told.old told.new
         (if goes then own_flushed side asked q else freed q) }

@@ -5,7 +5,6 @@ ghost use Rattle.std.specs.Option.{option_to_list};
 ghost use Rattle.strm_types.specs.Drivers.{reader_flush};
 ghost use Rattle.strm_types.specs.Flush.{is_data_kind};
 ghost use Rattle.strm_types.specs.Flushing.{asked_by};
-ghost use Rattle.strm_types.specs.Refused.{is_a_band};
 ghost use Rattle.strm_blocks.specs.Blocks.{IsInHand, in_hand, block_at, token};
 ghost use Rattle.strm_frame.specs.Hands.{HasRoom};
 ghost use Rattle.strm_frame.specs.Outboxes.{message_in};
@@ -53,7 +52,6 @@ pub(crate) fn asked_of<B: Blocks>(store: &B, message: &InHand) -> FlushAsked
     requires in_hand { IsInHand (B.value store.now) (token message.now) }
     requires kind { is_data_kind (block_at 0 (in_hand (B.value store.now) (token message.now))).kind ≡ false }
     ensures asked { result ≡ asked_by (message_in (B.value store.now) (token message.now)).plain }
-    ensures band { is_a_band result.band ≡ true }
 {
     let mut bytes = [0; 2];
     let count = first_bytes(store, message, &mut bytes);

@@ -10,7 +10,7 @@ use std::test::Fail;
 use strm_blocks::{Blocks, NoBlocks, TableStore};
 use strm_frame::Acts;
 use strm_msg::from_bytes;
-use strm_queue::{OTHER_HIGH, OTHER_LOW, Queue};
+use strm_queue::{OTHER_HIGH, OTHER_LOW, Queue, Table};
 use strm_types::{Across, Band, Fates, MODULES, MsgKind, Note, Side, Spot, Way};
 
 // A message of one block that is put at a driver's place, and what comes of it.
@@ -28,12 +28,12 @@ struct Row<'a> {
 }
 
 // A new queue on an empty list.
-fn fresh<B: Blocks>(store: &B) -> Queue
+fn fresh<B: Blocks>(store: &B, table: Table) -> Queue
     requires { list_at (B.value store.now) 3 ≡ [] }
     ensures { IsReady (B.value store.now) result }
 {
     let _ = store;
-    Queue::new(3, OTHER_HIGH, OTHER_LOW)
+    Queue::new(3, OTHER_HIGH, OTHER_LOW, table)
 }
 
 // Whether messages are sent to these spots, in order, and to no other ones.
@@ -48,13 +48,18 @@ fn goes_to(mut acts: Acts, spots: &[Spot]) -> bool {
 }
 
 // Puts a row's message, which is of data or of a kind without parts.
-fn puts<B: Blocks>(rt: &impl Abort, store: &mut B, row: &Row<'_>) -> Result<(), Fail>
+fn puts<B: Blocks>(
+    rt: &impl Abort,
+    store: &mut B,
+    table: Table,
+    row: &Row<'_>,
+) -> Result<(), Fail>
     requires { list_at (B.value store.old) 3 ≡ [] }
 {
     if row.kind.is_control_kind() {
         return Err(NoBlocks.into());
     }
-    let mut queue = fresh(store);
+    let mut queue = fresh(store, table);
     let mut told = Fates::none();
     let message = from_bytes(store, row.kind, Band(0), row.bytes)?;
     let (mblks, dblks) = store.free_blocks();
@@ -195,7 +200,7 @@ const ROWS: [Row<'static>; 8] = [
 fn drivers_keep_answer_and_send_on(rt: HostRuntime) -> Result<(), Fail> {
     for row in &ROWS {
         let mut store = TableStore::new(rt.alloc(), 10, 10)?;
-        puts(&rt, &mut store, row)?;
+        puts(&rt, &mut store, Table::new(rt.alloc())?, row)?;
     }
     Ok(())
 }

@@ -47,10 +47,10 @@ pub stopped-held : (v w : Bool) → true ≡ (v && w) → v ≡ true
 stopped-held true w is = refl
 stopped-held false w is = absurd (cc)
 
--- a message counts in a band below 8
-chain-low-at : (high : Bool) (band : ℕ) → band < 8 → cond high 0 band < 8
+-- a message counts in a band below 256
+chain-low-at : (high : Bool) (band : ℕ) → band < 256 → cond high 0 band < 256
 chain-low-at true band low = omega arith
 chain-low-at false band low = low
 
-pub chain-low : (chain : List Block) → IsChain chain → kept.band_of chain < 8
+pub chain-low : (chain : List Block) → IsChain chain → kept.band_of chain < 256
 chain-low chain one = chain-low-at (is_high_priority (block_at 0 chain).kind) (block_at 0 chain).band one.low

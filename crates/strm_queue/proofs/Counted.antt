@@ -107,7 +107,7 @@ still : (band : ℕ) (f : Flow) (q r : List (List Block)) → IsCounted band f q
 still band f q r is first second = record { data_sum = is.data_sum ∙ sym first; other_sum = is.other_sum ∙ sym second; marked = is.marked }
 
 -- the numbers of a queue after a message was added to its list
-pub counted-added : (flows : List Flow) (q r : List (List Block)) (chain : List Block) → band_of chain < 8
+pub counted-added : (flows : List Flow) (q r : List (List Block)) (chain : List Block) → band_of chain < 256
     → ((f : List Block → ℕ) → sum_by f r ≡ f chain + sum_by f q) → AllBands r → AreCounted flows q
     → AreCounted (slice_set flows (band_of chain) (added_to (is_data chain) (bytes_of chain) (flow_at (band_of chain) flows))) r
 counted-added flows q r chain low sums bands is = record {
@@ -116,7 +116,7 @@ counted-added flows q r chain low sums bands is = record {
   each = λ band lt. at band lt (band_of chain == band) refl;
 }
   where
-    at : (band : ℕ) → band < 8 → (b : Bool) → (band_of chain == band) ≡ b → IsCounted band (flow_at band (slice_set flows (band_of chain) (added_to (is_data chain) (bytes_of chain) (flow_at (band_of chain) flows)))) r
+    at : (band : ℕ) → band < 256 → (b : Bool) → (band_of chain == band) ≡ b → IsCounted band (flow_at band (slice_set flows (band_of chain) (added_to (is_data chain) (bytes_of chain) (flow_at (band_of chain) flows)))) r
     at band lt true same =
         let e : band_of chain ≡ band = grind (arith, nat_tests) in
         subst (λ k. IsCounted k (flow_at k (slice_set flows (band_of chain) (added_to (is_data chain) (bytes_of chain) (flow_at (band_of chain) flows)))) r) e
@@ -131,7 +131,7 @@ counted-added flows q r chain low sums bands is = record {
         (sums (other_share band) ∙ ap (λ n. n + sum_by (other_share band) q) (other-else band chain apart) ∙ omega arith))
 
 -- and after a message was taken off it
-pub counted-removed : (flows : List Flow) (q r : List (List Block)) (chain : List Block) → band_of chain < 8
+pub counted-removed : (flows : List Flow) (q r : List (List Block)) (chain : List Block) → band_of chain < 256
     → ((f : List Block → ℕ) → sum_by f q ≡ f chain + sum_by f r) → AllBands r → AreCounted flows q
     → AreCounted (slice_set flows (band_of chain) (removed_from (is_data chain) (bytes_of chain) (flow_at (band_of chain) flows))) r
 counted-removed flows q r chain low sums bands is = record {
@@ -140,7 +140,7 @@ counted-removed flows q r chain low sums bands is = record {
   each = λ band lt. at band lt (band_of chain == band) refl;
 }
   where
-    at : (band : ℕ) → band < 8 → (b : Bool) → (band_of chain == band) ≡ b → IsCounted band (flow_at band (slice_set flows (band_of chain) (removed_from (is_data chain) (bytes_of chain) (flow_at (band_of chain) flows)))) r
+    at : (band : ℕ) → band < 256 → (b : Bool) → (band_of chain == band) ≡ b → IsCounted band (flow_at band (slice_set flows (band_of chain) (removed_from (is_data chain) (bytes_of chain) (flow_at (band_of chain) flows)))) r
     at band lt true same =
         let e : band_of chain ≡ band = grind (arith, nat_tests) in
         subst (λ k. IsCounted k (flow_at k (slice_set flows (band_of chain) (removed_from (is_data chain) (bytes_of chain) (flow_at (band_of chain) flows)))) r) e

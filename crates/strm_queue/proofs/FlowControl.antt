@@ -16,7 +16,7 @@ use Rattle.strm_queue.specs.Stored.{queue_in, messages_on, IsReady}
 use Rattle.strm_queue.proofs.Chains.{count-same}
 
 -- the kept count of a band
-pub counts : (s : StoreValue) (q : Queue) → IsReady s q → (band : ℕ) → band < 8 → count_in (flow_at band q.flows) ≡ plain.count_of band (messages_on s q.list)
+pub counts : (s : StoreValue) (q : Queue) → IsReady s q → (band : ℕ) → band < 256 → count_in (flow_at band q.flows) ≡ plain.count_of band (messages_on s q.list)
 counts s q ready band lt =
     count-kept band (flow_at band q.flows) (list_at s q.list) (ready.counted.each band lt) ∙ count-same band (list_at s q.list) ready.messages.chains
 
@@ -29,7 +29,7 @@ high-of (f ∷ fs) zero some = refl
 high-of (f ∷ fs) (suc band) some = high-of fs band (omega arith)
 
 -- whether a band is full
-pub full-same : (s : StoreValue) (q : Queue) (band : ℕ) → IsReady s q → band < 8 → kept.is_full (flow_at band q.flows).high band (list_at s q.list) ≡ plain.is_full band (queue_in s q)
+pub full-same : (s : StoreValue) (q : Queue) (band : ℕ) → IsReady s q → band < 256 → kept.is_full (flow_at band q.flows).high band (list_at s q.list) ≡ plain.is_full band (queue_in s q)
 full-same s q band ready lt =
     ap (λ n. nat_le (flow_at band q.flows).high n) (count-same band (list_at s q.list) ready.messages.chains)
     ∙ ap (λ h. nat_le h (plain.count_of band (messages_on s q.list))) (sym (high-of q.flows band (omega (arith, ready.counted.eight))))

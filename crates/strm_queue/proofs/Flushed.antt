@@ -64,9 +64,9 @@ flush-at true band f q is = record { data_sum = sym (data-goes true band q); oth
 flush-at false band f q is = record { data_sum = sym (data-goes false band q); other_sum = is.other_sum ∙ sym (others-stay band q); marked = refl }
 
 -- the numbers are right after a flush
-pub counted-flushed : (all : Bool) (old new : List Flow) (q : List (List Block)) → length new ≡ length old → ((band : ℕ) → band < 8 → flow_at band new ≡ flushed_of all (flow_at band old)) → AreCounted old q → AreCounted new (flushed (record { all = all; band = None }) q)
+pub counted-flushed : (all : Bool) (old new : List Flow) (q : List (List Block)) → length new ≡ length old → ((band : ℕ) → band < 256 → flow_at band new ≡ flushed_of all (flow_at band old)) → AreCounted old q → AreCounted new (flushed (record { all = all; band = None }) q)
 counted-flushed all old new q eight each is = record {
-  bands = all-kept (λ chain. band_of chain < 8) _ q is.bands;
+  bands = all-kept (λ chain. band_of chain < 256) _ q is.bands;
   eight = eight ∙ is.eight;
   each = λ band lt. subst (λ f. IsCounted band f (flushed (record { all = all; band = None }) q)) (sym (each band lt)) (flush-at all band (flow_at band old) q (is.each band lt));
 }
@@ -82,7 +82,7 @@ counted-marked flows band high low q is = record {
   each = λ other lt. at other lt (other == band) refl;
 }
   where
-    at : (other : ℕ) → other < 8 → (b : Bool) → (other == band) ≡ b → IsCounted other (flow_at other (slice_set flows band (marked_with high low (flow_at band flows)))) q
+    at : (other : ℕ) → other < 256 → (b : Bool) → (other == band) ≡ b → IsCounted other (flow_at other (slice_set flows band (marked_with high low (flow_at band flows)))) q
     at other lt true same =
         let e : band ≡ other = grind (arith, nat_tests) in
         subst (λ k. IsCounted k (flow_at k (slice_set flows band (marked_with high low (flow_at band flows)))) q) e
@@ -91,7 +91,7 @@ counted-marked flows band high low q is = record {
     at other lt false apart =
         rw (flow-other flows band other (marked_with high low (flow_at band flows)) (λ e. grind (arith, nat_tests))) (is.each other lt)
 
-pub counted-all-marked : (high low : ℕ) (old new : List Flow) (q : List (List Block)) → length new ≡ length old → ((band : ℕ) → band < 8 → flow_at band new ≡ marked_with high low (flow_at band old)) → AreCounted old q → AreCounted new q
+pub counted-all-marked : (high low : ℕ) (old new : List Flow) (q : List (List Block)) → length new ≡ length old → ((band : ℕ) → band < 256 → flow_at band new ≡ marked_with high low (flow_at band old)) → AreCounted old q → AreCounted new q
 counted-all-marked high low old new q eight each is = record {
   bands = is.bands;
   eight = eight ∙ is.eight;
@@ -103,7 +103,7 @@ relieved-at band f q true is = record { data_sum = is.data_sum; other_sum = is.o
 relieved-at band f q false is = is
 
 -- the numbers stay right where writers are let go
-pub counted-relieved : (old new : List Flow) (q : List (List Block)) → length new ≡ length old → ((band : ℕ) → band < 8 → flow_at band new ≡ relieved (flow_at band old)) → AreCounted old q → AreCounted new q
+pub counted-relieved : (old new : List Flow) (q : List (List Block)) → length new ≡ length old → ((band : ℕ) → band < 256 → flow_at band new ≡ relieved (flow_at band old)) → AreCounted old q → AreCounted new q
 counted-relieved old new q eight each is = record {
   bands = is.bands;
   eight = eight ∙ is.eight;
@@ -144,14 +144,14 @@ band-data-stays named band q apart =
     omega (arith, parted (data_share band) (λ m. is_data m && (band_of m == named)) q, same-sums (λ m. if is_data m && (band_of m == named) then data_share band m else 0) (λ m. 0) (λ m. not-both named band (band_of m) _ _ (is_data m) (bytes_of m) apart refl refl) q, no-sum q)
 
 -- the numbers are right after a flush of a band
-pub counted-band-flushed : (flows : List Flow) (named : Band) (q : List (List Block)) → named.0 < 8 → AreCounted flows q → AreCounted (slice_set flows named.0 (flushed_of false (flow_at named.0 flows))) (flushed (record { all = false; band = Some named }) q)
+pub counted-band-flushed : (flows : List Flow) (named : Band) (q : List (List Block)) → named.0 < 256 → AreCounted flows q → AreCounted (slice_set flows named.0 (flushed_of false (flow_at named.0 flows))) (flushed (record { all = false; band = Some named }) q)
 counted-band-flushed flows named q low is = record {
-  bands = all-kept (λ chain. band_of chain < 8) _ q is.bands;
+  bands = all-kept (λ chain. band_of chain < 256) _ q is.bands;
   eight = length-set flows named.0 _ ∙ is.eight;
   each = λ band lt. at band lt (band == named.0) refl;
 }
   where
-    at : (band : ℕ) → band < 8 → (b : Bool) → (band == named.0) ≡ b → IsCounted band (flow_at band (slice_set flows named.0 (flushed_of false (flow_at named.0 flows)))) (flushed (record { all = false; band = Some named }) q)
+    at : (band : ℕ) → band < 256 → (b : Bool) → (band == named.0) ≡ b → IsCounted band (flow_at band (slice_set flows named.0 (flushed_of false (flow_at named.0 flows)))) (flushed (record { all = false; band = Some named }) q)
     at band lt true same =
         let e : named.0 ≡ band = grind (arith, nat_tests) in
         subst (λ k. IsCounted k (flow_at k (slice_set flows named.0 (flushed_of false (flow_at named.0 flows)))) (flushed (record { all = false; band = Some named }) q)) e

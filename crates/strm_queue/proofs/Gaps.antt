@@ -28,7 +28,7 @@ module _ (s : BandSet) (old : List Flow) (long : length old + 1 ≡ BANDS) (from
 
     pub all-passed : from < BANDS → AreThrough → (at : ℕ) → at + 1 < BANDS → flow_at at new ≡ change (flow_at at old)
     all-passed within through at lt =
-        (passed-over change old new from 7 sofar (omega (arith, within)) (λ k le below. stays k (omega (arith, below)) (through k le (omega (arith, below))))).before at (omega (arith, lt))
+        (passed-over change old new from 255 sofar (omega (arith, within)) (λ k le below. stays k (omega (arith, below)) (through k le (omega (arith, below))))).before at (omega (arith, lt))
 
   -- a sum to which the others add nothing
   module _ (kept : Flow → ℕ) (none : (k : ℕ) → k + 1 < BANDS → has s k ≡ false → kept (flow_at k old) ≡ 0) where
@@ -40,8 +40,8 @@ module _ (s : BandSet) (old : List Flow) (long : length old + 1 ≡ BANDS) (from
 
     pub all-sum : from < BANDS → AreThrough → sum_by kept (take from old) ≡ sum_by kept old
     all-sum within through =
-        sym (sum-over old from kept 7 (omega (arith, within)) (omega (arith, long)) (λ k le lt. none k (omega (arith, lt)) (through k le (omega (arith, lt)))))
-        ∙ ap (sum_by kept) (take_all 7 old (omega (arith, long)))
+        sym (sum-over old from kept 255 (omega (arith, within)) (omega (arith, long)) (λ k le lt. none k (omega (arith, lt)) (through k le (omega (arith, lt)))))
+        ∙ ap (sum_by kept) (take_all 255 old (omega (arith, long)))
 
   -- writers that are let go, where for the others none waits
   module _ (none : (k : ℕ) → k + 1 < BANDS → has s k ≡ false → relieves (flow_at k old) ≡ false) where
@@ -53,5 +53,5 @@ module _ (s : BandSet) (old : List Flow) (long : length old + 1 ≡ BANDS) (from
 
     pub all-went : from < BANDS → AreThrough → list_any relieves (take from old) ≡ list_any relieves old
     all-went within through =
-        sym (any-over old from relieves 7 (omega (arith, within)) (omega (arith, long)) (λ k le lt. none k (omega (arith, lt)) (through k le (omega (arith, lt)))))
-        ∙ ap (list_any relieves) (take_all 7 old (omega (arith, long)))
+        sym (any-over old from relieves 255 (omega (arith, within)) (omega (arith, long)) (λ k le lt. none k (omega (arith, lt)) (through k le (omega (arith, lt)))))
+        ∙ ap (list_any relieves) (take_all 255 old (omega (arith, long)))

@@ -17,11 +17,11 @@ pub first-few : (f : Flow) (fs : List Flow) → AreFlows (f ∷ fs) → count_in
 first-few f fs are = let few : count_in f ≤ 16777216 = are.few 0 in omega (arith, few)
 
 -- the bytes of the others are few enough to add
-pub others-small : (kept : Flow → ℕ) (f : Flow) (fs : List Flow) → ((g : Flow) → kept g ≤ count_in g) → AreFlows (f ∷ fs) → sum_by kept fs ≤ 117440512
+pub others-small : (kept : Flow → ℕ) (f : Flow) (fs : List Flow) → ((g : Flow) → kept g ≤ count_in g) → AreFlows (f ∷ fs) → sum_by kept fs ≤ 4278190080
 others-small kept f fs less are =
-    let long : length fs ≤ 7 = omega (arith, are.eight) in
-    let all = ap (sum_by kept) (take_all 7 fs long) in
-    let few = sum-small kept fs 7 (omega (arith, are.eight)) less (others-few f fs are) in
+    let long : length fs ≤ 255 = omega (arith, are.eight) in
+    let all = ap (sum_by kept) (take_all 255 fs long) in
+    let few = sum-small kept fs 255 (omega (arith, are.eight)) less (others-few f fs are) in
     omega (arith, all, few)
 
 -- a change of each band
@@ -34,17 +34,17 @@ module _ (change : Flow → Flow) (f f' : Flow) (fs fs' : List Flow) (first : f'
   pub each-flows : ((g : Flow) → count_in (change g) ≤ count_in g) → IsMarked (change f) → length fs' ≡ length fs → AreFlows (f ∷ fs) → AreFlows (f' ∷ fs')
   each-flows less marked long are = record {
     eight = omega (arith, long, are.eight);
-    few = λ band. at band (nat_lt band 8) refl;
+    few = λ band. at band (nat_lt band 256) refl;
     marked = subst IsMarked (sym first) marked;
   }
     where
-      at : (band : ℕ) → (b : Bool) → nat_lt band 8 ≡ b → count_in (flow_at band (f' ∷ fs')) ≤ 16777216
+      at : (band : ℕ) → (b : Bool) → nat_lt band 256 ≡ b → count_in (flow_at band (f' ∷ fs')) ≤ 16777216
       at band true within =
           let lt : band < BANDS = grind (arith, nat_tests) in
           let same = ap count_in (each-band band lt) in
           omega (arith, same, less (flow_at band (f ∷ fs)), are.few band)
       at band false past =
-          let le : 8 ≤ band = grind (arith, nat_tests) in
+          let le : 256 ≤ band = grind (arith, nat_tests) in
           let none = ap count_in (get_or_past (f' ∷ fs') band no_flow (omega (arith, le, long, are.eight))) in
           omega (arith, none)
 

@@ -67,5 +67,5 @@ module _ (s made : StoreValue) (q : Queue) (i : ℕ) (bytes : List ℕ) (m : One
   list-within is = let same : length made.lists ≡ length s.lists = ap (λ (v : StoreValue). length v.lists) m.is in omega (arith, is.eight, q.on_list)
 
 -- a message of data is of a band that a queue has
-pub low-band : (s made : StoreValue) (i : ℕ) (bytes : List ℕ) → OneMade s made i bytes → kept.band_of (in_hand made i) < 8
+pub low-band : (s made : StoreValue) (i : ℕ) (bytes : List ℕ) → OneMade s made i bytes → kept.band_of (in_hand made i) < 256
 low-band s made i bytes m = let none : kept.band_of (in_hand made i) ≡ 0 = band-same (in_hand made i) ∙ ap band_of m.shows.is ∙ data-band bytes in omega arith

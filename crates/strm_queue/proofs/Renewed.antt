@@ -11,7 +11,7 @@ use Rattle.strm_queue.specs.Stored.{queue_in, Keeps}
 use Rattle.strm_queue.proofs.Placed.{Landed, landed, keeps-landed}
 
 -- a queue as new, on an empty list
-pub fresh-queue : (s : StoreValue) (q : Queue) (high low : ℕ) → list_at s q.list ≡ [] → plain_flows q.flows ≡ replicate 8 (record { high = high; low = low; want_write = false }) → q.want_read ≡ true → q.no_enable ≡ false → queue_in s q ≡ plain.new_queue high low
+pub fresh-queue : (s : StoreValue) (q : Queue) (high low : ℕ) → list_at s q.list ≡ [] → plain_flows q.flows ≡ replicate 256 (record { high = high; low = low; want_write = false }) → q.want_read ≡ true → q.no_enable ≡ false → queue_in s q ≡ plain.new_queue high low
 fresh-queue s q high low empty flows want_read no_enable = rw (empty, flows, want_read, no_enable) refl
 
 -- a flush of all leaves nothing

@@ -1,5 +1,5 @@
 -- The rows of bands as their flow control.
-use Rattle.std.proofs.Common.{ℕ, zero, suc, ◌≡◌, ◌≢◌, ◌<◌, ◌≤◌, ◌+◌, ◌^◌, Bool, true, false, List, [], ◌∷◌, length, refl, sym, ap, subst, ◌∙◌, arith, length-set, get_or-set_same, get_or-set_other}
+use Rattle.std.proofs.Common.{ℕ, zero, suc, ◌≡◌, cond, ◌≢◌, ◌<◌, ◌≤◌, ◌+◌, ◌^◌, Bool, true, false, List, [], ◌∷◌, length, refl, sym, ap, subst, ◌∙◌, arith, length-set, get_or-set_same, get_or-set_other}
 use Rattle.std.specs.Prelude.{slice_set, map, nat_lt, ◌==◌}
 use Rattle.std.proofs.lemmas.Bool.Decides.{nat_tests}
 use Rattle.strm_types.specs.declared.limits.TheConstants.{BANDS}
@@ -9,7 +9,7 @@ use Rattle.strm_queue.specs.declared.common.Common.{Common}
 use Rattle.strm_queue.specs.Flows.{count_in, IsMarked}
 use Rattle.strm_queue.specs.Kept.{flow_at, FewBytes}
 use Rattle.strm_queue.specs.Sets.{has}
-use Rattle.strm_queue.specs.Rows.{row_flow, flows_from, row_at, no_row, AreRows}
+use Rattle.strm_queue.specs.Rows.{counts_of, row_flow, flows_from, row_at, no_row, AreRows}
 
 pub flows-long : (c : Common) (at : ℕ) (rows : List Row) → length (flows_from c at rows) ≡ length rows
 flows-long c at [] = refl
@@ -57,34 +57,17 @@ flows-each change c c' from (row ∷ rows) each =
     ap (λ f. f ∷ flows_from c' (suc from) rows) (each from row)
     ∙ ap (λ fs. change (row_flow c from row) ∷ fs) (flows-each change c c' (suc from) rows each)
 
--- there are rows as before, and those of bands where no byte stands are empty
-pub rows-set : (c c' : Common) (at : ℕ) (new : Row) (flow : Flow) (rows : List Row) → at + 1 < BANDS → row_flow c' at new ≡ flow → has c'.filled at ≡ nat_lt 0 (count_in flow)
-    → ((k : ℕ) → k ≢ at → has c'.filled k ≡ has c.filled k) → AreRows c rows → AreRows c' (slice_set rows at new)
-rows-set c c' at new flow rows within here filled stay are = record {
-  each = ap (λ n. n + 1) (length-set rows at new) ∙ are.each;
-  filled = λ k none. by k none (k == at) refl;
-}
-  where
-    by : (k : ℕ) → has c'.filled k ≡ false → (b : Bool) → (k == at) ≡ b → (row_at k (slice_set rows at new)).data_bytes + (row_at k (slice_set rows at new)).other_bytes ≡ 0
-    by k none true same =
-        let e : k ≡ at = grind (arith, nat_tests) in
-        let row = get_or-set_same rows at new no_row (omega (arith, within, are.each)) in
-        let empty : nat_lt 0 (count_in flow) ≡ false = sym filled ∙ ap (λ j. has c'.filled j) (sym e) ∙ none in
-        let zero : count_in flow ≡ 0 = grind (arith, nat_tests) in
-        let count : new.data_bytes + new.other_bytes ≡ count_in flow = ap count_in here in
-        subst (λ j. (row_at j (slice_set rows at new)).data_bytes + (row_at j (slice_set rows at new)).other_bytes ≡ 0) (sym e)
-        (ap (λ (r : Row). r.data_bytes + r.other_bytes) row ∙ count ∙ zero)
-    by k none false apart =
-        let other : k ≢ at = λ e. grind (arith, nat_tests) in
-        ap (λ (r : Row). r.data_bytes + r.other_bytes) (get_or-set_other rows at k new no_row other) ∙ are.filled k (sym (stay k other) ∙ none)
+-- there are rows as before
+pub rows-set : (at : ℕ) (new : Row) (rows : List Row) → AreRows rows → AreRows (slice_set rows at new)
+rows-set at new rows are = record { each = ap (λ n. n + 1) (length-set rows at new) ∙ are.each }
 
 -- what the rows say of the flow control of bands
-module _ (c : Common) (rows : List Row) (are : AreRows c rows) (flows : List Flow) (is : flows_from c 0 rows ≡ flows) where
+module _ (c : Common) (rows : List Row) (are : AreRows rows) (flows : List Flow) (is : flows_from c 0 rows ≡ flows) where
   pub row-at : (at : ℕ) → at + 1 < BANDS → flow_at at flows ≡ row_flow c at (row_at at rows)
   row-at at lt = ap (flow_at at) (sym is) ∙ first-row c at rows (omega (arith, lt, are.each))
 
   pub row-empty : (at : ℕ) → at + 1 < BANDS → has c.filled at ≡ false → count_in (flow_at at flows) ≡ 0
-  row-empty at lt none = ap count_in (row-at at lt) ∙ are.filled at none
+  row-empty at lt none = ap count_in (row-at at lt) ∙ ap (λ (b : Bool). (cond b (row_at at rows) no_row).data_bytes + (cond b (row_at at rows) no_row).other_bytes) none
 
   pub row-marked : (at : ℕ) → at + 1 < BANDS → IsMarked (flow_at at flows)
   row-marked at lt = subst IsMarked (sym (row-at at lt)) refl
@@ -92,8 +75,8 @@ module _ (c : Common) (rows : List Row) (are : AreRows c rows) (flows : List Flo
   pub row-waits : (at : ℕ) → at + 1 < BANDS → has c.waiting at ≡ (flow_at at flows).want_write
   row-waits at lt = sym (ap (λ (f : Flow). f.want_write) (row-at at lt))
 
-  pub row-few : (at : ℕ) → at + 1 < BANDS → FewBytes flows → (row_at at rows).data_bytes + (row_at at rows).other_bytes < 2 ^ 32
-  row-few at lt few = let same : count_in (flow_at at flows) ≡ (row_at at rows).data_bytes + (row_at at rows).other_bytes = ap count_in (row-at at lt) in omega (arith, same, few at)
+  pub row-few : (at : ℕ) → at + 1 < BANDS → FewBytes flows → count_in (row_flow c at (row_at at rows)) < 2 ^ 32
+  row-few at lt few = let same = ap count_in (row-at at lt) in omega (arith, same, few at)
 
   pub rows-long : length flows + 1 ≡ BANDS
   rows-long = ap (λ (fs : List Flow). length fs + 1) (sym is) ∙ ap (λ n. n + 1) (flows-long c 0 rows) ∙ are.each

@@ -16,25 +16,25 @@ pub list-placed : (s : StoreValue) (k : ℕ) (q : List (List Block)) → k < len
 list-placed s k q lt = get_or-set_same s.lists k q [] lt
 
 -- a band's count and a message's bytes can be added
-pub count-fits : (s : StoreValue) (k i band : ℕ) (flows : List Flow) → IsStore s → AreCounted flows (list_at s k) → band < 8 → count_in (flow_at band flows) + bytes_of (in_hand s i) ≤ 16777216
+pub count-fits : (s : StoreValue) (k i band : ℕ) (flows : List Flow) → IsStore s → AreCounted flows (list_at s k) → band < 256 → count_in (flow_at band flows) + bytes_of (in_hand s i) ≤ 16777216
 count-fits s k i band flows is counted low =
     omega (arith, few-bytes s is k i, count-few band (list_at s k), count-kept band (flow_at band flows) (list_at s k) (counted.each band low))
 
 -- the numbers are right after a put, and after a put back
-pub put-counted : (s : StoreValue) (k i : ℕ) (flows : List Flow) → IsStore s → k < 8 → AreCounted flows (list_at s k) → band_of (in_hand s i) < 8
+pub put-counted : (s : StoreValue) (k i : ℕ) (flows : List Flow) → IsStore s → k < 8 → AreCounted flows (list_at s k) → band_of (in_hand s i) < 256
     → AreCounted (slice_set flows (band_of (in_hand s i)) (added_to (is_data (in_hand s i)) (bytes_of (in_hand s i)) (flow_at (band_of (in_hand s i)) flows))) (list_at (placed (dropped s i) k (put (in_hand s i) (list_at s k))) k)
 put-counted s k i flows is lt counted low =
     rw (list-placed (dropped s i) k (put (in_hand s i) (list_at s k)) (omega (arith, is.eight)))
-    (counted-added flows (list_at s k) (put (in_hand s i) (list_at s k)) (in_hand s i) low (λ f. sum-put rank_of f (in_hand s i) (list_at s k)) (all-put (λ chain. band_of chain < 8) rank_of (in_hand s i) (list_at s k) low counted.bands) counted)
+    (counted-added flows (list_at s k) (put (in_hand s i) (list_at s k)) (in_hand s i) low (λ f. sum-put rank_of f (in_hand s i) (list_at s k)) (all-put (λ chain. band_of chain < 256) rank_of (in_hand s i) (list_at s k) low counted.bands) counted)
 
-pub put_back-counted : (s : StoreValue) (k i : ℕ) (flows : List Flow) → IsStore s → k < 8 → AreCounted flows (list_at s k) → band_of (in_hand s i) < 8
+pub put_back-counted : (s : StoreValue) (k i : ℕ) (flows : List Flow) → IsStore s → k < 8 → AreCounted flows (list_at s k) → band_of (in_hand s i) < 256
     → AreCounted (slice_set flows (band_of (in_hand s i)) (added_to (is_data (in_hand s i)) (bytes_of (in_hand s i)) (flow_at (band_of (in_hand s i)) flows))) (list_at (placed (dropped s i) k (put_back (in_hand s i) (list_at s k))) k)
 put_back-counted s k i flows is lt counted low =
     rw (list-placed (dropped s i) k (put_back (in_hand s i) (list_at s k)) (omega (arith, is.eight)))
-    (counted-added flows (list_at s k) (put_back (in_hand s i) (list_at s k)) (in_hand s i) low (λ f. sum-put_back rank_of f (in_hand s i) (list_at s k)) (all-put_back (λ chain. band_of chain < 8) rank_of (in_hand s i) (list_at s k) low counted.bands) counted)
+    (counted-added flows (list_at s k) (put_back (in_hand s i) (list_at s k)) (in_hand s i) low (λ f. sum-put_back rank_of f (in_hand s i) (list_at s k)) (all-put_back (λ chain. band_of chain < 256) rank_of (in_hand s i) (list_at s k) low counted.bands) counted)
 
 -- a message that was taken off a list is part of its counts
-pub taken-fits : (s : StoreValue) (k : ℕ) (flows : List Flow) (chain : List Block) (rest : List (List Block)) → AreCounted flows (list_at s k) → list_at s k ≡ chain ∷ rest → band_of chain < 8
+pub taken-fits : (s : StoreValue) (k : ℕ) (flows : List Flow) (chain : List Block) (rest : List (List Block)) → AreCounted flows (list_at s k) → list_at s k ≡ chain ∷ rest → band_of chain < 256
     → bytes_of chain ≤ (if is_data chain then (flow_at (band_of chain) flows).data_bytes else (flow_at (band_of chain) flows).other_bytes)
 taken-fits s k flows chain rest counted is low =
     part-fits (is_data chain) refl
@@ -48,7 +48,7 @@ taken-fits s k flows chain rest counted is low =
         omega (arith, here, (counted.each (band_of chain) low).other_sum, ap (λ q. sum_by (other_share (band_of chain)) q) is, sum_by-cons (other_share (band_of chain)) chain rest)
 
 -- the numbers are right after a take
-pub take-counted : (s : StoreValue) (k : ℕ) (flows : List Flow) (chain : List Block) (rest : List (List Block)) → AreCounted flows (list_at s k) → list_at s k ≡ chain ∷ rest → band_of chain < 8
+pub take-counted : (s : StoreValue) (k : ℕ) (flows : List Flow) (chain : List Block) (rest : List (List Block)) → AreCounted flows (list_at s k) → list_at s k ≡ chain ∷ rest → band_of chain < 256
     → AreCounted (slice_set flows (band_of chain) (removed_from (is_data chain) (bytes_of chain) (flow_at (band_of chain) flows))) rest
 take-counted s k flows chain rest counted is low =
     counted-removed flows (list_at s k) rest chain low (λ f. ap (λ q. sum_by f q) is ∙ sum_by-cons f chain rest) (subst AllBands is counted.bands).1 counted

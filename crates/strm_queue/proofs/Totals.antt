@@ -49,22 +49,22 @@ module _ (kept : Flow → ℕ) (adds : List Block → ℕ) where
       at false false true l h n = absurd (grind (arith, nat_tests))
       at false false false l h n = omega arith
 
-  module _ (flows : List Flow) (q : List (List Block)) (each : (band : ℕ) → band < 8 → kept (flow_at band flows) ≡ sum_by (share_at band) q) where
-    below-is : (band : ℕ) → band ≤ 8 → counts_below band flows ≡ sum_by (share_below band) q
+  module _ (flows : List Flow) (q : List (List Block)) (each : (band : ℕ) → band < 256 → kept (flow_at band flows) ≡ sum_by (share_at band) q) where
+    below-is : (band : ℕ) → band ≤ 256 → counts_below band flows ≡ sum_by (share_below band) q
     below-is zero le = sym (none-below q)
     below-is (suc band) le =
         omega (arith, below-is band (omega (arith, le)), each band (omega (arith, le)), sum-both (share_below band) (share_at band) (share_below (suc band)) (one-more band) q)
 
-  all-below : (q : List (List Block)) → AllBands q → sum_by (share_below 8) q ≡ sum_by adds q
+  all-below : (q : List (List Block)) → AllBands q → sum_by (share_below 256) q ≡ sum_by adds q
   all-below [] all = refl
   all-below (chain ∷ q) all =
       let low = all.0 in
-      let yes : nat_lt (band_of chain) 8 ≡ true = grind (arith, nat_tests) in
-      let here : share_below 8 chain ≡ adds chain = rw yes refl in
-      omega (arith, here, all-below q all.1, sum_by-cons (share_below 8) chain q, sum_by-cons adds chain q)
+      let yes : nat_lt (band_of chain) 256 ≡ true = grind (arith, nat_tests) in
+      let here : share_below 256 chain ≡ adds chain = rw yes refl in
+      omega (arith, here, all-below q all.1, sum_by-cons (share_below 256) chain q, sum_by-cons adds chain q)
 
-  pub sums : (flows : List Flow) (q : List (List Block)) → ((band : ℕ) → band < 8 → kept (flow_at band flows) ≡ sum_by (share_at band) q) → AllBands q → counts_below 8 flows ≡ sum_by adds q
-  sums flows q each bands = below-is flows q each 8 (omega arith) ∙ all-below q bands
+  pub sums : (flows : List Flow) (q : List (List Block)) → ((band : ℕ) → band < 256 → kept (flow_at band flows) ≡ sum_by (share_at band) q) → AllBands q → counts_below 256 flows ≡ sum_by adds q
+  sums flows q each bands = below-is flows q each 256 (omega arith) ∙ all-below q bands
 
 -- the numbers of all bands, as a sum over them
 below-take : (kept : Flow → ℕ) (adds : List Block → ℕ) (flows : List Flow) (band : ℕ) → band ≤ length flows → counts_below kept adds band flows ≡ sum_by kept (take band flows)
@@ -74,12 +74,12 @@ below-take kept adds flows (suc band) within =
     let is : sum_by kept (take (suc band) flows) ≡ sum_by kept (take (band + 1) flows) = ap (λ j. sum_by kept (take j flows)) (let e : suc band ≡ band + 1 = omega arith in e) in
     omega (arith, one, is, below-take kept adds flows band (omega (arith, within)))
 
-below-sum : (kept : Flow → ℕ) (adds : List Block → ℕ) (flows : List Flow) → length flows ≡ 8 → sum_by kept flows ≡ counts_below kept adds 8 flows
+below-sum : (kept : Flow → ℕ) (adds : List Block → ℕ) (flows : List Flow) → length flows ≡ 256 → sum_by kept flows ≡ counts_below kept adds 256 flows
 below-sum kept adds flows eight =
-    ap (sum_by kept) (sym (take_all 8 flows (omega (arith, eight)))) ∙ sym (below-take kept adds flows 8 (omega (arith, eight)))
+    ap (sum_by kept) (sym (take_all 256 flows (omega (arith, eight)))) ∙ sym (below-take kept adds flows 256 (omega (arith, eight)))
 
 -- the counts add up to the bytes of all messages
-pub total-is : (flows : List Flow) (q : List (List Block)) → AreCounted flows q → counts_below count_in bytes_of 8 flows ≡ sum_by bytes_of q
+pub total-is : (flows : List Flow) (q : List (List Block)) → AreCounted flows q → counts_below count_in bytes_of 256 flows ≡ sum_by bytes_of q
 total-is flows q is = sums count_in bytes_of flows q (λ band lt. count-kept band (flow_at band flows) q (is.each band lt)) is.bands
 
 -- the bytes of data that are kept add up to those of the messages of data
@@ -95,10 +95,10 @@ sum-same : {A : Type 0} (f g : A → ℕ) → ((x : A) → f x ≡ g x) → (xs 
 sum-same f g is [] = refl
 sum-same f g is (x ∷ xs) = let here = is x in omega (arith, here, sum-same f g is xs, sum_by-cons f x xs, sum_by-cons g x xs)
 
-pub data-band : (band : ℕ) (flows : List Flow) (q : List (List Block)) → AreCounted flows q → band < 8 → (flow_at band flows).data_bytes ≡ sum_by (share_at (λ f. f.data_bytes) data_bytes_of band) q
+pub data-band : (band : ℕ) (flows : List Flow) (q : List (List Block)) → AreCounted flows q → band < 256 → (flow_at band flows).data_bytes ≡ sum_by (share_at (λ f. f.data_bytes) data_bytes_of band) q
 data-band band flows q is lt = (is.each band lt).data_sum ∙ sum-same (data_share band) (share_at (λ f. f.data_bytes) data_bytes_of band) (data-at band) q
 
-pub data-is : (flows : List Flow) (q : List (List Block)) → AreCounted flows q → counts_below (λ f. f.data_bytes) data_bytes_of 8 flows ≡ sum_by data_bytes_of q
+pub data-is : (flows : List Flow) (q : List (List Block)) → AreCounted flows q → counts_below (λ f. f.data_bytes) data_bytes_of 256 flows ≡ sum_by data_bytes_of q
 data-is flows q is = sums (λ f. f.data_bytes) data_bytes_of flows q (λ band lt. data-band band flows q is lt) is.bands
 
 -- the sums over all bands, of all bytes and of those of data alone

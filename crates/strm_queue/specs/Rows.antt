@@ -6,6 +6,10 @@ use Rattle.strm_queue.specs.declared.common.Row.{Row}
 use Rattle.strm_queue.specs.declared.common.Common.{Common}
 use Rattle.strm_queue.specs.Sets.{has}
 
+-- the row of a band that there isn't
+abbrev pub no_row : Row
+no_row = record { data_bytes = 0; other_bytes = 0; high = 0; low = 0 }
+
 -- the marks of a band: its own where it has some, or else those of all
 abbrev pub high_of : Common → ℕ → Row → ℕ
 high_of c at row = if has c.marked at then row.high else c.marks.high
@@ -13,14 +17,18 @@ high_of c at row = if has c.marked at then row.high else c.marks.high
 abbrev pub low_of : Common → ℕ → Row → ℕ
 low_of c at row = if has c.marked at then row.low else c.marks.low
 
+-- what counts in a band: what its row says, where bytes stand
+abbrev pub counts_of : Common → ℕ → Row → Row
+counts_of c at row = if has c.filled at then row else no_row
+
 -- the flow control of a band, which is full from its high-water mark on
 abbrev pub row_flow : Common → ℕ → Row → Flow
 row_flow c at row = record {
-  data_bytes = row.data_bytes;
-  other_bytes = row.other_bytes;
+  data_bytes = (counts_of c at row).data_bytes;
+  other_bytes = (counts_of c at row).other_bytes;
   high = high_of c at row;
   low = low_of c at row;
-  full = nat_le (high_of c at row) (row.data_bytes + row.other_bytes);
+  full = nat_le (high_of c at row) ((counts_of c at row).data_bytes + (counts_of c at row).other_bytes);
   want_write = has c.waiting at;
 }
 
@@ -29,14 +37,9 @@ abbrev pub flows_from : Common → ℕ → List Row → List Flow
 flows_from c at [] = []
 flows_from c at (row ∷ rows) = row_flow c at row ∷ flows_from c (suc at) rows
 
--- the row of a band that there isn't
-abbrev pub no_row : Row
-no_row = record { data_bytes = 0; other_bytes = 0; high = 0; low = 0 }
-
 abbrev pub row_at : ℕ → List Row → Row
 row_at at rows = slice_index_or rows at no_row
 
--- there is a row for each band above 0, and no byte stands in a band that isn't in the set of those where some do
-pub record AreRows (c : Common) (rows : List Row) : Type 0 where
+-- there is a row for each band above 0
+pub record AreRows (rows : List Row) : Type 0 where
   pub each : length rows + 1 ≡ BANDS
-  pub filled : (at : ℕ) → has c.filled at ≡ false → (row_at at rows).data_bytes + (row_at at rows).other_bytes ≡ 0

@@ -12,16 +12,14 @@ use crate::bandset::BandSet;
 use crate::common::{Common, Row};
 use crate::flow::Flow;
 use crate::flush::Flush;
+use crate::table::Table;
 use std::marker::Model;
-use strm_types::BANDS;
-
-const OTHERS: usize = BANDS - 1;
 
 /// The flow control of the bands above 0. Contracts see a list, from band 1 up: place 0 is that of band 1.
 #[derive(Drop)]
 pub(crate) struct Banded {
     common: Common,
-    rows: [Row; OTHERS],
+    rows: Vec<Row>,
 }
 
 impl Model for Banded {
@@ -32,16 +30,16 @@ impl Model for Banded {
 
     ghost use Rattle.strm_queue.specs.Rows.{flows_from, AreRows};
 
-    ghost view = { λ b. flows_from b.common 0 b.rows };
+    ghost view = { λ b. flows_from b.common 0 b.rows.items };
 
-    ghost invariant = { λ b. AreRows b.common b.rows };
+    ghost invariant = { λ b. AreRows b.rows.items };
 }
 
 impl Banded {
-    /// Bands where nothing stands, each with these marks.
-    pub fn new(high: u32, low: u32) -> Banded
+    /// Bands where nothing stands, each with these marks, in a room of which nothing is left.
+    pub fn new(high: u32, low: u32, table: Table) -> Banded
         requires { 1 ≤ high }
-        ensures { result ≡ replicate 7 (record {
+        ensures { result ≡ replicate 255 (record {
           data_bytes = 0;
           other_bytes = 0;
           high = high;
@@ -52,13 +50,28 @@ impl Banded {
     {
         Banded {
             common: Common::new(high, low),
-            rows: [Row {
-                data_bytes: 0,
-                other_bytes: 0,
-                high,
-                low,
-            }; OTHERS],
+            rows: table.rows,
         }
+    }
+
+    /// Makes all bands as new, in place.
+    pub fn renew(&mut self, high: u32, low: u32)
+        requires { 1 ≤ high }
+        ensures { self.new ≡ replicate 255 (record {
+          data_bytes = 0;
+          other_bytes = 0;
+          high = high;
+          low = low;
+          full = false;
+          want_write = false;
+        }) }
+    {
+        self.common = Common::new(high, low);
+    }
+
+    /// Gives the room back.
+    pub fn into_table(self) -> Table {
+        Table { rows: self.rows }
     }
 
     /// The flow control of a band.

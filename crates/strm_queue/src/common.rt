@@ -3,7 +3,7 @@
 ghost use Rattle.std.specs.Prelude.{◌≡◌, ◌≢◌, ◌<◌, ◌+◌, ◌^◌, ℕ, false, nat_lt};
 ghost use Rattle.strm_types.specs.declared.limits.TheConstants.{BANDS};
 ghost use Rattle.strm_queue.specs.Flows.{count_in, marked_with, IsMarked};
-ghost use Rattle.strm_queue.specs.Rows.{high_of, low_of, row_flow};
+ghost use Rattle.strm_queue.specs.Rows.{counts_of, high_of, low_of, row_flow};
 ghost use Rattle.strm_queue.specs.Sets.{has};
 ghost use Rattle.strm_queue.specs.declared.common.Row.{Row};
 
@@ -11,7 +11,7 @@ use crate::bandset::BandSet;
 use crate::flow::Flow;
 use strm_types::Marks;
 
-/// The counts of a band, and its own marks where it has some.
+/// The counts of a band where bytes stand, and its own marks where it has some.
 #[derive(Clone, Copy)]
 pub(crate) struct Row {
     pub data_bytes: u32,
@@ -19,6 +19,14 @@ pub(crate) struct Row {
     pub high: u32,
     pub low: u32,
 }
+
+/// No byte.
+pub(crate) const EMPTY: Row = Row {
+    data_bytes: 0,
+    other_bytes: 0,
+    high: 0,
+    low: 0,
+};
 
 /// The marks of bands that have none of their own; the bands that do, those where bytes stand, and those for which a writer
 /// waits.
@@ -36,6 +44,7 @@ impl Common {
         ensures high { result.marks.high ≡ high }
         ensures low { result.marks.low ≡ low }
         ensures marked { (at : ℕ) → has result.marked at ≡ false }
+        ensures filled { (at : ℕ) → has result.filled at ≡ false }
         ensures waiting { (at : ℕ) → has result.waiting at ≡ false }
     {
         Common {
@@ -44,6 +53,14 @@ impl Common {
             filled: BandSet::new(),
             waiting: BandSet::new(),
         }
+    }
+
+    // The counts of a band: what is left in the row of one where no byte stands tells nothing.
+    fn counts_of(&self, at: usize, row: Row) -> Row
+        requires { at + 1 < BANDS }
+        ensures { result ≡ counts_of self.now at row }
+    {
+        if self.filled.has(at) { row } else { EMPTY }
     }
 
     // The marks of a band.
@@ -65,16 +82,17 @@ impl Common {
     /// The flow control of a band.
     pub fn flow(&self, at: usize, row: Row) -> Flow
         requires within { at + 1 < BANDS }
-        requires few { row.data_bytes + row.other_bytes < 2 ^ 32 }
+        requires few { count_in (row_flow self.now at row) < 2 ^ 32 }
         ensures { result ≡ row_flow self.now at row }
     {
         let marks = self.marks_of(at, row);
+        let counts = self.counts_of(at, row);
         Flow {
-            data_bytes: row.data_bytes,
-            other_bytes: row.other_bytes,
+            data_bytes: counts.data_bytes,
+            other_bytes: counts.other_bytes,
             high: marks.high,
             low: marks.low,
-            full: row.data_bytes + row.other_bytes >= marks.high,
+            full: counts.data_bytes + counts.other_bytes >= marks.high,
             want_write: self.waiting.has(at),
         }
     }
@@ -86,8 +104,6 @@ impl Common {
         requires marked { IsMarked flow }
         ensures here { row_flow self.new at result ≡ flow }
         ensures others { (k : ℕ) (row : Row) → k ≢ at → row_flow self.new k row ≡ row_flow self.old k row }
-        ensures filled { has self.new.filled at ≡ nat_lt 0 (count_in flow) }
-        ensures stay { (k : ℕ) → k ≢ at → has self.new.filled k ≡ has self.old.filled k }
     {
         let shares = flow.high == self.marks.high && flow.low == self.marks.low;
         self.marked.put(at, !shares);
@@ -104,7 +120,6 @@ impl Common {
     /// Sets the marks of all bands.
     pub fn mark(&mut self, high: u32, low: u32)
         ensures each { (at : ℕ) (row : Row) → row_flow self.new at row ≡ marked_with high low (row_flow self.old at row) }
-        ensures filled { self.new.filled ≡ self.old.filled }
     {
         self.marks = Marks { high, low };
         self.marked = BandSet::new();

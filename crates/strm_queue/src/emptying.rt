@@ -1,10 +1,9 @@
 //! What flushes and closes take off a queue (flushq(9F), flushband(9F)).
 
 ghost use Rattle.std.specs.Prelude.{◌≡◌, true, length};
-ghost use Rattle.strm_types.specs.Refused.{is_a_band};
 ghost use Rattle.strm_types.specs.Emptied.{of_data, cells_gone, emptied, queue_behind, writer_goes};
 ghost use Rattle.strm_queue.specs.Stored.{queue_in, messages_on, IsReady, Keeps, FreesBlocks};
-ghost use Rattle.strm_queue.specs.Choices.{choice_of, IsChoice};
+ghost use Rattle.strm_queue.specs.Choices.{choice_of};
 
 use crate::flush::Flush;
 use crate::queue::Queue;
@@ -12,7 +11,7 @@ use crate::standing::{data_bytes, relieve, total};
 use strm_blocks::Blocks;
 use strm_types::Band;
 
-/// Which messages go: all, those of data, or those of data of one band, from 0 to 7.
+/// Which messages go: all, those of data, or those of data of one band.
 #[derive(Clone, Copy)]
 pub enum Chosen {
     All,
@@ -23,9 +22,7 @@ pub enum Chosen {
 impl Chosen {
     /// What a flush takes: of one band, or of all.
     pub fn of_data(band: Option<Band>) -> Chosen
-        requires { is_a_band band ≡ true }
-        ensures choice { choice_of result ≡ of_data band }
-        ensures valid { IsChoice result }
+        ensures { choice_of result ≡ of_data band }
     {
         match band {
             Some(band) => Chosen::Of(band),
@@ -37,7 +34,6 @@ impl Chosen {
 /// How many bytes of M_DATA, M_PROTO and M_PCPROTO go from a queue.
 pub fn going<B: Blocks>(store: &B, queue: &Queue, chosen: Chosen) -> usize
     requires ready { IsReady (B.value store.now) queue.now }
-    requires valid { IsChoice chosen }
     ensures { result ≡ length (cells_gone (choice_of chosen) (messages_on (B.value store.now) queue.now.list)) }
 {
     match chosen {
@@ -50,7 +46,6 @@ pub fn going<B: Blocks>(store: &B, queue: &Queue, chosen: Chosen) -> usize
 // Takes messages off a queue, which wants to be read where that leaves it empty.
 fn drop_chosen<B: Blocks>(store: &mut B, queue: &mut Queue, chosen: Chosen)
     requires ready { IsReady (B.value store.old) queue.old }
-    requires valid { IsChoice chosen }
     ensures queue { queue_in (B.value store.new) queue.new
         ≡ emptied (choice_of chosen) (queue_in (B.value store.old) queue.old) }
     ensures keeps { Keeps (B.value store.old) (B.value store.new) queue.old queue.new }
@@ -67,7 +62,6 @@ fn drop_chosen<B: Blocks>(store: &mut B, queue: &mut Queue, chosen: Chosen)
 /// Takes messages off a queue, and says whether that lets a waiting writer go.
 pub fn empty<B: Blocks>(store: &mut B, queue: &mut Queue, chosen: Chosen) -> bool
     requires ready { IsReady (B.value store.old) queue.old }
-    requires valid { IsChoice chosen }
     ensures queue { queue_in (B.value store.new) queue.new
         ≡ queue_behind (choice_of chosen) (queue_in (B.value store.old) queue.old) }
     ensures went { result ≡ writer_goes (choice_of chosen) (queue_in (B.value store.old) queue.old) }

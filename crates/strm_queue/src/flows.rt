@@ -5,7 +5,7 @@ ghost use Rattle.std.specs.List.{list_any};
 ghost use Rattle.std.specs.Bool.{OnFalse};
 ghost use Rattle.strm_types.specs.declared.kinds.Band.{Band};
 ghost use Rattle.strm_types.specs.Queue.{with_marks};
-ghost use Rattle.strm_types.specs.Refused.{is_a_band};
+ghost use Rattle.strm_types.specs.declared.limits.TheConstants.{BANDS};
 ghost use Rattle.strm_blocks.specs.Blocks.{Block};
 ghost use Rattle.strm_queue.specs.Flows.{count_in, IsMarked, added_to, removed_from, flushed_of, marked_with, waiting, relieves, relieved, plain_flows};
 ghost use Rattle.strm_queue.specs.Flushes.{takes_all};
@@ -15,8 +15,9 @@ use crate::banded::Banded;
 use crate::flow::Flow;
 use crate::flush::Flush;
 use crate::share::Share;
+use crate::table::Table;
 use std::marker::Model;
-use strm_types::{BANDS, Band};
+use strm_types::Band;
 
 /// The flow control of the bands of a queue: that of band 0 beside that of all others. Contracts see a list, from band 0 up.
 #[derive(Drop)]
@@ -40,15 +41,30 @@ impl Model for Flows {
 
 impl Flows {
     /// The flow control of bands where nothing stands, each with these marks.
-    pub(crate) fn new(high: u32, low: u32) -> Flows
+    pub(crate) fn new(high: u32, low: u32, table: Table) -> Flows
         requires { 1 ≤ high }
         ensures counted { AreCounted result [] }
         ensures flows { plain_flows result ≡ replicate BANDS (record { high = high; low = low; want_write = false }) }
     {
         Flows {
             first: Flow::new(high, low),
-            others: Banded::new(high, low),
+            others: Banded::new(high, low, table),
         }
+    }
+
+    /// Makes the flow control of all bands as new, in place.
+    pub(crate) fn renew(&mut self, high: u32, low: u32)
+        requires { 1 ≤ high }
+        ensures counted { AreCounted self.new [] }
+        ensures flows { plain_flows self.new ≡ replicate BANDS (record { high = high; low = low; want_write = false }) }
+    {
+        self.first = Flow::new(high, low);
+        self.others.renew(high, low);
+    }
+
+    /// Gives the room of the bands above 0 back.
+    pub(crate) fn into_table(self) -> Table {
+        self.others.into_table()
     }
 
     // The flow control of a band by its number.
@@ -82,17 +98,17 @@ impl Flows {
 
     /// The flow control of a band.
     pub fn at(&self, band: Band) -> Flow
-        requires { band.0 < BANDS }
         ensures flow { result ≡ flow_at band.0 self.now }
         ensures few { count_in result ≤ 16777216 }
+        ensures low { band.0 < BANDS }
     {
         self.get(usize::from(band.0))
     }
 
     /// Whether a band is full.
     pub fn is_full(&self, band: Band) -> bool
-        requires { band.0 < BANDS }
-        ensures { result ≡ (flow_at band.0 self.now).full }
+        ensures full { result ≡ (flow_at band.0 self.now).full }
+        ensures low { band.0 < BANDS }
     {
         self.get(usize::from(band.0)).full
     }
@@ -106,7 +122,6 @@ impl Flows {
 
     /// How many bytes of data stand in one band, or in all, at the cost of `total`.
     pub(crate) fn data_bytes(&self, band: Option<Band>) -> usize
-        requires { is_a_band band ≡ true }
         ensures all { (q : List (List Block)) → AreCounted self.now q → band ≡ None → result ≡ sum_by data_bytes_of q }
         ensures one { (q : List (List Block)) (b : Band) → AreCounted self.now q → band ≡ Some b → result ≡ sum_by (data_share b.0) q }
     {
@@ -118,25 +133,25 @@ impl Flows {
 
     /// Counts a message in.
     pub(crate) fn add(&mut self, share: Share)
-        requires band { share.band < BANDS }
-        requires few { count_in (flow_at share.band self.old) + share.bytes ≤ 16777216 }
-        ensures { self.new ≡ slice_set self.old share.band
-            (added_to share.is_data share.bytes (flow_at share.band self.old)) }
+        requires few { count_in (flow_at share.band.0 self.old) + share.bytes ≤ 16777216 }
+        ensures { self.new ≡ slice_set self.old share.band.0
+            (added_to share.is_data share.bytes (flow_at share.band.0 self.old)) }
     {
-        let flow = self.get(share.band);
-        self.set(share.band, flow.with(share));
+        let at = usize::from(share.band.0);
+        let flow = self.get(at);
+        self.set(at, flow.with(share));
     }
 
     /// Counts a message out.
     pub(crate) fn remove(&mut self, share: Share)
-        requires band { share.band < BANDS }
-        requires has { share.bytes ≤ (if share.is_data then (flow_at share.band self.old).data_bytes
-            else (flow_at share.band self.old).other_bytes) }
-        ensures { self.new ≡ slice_set self.old share.band
-            (removed_from share.is_data share.bytes (flow_at share.band self.old)) }
+        requires has { share.bytes ≤ (if share.is_data then (flow_at share.band.0 self.old).data_bytes
+            else (flow_at share.band.0 self.old).other_bytes) }
+        ensures { self.new ≡ slice_set self.old share.band.0
+            (removed_from share.is_data share.bytes (flow_at share.band.0 self.old)) }
     {
-        let flow = self.get(share.band);
-        self.set(share.band, flow.without(share));
+        let at = usize::from(share.band.0);
+        let flow = self.get(at);
+        self.set(at, flow.without(share));
     }
 
     /// Counts out what a flush of all messages, or of those of data, has taken. The cost is that of `total`.
@@ -150,8 +165,8 @@ impl Flows {
 
     /// Counts out what a flush of data of one band has taken.
     pub(crate) fn flush_band(&mut self, band: Band)
-        requires { band.0 < BANDS }
-        ensures { self.new ≡ slice_set self.old band.0 (flushed_of false (flow_at band.0 self.old)) }
+        ensures low { band.0 < BANDS }
+        ensures flows { self.new ≡ slice_set self.old band.0 (flushed_of false (flow_at band.0 self.old)) }
     {
         let at = usize::from(band.0);
         let flow = self.get(at);
@@ -160,7 +175,6 @@ impl Flows {
 
     /// Sets the marks of a band.
     pub(crate) fn mark(&mut self, band: Band, high: u32, low: u32)
-        requires { band.0 < BANDS }
         ensures { self.new ≡ slice_set self.old band.0 (marked_with high low (flow_at band.0 self.old)) }
     {
         let at = usize::from(band.0);
@@ -179,7 +193,6 @@ impl Flows {
 
     /// Sets or clears want-write of a band: whether a writer waits for it.
     pub fn set_waiting(&mut self, band: Band, waits: bool)
-        requires { band.0 < BANDS }
         ensures flows { self.new ≡ slice_set self.old band.0 (waiting waits (flow_at band.0 self.old)) }
         ensures counted { (q : List (List Block)) → AreCounted self.old q → AreCounted self.new q }
     {

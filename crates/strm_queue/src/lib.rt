@@ -15,10 +15,12 @@ mod order;
 mod queue;
 mod share;
 pub mod standing;
+mod table;
 
 pub use flow::Flow;
 pub use flows::Flows;
 pub use flush::Flush;
-pub use limits::{HEAD_HIGH, HEAD_LOW, OTHER_HIGH, OTHER_LOW, are_marks, is_band, is_list};
+pub use limits::{HEAD_HIGH, HEAD_LOW, OTHER_HIGH, OTHER_LOW, are_marks, is_list};
 pub use order::serves_in_order;
 pub use queue::Queue;
+pub use table::Table;

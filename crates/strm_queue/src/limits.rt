@@ -2,7 +2,7 @@
 
 ghost use Rattle.std.specs.Prelude.{◌≡◌, ◌&&◌, nat_le, nat_lt};
 
-use strm_types::{BANDS, Band, LISTS};
+use strm_types::LISTS;
 
 /// The high-water mark of a stream head's read queue as it is made, in bytes: `STRHIGH` of System V.
 pub const HEAD_HIGH: u32 = 5120;
@@ -21,13 +21,6 @@ pub fn is_list(list: usize) -> bool
     ensures { result ≡ nat_lt list 8 }
 {
     list < LISTS
-}
-
-/// Whether a queue has this band, from 0 to 7.
-pub fn is_band(band: Band) -> bool
-    ensures { result ≡ nat_lt band.0 BANDS }
-{
-    usize::from(band.0) < BANDS
 }
 
 /// Whether a band can have these marks: a high-water mark of at least 1, and a low-water mark of at most that.

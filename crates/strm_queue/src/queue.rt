@@ -9,7 +9,6 @@ ghost use Rattle.strm_blocks.specs.Blocks.{Block};
 ghost use Rattle.strm_queue.specs.Flows.{count_in, marked_with, relieves, relieved, plain_flows};
 ghost use Rattle.strm_queue.specs.Flushes.{takes_all};
 ghost use Rattle.strm_types.specs.Queue.{with_writer_at, with_marks, is_none_left};
-ghost use Rattle.strm_types.specs.Refused.{is_a_band};
 ghost use Rattle.strm_types.specs.declared.kinds.Band.{Band};
 ghost use Rattle.strm_types.specs.declared.limits.TheConstants.{BANDS};
 ghost use Rattle.std.specs.List.{list_any};
@@ -17,6 +16,7 @@ ghost use Rattle.std.specs.List.{list_any};
 use crate::flows::Flows;
 use crate::flush::Flush;
 use crate::share::share_of;
+use crate::table::Table;
 use strm_blocks::{Blocks, FlushWhat, InHand};
 use strm_types::{Band, Marks};
 
@@ -35,8 +35,9 @@ impl Queue {
     ghost use Rattle.strm_queue.specs.Queues.{OnlyCounts};
 
     /// A queue for a list with nothing on it, with the same marks in each band: `HEAD_HIGH` and `HEAD_LOW` for a head's,
-    /// `OTHER_HIGH` and `OTHER_LOW` for any other. `is_list` and `are_marks` test what is asked here.
-    pub fn new(list: usize, high: u32, low: u32) -> Queue
+    /// `OTHER_HIGH` and `OTHER_LOW` for any other. `is_list` and `are_marks` test what is asked here. What the bands above 0 have
+    /// is kept in the table, at no cost for its making.
+    pub fn new(list: usize, high: u32, low: u32, table: Table) -> Queue
         requires list { list < 8 }
         requires some { 1 ≤ high }
         requires order { low ≤ high }
@@ -48,10 +49,30 @@ impl Queue {
     {
         Queue {
             list,
-            flows: Flows::new(high, low),
+            flows: Flows::new(high, low, table),
             want_read: true,
             no_enable: false,
         }
+    }
+
+    /// Makes the queue as new, in place, where nothing stands on its list.
+    pub fn renew(&mut self, high: u32, low: u32)
+        requires some { 1 ≤ high }
+        requires order { low ≤ high }
+        ensures counted { AreCounted self.new.flows [] }
+        ensures flows { plain_flows self.new.flows ≡ replicate BANDS (record { high = high; low = low; want_write = false }) }
+        ensures list { self.new.list ≡ self.old.list }
+        ensures want_read { self.new.want_read ≡ true }
+        ensures no_enable { self.new.no_enable ≡ false }
+    {
+        self.flows.renew(high, low);
+        self.want_read = true;
+        self.no_enable = false;
+    }
+
+    /// Gives the queue's table back, for another queue.
+    pub fn into_table(self) -> Table {
+        self.flows.into_table()
     }
 
     /// Puts a message behind all of at least its rank, and says whether that enables the queue: a message of high
@@ -62,7 +83,6 @@ impl Queue {
     pub fn putq<B: Blocks>(&mut self, store: &mut B, message: InHand) -> bool
         requires counted { AreCounted self.old.flows (list_at (B.value store.old) self.old.list) }
         requires in_hand { IsInHand (B.value store.old) (token message) }
-        requires band { band_of (in_hand (B.value store.old) (token message)) < BANDS }
         ensures placed { let s = B.value store.old in
             B.value store.new ≡ placed (dropped s (token message)) self.old.list
             (put (in_hand s (token message)) (list_at s self.old.list)) }
@@ -83,7 +103,6 @@ impl Queue {
     pub fn putbq<B: Blocks>(&mut self, store: &mut B, message: InHand)
         requires counted { AreCounted self.old.flows (list_at (B.value store.old) self.old.list) }
         requires in_hand { IsInHand (B.value store.old) (token message) }
-        requires band { band_of (in_hand (B.value store.old) (token message)) < BANDS }
         ensures placed { let s = B.value store.old in
             B.value store.new ≡ placed (dropped s (token message)) self.old.list
             (put_back (in_hand s (token message)) (list_at s self.old.list)) }
@@ -121,7 +140,6 @@ impl Queue {
 
     /// How many bytes count in a band: all of its messages', and in band 0 those of high priority too.
     pub fn count(&self, band: Band) -> usize
-        requires { band.0 < BANDS }
         ensures kept { result ≡ count_in (flow_at band.0 self.now.flows) }
         ensures count { (q : List (List Block)) → AreCounted self.now.flows q → result ≡ count_of band.0 q }
     {
@@ -137,7 +155,6 @@ impl Queue {
 
     /// How many bytes of data stand on the queue, in messages of data of one band or of all: what a flush takes.
     pub fn data_bytes(&self, band: Option<Band>) -> usize
-        requires { is_a_band band ≡ true }
         ensures all { (q : List (List Block)) → AreCounted self.now.flows q → band ≡ None → result ≡ sum_by data_bytes_of q }
         ensures one { (q : List (List Block)) (b : Band) → AreCounted self.now.flows q → band ≡ Some b → result ≡ sum_by (data_share b.0) q }
     {
@@ -146,7 +163,7 @@ impl Queue {
 
     /// Whether a band's count is at or above its high-water mark.
     pub fn is_full(&self, band: Band) -> bool
-        requires { band.0 < BANDS }
+        ensures low { band.0 < BANDS }
         ensures kept { result ≡ (flow_at band.0 self.now.flows).full }
         ensures full { (q : List (List Block)) → AreCounted self.now.flows q →
             result ≡ is_full (flow_at band.0 self.now.flows).high band.0 q }
@@ -199,7 +216,6 @@ impl Queue {
     /// Want-read is set where that leaves the queue empty.
     pub fn flushband<B: Blocks>(&mut self, store: &mut B, band: Band)
         requires counted { AreCounted self.old.flows (list_at (B.value store.old) self.old.list) }
-        requires band { band.0 < BANDS }
         ensures flushed { let s = B.value store.old in
             B.value store.new ≡ placed s self.old.list
             (flushed (record { all = false; band = Some band }) (list_at s self.old.list)) }
@@ -225,7 +241,6 @@ impl Queue {
 
     /// Sets the marks of a band. It is full from then on exactly where its count is at or above the new high-water mark.
     pub fn set_marks(&mut self, band: Band, high: u32, low: u32)
-        requires band { band.0 < BANDS }
         requires some { 1 ≤ high }
         requires order { low ≤ high }
         ensures marks { self.new.flows
@@ -257,7 +272,6 @@ impl Queue {
 
     /// Sets want-write of a band, for a writer that waits until `back_enable` lets it go.
     pub fn let_wait(&mut self, band: Band)
-        requires { band.0 < BANDS }
         ensures flows { plain_flows self.new.flows ≡ with_writer_at band.0 (plain_flows self.old.flows) }
         ensures counted { (q : List (List Block)) → AreCounted self.old.flows q → AreCounted self.new.flows q }
         ensures others { OnlyCounts self.old self.new }

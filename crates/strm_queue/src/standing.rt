@@ -5,7 +5,7 @@ ghost use Rattle.std.specs.Prelude.{◌≡◌, ◌<◌, ◌≤◌, ◌+◌, ◌-
 ghost use Rattle.strm_types.specs.declared.kinds.MsgKind.{MsgKind};
 ghost use Rattle.strm_types.specs.Message.{is_held};
 ghost use Rattle.strm_types.specs.Emptied.{cells_gone, of_data};
-ghost use Rattle.strm_types.specs.Refused.{has_no_data, is_a_band};
+ghost use Rattle.strm_types.specs.Refused.{has_no_data};
 ghost use Rattle.strm_types.specs.Queue.{put_on, put_enables, bytes_of, count_of, is_full, marked, relieved, relieves};
 ghost use Rattle.strm_blocks.specs.Blocks.{Block, StoreValue, IsInHand, block_at, in_hand, list_at, dropped, token};
 ghost use Rattle.strm_msg.specs.Messages.{message_of, IsChain};
@@ -15,12 +15,11 @@ ghost use Rattle.strm_queue.specs.Stored.{queue_in, messages_on, Holds, IsReady,
 
 use crate::queue::Queue;
 use strm_blocks::{Blocks, InHand, Visitor};
-use strm_types::{BANDS, Band, Marks, MsgKind};
+use strm_types::{Band, Marks, MsgKind};
 
 /// How many bytes count in a band of a queue.
 pub fn count<B: Blocks>(store: &B, queue: &Queue, band: Band) -> usize
     requires ready { IsReady (B.value store.now) queue.now }
-    requires band { band.0 < BANDS }
     ensures { result ≡ count_of band.0 (messages_on (B.value store.now) queue.now.list) }
 {
     store.audit();
@@ -60,7 +59,6 @@ pub fn total<B: Blocks>(store: &B, queue: &Queue) -> usize
 /// How many bytes a flush takes off a queue, of one band or of all: those of M_DATA, M_PROTO and M_PCPROTO.
 pub fn data_bytes<B: Blocks>(store: &B, queue: &Queue, band: Option<Band>) -> usize
     requires ready { IsReady (B.value store.now) queue.now }
-    requires band { is_a_band band ≡ true }
     ensures { result ≡ length (cells_gone (of_data band) (messages_on (B.value store.now) queue.now.list)) }
 {
     let _ = store;
@@ -113,7 +111,6 @@ pub fn has_no_data<B: Blocks>(store: &B, queue: &Queue) -> bool
 /// Whether a band of a queue is full: its count is at or above its high-water mark.
 pub fn is_full<B: Blocks>(store: &B, queue: &Queue, band: Band) -> bool
     requires ready { IsReady (B.value store.now) queue.now }
-    requires band { band.0 < BANDS }
     ensures { result ≡ is_full band.0 (queue_in (B.value store.now) queue.now) }
 {
     store.audit();

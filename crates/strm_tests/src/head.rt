@@ -15,19 +15,19 @@ use std::test::Fail;
 use strm_blocks::{Blocks, TableStore};
 use strm_head::{Came, Down, Head, Waiting};
 use strm_msg::from_bytes;
-use strm_queue::{HEAD_HIGH, HEAD_LOW, Queue};
+use strm_queue::{HEAD_HIGH, HEAD_LOW, Queue, Table};
 use strm_types::{
     Band, Content, ControlMode, Dir, Fates, FlushAsked, MsgKind, ReadMode, Refusal, Side, Spot,
     Wanted, Way,
 };
 
 // A new head on an empty list.
-fn fresh<B: Blocks>(store: &B) -> Head
+fn fresh<B: Blocks>(store: &B, table: Table) -> Head
     requires { list_at (B.value store.now) 3 ≡ [] }
     ensures { IsHeadQueue (B.value store.now) result.queue }
 {
     let _ = store;
-    Head::new(Queue::new(3, HEAD_HIGH, HEAD_LOW))
+    Head::new(Queue::new(3, HEAD_HIGH, HEAD_LOW, table))
 }
 
 // Puts an M_DATA message of these bytes, where blocks are free.
@@ -48,14 +48,15 @@ fn put<B: Blocks>(store: &mut B, queue: &mut Queue, bytes: &[u8])
 fn reads<B: Blocks>(
     rt: &impl Abort,
     store: &mut B,
-    mode: ReadMode,
-    n: usize,
+    table: Table,
+    asked: (ReadMode, usize),
     wanted: (&[u8], u64, Waiting),
 ) -> Result<(), Fail>
     requires empty { list_at (B.value store.old) 3 ≡ [] }
-    requires most { n ≤ 4096 }
+    requires most { asked.1 ≤ 4096 }
 {
-    let mut head = fresh(store);
+    let (mode, n) = asked;
+    let mut head = fresh(store, table);
     put(store, &mut head.queue, b"hello");
     put(store, &mut head.queue, b"abc");
     head.set_read_mode(mode);
@@ -81,7 +82,7 @@ fn plays(
     requires { n ≤ 4096 }
 {
     let mut store = TableStore::new(alloc, 10, 10)?;
-    reads(rt, &mut store, mode, n, wanted)
+    reads(rt, &mut store, Table::new(alloc)?, (mode, n), wanted)
 }
 
 #[test]
@@ -141,7 +142,7 @@ fn message_read_ends_with_its_message(rt: HostRuntime) -> Result<(), Fail> {
 #[test]
 fn empty_head_waits(rt: HostRuntime) -> Result<(), Fail> {
     let store = TableStore::new(rt.alloc(), 1, 1)?;
-    let head = fresh(&store);
+    let head = fresh(&store, Table::new(rt.alloc())?);
     assert_eq!(&rt; head.read_refusal(&store, false, 1), Some(Refusal::Eagain));
     assert_eq!(&rt; head.read_refusal(&store, true, 1), None);
     Ok(())
@@ -192,7 +193,7 @@ fn answers(
     requires message { length message.1.now ≤ 256 }
 {
     let mut store = TableStore::new(alloc, 10, 10)?;
-    let mut head = fresh(&store);
+    let mut head = fresh(&store, Table::new(alloc)?);
     let mut fates = Fates::none();
     let first = comes(&mut store, &mut head, stands, &mut fates);
     assert_eq!(rt; first, NOTHING);
@@ -302,7 +303,7 @@ fn reads_parts(
     requires { n ≤ 4096 }
 {
     let mut store = TableStore::new(alloc, 10, 10)?;
-    let mut head = fresh(&store);
+    let mut head = fresh(&store, Table::new(alloc)?);
     let mut fates = Fates::none();
     comes_with(&mut store, &mut head, b"ab", b"cd", &mut fates);
     comes(&mut store, &mut head, (MsgKind::Proto, b"x"), &mut fates);

@@ -1,12 +1,11 @@
 -- What an M_FLUSH asks for (STREAMS Programming Guide, "Flush Handling"; sys/stream.h: FLUSHR, FLUSHW, FLUSHBAND).
-use Rattle.std.specs.Prelude.{ℕ, Bool, true, false, ◌+◌, ◌==◌, ◌/◌, ◌%◌, nat_lt, if◌then◌else◌, List, [], ◌∷◌, Option, None, Some, not, ◌&&◌}
+use Rattle.std.specs.Prelude.{ℕ, Bool, true, false, ◌+◌, ◌==◌, ◌/◌, ◌%◌, if◌then◌else◌, List, [], ◌∷◌, Option, None, Some, not, ◌&&◌}
 use Rattle.strm_types.specs.declared.flushing.FlushAsked.{FlushAsked}
 use Rattle.strm_types.specs.declared.events.FlushQueues.{FlushQueues}
 use Rattle.strm_types.specs.declared.events.FlushQueues.TheVariants.{Read, Write, Both}
 use Rattle.strm_types.specs.declared.kinds.Band.{Band}
 use Rattle.strm_types.specs.declared.kinds.MsgKind.{MsgKind}
 use Rattle.strm_types.specs.declared.kinds.MsgKind.TheVariants.{Flush}
-use Rattle.strm_types.specs.declared.limits.TheConstants.{BANDS}
 use Rattle.strm_types.specs.Message.{Message, has_parts}
 
 abbrev pub is_flush : MsgKind → Bool
@@ -20,10 +19,10 @@ has_flag worth flags = flags / worth % 2 == 1
 abbrev pub nothing_asked : FlushAsked
 nothing_asked = record { for_read = false; for_write = false; band = None }
 
--- with a band, which has to be one that queues have
+-- with a band, which has to be there
 abbrev pub asked_of_band : FlushAsked → List ℕ → FlushAsked
 asked_of_band all [] = nothing_asked
-asked_of_band all (band ∷ bytes) = if nat_lt band BANDS then record all { band = Some (record { 0 = band }) } else nothing_asked
+asked_of_band all (band ∷ bytes) = record all { band = Some (record { 0 = band }) }
 
 -- FLUSHR is 1, FLUSHW is 2; with FLUSHBAND, which is 4, the next byte is a band
 abbrev pub asked_by : List ℕ → FlushAsked

@@ -2,7 +2,7 @@
 use Rattle.std.specs.Prelude.{ℕ, Bool, false, not, ◌&&◌, ◌||◌, ◌+◌, nat_le, nat_lt, if◌then◌else◌, List, [], length, Option, None, Some}
 use Rattle.strm_types.specs.declared.kinds.MsgKind.{MsgKind}
 use Rattle.strm_types.specs.declared.kinds.MsgKind.TheVariants.{Data, Proto, Pcproto}
-use Rattle.strm_types.specs.declared.limits.TheConstants.{BANDS, CONTROL_MAX, DATA_MAX}
+use Rattle.strm_types.specs.declared.limits.TheConstants.{CONTROL_MAX, DATA_MAX}
 use Rattle.strm_types.specs.declared.modes.Prio.{Prio}
 use Rattle.strm_types.specs.declared.modes.Prio.TheVariants.{High, Band}
 use Rattle.strm_types.specs.declared.refusals.Refusal.{Refusal}
@@ -29,10 +29,10 @@ module _ {C : Type 0} where
   abbrev pub put_message : Prio → Option (List C) → Option (List C) → Message C
   put_message prio control body = record { kind = put_kind prio control; band = put_band prio; control = control; body = body; plain = [] }
 
-  -- whether no message can have this priority: one of high priority has a control part, and bands are those that queues have
+  -- whether no message can have this priority: one of high priority has a control part
   abbrev pub is_no_prio : Prio → Option (List C) → Bool
   is_no_prio High control = not (is_part control)
-  is_no_prio (Band band) control = nat_le BANDS band.0
+  is_no_prio (Band band) control = false
 
   -- whether a part is longer than one that is sent
   abbrev pub is_too_long : Option (List C) → Option (List C) → Bool

@@ -2,8 +2,7 @@
 use Rattle.std.specs.List.{list_any}
 use Rattle.std.specs.Prelude.{ℕ, Bool, true, false, not, nat_lt, List, Option, None, Some}
 use Rattle.strm_types.specs.declared.refusals.Refusal.{Refusal}
-use Rattle.strm_types.specs.declared.kinds.Band as bands
-use Rattle.strm_types.specs.declared.limits.TheConstants.{BANDS, STOP_BLOCKS, TURN_BLOCKS}
+use Rattle.strm_types.specs.declared.limits.TheConstants.{STOP_BLOCKS, TURN_BLOCKS}
 use Rattle.strm_types.specs.declared.names.Place.{Place}
 use Rattle.strm_types.specs.declared.names.Place.TheVariants as places
 use Rattle.strm_types.specs.Message.{Message, is_held}
@@ -24,11 +23,6 @@ abbrev pub turn_blocks : Place → ℕ
 turn_blocks places.Driver = TURN_BLOCKS
 turn_blocks places.Head = TURN_BLOCKS
 turn_blocks places.Ldterm = STOP_BLOCKS
-
--- a band, where one is named, is one of those that queues have
-abbrev pub is_a_band : Option bands.Band → Bool
-is_a_band None = true
-is_a_band (Some band) = nat_lt band.0 BANDS
 
 module _ {C : Type 0} where
   -- no message of data stands on a queue

@@ -66,7 +66,7 @@ pub enum Event<T> {
     Pop,
     /// Asks for the name of the module on top: `I_LOOK` of `streamio(7I)`.
     Look,
-    /// Empties queues of the bytes on them, all or those of one band, from 0 to 7: `I_FLUSH` and `I_FLUSHBAND` of
+    /// Empties queues of the bytes on them, all or those of one band: `I_FLUSH` and `I_FLUSHBAND` of
     /// `streamio(7I)`.
     Flush {
         what: FlushQueues,
@@ -81,8 +81,8 @@ pub enum Event<T> {
         n: u32,
     },
     /// Sends a message down the caller's stream: `putmsg(2)`, `putpmsg(2)`. Its control part has at most 64 bytes and its
-    /// data part at most 256, else ERANGE. High priority without a control part, and a band above 7, are EINVAL. Without
-    /// either part nothing is sent.
+    /// data part at most 256, else ERANGE. High priority without a control part is EINVAL. Without either part
+    /// nothing is sent.
     Put {
         prio: Prio,
         control: Option<T>,
@@ -90,7 +90,7 @@ pub enum Event<T> {
     },
     /// Takes the first message from the caller's stream head, or at most so many bytes of its control part and of its data
     /// part: `getmsg(2)`, `getpmsg(2)`. More than 4096 counts as 4096. Where the first message isn't the wanted one the call
-    /// is EAGAIN; a band above 7 is EINVAL.
+    /// is EAGAIN.
     Get {
         wanted: Wanted,
         cmax: u32,

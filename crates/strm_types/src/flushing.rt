@@ -2,12 +2,10 @@
 
 ghost use Rattle.std.specs.Prelude.{◌≡◌, ◌≤◌, length};
 ghost use Rattle.strm_types.specs.Flushing.{asked_by, asked_of, flags_of, flush_bytes, read_flush, nothing_asked};
-ghost use Rattle.strm_types.specs.Refused.{is_a_band};
 ghost use Rattle.std.specs.Prelude.{true};
 
 use crate::events::FlushQueues;
 use crate::kinds::Band;
-use crate::limits::BANDS;
 use arrayvec::ArrayVec;
 
 /// What an M_FLUSH asks for: whether queues of the read side (FLUSHR) and of the write side (FLUSHW) are to be emptied, and of
@@ -27,10 +25,9 @@ const NOTHING_ASKED: FlushAsked = FlushAsked {
 
 impl FlushAsked {
     /// Reads the bytes of an M_FLUSH: flags, FLUSHR 1, FLUSHW 2 and FLUSHBAND 4, and with FLUSHBAND a band. Without a byte,
-    /// or with FLUSHBAND and no band from 0 to 7, nothing is asked.
+    /// or with FLUSHBAND and no band, nothing is asked.
     pub fn read(bytes: &[u8]) -> FlushAsked
         ensures asked { result ≡ asked_by bytes.now }
-        ensures band { is_a_band result.band ≡ true }
     {
         if bytes.is_empty() {
             return NOTHING_ASKED;
@@ -44,7 +41,7 @@ impl FlushAsked {
         if flags / 4 % 2 == 0 {
             return asked;
         }
-        if bytes.len() < 2 || usize::from(bytes[1]) >= BANDS {
+        if bytes.len() < 2 {
             return NOTHING_ASKED;
         }
         FlushAsked {

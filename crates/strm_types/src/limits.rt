@@ -12,8 +12,8 @@ pub const BLOCK_SIZE: usize = 256;
 /// How many lists of messages a store has.
 pub const LISTS: usize = 8;
 
-/// How many bands a queue has: 0 for ordinary messages, up to 7.
-pub const BANDS: usize = 8;
+/// How many bands a queue has: 0 for ordinary messages, up to 255.
+pub const BANDS: usize = 256;
 
 /// The rank of messages of high priority, above that of any band.
 pub const HIGH_PRIORITY_RANK: usize = 256;

@@ -44,7 +44,7 @@ pub enum Wanted {
 }
 
 /// The priority of a message that a putmsg(2) or putpmsg(2) sends, or that a getmsg(2) or getpmsg(2) gives: high (RS_HIPRI,
-/// MSG_HIPRI), or a band from 0 to 7 (MSG_BAND).
+/// MSG_HIPRI), or a band from 0 to 255 (MSG_BAND).
 #[derive(Clone, Copy, Debug, PartialEq)]
 pub enum Prio {
     High,

@@ -2,14 +2,13 @@
 
 ghost use Rattle.std.specs.Prelude.{◌≡◌, ◌+◌, ◌<◌, ◌^◌, option_map};
 ghost use Rattle.strm_types.specs.Events.{request};
-ghost use Rattle.strm_types.specs.Needs.{asks_a_band, change, needs, only};
+ghost use Rattle.strm_types.specs.Needs.{change, needs, only};
 ghost use Rattle.strm_types.specs.PutMsg.{is_no_prio, part_blocks, put_refusal};
-ghost use Rattle.strm_types.specs.Refused.{is_a_band};
 
 use crate::events::{Event, part_bytes};
 use crate::kinds::Band;
 use crate::limits::{
-    BANDS, CHANGE_BLOCKS, CLOSE_BLOCKS, CONTROL_MAX, DATA_MAX, IOCTL_BLOCKS, IOCTL_MAX, READ_MAX,
+    CHANGE_BLOCKS, CLOSE_BLOCKS, CONTROL_MAX, DATA_MAX, IOCTL_BLOCKS, IOCTL_MAX, READ_MAX,
     SIGNALS_MAX, WRITE_BLOCKS, chunk_count,
 };
 use crate::modes::{Prio, Wanted};
@@ -93,33 +92,13 @@ impl Needs {
     }
 }
 
-// Whether a band, where one is named, is one of those that queues have.
-fn is_a_band(band: Option<Band>) -> bool
-    ensures { result ≡ is_a_band band }
-{
-    match band {
-        Some(band) => usize::from(band.0) < BANDS,
-        None => true,
-    }
-}
-
-// Whether a band that a get asks for is one of those that queues have.
-fn asks_a_band(wanted: Wanted) -> bool
-    ensures { result ≡ asks_a_band wanted }
-{
-    match wanted {
-        Wanted::Any | Wanted::High => true,
-        Wanted::Band(band) => usize::from(band.0) < BANDS,
-    }
-}
-
-// Whether no message can have this priority: one of high priority has a control part, and bands are those that queues have.
+// Whether no message can have this priority: one of high priority has a control part.
 fn is_no_prio(prio: Prio, control: Option<&[u8]>) -> bool
     ensures { result ≡ is_no_prio prio (option_map (λ bytes. bytes.now) control.entry) }
 {
     match prio {
         Prio::High => control.is_none(),
-        Prio::Band(band) => usize::from(band.0) >= BANDS,
+        Prio::Band(_) => false,
     }
 }
 
@@ -130,8 +109,8 @@ fn part_blocks(part: Option<&[u8]>) -> usize
     usize::from(part.is_some())
 }
 
-/// What a putmsg(2) or putpmsg(2) is refused for by its arguments alone: EINVAL for high priority without a control part and for
-/// a band above 7, else ERANGE for a control part of more than 64 bytes or a data part of more than 256.
+/// What a putmsg(2) or putpmsg(2) is refused for by its arguments alone: EINVAL for high priority without a control part,
+/// else ERANGE for a control part of more than 64 bytes or a data part of more than 256.
 pub fn put_refusal(prio: Prio, control: Option<&[u8]>, body: Option<&[u8]>) -> Option<Refusal>
     ensures { result ≡ put_refusal prio (option_map (λ bytes. bytes.now) control.entry) (option_map (λ bytes. bytes.now) body.entry) }
 {
@@ -166,11 +145,7 @@ impl Event<&[u8]> {
                 wrong: unless(name.is_some(), Refusal::Einval),
                 ..Needs::change()
             },
-            Event::Pop => Needs::change(),
-            Event::Flush { band, .. } => Needs {
-                wrong: unless(is_a_band(*band), Refusal::Einval),
-                ..Needs::change()
-            },
+            Event::Pop | Event::Flush { .. } => Needs::change(),
             Event::Write { bytes } => Needs {
                 makes: true,
                 brings: bytes.len(),
@@ -195,8 +170,7 @@ impl Event<&[u8]> {
                 access: Some(Access::Writes),
                 ..Needs::only(Reach::Down)
             },
-            Event::Get { wanted, cmax, dmax } => Needs {
-                wrong: unless(asks_a_band(*wanted), Refusal::Einval),
+            Event::Get { cmax, dmax, .. } => Needs {
                 gives: (*cmax as usize).min(READ_MAX) + (*dmax as usize).min(READ_MAX),
                 access: Some(Access::Reads),
                 ..Needs::only(Reach::Own)

@@ -3,7 +3,7 @@
 ghost use Rattle.std.specs.Prelude.{◌≡◌, []};
 ghost use Rattle.strm_blocks.specs.Blocks.{list_at};
 
-use crate::{Ldterm, Line, clear};
+use crate::{Ldterm, Line, Tables, clear};
 use std::process::Abort;
 use std::test::Fail;
 use strm_blocks::{Blocks, TableStore};
@@ -22,11 +22,17 @@ fn typed(rt: &impl Abort) -> Line {
 
 // A module with a line, and with writers that wait at its empty queues, is taken off a side's stream, twice. Its line came up, and no
 // queue is less full.
-fn line_goes<B: Blocks>(rt: &impl Abort, store: &mut B, side: Side, told: &mut Fates)
+fn line_goes<B: Blocks>(
+    rt: &impl Abort,
+    store: &mut B,
+    side: Side,
+    tables: Tables,
+    told: &mut Fates,
+)
     requires read { list_at (B.value store.old) 0 ≡ [] }
     requires write { list_at (B.value store.old) 1 ≡ [] }
 {
-    let mut ldterm = Ldterm::new(0, 1);
+    let mut ldterm = Ldterm::new(0, 1, tables);
     ldterm.line = typed(rt);
     Module::let_wait(&mut ldterm, Way::Up, Band(0));
     Module::let_wait(&mut ldterm, Way::Down, Band(0));
@@ -42,7 +48,13 @@ fn line_goes<B: Blocks>(rt: &impl Abort, store: &mut B, side: Side, told: &mut F
 fn a_line_goes_with_its_module(rt: HostRuntime) -> Result<(), Fail> {
     let mut store = TableStore::new(rt.alloc(), 4, 4)?;
     let mut told = Fates::none();
-    line_goes(&rt, &mut store, Side::Slave, &mut told);
+    line_goes(
+        &rt,
+        &mut store,
+        Side::Slave,
+        Tables::new(rt.alloc())?,
+        &mut told,
+    );
     assert_eq!(rt; told.from_master[16], 3);
     assert_eq!(rt; told.from_master[17], 0);
     assert_eq!(rt; told.from_slave, [0; 21]);

@@ -6,7 +6,7 @@ ghost use Rattle.strm_frame.specs.Hands.{AreIn};
 ghost use Rattle.strm_ldterm.specs.Stands.{keeps, IsHeld};
 
 use crate::echoing::echo;
-use crate::{ECHO_MAX, Echo, Ldterm, Line, echo_of, sizes};
+use crate::{ECHO_MAX, Echo, Ldterm, Line, Tables, echo_of, sizes};
 use std::process::Abort;
 use std::test::Fail;
 use strm_blocks::{Blocks, TableStore};
@@ -60,11 +60,11 @@ fn echoes<B: Blocks>(
 }
 
 // An echo begins, grows by more than a block, and is lost where the band is full.
-fn stands<B: Blocks>(rt: &impl Abort, store: &mut B)
+fn stands<B: Blocks>(rt: &impl Abort, store: &mut B, tables: Tables)
     requires read { list_at (B.value store.old) 3 ≡ [] }
     requires write { list_at (B.value store.old) 4 ≡ [] }
 {
-    let mut ldterm = Ldterm::new(3, 4);
+    let mut ldterm = Ldterm::new(3, 4, tables);
     let mut told = Fates::none();
     let enables = [Note::Enable(Way::Down)];
     echoes(rt, &mut ldterm, store, 20, &enables, 480, &mut told);
@@ -77,6 +77,6 @@ fn stands<B: Blocks>(rt: &impl Abort, store: &mut B)
 #[test]
 fn echoes_stand_last(rt: HostRuntime) -> Result<(), Fail> {
     let mut store = TableStore::new(rt.alloc(), 5, 5)?;
-    stands(&rt, &mut store);
+    stands(&rt, &mut store, Tables::new(rt.alloc())?);
     Ok(())
 }

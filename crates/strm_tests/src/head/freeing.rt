@@ -9,6 +9,7 @@ use std::process::Abort;
 use std::test::Fail;
 use strm_blocks::{Blocks, TableStore};
 use strm_head::getmsg;
+use strm_queue::Table;
 use strm_types::{Content, ControlMode, Dir, Fates, Wanted};
 
 // Gets from a head at which a message stands, and looks at how many blocks of ten are free then.
@@ -24,7 +25,7 @@ fn get_leaves(
     requires body { dmax ≤ 4096 }
 {
     let mut store = TableStore::new(alloc, 10, 10)?;
-    let mut head = fresh(&store);
+    let mut head = fresh(&store, Table::new(alloc)?);
     stands(&mut store, &mut head, sent);
     getmsg(
         &mut store,
@@ -52,7 +53,7 @@ fn read_leaves(
     requires { n ≤ 4096 }
 {
     let mut store = TableStore::new(alloc, 10, 10)?;
-    let mut head = fresh(&store);
+    let mut head = fresh(&store, Table::new(alloc)?);
     stands(&mut store, &mut head, sent);
     head.set_control_mode(control);
     let mut fates = Fates::none();

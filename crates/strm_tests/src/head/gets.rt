@@ -9,6 +9,7 @@ use std::process::Abort;
 use std::test::Fail;
 use strm_blocks::{Blocks, TableStore};
 use strm_head::{Gotten, Head, getmsg, make_message};
+use strm_queue::Table;
 use strm_types::{Band, Content, Dir, Fates, Prio, Refusal, Wanted, put_refusal};
 
 // The priority and the parts of a message.
@@ -74,7 +75,7 @@ fn plays(
     requires body { asked.2 ≤ 4096 }
 {
     let mut store = TableStore::new(alloc, 10, 10)?;
-    let mut head = fresh(&store);
+    let mut head = fresh(&store, Table::new(alloc)?);
     stands(&mut store, &mut head, sent);
     gives(rt, &mut store, &mut head, asked, first);
     gives(rt, &mut store, &mut head, (Wanted::Any, 4096, 4096), rest);

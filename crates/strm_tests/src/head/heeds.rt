@@ -10,6 +10,7 @@ use std::process::Abort;
 use std::test::Fail;
 use strm_blocks::{Blocks, TableStore};
 use strm_head::{Down, Head, make_ioctl};
+use strm_queue::Table;
 use strm_types::{
     Answer, Band, Content, Fates, IOCTL_MAX, Ioc, MsgKind, ReadMode, Refusal, TCGETS, TCSETS,
 };
@@ -100,10 +101,15 @@ fn goes<B: Blocks>(store: &mut B, head: &mut Head, step: Step<'_>) -> bool
 }
 
 // Takes steps in turn at a new head on an empty list.
-fn all_go<B: Blocks>(rt: &impl Abort, store: &mut B, steps: &[Step<'_>]) -> Result<(), Fail>
+fn all_go<B: Blocks>(
+    rt: &impl Abort,
+    store: &mut B,
+    table: Table,
+    steps: &[Step<'_>],
+) -> Result<(), Fail>
     requires { list_at (B.value store.old) 3 ≡ [] }
 {
-    let mut head = fresh(store);
+    let mut head = fresh(store, table);
     for at in 0..steps.len() {
         assert!(rt; goes(store, &mut head, steps[at]), "at step {at}");
     }
@@ -113,7 +119,7 @@ fn all_go<B: Blocks>(rt: &impl Abort, store: &mut B, steps: &[Step<'_>]) -> Resu
 // Takes steps in turn, which leave nothing in the store.
 fn plays(rt: &impl Abort, alloc: Global, steps: &[Step<'_>]) -> Result<(), Fail> {
     let mut store = TableStore::new(alloc, 4, 4)?;
-    all_go(rt, &mut store, steps)?;
+    all_go(rt, &mut store, Table::new(alloc)?, steps)?;
     assert_eq!(rt; store.free_blocks(), (4, 4));
     Ok(())
 }

@@ -10,6 +10,7 @@ use std::process::Abort;
 use std::test::Fail;
 use strm_blocks::{Blocks, TableStore};
 use strm_head::{Down, Head, Waiting, make_flush, write};
+use strm_queue::Table;
 use strm_types::{Dir, Fates, FlushAsked, FlushQueues, Refusal};
 
 // Reads up to 100 bytes into a vector, and looks at what is given and how many bytes are told to have gone, or what the read is
@@ -42,7 +43,7 @@ fn reads<B: Blocks>(
 fn a_vector_has_what_waits(rt: HostRuntime) -> Result<(), Fail> {
     let alloc = rt.alloc();
     let mut store = TableStore::new(alloc, 10, 10)?;
-    let mut head = fresh(&store);
+    let mut head = fresh(&store, Table::new(alloc)?);
     reads(
         &rt,
         alloc,
@@ -70,7 +71,7 @@ fn a_vector_has_what_waits(rt: HostRuntime) -> Result<(), Fail> {
 fn a_refused_read_leaves_the_message(rt: HostRuntime) -> Result<(), Fail> {
     let alloc = rt.alloc();
     let mut store = TableStore::new(alloc, 10, 10)?;
-    let mut head = fresh(&store);
+    let mut head = fresh(&store, Table::new(alloc)?);
     comes_with(&mut store, &mut head, b"ab", b"cde", &mut Fates::none());
     reads(
         &rt,
@@ -89,10 +90,10 @@ fn a_refused_read_leaves_the_message(rt: HostRuntime) -> Result<(), Fail> {
 }
 
 // Sends a chunk of a write to a head, and reads it there.
-fn chunk_goes<B: Blocks>(rt: &impl Abort, alloc: Global, store: &mut B)
+fn chunk_goes<B: Blocks>(rt: &impl Abort, alloc: Global, store: &mut B, table: Table)
     requires { list_at (B.value store.old) 3 ≡ [] }
 {
-    let mut head = fresh(store);
+    let mut head = fresh(store, table);
     let free = store.free_blocks();
     assert!(rt; free.0 > 0 && free.1 > 0);
     let message = write(store, b"abc");
@@ -105,15 +106,16 @@ fn chunk_goes<B: Blocks>(rt: &impl Abort, alloc: Global, store: &mut B)
 #[test]
 fn a_chunk_of_a_write_is_read(rt: HostRuntime) -> Result<(), Fail> {
     let mut store = TableStore::new(rt.alloc(), 10, 10)?;
-    chunk_goes(&rt, rt.alloc(), &mut store);
+    let alloc = rt.alloc();
+    chunk_goes(&rt, alloc, &mut store, Table::new(alloc)?);
     Ok(())
 }
 
 // Sends an M_FLUSH to a head where bytes wait: FLUSHW goes down again, and the bytes go by FLUSHR.
-fn flush_goes<B: Blocks>(rt: &impl Abort, store: &mut B)
+fn flush_goes<B: Blocks>(rt: &impl Abort, store: &mut B, table: Table)
     requires { list_at (B.value store.old) 3 ≡ [] }
 {
-    let mut head = fresh(store);
+    let mut head = fresh(store, table);
     put(store, &mut head.queue, b"abc");
     let free = store.free_blocks();
     assert!(rt; free.0 > 0 && free.1 > 0);
@@ -131,7 +133,7 @@ fn flush_goes<B: Blocks>(rt: &impl Abort, store: &mut B)
 #[test]
 fn a_flush_empties_a_head(rt: HostRuntime) -> Result<(), Fail> {
     let mut store = TableStore::new(rt.alloc(), 10, 10)?;
-    flush_goes(&rt, &mut store);
+    flush_goes(&rt, &mut store, Table::new(rt.alloc())?);
     assert_eq!(rt; store.free_blocks(), (10, 10));
     Ok(())
 }

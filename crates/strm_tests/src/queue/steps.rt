@@ -9,8 +9,8 @@ use std::process::Abort;
 use std::test::Fail;
 use strm_blocks::{Blocks, InHand, NoBlocks, TableStore};
 use strm_queue::standing::mark_all;
-use strm_queue::{Flush, Queue, are_marks, is_band};
-use strm_types::{BANDS, Band, Marks, MsgKind};
+use strm_queue::{Flush, Queue, Table, are_marks};
+use strm_types::{Band, Marks, MsgKind};
 
 // What comes to a queue, and what is to be seen of it then.
 #[derive(Clone, Copy)]
@@ -42,9 +42,7 @@ fn message<B: Blocks>(
     band: u8,
     bytes: &[u8],
 ) -> Result<InHand, NoBlocks>
-    requires { band < BANDS }
     ensures in_hand { IfOk result (λ m. IsInHand (B.value store.new) (token m)) }
-    ensures low { IfOk result (λ m. band_of (in_hand (B.value store.new) (token m)) < BANDS) }
     ensures lists { (B.value store.new).lists ≡ (B.value store.old).lists }
 {
     let message = store.alloc(kind)?;
@@ -64,9 +62,6 @@ fn puts<B: Blocks>(
     requires { AreCounted queue.old.flows (list_at (B.value store.old) queue.old.list) }
     ensures { AreCounted queue.new.flows (list_at (B.value store.new) queue.new.list) }
 {
-    if !is_band(Band(band)) {
-        return Ok(false);
-    }
     let message = message(store, kind, band, bytes)?;
     Ok(queue.putq(store, message))
 }
@@ -114,7 +109,7 @@ fn is_full_at(queue: &mut Queue, band: u8, high: u32, low: u32) -> bool
     ensures counted { (q : List (List Block)) → AreCounted queue.old.flows q → AreCounted queue.new.flows q }
     ensures list { queue.new.list ≡ queue.old.list }
 {
-    if !is_band(Band(band)) || !are_marks(high, low) {
+    if !are_marks(high, low) {
         return false;
     }
     queue.set_marks(Band(band), high, low);
@@ -143,10 +138,10 @@ fn goes<B: Blocks>(queue: &mut Queue, store: &mut B, step: Step<'_>) -> Result<b
         Step::PutBack(bytes) => puts_back(queue, store, bytes),
         Step::Take(bytes) => Ok(next_shows(queue, store, bytes)),
         Step::TakeNone => Ok(has_none(queue, store)),
-        Step::Counts(band, bytes) => { Ok(is_band(Band(band)) && queue.count(Band(band)) == bytes) }
+        Step::Counts(band, bytes) => Ok(queue.count(Band(band)) == bytes),
         Step::Marks(band, high, low, full) => Ok(is_full_at(queue, band, high, low) == full),
         Step::MarkAll(high, low) => Ok(marks_all(queue, high, low)),
-        Step::Full(band, full) => Ok(is_band(Band(band)) && queue.is_full(Band(band)) == full),
+        Step::Full(band, full) => Ok(queue.is_full(Band(band)) == full),
         Step::Flush => {
             queue.flushq(store, Flush::Data);
             Ok(true)
@@ -159,12 +154,13 @@ fn all_go<B: Blocks>(
     rt: &impl Abort,
     store: &mut B,
     list: usize,
+    table: Table,
     steps: &[Step<'_>],
 ) -> Result<(), Fail>
     requires list { list < 8 }
     requires empty { list_at (B.value store.old) list ≡ [] }
 {
-    let mut queue = Queue::new(list, 512, 128);
+    let mut queue = Queue::new(list, 512, 128, table);
     for at in 0..steps.len() {
         assert!(rt; goes(&mut queue, store, steps[at])?, "at step {at}");
     }
@@ -181,7 +177,7 @@ pub(crate) fn plays(
     requires { list < 8 }
 {
     let mut store = TableStore::new(alloc, 10, 10)?;
-    all_go(rt, &mut store, list, steps)?;
+    all_go(rt, &mut store, list, Table::new(alloc)?, steps)?;
     assert_eq!(rt; store.free_blocks(), (10, 10));
     Ok(())
 }

@@ -12,9 +12,6 @@ putbq-requires-clause-counted g c =
     let k = c.args.queue.now.list in
     subst (λ q. AreCounted c.args.queue.now.flows q) (sym (ap (λ v. list_at v k) c.free_emptied-rest.ensures.others)) c.requires.counted
 
-pub putbq-requires-clause-band : goal.putbq-requires-clause-band
-putbq-requires-clause-band g c = subst (λ chain. band_of chain < 8) (sym c.free_emptied-rest.ensures.chain_is) (c.requires.band c.if-not-left.false)
-
 pub returns-clause-left : goal.returns-clause-left
 returns-clause-left g c =
     let s = g.B.Blocks.value c.args.store.now in

@@ -18,17 +18,6 @@ put_rest-requires-clause-some g c = λ is.
     c.control_len.result c.data_len.result c.piece_of-first.result c.piece_of-second.result c.control_len.ensures c.data_len.ensures
     c.piece_of-first.ensures.given c.piece_of-first.ensures.more c.piece_of-second.ensures.given c.piece_of-second.ensures.more c.unwrap_or.ensures c.unwrap_or-2.ensures c.take_parts.ensures.cut (sym c.has_more.ensures ∙ is)
 
-pub put_rest-requires-clause-band : goal.put_rest-requires-clause-band
-put_rest-requires-clause-band g c = λ is.
-    let s = g.B.Blocks.value c.args.store.now in
-    let got = g.B.Blocks.value c.getq.new.store in
-    let cut = g.B.Blocks.value c.take_parts.new.store in
-    let i = token c.in-Some.message in
-    let q = c.args.queue.now in
-    rest-low s got cut q i c.args.cmax c.args.dmax c.unwrap_or.result c.unwrap_or-2.result (has-list s q c.audit.ensures) c.in-Some.ensures.taken c.requires.ready
-    c.control_len.result c.data_len.result c.piece_of-first.result c.piece_of-second.result c.control_len.ensures c.data_len.ensures
-    c.piece_of-first.ensures.given c.piece_of-first.ensures.more c.piece_of-second.ensures.given c.piece_of-second.ensures.more c.unwrap_or.ensures c.unwrap_or-2.ensures c.take_parts.ensures.cut (sym c.has_more.ensures ∙ is)
-
 pub returns-clause-took : goal.returns-clause-took
 returns-clause-took g c =
     let s = g.B.Blocks.value c.args.store.now in

@@ -51,30 +51,6 @@ leave_rest-rest-requires-clause-data g c =
     let here = held-is s got q.list i within p (shown_chain c.args.control p.message) t (changed-once s got q.list i within p (shown_chain c.args.control) t c.show.ensures) in
     ap (λ chain. is_data_kind (block_at 0 chain).kind) here ∙ ap is_data_kind v.kind ∙ readable
 
-pub putbq-requires-clause-band : goal.putbq-requires-clause-band
-putbq-requires-clause-band g c =
-    let s = g.B.Blocks.value c.args.store.now in
-    let got = g.B.Blocks.value c.getq.new.store in
-    let t = g.B.Blocks.value c.show.new.store in
-    let i = token c.in-Some.message in
-    let q = c.args.queue.now in
-    let ready = c.requires.ready in
-    let p = c.in-Some.ensures.taken in
-    let within = has-list s q c.audit.ensures in
-    let one = first-chain p.message p.rest (subst AreMessages p.joined ready.ready.messages) in
-    let readable = first-holds is_data_kind p.message p.rest (subst HoldsReadable p.joined ready.readable) in
-    let v = shows p.message one readable c.args.control in
-    let chain = shown_chain c.args.control p.message in
-    let t_is = changed-once s got q.list i within p (shown_chain c.args.control) t c.show.ensures in
-    let here = held-is s got q.list i within p chain t t_is in
-    let why = subst (λ b. OnTrue b ((c.args.wanted < c.message_size-len.result) × (discards c.args.read ≡ false))) c.if-keeps_rest.true c.keeps_rest.ensures.keeps in
-    let less : c.args.wanted < length (bytes_of chain) = omega (arith, why.0, c.message_size-len.ensures.bytes, ap (λ xs. length (bytes_of xs)) here) in
-    let r = rest-read c.args.wanted chain v.one less (ap is_data_kind v.kind ∙ readable) in
-    let u = g.B.Blocks.value c.leave_rest-rest.new.store in
-    let j = token c.leave_rest-rest.result in
-    let b = beside-held s got q.list i within p chain t t_is (rest_chain c.args.wanted) u j c.leave_rest-rest.ensures in
-    subst (λ xs. counted_band (block_at 0 xs).kind (block_at 0 xs).band < 8) (sym b.chain_is) (band-within (rest_chain c.args.wanted chain) r.one)
-
 pub returns-then-keeps_rest-clause-took : goal.returns-then-keeps_rest-clause-took
 returns-then-keeps_rest-clause-took g c = λ begun takes.
     let s = g.B.Blocks.value c.args.store.now in

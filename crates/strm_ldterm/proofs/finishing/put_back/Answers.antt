@@ -6,9 +6,6 @@ use Rattle.strm_ldterm.proofs.Freeing.{back-none}
 use Rattle.strm_ldterm.proofs.Returning.{back-queue, back-changes, back-frees}
 use Rattle.strm_ldterm.proofs.finishing.put_back.Goals as goal
 
-pub putbq-requires-clause-band : goal.putbq-requires-clause-band
-putbq-requires-clause-band g c = chain-low (in_hand (g.B.Blocks.value c.args.store.now) (token c.args.message)) c.requires.chain
-
 pub returns-clause-queue : goal.returns-clause-queue
 returns-clause-queue g c =
     let s = g.B.Blocks.value c.args.store.now in

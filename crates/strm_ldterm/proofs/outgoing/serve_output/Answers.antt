@@ -33,9 +33,6 @@ post_whole-sent-requires-clause-kept g c =
     still-kept (g.B.Blocks.value c.args.store.now) (g.B.Blocks.value c.begin_output.new.store) c.args.ldterm.now c.begin_output.new.ldterm 0 [] c.args.told.now c.args.told.now _ c.audit.ensures
     (c.in-InWork.ensures.works c.args.told.now) c.requires.kept
 
-pub post_whole-sent-requires-clause-low : goal.post_whole-sent-requires-clause-low
-post_whole-sent-requires-clause-low g c = c.in-InWork.ensures.low
-
 pub post_whole-sent-requires-clause-work : goal.post_whole-sent-requires-clause-work
 post_whole-sent-requires-clause-work g c =
     sym (kept-some (g.B.Blocks.value c.begin_output.new.store) c.begin_output.new.ldterm.in_work) ∙ ap (λ (q : ldterms.Ldterm ℕ). is_some q.in_work) (c.in-InWork.ensures.works c.args.told.now).state
@@ -101,9 +98,6 @@ let_go-sent-requires-clause-kept g c =
 pub let_go-sent-requires-clause-quiet : goal.let_go-sent-requires-clause-quiet
 let_go-sent-requires-clause-quiet g c =
     ap (λ (q : ldterms.Ldterm ℕ). q.echoing) c.post_bytes-left.ensures.does.state ∙ ap (λ (q : ldterms.Ldterm ℕ). q.echoing) (c.in-InWork.ensures.works c.args.told.now).state ∙ c.in-InWork.ensures.quiet
-
-pub let_go-sent-requires-clause-low : goal.let_go-sent-requires-clause-low
-let_go-sent-requires-clause-low g c = c.in-InWork.ensures.low
 
 pub returns-in-Whole : goal.returns-in-Whole
 returns-in-Whole g c = λ again.

@@ -6,9 +6,6 @@ use Rattle.strm_queue.proofs.Joined.{joined-queue, joined-changes, joined-frees}
 use Rattle.strm_ldterm.proofs.Freeing.{put-none}
 use Rattle.strm_ldterm.proofs.putting.stand.Goals as goal
 
-pub putq-requires-clause-band : goal.putq-requires-clause-band
-putq-requires-clause-band g c = chain-low (in_hand (g.B.Blocks.value c.args.store.now) (token c.args.message)) c.requires.chain
-
 pub returns-clause-queue : goal.returns-clause-queue
 returns-clause-queue g c =
     let s = g.B.Blocks.value c.args.store.now in

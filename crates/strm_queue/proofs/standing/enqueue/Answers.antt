@@ -2,12 +2,9 @@
 use Rattle.std.proofs.Common.{◌<◌, length, ◌∙◌, arith}
 use Rattle.strm_blocks.specs.Blocks.{in_hand, token}
 use Rattle.strm_queue.specs.Stored.{queue_in}
-use Rattle.strm_queue.proofs.Chains.{enables-same, chain-low}
+use Rattle.strm_queue.proofs.Chains.{enables-same}
 use Rattle.strm_queue.proofs.Joined.{joined-queue, joined-holds, joined-changes, joined-frees}
 use Rattle.strm_queue.proofs.standing.enqueue.Goals as goal
-
-pub putq-requires-clause-band : goal.putq-requires-clause-band
-putq-requires-clause-band g c = chain-low (in_hand (g.B.Blocks.value c.args.store.now) (token c.args.message)) c.requires.chain
 
 pub returns-clause-queue : goal.returns-clause-queue
 returns-clause-queue g c =

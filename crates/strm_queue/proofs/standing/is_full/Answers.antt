@@ -8,7 +8,4 @@ pub returns : goal.returns
 returns g c =
     let s = g.B.Blocks.value c.args.store.now in
     let q = c.args.queue.now in
-    c.is_full.ensures.full (list_at s q.list) c.requires.ready.counted ∙ full-same s q c.args.band.0 c.requires.ready c.requires.band
-
-pub is_full-requires : goal.is_full-requires
-is_full-requires g c = search rules steps 100000
+    c.is_full.ensures.full (list_at s q.list) c.requires.ready.counted ∙ full-same s q c.args.band.0 c.requires.ready c.is_full.ensures.low

@@ -18,15 +18,5 @@ returns-in-OpenSlave g c = rw c.in-OpenSlave.is (c.unready.ensures (g.B.Blocks.v
 pub returns-in-Write : goal.returns-in-Write
 returns-in-Write g c = search rules steps 300000
 
-pub is_full_below-is_full-requires-clause-band : goal.is_full_below-is_full-requires-clause-band
-is_full_below-is_full-requires-clause-band g c = search rules steps 100000
-
-pub is_held_back-requires-clause-low : goal.is_held_back-requires-clause-low
-is_held_back-requires-clause-low g c =
-    let old = state_in (g.B.Blocks.value c.args.store.now) c.args.self.now in
-    let now : Bor (List ℕ) → List ℕ = λ bytes. bytes.now in
-    put-low old c.args.caller c.in-Put.prio (option_map now c.in-Put.control) (option_map now c.in-Put.body)
-    (ap (λ (e : Event (Bor (List ℕ))). refused_at_once old c.args.caller (request e)) (sym c.in-Put.is) ∙ c.requires.allowed)
-
 pub returns-in-OpenMaster : goal.returns-in-OpenMaster
 returns-in-OpenMaster g c = rw c.in-OpenMaster.is (c.opened_before.ensures (g.B.Blocks.value c.args.store.now))

@@ -6,5 +6,5 @@ use Rattle.strm_queue.proofs.banded.Banded.mark.Goals as goal
 
 pub returns : goal.returns
 returns c =
-    flows-each (marked_with c.args.high c.args.low) c.self.inside.common c.mark.new.self 0 c.self.inside.rows c.mark.ensures.each
+    flows-each (marked_with c.args.high c.args.low) c.self.inside.common c.mark.new.self 0 c.self.inside.rows.items c.mark.ensures.each
     ∙ ap (map (marked_with c.args.high c.args.low)) c.self.view_is

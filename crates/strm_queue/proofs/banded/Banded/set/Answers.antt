@@ -8,11 +8,9 @@ pub returns : goal.returns
 returns c =
     let b = c.self.inside in
     let e = c.set.ensures in
-    let within : c.args.at < length b.rows = omega (arith, c.requires.within, c.self.invariant.each) in
-    first-set b.common c.set.new.self c.args.at c.set.result c.args.flow b.rows within e.here (λ k row apart. e.others k row apart)
+    let within : c.args.at < length b.rows.items = omega (arith, c.requires.within, c.self.invariant.each) in
+    first-set b.common c.set.new.self c.args.at c.set.result c.args.flow b.rows.items within e.here (λ k row apart. e.others k row apart)
     ∙ ap (λ fs. slice_set fs c.args.at c.args.flow) c.self.view_is
 
 pub invariant_of-self : goal.invariant_of-self
-invariant_of-self c =
-    let e = c.set.ensures in
-    rows-set c.self.inside.common c.set.new.self c.args.at c.set.result c.args.flow c.self.inside.rows c.requires.within e.here e.filled e.stay c.self.invariant
+invariant_of-self c = rows-set c.args.at c.set.result c.self.inside.rows.items c.self.invariant

@@ -8,4 +8,4 @@ pub returns-clause-count : goal.returns-clause-count
 returns-clause-count c = λ q is.
     let band = c.args.band.0 in
     let kept : c.count.result ≡ count_in (flow_at band c.args.self.now.flows) = search rules in
-    kept ∙ count-kept band (flow_at band c.args.self.now.flows) q (is.each band c.requires)
+    kept ∙ count-kept band (flow_at band c.args.self.now.flows) q (is.each band c.at.ensures.low)

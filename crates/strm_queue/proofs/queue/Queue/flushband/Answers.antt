@@ -14,11 +14,11 @@ returns-clause-counted g c =
     let k = c.args.self.now.list in
     let left = flushed (record { all = false; band = Some c.args.band }) (list_at s k) in
     let list_is = c.see_empty.ensures.list in
-    rw (c.see_empty.ensures.flows, list_is, c.drop_where.ensures, list-placed s k left (omega (arith, c.audit.ensures.eight, c.args.self.now.on_list)), c.flush_band.ensures)
-    (counted-band-flushed c.args.self.now.flows c.args.band (list_at s k) c.requires.band c.requires.counted)
+    rw (c.see_empty.ensures.flows, list_is, c.drop_where.ensures, list-placed s k left (omega (arith, c.audit.ensures.eight, c.args.self.now.on_list)), c.flush_band.ensures.flows)
+    (counted-band-flushed c.args.self.now.flows c.args.band (list_at s k) c.flush_band.ensures.low c.requires.counted)
 
 pub returns-clause-flows : goal.returns-clause-flows
-returns-clause-flows g c = rw (c.see_empty.ensures.flows, c.flush_band.ensures) (set-flushed c.args.self.now.flows c.args.band.0 false)
+returns-clause-flows g c = rw (c.see_empty.ensures.flows, c.flush_band.ensures.flows) (set-flushed c.args.self.now.flows c.args.band.0 false)
 
 pub returns-clause-flushed : goal.returns-clause-flushed
 returns-clause-flushed g c = c.drop_where.ensures

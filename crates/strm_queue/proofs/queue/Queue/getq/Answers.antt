@@ -19,4 +19,4 @@ returns-clause-counted g c =
     (take-counted s k c.args.self.now.flows p.message p.rest c.requires p.joined low)
 
 pub returns-clause-flows : goal.returns-clause-flows
-returns-clause-flows g c = rw c.remove.ensures (set-removed c.args.self.now.flows c.share_of-share.result.band c.share_of-share.result.is_data c.share_of-share.result.bytes)
+returns-clause-flows g c = rw c.remove.ensures (set-removed c.args.self.now.flows c.share_of-share.result.band.0 c.share_of-share.result.is_data c.share_of-share.result.bytes)

@@ -8,4 +8,4 @@ pub returns-clause-full : goal.returns-clause-full
 returns-clause-full c = λ q is.
     let band = c.args.band.0 in
     let f = flow_at band c.args.self.now.flows in
-    c.is_full.ensures ∙ (is.each band c.requires).marked ∙ ap (nat_le f.high) (count-kept band f q (is.each band c.requires))
+    c.is_full.ensures.full ∙ (is.each band c.is_full.ensures.low).marked ∙ ap (nat_le f.high) (count-kept band f q (is.each band c.is_full.ensures.low))

@@ -1,26 +1,27 @@
 -- The message's bytes are counted in the band that it counts in.
-use Rattle.std.proofs.Common.{arith}
+use Rattle.std.proofs.Common.{◌<◌, arith, subst}
+use Rattle.strm_types.specs.declared.limits.TheConstants.{BANDS}
 use Rattle.strm_blocks.specs.Blocks.{in_hand, token}
 use Rattle.strm_queue.specs.Kept.{band_of}
 use Rattle.strm_queue.proofs.Stored.{count-fits, put-counted}
 use Rattle.strm_queue.proofs.Marks.{set-added}
 use Rattle.strm_queue.proofs.queue.Queue.putq.Goals as goal
 
-pub add-requires-clause-few : goal.add-requires-clause-few
-add-requires-clause-few g c =
+pub add-requires : goal.add-requires
+add-requires g c =
     let s = g.B.Blocks.value c.args.store.now in
     let i = token c.args.message in
-    rw (c.share_of-share.ensures.band, c.share_of-share.ensures.bytes) (omega (arith, count-fits s c.args.self.now.list i (band_of (in_hand s i)) c.args.self.now.flows c.audit.ensures c.requires.counted c.requires.band))
+    rw (c.share_of-share.ensures.band, c.share_of-share.ensures.bytes) (omega (arith, count-fits s c.args.self.now.list i (band_of (in_hand s i)) c.args.self.now.flows c.audit.ensures c.requires.counted (subst (λ n. n < BANDS) c.share_of-share.ensures.band c.share_of-share.ensures.low)))
 
 pub returns-clause-counted : goal.returns-clause-counted
 returns-clause-counted g c =
     let s = g.B.Blocks.value c.args.store.now in
     let i = token c.args.message in
     rw (c.add.ensures, c.insert_back.ensures, c.share_of-share.ensures.band, c.share_of-share.ensures.bytes, c.share_of-share.ensures.kind)
-    (put-counted s c.args.self.now.list i c.args.self.now.flows c.audit.ensures c.args.self.now.on_list c.requires.counted c.requires.band)
+    (put-counted s c.args.self.now.list i c.args.self.now.flows c.audit.ensures c.args.self.now.on_list c.requires.counted (subst (λ n. n < BANDS) c.share_of-share.ensures.band c.share_of-share.ensures.low))
 
 pub returns-clause-flows : goal.returns-clause-flows
-returns-clause-flows g c = rw c.add.ensures (set-added c.args.self.now.flows c.share_of-share.result.band c.share_of-share.result.is_data c.share_of-share.result.bytes)
+returns-clause-flows g c = rw c.add.ensures (set-added c.args.self.now.flows c.share_of-share.result.band.0 c.share_of-share.result.is_data c.share_of-share.result.bytes)
 
 pub returns-clause-placed : goal.returns-clause-placed
 returns-clause-placed g c = cc
