@@ -78,6 +78,7 @@ module _ (s t : StoreValue) (first : ℕ) (e : StreamEnd) (x : Stack) (is : IsSi
     once = subst EachOnce (sym names) is.once;
     owned = λ k some. is.owned k (omega (arith, some, own.owns_same k));
     spare = λ k low high none. let was : stack_owns e.stack k ≡ 0 = sym (own.owns_same k) ∙ none in own.lists k was ∙ is.spare k low high was;
+    shelf = λ none. is.shelf (sym (own.owns_same (first + 2)) ∙ none);
   }
 
   stack-stream : (ms : List (Module ℕ)) → modules_in t x ≡ ms → stream_in t (record e { stack = x }) ≡ record (stream_in s e) { modules = ms }

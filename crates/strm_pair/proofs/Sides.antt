@@ -119,6 +119,7 @@ module _ (s t : StoreValue) (first : ℕ) (e : StreamEnd) (is : IsSide s first e
     once = subst AreApart (sym (stack-same s t first e is stays (within stay)).0) is.once;
     owned = is.owned;
     spare = λ k low high none. within stay k low high ∙ is.spare k low high none;
+    shelf = is.shelf;
   }
 
   pub stream-stays : Stay → stream_in t e ≡ stream_in s e
@@ -145,6 +146,7 @@ module _ (s t : StoreValue) (first : ℕ) (e : StreamEnd) (is : IsSide s first e
       once = subst AreApart (sym (stack-same s t first e is stays driver-apart).0) is.once;
       owned = is.owned;
       spare = λ k low high none. driver-apart k low high ∙ is.spare k low high none;
+      shelf = is.shelf;
     }
 
     driver-stream : stream_in t (record e { driver = q }) ≡ with_driver_queue (queue_in t q) (stream_in s e)
@@ -170,6 +172,7 @@ module _ (s t : StoreValue) (first : ℕ) (e : StreamEnd) (is : IsSide s first e
       once = subst AreApart (sym (stack-same s t first e is stays head-apart).0) is.once;
       owned = is.owned;
       spare = λ k low high none. head-apart k low high ∙ is.spare k low high none;
+      shelf = is.shelf;
     }
 
     head-stream : stream_in t (record e { head = h }) ≡ record (stream_in s e) { head = head_in t h }
@@ -178,8 +181,8 @@ module _ (s t : StoreValue) (first : ℕ) (e : StreamEnd) (is : IsSide s first e
         ∙ ap (λ ms. record { opened = e.opened; head = head_in t h; modules = ms; driver = record { queue = queue_in s e.driver } }) (stack-same s t first e is stays head-apart).0
 
 -- a stream that was closed has the same driver
-as-side : (t : StoreValue) (first : ℕ) (e e' : StreamEnd) → e'.driver ≡ e.driver → e'.stack ≡ e.stack → IsSide t first (record e { head = e'.head }) → IsSide t first e'
-as-side t first e e' same stays is = record {
+as-side : (t : StoreValue) (first : ℕ) (e e' : StreamEnd) → e'.driver ≡ e.driver → e'.stack ≡ e.stack → e'.shelf ≡ e.shelf → IsSide t first (record e { head = e'.head }) → IsSide t first e'
+as-side t first e e' same stays shelf is = record {
   head_list = is.head_list;
   driver_list = ap (λ d. d.list) same ∙ is.driver_list;
   head = is.head;
@@ -188,6 +191,7 @@ as-side t first e e' same stays is = record {
   once = subst (λ x. AreApart (modules_in t x)) (sym stays) is.once;
   owned = subst (λ x. (k : ℕ) → 0 < stack_owns x k → (first + 2 ≤ k) × (k < first + 4)) (sym stays) is.owned;
   spare = subst (λ x. (k : ℕ) → first + 2 ≤ k → k < first + 4 → stack_owns x k ≡ 0 → list_at t k ≡ []) (sym stays) is.spare;
+  shelf = λ none. ap is_some shelf ∙ is.shelf (ap (λ x. stack_owns x (first + 2)) (sym stays) ∙ none);
 }
 
 -- a queue from which all went has what readers may read
@@ -239,6 +243,7 @@ head-held s p side r h is same held =
       once = fits.once;
       owned = fits.owned;
       spare = fits.spare;
+      shelf = fits.shelf;
     })
 
 -- a stream whose stack alone is another one
@@ -247,6 +252,14 @@ pub stack-there : (p : Streams) (side : Side) (r : StreamEnd) (y : Stack) → r 
 stack-there p side r y is =
     let there = ap (λ (e : StreamEnd). e.stack) (get-set-same side (record r { stack = y }) p.ends) in
     (there, ap (λ (e : StreamEnd). with_end side (record e { stack = y }) p) is ∙ ap (λ z. with_end side (record (end_at side p) { stack = z }) p) (sym there))
+
+-- a stream whose stack and shelf alone are others
+pub end-there : (p : Streams) (side : Side) (r e : StreamEnd) → r ≡ end_at side p → e ≡ record r { stack = e.stack; shelf = e.shelf }
+    → let q = with_end side e p in (end_at side q ≡ e) × (q ≡ with_end side (record (end_at side p) { stack = (end_at side q).stack; shelf = (end_at side q).shelf }) p)
+end-there p side r e is only =
+    let there = get-set-same side e p.ends in
+    (there, ap (λ x. with_end side x p) only ∙ ap (λ (x : StreamEnd). with_end side (record x { stack = e.stack; shelf = e.shelf }) p) is
+    ∙ ap (λ (x : StreamEnd). with_end side (record (end_at side p) { stack = x.stack; shelf = x.shelf }) p) (sym there))
 
 -- the state with another stream of a side
 pub set-state : (s : StoreValue) (p : Streams) (side : Side) (e : StreamEnd) → state_in s (with_end side e p) ≡ with_stream side (stream_in s e) (state_in s p)
@@ -328,7 +341,7 @@ pub head-is : (s : StoreValue) (p : Streams) (side : Side) → (stream side (sta
 head-is s p side = ap (λ (x : streams.Stream ℕ). x.head) (stream-is s p side)
 
 -- a side whose head's queue was emptied, and whose driver stays
-module _ (s t : StoreValue) (p : Streams) (e : StreamEnd) (beside : AreBeside s p) (side : Side) (same : e.driver ≡ (end_at side p).driver) (stays : e.stack ≡ (end_at side p).stack) (keeps : Keeps s t (end_at side p).head.queue e.head.queue) where
+module _ (s t : StoreValue) (p : Streams) (e : StreamEnd) (beside : AreBeside s p) (side : Side) (same : e.driver ≡ (end_at side p).driver) (stays : e.stack ≡ (end_at side p).stack) (shelf : e.shelf ≡ (end_at side p).shelf) (keeps : Keeps s t (end_at side p).head.queue e.head.queue) where
   all-kept : Stays s t (kept_by p)
   all-kept = still s t (kept_by p) keeps.hand keeps.mblks keeps.dblks
 
@@ -338,7 +351,7 @@ module _ (s t : StoreValue) (p : Streams) (e : StreamEnd) (beside : AreBeside s 
   pub renewed-beside : AreBeside t (with_end side e p)
   renewed-beside =
       one-beside s t p beside side e
-      (as-side t (first_list side) (end_at side p) e same stays (head-side s t (first_list side) (end_at side p) (beside side) (stays-at s t side p all-kept) e.head only-renewed (readable-kept s t (end_at side p).head.queue e.head.queue (beside side).head keeps)))
+      (as-side t (first_list side) (end_at side p) e same stays shelf (head-side s t (first_list side) (end_at side p) (beside side) (stays-at s t side p all-kept) e.head only-renewed (readable-kept s t (end_at side p).head.queue e.head.queue (beside side).head keeps)))
       (only-head s t p beside all-kept side e.head only-renewed)
 
   -- what it stands for: its head alone, and whether it was opened

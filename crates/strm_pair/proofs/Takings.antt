@@ -45,7 +45,7 @@ module _ (s t : StoreValue) where
     pub unowned : (k : ℕ) → (first + 2 ≤ k → k < first + 4 → ⊥) → stack_owns e.stack k ≡ 0
     unowned k away = zero-if (stack_owns e.stack k) (λ some. let own = is.owned k some in absurd (away own.0 own.1))
 
-    module _ (side : Side) (rule : Rule) (told told' : Fates) (taken : Taken) (y : Stack) (took : TookTop side rule s t e.stack y told told' taken) where
+    module _ (side : Side) (rule : Rule) (told told' : Fates) (taken : Taken) (y : Stack) (z : Option Tables) (shelf : stack_owns y (first + 2) ≡ 0 → is_some z ≡ true) (took : TookTop side rule s t e.stack y told told' taken) where
       head-beside : list_at t e.head.queue.list ≡ list_at s e.head.queue.list
       head-beside = took.others e.head.queue.list (unowned e.head.queue.list (λ low high. omega (arith, is.head_list, low)))
 
@@ -59,7 +59,7 @@ module _ (s t : StoreValue) where
           by zero was = took.others k was ∙ is.spare k low high was
           by (suc n) was = took.emptied k (omega (arith, was)) none
 
-      pub took-side : IsSide t first (record e { stack = y })
+      pub took-side : IsSide t first (record e { stack = y; shelf = z })
       took-side = record {
         head_list = is.head_list;
         driver_list = is.driver_list;
@@ -69,40 +69,42 @@ module _ (s t : StoreValue) where
         once = subst AreApart (sym took.stays) (pop-once (module_name took.top) (map module_name took.rest) (subst AreApart took.was is.once));
         owned = λ k some. is.owned k (omega (arith, took.owns k, some));
         spare = took-spare;
+        shelf = shelf;
       }
 
-      pub took-stream : stream_in t (record e { stack = y }) ≡ record (stream_in s e) { modules = took.rest }
+      pub took-stream : stream_in t (record e { stack = y; shelf = z }) ≡ record (stream_in s e) { modules = took.rest }
       took-stream =
           ap (λ h. stream_of e h (modules_in t y) (queue_in t e.driver)) (queue-same s t e.head.queue head-beside)
           ∙ ap (λ ms. stream_of e (queue_in s e.head.queue) ms (queue_in t e.driver)) took.stays
           ∙ ap (λ d. stream_of e (queue_in s e.head.queue) took.rest d) (queue-same s t e.driver driver-beside)
 
   module _ (p : Streams) (beside : AreBeside s p) (rule : Rule) (told told' : Fates) (taken : Taken) where
-    module _ (side : Side) (y : Stack) (took : TookTop side rule s t (end_at side p).stack y told told' taken) where
+    module _ (side : Side) (y : Stack) (z : Option Tables) (shelf : stack_owns y (first_list side + 2) ≡ 0 → is_some z ≡ true) (took : TookTop side rule s t (end_at side p).stack y told told' taken) where
       elsewhere : OtherStays s t p beside side
       elsewhere = record {
         lists = λ k low high. took.others k (unowned (first_list side) (end_at side p) (beside side) k (λ above below. never-both side k (omega (arith, above)) below low high));
         keeps = stays-at s t (other side) p (still s t (kept_by p) took.hand.hand took.hand.mblks took.hand.dblks);
       }
 
-      took-beside : AreBeside t (with_end side (record (end_at side p) { stack = y }) p)
-      took-beside = one-beside s t p beside side (record (end_at side p) { stack = y }) (took-side (first_list side) (end_at side p) (beside side) side rule told told' taken y took) elsewhere
+      took-beside : AreBeside t (with_end side (record (end_at side p) { stack = y; shelf = z }) p)
+      took-beside = one-beside s t p beside side (record (end_at side p) { stack = y; shelf = z }) (took-side (first_list side) (end_at side p) (beside side) side rule told told' taken y z shelf took) elsewhere
 
-      took-state : state_in t (with_end side (record (end_at side p) { stack = y }) p) ≡ with_modules side took.rest (state_in s p)
+      took-state : state_in t (with_end side (record (end_at side p) { stack = y; shelf = z }) p) ≡ with_modules side took.rest (state_in s p)
       took-state =
-          one-state s t p beside side (record (end_at side p) { stack = y }) (record (stream_in s (end_at side p)) { modules = took.rest })
-          (took-stream (first_list side) (end_at side p) (beside side) side rule told told' taken y took) elsewhere
+          one-state s t p beside side (record (end_at side p) { stack = y; shelf = z }) (record (stream_in s (end_at side p)) { modules = took.rest })
+          (took-stream (first_list side) (end_at side p) (beside side) side rule told told' taken y z shelf took) elsewhere
           ∙ ap (λ (x : Stream ℕ). with_stream side (record x { modules = took.rest }) (state_in s p)) (sym (stream-is s p side))
 
 module _ (side : Side) (rule : Rule) (s : StoreValue) (p : Streams) (held : AreHeld s p) (told : Fates) where
   -- the module on top went, and these queues are enabled behind it
-  pub top-went : (t : StoreValue) (q : Streams) (told' : Fates) (taken : Taken) (names : List QueueName) → q ≡ with_end side (record (end_at side p) { stack = (end_at side q).stack }) p → TookTop side rule s t (end_at side p).stack (end_at side q).stack told told' taken
+  pub top-went : (t : StoreValue) (q : Streams) (told' : Fates) (taken : Taken) (names : List QueueName) → q ≡ with_end side (record (end_at side p) { stack = (end_at side q).stack; shelf = (end_at side q).shelf }) p → (stack_owns (end_at side q).stack (first_list side + 2) ≡ 0 → is_some (end_at side q).shelf ≡ true)
+      → TookTop side rule s t (end_at side p).stack (end_at side q).stack told told' taken
       → names ≡ without_module side taken.name (noted side (place_of taken.name) (earlier_at side 1 (state_in s p)) taken.notes.items p.enabled)
       → WithoutTop side rule s t p (record q { enabled = names }) told told' (Some taken.name)
-  top-went t q told' taken names same took are =
+  top-went t q told' taken names same shelf took are =
       let st = state_in s p in
       let y = (end_at side q).stack in
-      let p' = with_end side (record (end_at side p) { stack = y }) p in
+      let z = (end_at side q).shelf in
       let these : (stream side st).modules ≡ took.top ∷ took.rest = modules-are s p side ∙ took.was in
       let earlier = earlier_at side 1 st in
       let enabled : names ≡ without_module side (module_name took.top) (noted side (place_of (module_name took.top)) earlier (let_go_of side rule took.top).notes p.enabled) =
@@ -112,30 +114,24 @@ module _ (side : Side) (rule : Rule) (s : StoreValue) (p : Streams) (held : AreH
         name_is = ap (λ n. Some n) took.name ∙ sym (ap (λ ms. top_name module_name ms) these);
         state =
             ap (λ (r : Streams). state_in t (record r { enabled = names })) same
-            ∙ ap (λ (x : State ℕ). record x { enabled = names }) (took-state s t p held.beside rule told told' taken side y took)
+            ∙ ap (λ (x : State ℕ). record x { enabled = names }) (took-state s t p held.beside rule told told' taken side y z shelf took)
             ∙ ap (λ (ns : List QueueName). record (with_modules side took.rest st) { enabled = ns }) enabled
             ∙ sym (ap (λ ms. (top_taken rule side ms st).state) these);
         tells = took.tells ∙ sym (ap (λ ms. tallied (top_taken rule side ms st).gone told) these);
         held = record {
           hand = took.hand.hand ∙ held.hand;
-          beside = subst (AreBeside t) (sym same) (took-beside s t p held.beside rule told told' taken side y took);
+          beside = subst (AreBeside t) (sym same) (took-beside s t p held.beside rule told told' taken side y z shelf took);
         };
         frees = took.frees;
         pool = record { mblks = took.hand.mblks; dblks = took.hand.dblks };
       }
 
--- a stream that is put where it stands
-same-end : (side : Side) (p : Streams) → with_end side (end_at side p) p ≡ p
-same-end Master p = refl
-same-end Slave p = refl
-
 -- no module stood there
-pub none-went : (side : Side) (rule : Rule) (s t : StoreValue) (p q : Streams) (told told' : Fates) → AreHeld s p → q ≡ with_end side (record (end_at side p) { stack = (end_at side q).stack }) p
+pub none-went : (side : Side) (rule : Rule) (s t : StoreValue) (p q : Streams) (told told' : Fates) → AreHeld s p → q ≡ p
     → TookNone s t (end_at side p).stack (end_at side q).stack told told' → WithoutTop side rule s t p q told told' None
-none-went side rule s t p q told told' held is took =
+none-went side rule s t p q told told' held same took =
     let st = state_in s p in
     let none = modules-are s p side ∙ took.none in
-    let same : q ≡ p = is ∙ ap (λ y. with_end side (record (end_at side p) { stack = y }) p) took.stack ∙ same-end side p in
     record {
       name_is = sym (ap (λ ms. top_name module_name ms) none);
       state = ap (state_in t) same ∙ ap (λ v. state_in v p) took.store ∙ sym (ap (λ ms. (top_taken rule side ms st).state) none);

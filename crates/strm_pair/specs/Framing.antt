@@ -97,6 +97,7 @@ module _ (s t : StoreValue) where
       once = subst AreApart (sym (stack-same first e is stays (λ k low high. at k)).0) is.once;
       owned = is.owned;
       spare = λ k low high none. at k ∙ is.spare k low high none;
+      shelf = is.shelf;
     }
 
     side-same : (first : ℕ) (e : StreamEnd) → IsSide s first e → Stays s t (stack_keeps e.stack) → stream_in t e ≡ stream_in s e

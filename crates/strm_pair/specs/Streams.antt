@@ -1,5 +1,5 @@
 -- What the two streams stand for, beside their store.
-use Rattle.std.specs.Prelude.{ℕ, ◌≡◌, ◌+◌, ◌≤◌, ◌<◌, List, [], length, map, sum_by}
+use Rattle.std.specs.Prelude.{ℕ, ◌≡◌, ◌+◌, ◌≤◌, ◌<◌, true, is_some, List, [], length, map, sum_by}
 use Rattle.std.specs.List.{AllByRecursion}
 use Rattle.strm_types.specs.declared.both.Both.{Both}
 use Rattle.strm_types.specs.declared.names.Way.TheVariants.{Up, Down}
@@ -51,7 +51,8 @@ abbrev pub AreApart : List (plain.Module ℕ) → Type 0
 AreApart ps = EachOnce (map plain.module_name ps)
 
 -- A side's queues stand on lists of their own, from a number on: the head's, which has what readers may read alone, and the
--- driver's, with their kept numbers right; two more are for the queues of a module, and empty where none has them. Each module stands there once.
+-- driver's, with their kept numbers right; two more are for the queues of a module, and empty where none has them. Each module stands there once. While
+-- no module has the first of the two, the tables for its queues are on the shelf.
 pub record IsSide (s : StoreValue) (first : ℕ) (e : StreamEnd) : Type 0 where
   pub head_list : e.head.queue.list ≡ first
   pub driver_list : e.driver.list ≡ first + 1
@@ -61,6 +62,7 @@ pub record IsSide (s : StoreValue) (first : ℕ) (e : StreamEnd) : Type 0 where
   pub once : AreApart (modules_in s e.stack)
   pub owned : (k : ℕ) → 0 < stack_owns e.stack k → (first + 2 ≤ k) × (k < first + 4)
   pub spare : (k : ℕ) → first + 2 ≤ k → k < first + 4 → stack_owns e.stack k ≡ 0 → list_at s k ≡ []
+  pub shelf : stack_owns e.stack (first + 2) ≡ 0 → is_some e.shelf ≡ true
 
 -- Both sides beside their store, whatever is in hand, each on lists of its own.
 abbrev pub AreSides : StoreValue → Both StreamEnd → Type 0

@@ -1,13 +1,14 @@
 -- Bands where nothing stands.
-use Rattle.std.proofs.Common.{ℕ, zero, suc, ◌≡◌, ◌≤◌, ◌+◌, false, List, [], ◌∷◌, length, replicate, refl, sym, ap, subst, ◌∙◌, arith}
-use Rattle.std.specs.Prelude.{nat_le}
+use Rattle.std.proofs.Common.{ℕ, zero, suc, ◌≡◌, ◌<◌, ◌≤◌, ◌+◌, Bool, true, false, List, [], ◌∷◌, length, replicate, refl, sym, ap, subst, ◌∙◌, arith}
+use Rattle.std.specs.Prelude.{nat_le, nat_lt}
 use Rattle.std.proofs.lemmas.Bool.Decides.{nat_tests}
 use Rattle.strm_queue.specs.declared.flow.Flow.{Flow}
 use Rattle.strm_queue.specs.declared.common.Row.{Row}
 use Rattle.strm_queue.specs.declared.common.Common.{Common}
-use Rattle.strm_queue.specs.Kept.{no_flow, IsCounted, AreCounted}
+use Rattle.strm_queue.specs.Flows.{count_in}
+use Rattle.strm_queue.specs.Kept.{flow_at, no_flow, AreFlows, IsCounted, AreCounted}
 use Rattle.strm_queue.specs.Sets.{has}
-use Rattle.std.proofs.lemmas.List.{get_or-replicate}
+use Rattle.std.proofs.lemmas.List.{get_or-replicate, get_or_past}
 use Rattle.strm_types.specs.declared.limits.TheConstants.{BANDS}
 use Rattle.strm_queue.specs.Rows.{row_flow, flows_from}
 
@@ -37,3 +38,34 @@ fresh-counted high low some = record {
   bands = tt;
   each = λ band lt. subst (λ f. IsCounted band f []) (sym (get_or-replicate 256 band (fresh_flow high low) no_flow lt)) (record { data_sum = refl; other_sum = refl; marked = (let none : nat_le high 0 ≡ false = grind (arith, nat_tests) in sym none) });
 }
+
+-- there is one of each, and none counts a byte
+fresh-flows : (high low : ℕ) → 1 ≤ high → AreFlows (replicate 256 (fresh_flow high low))
+fresh-flows high low some = record {
+  eight = refl;
+  few = λ band. few band (nat_lt band 256) refl;
+  marked = (let none : nat_le high 0 ≡ false = grind (arith, nat_tests) in sym none);
+}
+  where
+    few : (band : ℕ) → (b : Bool) → nat_lt band 256 ≡ b → count_in (flow_at band (replicate 256 (fresh_flow high low))) ≤ 16777216
+    few band true within =
+        let lt : band < 256 = grind (arith, nat_tests) in
+        let is = ap count_in (get_or-replicate 256 band (fresh_flow high low) no_flow lt) in
+        omega (arith, is)
+    few band false past =
+        let le : 256 ≤ band = grind (arith, nat_tests) in
+        let none = ap count_in (get_or_past (replicate 256 (fresh_flow high low)) band no_flow le) in
+        omega (arith, none)
+
+-- band 0 beside the others
+module _ (high low : ℕ) (some : 1 ≤ high) (first : Flow) (others : List Flow) (is : first ≡ record (fresh_flow high low) { full = nat_le high 0 }) (are : others ≡ replicate 255 (fresh_flow high low)) where
+  all : first ∷ others ≡ replicate 256 (fresh_flow high low)
+  all =
+      let none : nat_le high 0 ≡ false = grind (arith, nat_tests) in
+      ap (λ f. f ∷ others) (is ∙ ap (λ b. record (fresh_flow high low) { full = b }) none) ∙ ap (λ fs. fresh_flow high low ∷ fs) are
+
+  pub first-flows : AreFlows (first ∷ others)
+  first-flows = subst AreFlows (sym all) (fresh-flows high low some)
+
+  pub first-counted : AreCounted (first ∷ others) []
+  first-counted = subst (λ fs. AreCounted fs []) (sym all) (fresh-counted high low some)
