@@ -52,7 +52,7 @@ chunk-allowed bytes few =
 module _ (old new : StoreValue) (i : ℕ) (bytes : List ℕ) where
   pub made-chunk : length bytes ≤ 256 → Copied old new i (filled_block kinds.Data 0 bytes) → Sends old new i (data_message bytes) 1
   unfolding data_message
-  made-chunk few copied = made-data (Band (record { 0 = 0 })) None (Some bytes) (chunk-allowed bytes few) old new i 0 refl bytes refl refl copied
+  made-chunk few copied = made-data (Band (record { 0 = 0 })) None (Some bytes) (chunk-allowed bytes few) old new i 0 refl (omega arith) bytes refl refl copied
 
   pub made-flush : Copied old new i (filled_block kinds.Flush 0 bytes) → Sends old new i (flush_message bytes) 1
   made-flush copied =

@@ -51,10 +51,6 @@ module _ (prio : Prio) (control body : Option (List ℕ)) (none : put_refusal pr
       let few : nat_lt 256 (length (part body)) ≡ false = (either-false (nat_lt 64 (length (part control))) (nat_lt 256 (length (part body))) (allowed prio control body none).short).1 in
       grind (arith, nat_tests)
 
-band-low : (prio : Prio) (control : Option (List ℕ)) → is_no_prio prio control ≡ false → put_band prio < 256
-band-low High control is = omega arith
-band-low (Band band) control is = let low : nat_le 256 band.0 ≡ false = is in grind (arith, nat_tests)
-
 -- one of high priority has a control part
 never-high : (body : Option (List ℕ)) → put_refusal High None body ≡ None → ⊥
 never-high body none = absurd (cc)
@@ -160,12 +156,11 @@ sends old new i like chain message m copies one shows =
     }
 
 module _ (old new : StoreValue) (i : ℕ) where
-  pub sends-control : (prio : Prio) (bytes : List ℕ) → put_refusal prio (Some bytes) None ≡ None → Made old new i (filled_block (control_kind prio) (put_band prio) bytes ∷ [])
+  pub sends-control : (prio : Prio) (bytes : List ℕ) → put_band prio < 256 → put_refusal prio (Some bytes) None ≡ None → Made old new i (filled_block (control_kind prio) (put_band prio) bytes ∷ [])
       → Sends old new i (put_message prio (Some bytes) None) 1
-  sends-control prio bytes none made =
+  sends-control prio bytes low none made =
       let b = filled_block (control_kind prio) (put_band prio) bytes in
       let c = one-copy made.numbers b made.count in
-      let low = band-low prio (Some bytes) (allowed prio (Some bytes) None none).known in
       sends old new i (b ∷ []) (copy_of c.0 b ∷ []) (put_message prio (Some bytes) None) made c.1
       (with-control prio low c.0 bytes [] tt)
       (control-shown prio low c.0 bytes [] tt ∙ kind-is prio bytes None)
@@ -174,14 +169,13 @@ module _ (old new : StoreValue) (i : ℕ) where
       kind-is High xs ys = refl
       kind-is (Band band) xs ys = refl
 
-  pub sends-both : (prio : Prio) (bytes body : List ℕ) → put_refusal prio (Some bytes) (Some body) ≡ None
+  pub sends-both : (prio : Prio) (bytes body : List ℕ) → put_band prio < 256 → put_refusal prio (Some bytes) (Some body) ≡ None
       → Made old new i (filled_block (control_kind prio) (put_band prio) bytes ∷ filled_block kinds.Data (put_band prio) body ∷ [])
       → Sends old new i (put_message prio (Some bytes) (Some body)) 2
-  sends-both prio bytes body none made =
+  sends-both prio bytes body low none made =
       let b = filled_block (control_kind prio) (put_band prio) bytes in
       let d = filled_block kinds.Data (put_band prio) body in
       let c = two-copies made.numbers b d made.count in
-      let low = band-low prio (Some bytes) (allowed prio (Some bytes) (Some body) none).known in
       let second = copy_of c.1.0 d in
       sends old new i (b ∷ d ∷ []) (copy_of c.0 b ∷ second ∷ []) (put_message prio (Some bytes) (Some body)) made c.1.1
       (with-control prio low c.0 bytes (second ∷ []) (refl, tt))
@@ -192,13 +186,12 @@ module _ (old new : StoreValue) (i : ℕ) where
       kind-is High xs ys = refl
       kind-is (Band band) xs ys = refl
 
-  pub sends-data : (prio : Prio) (body : List ℕ) → put_refusal prio None (Some body) ≡ None → Made old new i (filled_block kinds.Data (put_band prio) body ∷ [])
+  pub sends-data : (prio : Prio) (body : List ℕ) → put_band prio < 256 → put_refusal prio None (Some body) ≡ None → Made old new i (filled_block kinds.Data (put_band prio) body ∷ [])
       → Sends old new i (put_message prio None (Some body)) 1
-  sends-data High body none made = absurd (never-high (Some body) none)
-  sends-data (Band band) body none made =
+  sends-data High body low none made = absurd (never-high (Some body) none)
+  sends-data (Band band) body low none made =
       let d = filled_block kinds.Data band.0 body in
       let c = one-copy made.numbers d made.count in
-      let low = band-low (Band band) None (allowed (Band band) None (Some body) none).known in
       sends old new i (d ∷ []) (copy_of c.0 d ∷ []) (put_message (Band band) None (Some body)) made c.1
       (with-data band.0 c.0 low body)
       (data-shown band.0 c.0 low body)
@@ -212,7 +205,10 @@ module _ (prio : Prio) (control body : Option (List ℕ)) (none : put_refusal pr
   sent-same old new i c b c_is b_is sent =
       subst (λ x. Sends old new i (put_message prio x body) (put_blocks x body)) (sym c_is) (subst (λ y. Sends old new i (put_message prio c y) (put_blocks c y)) (sym b_is) sent)
 
-  module _ (old mid : StoreValue) (i band : ℕ) (band_is : band ≡ put_band prio) where
+  module _ (old mid : StoreValue) (i band : ℕ) (band_is : band ≡ put_band prio) (low : band < 256) where
+    prio-low : put_band prio < 256
+    prio-low = subst (λ b. b < 256) band_is low
+
     first-made : (bytes : List ℕ) (kind : MsgKind) → kind ≡ control_kind prio → Copied old mid i (filled_block kind band bytes) → Made old mid i (filled_block (control_kind prio) (put_band prio) bytes ∷ [])
     first-made bytes kind kind_is copied =
         Made-one (subst (λ b. Copied old mid i (filled_block (control_kind prio) b bytes)) band_is (subst (λ k. Copied old mid i (filled_block k band bytes)) kind_is copied))
@@ -220,13 +216,13 @@ module _ (prio : Prio) (control body : Option (List ℕ)) (none : put_refusal pr
     pub made-data : (bytes : List ℕ) → control ≡ None → body ≡ Some bytes → Copied old mid i (filled_block kinds.Data band bytes) → Sends old mid i (put_message prio control body) (put_blocks control body)
     made-data bytes c_is b_is copied =
         sent-same old mid i None (Some bytes) c_is b_is
-        (sends-data old mid i prio bytes (refused-same None (Some bytes) c_is b_is) (Made-one (subst (λ b. Copied old mid i (filled_block kinds.Data b bytes)) band_is copied)))
+        (sends-data old mid i prio bytes prio-low (refused-same None (Some bytes) c_is b_is) (Made-one (subst (λ b. Copied old mid i (filled_block kinds.Data b bytes)) band_is copied)))
 
     pub made-control : (bytes : List ℕ) (kind : MsgKind) → control ≡ Some bytes → body ≡ None → kind ≡ control_kind prio → Copied old mid i (filled_block kind band bytes)
         → Sends old mid i (put_message prio control body) (put_blocks control body)
     made-control bytes kind c_is b_is kind_is copied =
         sent-same old mid i (Some bytes) None c_is b_is
-        (sends-control old mid i prio bytes (refused-same (Some bytes) None c_is b_is) (first-made bytes kind kind_is copied))
+        (sends-control old mid i prio bytes prio-low (refused-same (Some bytes) None c_is b_is) (first-made bytes kind kind_is copied))
 
     module _ (bytes data_bytes : List ℕ) (kind : MsgKind) (c_is : control ≡ Some bytes) (b_is : body ≡ Some data_bytes) (kind_is : kind ≡ control_kind prio) (copied : Copied old mid i (filled_block kind band bytes)) where
       -- there is room for the second block
@@ -248,4 +244,4 @@ module _ (prio : Prio) (control body : Option (List ℕ)) (none : put_refusal pr
           let both = Made-more (first-made bytes kind kind_is copied) (subst (λ b. Copied mid hung j (filled_block kinds.Data b data_bytes)) band_is second) linked in
           subst (λ n. Sends old new n (put_message prio control body) (put_blocks control body)) (sym r_is)
           (sent-same old new i (Some bytes) (Some data_bytes) c_is b_is
-          (sends-both old new i prio bytes data_bytes (refused-same (Some bytes) (Some data_bytes) c_is b_is) both))
+          (sends-both old new i prio bytes data_bytes prio-low (refused-same (Some bytes) (Some data_bytes) c_is b_is) both))

@@ -1,6 +1,7 @@
 //! What write(2), putmsg(2), putpmsg(2) and flushes send down a stream.
 
 ghost use Rattle.std.specs.Prelude.{◌≡◌, ◌≤◌, ◌<◌, true, false, length, None, MatchOption};
+ghost use Rattle.strm_types.specs.declared.limits.TheConstants.{BANDS};
 ghost use Rattle.strm_types.specs.Flushing.{flush_bytes, flush_message};
 ghost use Rattle.strm_types.specs.Message.{data_message};
 ghost use Rattle.strm_types.specs.PutMsg as puts;
@@ -13,7 +14,8 @@ use strm_types::{Band, DATA_MAX, FlushAsked, MsgKind, Prio};
 
 // The band of a priority.
 fn band_of(prio: Prio) -> Band
-    ensures { result.0 ≡ puts.put_band prio }
+    ensures band { result.0 ≡ puts.put_band prio }
+    ensures low { result.0 < BANDS }
 {
     match prio {
         Prio::High => Band(0),

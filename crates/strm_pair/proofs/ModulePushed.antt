@@ -2,7 +2,7 @@
 use Rattle.std.proofs.Common.{ℕ, zero, suc, ◌≡◌, ◌≤◌, ◌<◌, ◌+◌, Bool, true, false, List, [], ◌∷◌, map, refl, sym, ap, subst, ◌∙◌, arith}
 use Rattle.std.proofs.lemmas.List.Sums.{sum_by-cons}
 use Rattle.std.specs.List.{AllByRecursion}
-use Rattle.std.specs.Prelude.{Some, IfSome, Result, Ok, Err, MatchResult, ◌&&◌, ◌||◌, not, nat_lt, length}
+use Rattle.std.specs.Prelude.{Option, is_some, Some, IfSome, Result, Ok, Err, MatchResult, ◌&&◌, ◌||◌, not, nat_lt, length}
 use Rattle.strm_types.specs.declared.limits.TheConstants.{MODULES}
 use Rattle.strm_types.specs.declared.names.ModuleName.{ModuleName}
 use Rattle.strm_types.specs.declared.names.ModuleName.TheVariants as names
@@ -15,6 +15,7 @@ use Rattle.strm_laws.specs.Stacked.{Module, OfLdterm, OfPtem, OfPckt, module_nam
 use Rattle.strm_blocks.specs.Blocks.{StoreValue, list_at}
 use Rattle.strm_frame.specs.Stacks.{all_of, AreHeld}
 use Rattle.strm_frame.specs.declared.stack.Stream.{Stream}
+use Rattle.strm_ldterm.specs.declared.ldterm.Tables.{Tables}
 use Rattle.strm_pair.specs.declared.modules.AnyModule.{AnyModule}
 use Rattle.strm_pair.specs.declared.modules.AnyModule.TheVariants as kinds
 use Rattle.strm_pair.specs.AnyModules.{IsHeld, IsMade, keeps, module_in, owns}
@@ -51,6 +52,14 @@ module _ (s : StoreValue) where
   no-ldterm (kinds.Ldterm x ∷ xs) none k = absurd (cc)
   no-ldterm (kinds.Ptem x ∷ xs) none k = omega (arith, sum_by-cons (λ y. owns y k) (kinds.Ptem x) xs, no-ldterm xs none k)
   no-ldterm (kinds.Pckt x ∷ xs) none k = omega (arith, sum_by-cons (λ y. owns y k) (kinds.Pckt x) xs, no-ldterm xs none k)
+
+  -- where an ldterm may be pushed none stands
+  pub ldterm-alone : (kind : ModuleName) (xs : List AnyModule) → may_stand (named_by (Some kind)) (map (module_in s) xs) ≡ true → kind ≡ names.Ldterm → (k : ℕ) → all_of owns xs k ≡ 0
+  ldterm-alone names.Ldterm xs may is k =
+      let ms = map (module_in s) xs in
+      no-ldterm xs (none-has (stands module_name names.Ldterm ms) (second-holds (nat_lt (length ms) MODULES) (not (stands module_name names.Ldterm ms)) may)) k
+  ldterm-alone names.Ptem xs may is k = absurd (cc)
+  ldterm-alone names.Pckt xs may is k = absurd (cc)
 
   -- where a module may stand, the others own none of its lists
   not-owned : (x : AnyModule) (xs : List AnyModule) → may_push module_name (module_in s x) (map (module_in s) xs) ≡ true → (k : ℕ) → 0 < owns x k → all_of owns xs k ≡ 0
@@ -112,3 +121,7 @@ module _ (s : StoreValue) where
 
     pub pushed-spare : (k : ℕ) → first + 2 ≤ k → k < first + 4 → all_of owns b.modules.items k ≡ 0 → list_at s k ≡ []
     pushed-spare k low high none = spare k low high (omega (arith, owns-all k, none))
+
+    -- the tables go with it, or are where they were
+    pub pushed-shelf : (old new : Option Tables) → (owns x (first + 2) ≡ 0 → new ≡ old) → (all_of owns a.modules.items (first + 2) ≡ 0 → is_some old ≡ true) → all_of owns b.modules.items (first + 2) ≡ 0 → is_some new ≡ true
+    pushed-shelf old new stays before none = ap is_some (stays (omega (arith, owns-all (first + 2), none))) ∙ before (omega (arith, owns-all (first + 2), none))

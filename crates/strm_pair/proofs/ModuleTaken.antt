@@ -129,18 +129,18 @@ module _ (s t : StoreValue) (side : Side) (rule : Rule) where
           frees = frees;
         }
 
-    pub took-top : (popped : Option AnyModule) → top_name module_name (map (module_in s) a.modules.items) ≡ Some taken.name
+    pub took-top : top_name module_name (map (module_in s) a.modules.items) ≡ Some taken.name
         → map (module_in t) b.modules.items ≡ (act_among (let_go_of side rule) 0 (map (module_in s) a.modules.items)).state
         → taken.notes.items ≡ (act_among (let_go_of side rule) 0 (map (module_in s) a.modules.items)).notes
         → told' ≡ tallied (act_among (let_go_of side rule) 0 (map (module_in s) a.modules.items)).gone told
         → AreHeld IsHeld owns t b.modules.items → ((i : ℕ) → all_of keeps b.modules.items i ≡ 0)
         → OnlyOwn s t (all_of owns a.modules.items) (all_of owns b.modules.items) → SameHand s t → FreesBlocks s t
-        → MatchOption popped ((b.modules.items ≡ []) × (c ≡ b)) (λ y. b.modules.items ≡ y ∷ c.modules.items)
+        → ((y : AnyModule) (ys : List AnyModule) → b.modules.items ≡ y ∷ ys → c.modules.items ≡ ys)
         → TookTop side rule s t a c told told' taken
-    took-top popped top state notes tells held rests own hand frees = by a.modules.items refl popped
+    took-top top state notes tells held rests own hand frees rest = by a.modules.items refl b.modules.items refl
       where
-        by : (l : List AnyModule) → a.modules.items ≡ l → (popped : Option AnyModule) → MatchOption popped ((b.modules.items ≡ []) × (c ≡ b)) (λ y. b.modules.items ≡ y ∷ c.modules.items) → TookTop side rule s t a c told told' taken
-        by [] none popped took = absurd (let e = sym top ∙ ap (λ l. top_name module_name (map (module_in s) l)) none in cc)
-        by (x ∷ xs) before None took = absurd (let e = sym (ap (map (module_in t)) took.0) ∙ state ∙ ap (λ l. (act_among (let_go_of side rule) 0 (map (module_in s) l)).state) before in cc)
-        by (x ∷ xs) before (Some y) took =
-            took-these x xs y before took (ap name_or (sym top ∙ ap (λ l. top_name module_name (map (module_in s) l)) before)) state notes tells held rests own hand frees
+        by : (l : List AnyModule) → a.modules.items ≡ l → (m : List AnyModule) → b.modules.items ≡ m → TookTop side rule s t a c told told' taken
+        by [] none m is = absurd (let e = sym top ∙ ap (λ l. top_name module_name (map (module_in s) l)) none in cc)
+        by (x ∷ xs) before [] none = absurd (let e = sym (ap (map (module_in t)) none) ∙ state ∙ ap (λ l. (act_among (let_go_of side rule) 0 (map (module_in s) l)).state) before in cc)
+        by (x ∷ xs) before (y ∷ ys) is =
+            took-these x xs y before (is ∙ ap (λ l. y ∷ l) (sym (rest y ys is))) (ap name_or (sym top ∙ ap (λ l. top_name module_name (map (module_in s) l)) before)) state notes tells held rests own hand frees

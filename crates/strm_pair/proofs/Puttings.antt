@@ -1,6 +1,6 @@
 -- A module that is put on a side's stack.
 use Rattle.std.proofs.Common.{ℕ, ◌≡◌, ◌≤◌, ◌<◌, ◌+◌, true, List, [], ◌∷◌, map, sym, ap, subst, ◌∙◌, arith}
-use Rattle.std.specs.Prelude.{Option, None, Some, IfSome}
+use Rattle.std.specs.Prelude.{Option, None, Some, IfSome, is_some}
 use Rattle.strm_types.specs.declared.names.Side.{Side}
 use Rattle.strm_types.proofs.BySide.{set-all}
 use Rattle.strm_laws.specs.Pushes.{may_stand, with_modules}
@@ -10,6 +10,7 @@ use Rattle.strm_laws.specs.State.{Stream, stream, with_stream}
 use Rattle.strm_laws.proofs.StackOnce.{push-once}
 use Rattle.strm_blocks.specs.Blocks.{StoreValue, list_at}
 use Rattle.strm_pair.specs.declared.ends.StreamEnd.{StreamEnd}
+use Rattle.strm_ldterm.specs.declared.ldterm.Tables.{Tables}
 use Rattle.strm_pair.specs.declared.streams.Streams.{Streams}
 use Rattle.strm_pair.specs.Framing.{stream_with}
 use Rattle.strm_pair.specs.Lists.{first_list}

@@ -1,6 +1,7 @@
 -- The queues of both sides beside their store, where one of them changed.
-use Rattle.std.proofs.Common.{ℕ, zero, suc, ◌≡◌, ◌≤◌, ◌<◌, ◌+◌, Bool, true, false, cond, List, [], ◌∷◌, map, refl, sym, ap, subst, ◌∙◌, arith}
-use Rattle.std.specs.Prelude.{replicate, slice_index_or}
+use Rattle.std.proofs.Common.{ℕ, zero, suc, ◌≡◌, ◌≢◌, ◌≤◌, ◌<◌, ◌+◌, Bool, true, false, cond, List, [], ◌∷◌, map, refl, sym, ap, subst, ◌∙◌, arith}
+use Rattle.std.specs.Prelude.{◌==◌, replicate, slice_index_or, is_some}
+use Rattle.std.proofs.lemmas.Bool.Decides.{nat_tests}
 use Rattle.strm_types.specs.declared.names.Side.{Side}
 use Rattle.strm_types.specs.declared.names.Side.TheVariants.{Master, Slave}
 use Rattle.strm_types.specs.declared.kinds.MsgKind.TheVariants as kinds
@@ -59,6 +60,17 @@ no-list (suc n) (suc k) = no-list n k
 
 pub blank : (mblks dblks : ℕ) → IsBlank (empty_store mblks dblks) 0 × IsBlank (empty_store mblks dblks) 4
 blank mblks dblks = (record { head = refl; driver = refl; up = refl; down = refl }, record { head = refl; driver = refl; up = refl; down = refl })
+
+-- the two lists behind the head's and the driver's are empty too
+pub blank-at : (s : StoreValue) (first : ℕ) → IsBlank s first → (k : ℕ) → first + 2 ≤ k → k < first + 4 → list_at s k ≡ []
+blank-at s first blank k low high = by (k == first + 2) refl
+  where
+    by : (b : Bool) → (k == first + 2) ≡ b → list_at s k ≡ []
+    by true is = let e : k ≡ first + 2 = grind (arith, nat_tests) in ap (list_at s) e ∙ blank.up
+    by false isnt =
+        let other : k ≢ first + 2 = λ e. grind (arith, nat_tests) in
+        let e : k ≡ first + 3 = omega (arith, low, high, other) in
+        ap (list_at s) e ∙ blank.down
 
 -- what is kept or changed of one queue alone
 pub only-kept : (s t : StoreValue) (q q' : Queue) → Keeps s t q q' → OnlyQueue s t q q'
@@ -252,6 +264,11 @@ pub stack-there : (p : Streams) (side : Side) (r : StreamEnd) (y : Stack) → r 
 stack-there p side r y is =
     let there = ap (λ (e : StreamEnd). e.stack) (get-set-same side (record r { stack = y }) p.ends) in
     (there, ap (λ (e : StreamEnd). with_end side (record e { stack = y }) p) is ∙ ap (λ z. with_end side (record (end_at side p) { stack = z }) p) (sym there))
+
+-- a stream that is put where it stands
+pub same-end : (side : Side) (p : Streams) → with_end side (end_at side p) p ≡ p
+same-end Master p = refl
+same-end Slave p = refl
 
 -- a stream whose stack and shelf alone are others
 pub end-there : (p : Streams) (side : Side) (r e : StreamEnd) → r ≡ end_at side p → e ≡ record r { stack = e.stack; shelf = e.shelf }

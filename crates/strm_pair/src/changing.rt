@@ -1,6 +1,6 @@
 //! Modules that are pushed on a side's stream and taken off it (streamio(7I): I_PUSH, I_POP, I_LOOK; close(2)).
 
-ghost use Rattle.std.specs.Prelude.{ℕ, List, ◌≡◌, ◌<◌, ◌∷◌, ◌&&◌, not, true, MatchOption, IfSome, Some, is_some, length};
+ghost use Rattle.std.specs.Prelude.{ℕ, List, ◌≡◌, ◌<◌, ◌∷◌, ◌&&◌, not, true, MatchOption, IfNone, IfSome, Some, is_some, length};
 ghost use Rattle.strm_types.specs.declared.answers.Answer.TheVariants.{Done};
 ghost use Rattle.strm_laws.specs.Calls.{looked};
 ghost use Rattle.strm_types.specs.Deliver.{tallied};
@@ -82,6 +82,7 @@ impl Streams {
         requires held { AreHeld (B.value store.old) self.old }
         requires idle { AreIdle (state_in (B.value store.old) self.old) }
         ensures streams { self.new ≡ with_end side (record (end_at side self.old) { stack = (end_at side self.new).stack; shelf = (end_at side self.new).shelf }) self.old }
+        ensures none { IfNone result (self.new ≡ self.old) }
         ensures shelf { stack_owns (end_at side self.new).stack (first_list side + 2) ≡ 0 → is_some (end_at side self.new).shelf ≡ true }
         ensures took { let s = B.value store.old in let t = B.value store.new in
             let x = (end_at side self.old).stack in let y = (end_at side self.new).stack in

@@ -1,7 +1,7 @@
 //! The modules of a side's stream (streamio(7I): I_PUSH, I_POP, I_LOOK; STREAMS Programming Guide, "Modules"). Places count from 1 for the
 //! module on top.
 
-ghost use Rattle.std.specs.Prelude.{ℕ, ◌≡◌, ◌<◌, ◌≤◌, ◌+◌, ◌-◌, true, [], ◌∷◌, length, slice_index_or, is_some, IfSome, MatchOption, None, Some, List};
+ghost use Rattle.std.specs.Prelude.{ℕ, ◌≡◌, ◌<◌, ◌≤◌, ◌+◌, ◌-◌, true, [], ◌∷◌, length, slice_index_or, is_some, IfNone, IfSome, MatchOption, None, Some, List};
 ghost use Rattle.strm_types.specs.Dropped.{is_met};
 ghost use Rattle.strm_laws.specs.Earlier.{places_of};
 ghost use Rattle.strm_laws.specs.Pushes.{below_top, may_stand, named_by};
@@ -88,6 +88,7 @@ pub(crate) fn take_top<B: Blocks>(
         (TookNone (B.value store.old) (B.value store.new) end.old.stack end.new.stack told.old told.new)
         (λ taken. TookTop side rule (B.value store.old) (B.value store.new) end.old.stack end.new.stack told.old told.new taken) }
     ensures met { IfSome result (λ taken. taken.met ≡ is_met seeking (below_top (modules_in (B.value store.old) end.old.stack))) }
+    ensures none { IfNone result (end.new ≡ end.old) }
     ensures end { end.new ≡ record end.old { stack = end.new.stack; shelf = end.new.shelf } }
     ensures shelf { (k : ℕ) → (stack_owns end.old.stack k ≡ 0 → is_some end.old.shelf ≡ true) → stack_owns end.new.stack k ≡ 0 → is_some end.new.shelf ≡ true }
 {

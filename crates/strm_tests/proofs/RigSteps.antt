@@ -1,5 +1,5 @@
 -- A turn of a stream of two modules, step by step.
-use Rattle.std.proofs.Common.{ℕ, zero, suc, ◌≡◌, ◌≢◌, ◌≤◌, ◌<◌, ◌+◌, true, cond, Bool, Option, List, [], ◌∷◌, length, get_or, map, refl, sym, ap, subst, ◌∙◌, arith}
+use Rattle.std.proofs.Common.{ℕ, zero, suc, ◌≡◌, ◌≢◌, ◌≤◌, ◌<◌, ◌+◌, true, cond, Bool, Option, Some, List, [], ◌∷◌, length, get_or, map, refl, sym, ap, subst, ◌∙◌, arith}
 use Rattle.std.proofs.lemmas.List.Sums.{sum_by-cons}
 use Rattle.strm_types.specs.declared.names.Way.{Way}
 use Rattle.strm_types.specs.declared.names.Way.TheVariants.{Up, Down}
@@ -17,6 +17,7 @@ use Rattle.strm_frame.specs.Hands.{once, CanPut, Handles, Hands}
 use Rattle.strm_frame.specs.Outboxes.{times_sent, parcels_in, AreChains}
 use Rattle.strm_frame.specs.Stacks.{all_of}
 use Rattle.strm_tests.specs.Toys.{Stock, far, far_at, stock_serves, serves_of}
+use Rattle.strm_tests.specs.ToyLaws.{IsStocked, owned}
 use Rattle.strm_tests.specs.Rigs.{is_end, took_at, left_at, rig_puts, AtRest}
 use Rattle.strm_frame.proofs.Handing.{once-self, no-hand}
 use Rattle.strm_msg.proofs.Hands.{other-name}
@@ -110,17 +111,20 @@ two-lists zero = let a = once-self 0 in let b = miss 1 0 (λ e. absurd (omega ar
 two-lists (suc zero) = let a = miss 0 1 (λ e. absurd (omega arith)) in let b = once-self 1 in omega arith
 two-lists (suc (suc k)) = let a = miss 0 (suc (suc k)) (λ e. absurd (omega arith)) in let b = miss 1 (suc (suc k)) (λ e. absurd (omega arith)) in omega arith
 
-pub two-new : {X : Type 0} (queue : X → Queue) (mblks dblks : ℕ) (x y : X) (all : List X) → all ≡ x ∷ y ∷ [] → (queue x).list ≡ 0 → (queue y).list ≡ 1 → AreCounted (queue x).flows [] → AreCounted (queue y).flows [] → AtRest queue (empty_store mblks dblks) all
-two-new queue mblks dblks x y all is first second upper lower =
+pub two-new : {X : Type 0} (queue : X → Option Queue) (mblks dblks : ℕ) (x y : X) (a b : Queue) (all : List X) → all ≡ x ∷ y ∷ [] → queue x ≡ Some a → queue y ≡ Some b
+    → a.list ≡ 0 → b.list ≡ 1 → AreCounted a.flows [] → AreCounted b.flows [] → AtRest queue (empty_store mblks dblks) all
+two-new queue mblks dblks x y a b all is above below first second upper lower =
     let s = empty_store mblks dblks in
     rw is (record {
       are = record {
         held = record {
-          each = (ready-none s (queue x) (ap (list_at s) first) upper, (ready-none s (queue y) (ap (list_at s) second) lower, tt));
+          each = (subst (IsStocked s) (sym above) (ready-none s a (ap (list_at s) first) upper), (subst (IsStocked s) (sym below) (ready-none s b (ap (list_at s) second) lower), tt));
           apart = λ k.
-              let a = sum_by-cons (λ z. once (queue z).list k) x (y ∷ []) in
-              let b = sum_by-cons (λ z. once (queue z).list k) y [] in
-              let c = two-lists k in let d = ap (λ l. once l k) first in let e = ap (λ l. once l k) second in
+              let m = sum_by-cons (λ z. owned (queue z) k) x (y ∷ []) in
+              let n = sum_by-cons (λ z. owned (queue z) k) y [] in
+              let c = two-lists k in
+              let d = ap (λ o. owned o k) above ∙ ap (λ l. once l k) first in
+              let e = ap (λ o. owned o k) below ∙ ap (λ l. once l k) second in
               omega arith;
         };
         two = refl;

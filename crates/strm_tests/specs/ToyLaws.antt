@@ -1,10 +1,11 @@
 -- What holds of the toys: a module with a queue stands for the same where the queue's list is the same, and a turn of it is one call.
-use Rattle.std.specs.Prelude.{ℕ, ◌≡◌, false, List, [], ◌∷◌, map}
+use Rattle.std.specs.Prelude.{ℕ, ◌≡◌, false, List, [], ◌∷◌, map, Option, None, Some}
 use Rattle.std.proofs.Common.{true, eqb, cond, refl, sym, ap, subst, arith}
 use Rattle.std.proofs.lemmas.Bool.Decides.{nat_tests}
 use Rattle.strm_types.specs.declared.names.ModuleName.{ModuleName}
 use Rattle.strm_types.specs.declared.spots.Spot.{Spot}
 use Rattle.strm_types.specs.Message.{Message}
+use Rattle.strm_types.specs.Queue as plain
 use Rattle.strm_blocks.specs.Blocks.{StoreValue, list_at}
 use Rattle.strm_msg.specs.Messages.{message_of, AreMessages}
 use Rattle.strm_queue.specs.declared.queue.Queue.{Queue}
@@ -14,8 +15,23 @@ use Rattle.strm_queue.specs.Stored.{queue_in, IsReady}
 use Rattle.strm_frame.specs.Hands.{once, SameOwn}
 use Rattle.strm_tests.specs.Toys.{Stock, serves_of}
 
-abbrev pub stock_in : StoreValue → ModuleName → Queue → Stock
-stock_in s name q = record { name = name; queue = queue_in s q }
+-- what a queue stands for; without one nothing stands there, and no writer can wait
+abbrev pub stocked_in : StoreValue → Option Queue → plain.Queue ℕ
+stocked_in s (Some q) = queue_in s q
+stocked_in s None = record { messages = []; flows = []; want_read = false; no_enable = false }
+
+abbrev pub stock_in : StoreValue → ModuleName → Option Queue → Stock
+stock_in s name q = record { name = name; queue = stocked_in s q }
+
+-- a module without a queue fits no store
+abbrev pub IsStocked : StoreValue → Option Queue → Type 0
+IsStocked s (Some q) = IsReady s q
+IsStocked s None = ⊥
+
+-- the list of the store that is the queue's
+abbrev pub owned : Option Queue → ℕ → ℕ
+owned (Some q) = once q.list
+owned None = λ _. 0
 
 same-list : (s t : StoreValue) (q : Queue) (keeps : ℕ → ℕ) → SameOwn s t (once q.list) keeps → list_at t q.list ≡ list_at s q.list
 unfolding once
@@ -24,12 +40,13 @@ same-list s t q keeps same =
     let one = ap (λ v. cond {A = ℕ} v 1 0) hit in
     same.lists q.list (omega arith)
 
-pub stock-frame : (s t : StoreValue) (name : ModuleName) (q : Queue) (keeps : ℕ → ℕ) → SameOwn s t (once q.list) keeps → IsReady s q → (stock_in t name q ≡ stock_in s name q) × IsReady t q
-stock-frame s t name q keeps same ready =
+pub stock-frame : (s t : StoreValue) (name : ModuleName) (o : Option Queue) (keeps : ℕ → ℕ) → SameOwn s t (owned o) keeps → IsStocked s o → (stock_in t name o ≡ stock_in s name o) × IsStocked t o
+stock-frame s t name (Some q) keeps same ready =
     let e = same-list s t q keeps same in (
       ap (λ l. record { name = name; queue = record { messages = map message_of l; flows = plain_flows q.flows; want_read = q.want_read; no_enable = q.no_enable } }) e,
       record { messages = subst AreMessages (sym e) ready.messages; counted = subst (AreCounted q.flows) (sym e) ready.counted },
     )
+stock-frame s t name None keeps same ready = absurd ready
 
 -- a turn of its queue is one call
 pub one-call : (here : Spot) (p : Stock) (messages : List (Message ℕ)) → (serves_of here p messages).again ≡ false

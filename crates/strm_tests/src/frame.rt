@@ -12,7 +12,7 @@ use stock::Stock;
 use strm_blocks::{Blocks, TableStore};
 use strm_frame::{Enabled, Stream, deliver};
 use strm_msg::from_bytes;
-use strm_queue::Queue;
+use strm_queue::{Queue, Table};
 use strm_types::{Band, Fates, ModuleName, MsgKind, Place, QueueName, Side, Spot, Way};
 use turner::Turner;
 
@@ -62,7 +62,7 @@ fn look(stack: &Stream<Turner>) -> Option<ModuleName> {
 fn the_nearest_queue_past_a_place_is_found(rt: HostRuntime) -> Result<(), Fail> {
     let mut stack = Stream::new();
     for name in [ModuleName::Ptem, ModuleName::Ldterm, ModuleName::Pckt] {
-        let queue = Queue::new(0, 512, 128);
+        let queue = Some(Queue::new(0, 512, 128, Table::new(rt.alloc())?));
         assert!(rt; stack.push(Stock { name, queue }).is_ok());
     }
     assert!(rt; stack.place_past(Way::Down, 0) == Some(1));
@@ -78,14 +78,14 @@ fn the_nearest_queue_past_a_place_is_found(rt: HostRuntime) -> Result<(), Fail> 
 fn a_writer_waits_at_the_nearest_queue(rt: HostRuntime) -> Result<(), Fail> {
     let mut stack = Stream::new();
     for name in [ModuleName::Ptem, ModuleName::Ldterm] {
-        let queue = Queue::new(0, 512, 128);
+        let queue = Some(Queue::new(0, 512, 128, Table::new(rt.alloc())?));
         assert!(rt; stack.push(Stock { name, queue }).is_ok());
     }
     stack.let_wait_past(Way::Down, Band(2), 1);
     stack.let_wait_past(Way::Up, Band(3), 3);
     for waits in [true, false] {
-        let last = stack.modules.pop();
-        assert!(rt; last.map(|stock| stock.queue.flows.at(Band(2)).want_write) == Some(waits));
+        let queue = stack.modules.pop().and_then(|stock| stock.queue);
+        assert!(rt; queue.map(|queue| queue.flows.at(Band(2)).want_write) == Some(waits));
     }
     Ok(())
 }

@@ -10,7 +10,7 @@ use super::stock::Stock;
 use arrayvec::ArrayVec;
 use strm_blocks::{Blocks, InHand};
 use strm_frame::{Enabled, Outbox, Stations, Stream, deliver};
-use strm_queue::Queue;
+use strm_queue::{Queue, Table};
 use strm_types::{Asks, Band, Fates, ModuleName, Note, QueueName, Side, Spot, Turn, Way};
 
 /// Two modules on a stream, the queues that are enabled, and how many messages have left at the top and at the bottom.
@@ -33,17 +33,17 @@ fn is_end(at: usize) -> bool
 impl Rig {
     /// A module with a name on the enabled list over one without, whose queue is full from 4 bytes on and lets writers go
     /// from 2 down. Nothing stands there.
-    pub fn new() -> Rig
+    pub fn new(upper: Table, lower: Table) -> Rig
         ensures { (mblks dblks : ℕ) → AtRest (λ x. x.queue) (empty_store mblks dblks) result.modules.modules.items }
     {
         let mut modules = ArrayVec::new();
         modules.push(Stock {
             name: ModuleName::Ldterm,
-            queue: Queue::new(0, 512, 128),
+            queue: Some(Queue::new(0, 512, 128, upper)),
         });
         modules.push(Stock {
             name: ModuleName::Pckt,
-            queue: Queue::new(1, 4, 2),
+            queue: Some(Queue::new(1, 4, 2, lower)),
         });
         Rig {
             modules: Stream { modules },

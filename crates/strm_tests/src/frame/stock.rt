@@ -15,17 +15,18 @@ use strm_queue::lengths::first_size;
 use strm_queue::standing::{count, dequeue, enqueue, is_full, sizes};
 use strm_types::{Asks, Band, Fates, ModuleName, MsgKind, Note, Rule, Side, Spot, Way};
 
+/// Only what stands in the unused places of an array has no queue.
 #[derive(Drop)]
 pub struct Stock {
     pub name: ModuleName,
-    pub queue: Queue,
+    pub queue: Option<Queue>,
 }
 
 impl Default for Stock {
     fn default() -> Stock {
         Stock {
             name: ModuleName::Ptem,
-            queue: Queue::new(0, 1, 0),
+            queue: None,
         }
     }
 }
@@ -50,10 +51,8 @@ fn stays(kind: MsgKind, way: Way) -> bool
 
 impl Module for Stock {
     ghost use Rattle.std.specs.Prelude.{refl, false};
-    ghost use Rattle.strm_queue.specs.Stored.{IsReady};
-    ghost use Rattle.strm_frame.specs.Hands.{once};
     ghost use Rattle.strm_tests.specs.Toys.{stocks, far, nothing, stock_queue, with_stock, stock_asks, stock_serves, stock_far};
-    ghost use Rattle.strm_tests.specs.ToyLaws.{stock_in, stock-frame, one-call};
+    ghost use Rattle.strm_tests.specs.ToyLaws.{stock_in, IsStocked, owned, stock-frame, one-call};
 
     ghost Plain = { Rattle.strm_tests.specs.Toys.Stock };
 
@@ -61,9 +60,9 @@ impl Module for Stock {
 
     ghost name_of = { λ p. p.name };
 
-    ghost IsHeld = { λ s x. IsReady s x.queue };
+    ghost IsHeld = { λ s x. IsStocked s x.queue };
 
-    ghost owns = { λ x. once x.queue.list };
+    ghost owns = { λ x. owned x.queue };
 
     ghost keeps = { λ x i. 0 };
 
@@ -111,7 +110,10 @@ impl Module for Stock {
         store.audit();
         let kind = store.kind(&message, 0);
         if stays(kind, here.way) {
-            let enables = enqueue(store, &mut self.queue, message);
+            let Some(queue) = &mut self.queue else {
+                unreachable!()
+            };
+            let enables = enqueue(store, queue, message);
             return Acts {
                 notes: note_if(enables, Note::Enable(Way::Down)),
                 sent: Outbox::none(),
@@ -134,30 +136,30 @@ impl Module for Stock {
     }
 
     fn is_full<B: Blocks>(&self, store: &B, way: Way, band: Band) -> bool {
-        match way {
-            Way::Up => false,
-            Way::Down => is_full(store, &self.queue, band),
+        match (way, &self.queue) {
+            (Way::Down, Some(queue)) => is_full(store, queue, band),
+            (Way::Down, None) | (Way::Up, _) => false,
         }
     }
 
     fn count<B: Blocks>(&self, store: &B, way: Way, band: Band) -> usize {
-        match way {
-            Way::Up => 0,
-            Way::Down => count(store, &self.queue, band),
+        match (way, &self.queue) {
+            (Way::Down, Some(queue)) => count(store, queue, band),
+            (Way::Down, None) | (Way::Up, _) => 0,
         }
     }
 
     fn sizes<B: Blocks>(&self, store: &B, way: Way) -> (usize, usize) {
-        match way {
-            Way::Up => (0, 0),
-            Way::Down => sizes(store, &self.queue),
+        match (way, &self.queue) {
+            (Way::Down, Some(queue)) => sizes(store, queue),
+            (Way::Down, None) | (Way::Up, _) => (0, 0),
         }
     }
 
     fn first_size<B: Blocks>(&self, store: &B, way: Way) -> usize {
-        match way {
-            Way::Up => 0,
-            Way::Down => first_size(store, &self.queue),
+        match (way, &self.queue) {
+            (Way::Down, Some(queue)) => first_size(store, queue),
+            (Way::Down, None) | (Way::Up, _) => 0,
         }
     }
 
@@ -170,17 +172,17 @@ impl Module for Stock {
     }
 
     fn let_wait(&mut self, way: Way, band: Band) {
-        match way {
-            Way::Up => {}
-            Way::Down => self.queue.let_wait(band),
+        match (way, &mut self.queue) {
+            (Way::Down, Some(queue)) => queue.let_wait(band),
+            (Way::Down, None) | (Way::Up, _) => {}
         }
     }
 
     fn asks<B: Blocks>(&self, store: &B, way: Way) -> Asks {
         store.audit();
-        match way {
-            Way::Down if !self.queue.is_empty(store) => Asks::Room(Band(0)),
-            Way::Down | Way::Up => Asks::Empty,
+        match (way, &self.queue) {
+            (Way::Down, Some(queue)) if !queue.is_empty(store) => Asks::Room(Band(0)),
+            (Way::Down | Way::Up, _) => Asks::Empty,
         }
     }
 
@@ -191,7 +193,10 @@ impl Module for Stock {
         _again: bool,
         _told: &mut Fates,
     ) -> Served {
-        if self.queue.is_empty(store) {
+        let Some(queue) = &mut self.queue else {
+            unreachable!()
+        };
+        if queue.is_empty(store) {
             return Served {
                 acts: Acts {
                     notes: ArrayVec::new(),
@@ -202,7 +207,7 @@ impl Module for Stock {
                 again: false,
             };
         }
-        let Some(message) = dequeue(store, &mut self.queue) else {
+        let Some(message) = dequeue(store, queue) else {
             unreachable!()
         };
         store.audit();
@@ -222,12 +227,12 @@ impl Module for Stock {
     }
 
     fn end_turn<B: Blocks>(&mut self, store: &B, way: Way, took: bool) -> TurnEnd {
-        match way {
-            Way::Up => TurnEnd {
+        match (way, &mut self.queue) {
+            (Way::Down, Some(queue)) => end_queue_turn(store, queue, took),
+            (Way::Down, None) | (Way::Up, _) => TurnEnd {
                 room: false,
                 more: false,
             },
-            Way::Down => end_queue_turn(store, &mut self.queue, took),
         }
     }
 
@@ -240,7 +245,10 @@ impl Module for Stock {
         told: &mut Fates,
     ) -> LetGo {
         let direction = side.direction();
-        let gone = clear_queue(store, &mut self.queue, seeking, direction, rule, told);
+        let Some(queue) = &mut self.queue else {
+            unreachable!()
+        };
+        let gone = clear_queue(store, queue, seeking, direction, rule, told);
         LetGo {
             notes: note_if(gone.room, Note::Room(Way::Down)),
             met: gone.met,

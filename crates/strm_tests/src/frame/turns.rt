@@ -10,6 +10,7 @@ use std::process::Abort;
 use std::test::Fail;
 use strm_blocks::{Blocks, NoBlocks, TableStore};
 use strm_msg::from_bytes;
+use strm_queue::Table;
 use strm_types::{Band, MsgKind, Place, QueueName, Side, Spot, Turn, Way};
 
 // What is done to the stream.
@@ -217,6 +218,6 @@ const ROWS: [Row<'static>; 13] = [
 #[test]
 fn a_message_stays_on_a_queue_until_its_turn(rt: HostRuntime) -> Result<(), Fail> {
     let mut store = TableStore::new(rt.alloc(), 10, 10)?;
-    let mut rig = Rig::new();
+    let mut rig = Rig::new(Table::new(rt.alloc())?, Table::new(rt.alloc())?);
     play_all(&rt, &mut store, &mut rig, &ROWS)
 }

@@ -211,17 +211,17 @@ fn gets_leave_what_they_have_no_room_for(rt: HostRuntime) -> Result<(), Fail> {
 
 const LONG: &[u8] = &[b'x'; 257];
 
+const LAST: Prio = Prio::Band(Band(255));
+
 #[test]
 fn puts_are_refused_for_their_arguments(rt: HostRuntime) -> Result<(), Fail> {
-    let rows: [(Sent<'_>, Option<Refusal>); 8] = [
+    let rows: [(Sent<'_>, Option<Refusal>); 9] = [
         (BOTH, None),
         ((BANDED, None, None), None),
         ((Prio::High, None, Some(CDE)), Some(Refusal::Einval)),
-        ((Prio::Band(Band(8)), Some(AB), None), Some(Refusal::Einval)),
-        (
-            (Prio::Band(Band(8)), Some(LONG), None),
-            Some(Refusal::Einval),
-        ),
+        ((Prio::High, None, Some(LONG)), Some(Refusal::Einval)),
+        ((LAST, Some(AB), None), None),
+        ((LAST, Some(LONG), None), Some(Refusal::Erange)),
         ((BANDED, Some(&LONG[..65]), None), Some(Refusal::Erange)),
         (
             (BANDED, Some(&LONG[..64]), Some(LONG)),

@@ -33,6 +33,14 @@ pub(crate) enum Step<'a> {
     Full(u8, bool),
     // The messages of data are freed.
     Flush,
+    // The messages of data of a band are freed.
+    FlushBand(u8),
+    // A writer of a band waits from now on.
+    LetWait(u8),
+    // A writer of a band waits or not.
+    Waits(u8, bool),
+    // Writers whose band has come down to its low-water mark are let go, and there is one or not.
+    BackEnable(bool),
 }
 
 // A message of one block with these bytes.
@@ -146,6 +154,16 @@ fn goes<B: Blocks>(queue: &mut Queue, store: &mut B, step: Step<'_>) -> Result<b
             queue.flushq(store, Flush::Data);
             Ok(true)
         }
+        Step::FlushBand(band) => {
+            queue.flushband(store, Band(band));
+            Ok(true)
+        }
+        Step::LetWait(band) => {
+            queue.let_wait(Band(band));
+            Ok(true)
+        }
+        Step::Waits(band, waits) => Ok(queue.flows.at(Band(band)).want_write == waits),
+        Step::BackEnable(went) => Ok(queue.back_enable() == went),
     }
 }
 

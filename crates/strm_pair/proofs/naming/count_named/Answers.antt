@@ -14,7 +14,7 @@ pub count-requires : goal.count-requires
 count-requires g c =
     let s = g.B.Blocks.value c.args.store.now in
     let inside = c.in-Some.ensures.inside s in
-    (omega arith, (inside.0, (omega (arith, inside.1, length-map c.args.stack.now.modules.items (module_in s)), (c.requires.held, c.requires.band))))
+    (omega arith, (inside.0, (omega (arith, inside.1, length-map c.args.stack.now.modules.items (module_in s)), c.requires.held)))
 
 pub returns-in-Some : goal.returns-in-Some
 returns-in-Some g c =

@@ -7,11 +7,11 @@ use Rattle.strm_pair.proofs.stacks.take_top.Goals as goal
 pub returns-in_err-name-clause-took : goal.returns-in_err-name-clause-took
 returns-in_err-name-clause-took g c =
     let gone : c.from_residual.result ≡ None = grind arith in
-    let bare = none-top (g.B.Blocks.value c.args.store.now) c.args.stack.now.modules.items (sym (c.look.ensures (g.B.Blocks.value c.args.store.now)) ∙ c.in_err-name.was) in
+    let bare = none-top (g.B.Blocks.value c.args.store.now) c.args.end.now.stack.modules.items (sym (c.look.ensures (g.B.Blocks.value c.args.store.now)) ∙ c.in_err-name.was) in
     rw gone (record { none = bare; store = refl; stack = refl; tells = refl })
 
 pub returns-clause-took : goal.returns-clause-took
 returns-clause-took g c =
     let e = c.clear_top-gone.ensures in
-    took-top (g.B.Blocks.value c.args.store.now) (g.B.Blocks.value c.clear_top-gone.new.store) c.args.side c.args.rule c.args.told.now c.clear_top-gone.new.told _ c.args.stack.now c.clear_top-gone.new.self c.pop.new.self c.pop.result
-    (sym (c.look.ensures (g.B.Blocks.value c.args.store.now)) ∙ c.in_ok-name.was) e.state e.notes e.told e.held e.rests e.own e.hand e.frees c.pop.ensures
+    took-top (g.B.Blocks.value c.args.store.now) (g.B.Blocks.value c.clear_top-gone.new.store) c.args.side c.args.rule c.args.told.now c.clear_top-gone.new.told _ c.args.end.now.stack c.clear_top-gone.new.self c.pop_top.new.stack
+    (sym (c.look.ensures (g.B.Blocks.value c.args.store.now)) ∙ c.in_ok-name.was) e.state e.notes e.told e.held e.rests e.own e.hand e.frees c.pop_top.ensures.rest

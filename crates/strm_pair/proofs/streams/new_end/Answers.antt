@@ -1,5 +1,5 @@
 -- No module stands there.
-use Rattle.std.proofs.Common.{map, ap, arith, rules, sym, subst}
+use Rattle.std.proofs.Common.{refl, map, ap, arith, rules, sym, subst}
 use Rattle.strm_laws.proofs.StackOnce.{none-once}
 use Rattle.strm_frame.specs.Stacks.{all_of, AreHeld}
 use Rattle.strm_pair.specs.AnyModules.{IsHeld, module_in, owns}
@@ -18,4 +18,5 @@ returns-clause-side c = λ s blank.
       once = subst (λ xs. AreApart (map (module_in s) xs)) (sym none) none-once;
       owned = λ k some. absurd (omega (arith, some, ap (λ xs. all_of owns xs k) none));
       spare = search rules;
+      shelf = λ none. refl;
     }

@@ -1,6 +1,11 @@
 -- An ldterm is new on its two lists, and a ptem has none.
+use Rattle.std.proofs.Common.{arith}
+use Rattle.strm_frame.proofs.Handing.{once-self}
 use Rattle.strm_pair.proofs.MadeModules.{ldterm-made}
 use Rattle.strm_pair.proofs.modules.AnyModule.made.Goals as goal
 
-pub returns-in-Ldterm : goal.returns-in-Ldterm
-returns-in-Ldterm c = rw c.in-Ldterm.is (ldterm-made c.args.first c.new.result c.new.ensures.state c.new.ensures.held c.new.ensures.rests c.new.ensures.owns)
+pub returns-in-Ldterm-clause-made : goal.returns-in-Ldterm-clause-made
+returns-in-Ldterm-clause-made c = rw c.in-Ldterm.is (ldterm-made c.args.first c.new.result c.new.ensures.state c.new.ensures.held c.new.ensures.rests c.new.ensures.owns)
+
+pub returns-in-Ldterm-clause-shelf : goal.returns-in-Ldterm-clause-shelf
+returns-in-Ldterm-clause-shelf c = λ none. absurd (omega (arith, none, c.new.ensures.owns c.args.first, once-self c.args.first))

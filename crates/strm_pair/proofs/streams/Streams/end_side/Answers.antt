@@ -14,7 +14,7 @@ returns-clause-held g c =
     let e = rw c.get_mut.ensures.value at c.close.ensures in
     record {
       hand = e.keeps.hand ∙ c.requires.hand;
-      beside = renewed-beside (g.B.Blocks.value c.args.store.now) (g.B.Blocks.value c.close.new.store) c.args.self.now c.close.new.self c.requires.beside c.args.side e.driver e.stack e.keeps;
+      beside = renewed-beside (g.B.Blocks.value c.args.store.now) (g.B.Blocks.value c.close.new.store) c.args.self.now c.close.new.self c.requires.beside c.args.side e.driver e.stack e.shelf e.keeps;
     }
 
 pub returns-clause-state : goal.returns-clause-state
@@ -25,6 +25,6 @@ returns-clause-state g c =
     let side = c.args.side in
     let x = c.close.new.self in
     let e = rw c.get_mut.ensures.value at c.close.ensures in
-    renewed-state s t c.args.self.now x c.requires.beside side e.driver e.stack e.keeps
+    renewed-state s t c.args.self.now x c.requires.beside side e.driver e.stack e.shelf e.keeps
     ∙ ap (λ (o : Openness). with_stream side (record (stream side st) { opened = o; head = head_in t x.head }) st) e.opened
     ∙ ap (λ (h : Head ℕ). with_stream side (record (stream side st) { opened = Closed; head = h }) st) e.head

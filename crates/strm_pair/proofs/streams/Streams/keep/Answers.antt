@@ -18,4 +18,5 @@ returns-clause-held c = λ s held.
       once = is.once;
       owned = is.owned;
       spare = is.spare;
+      shelf = is.shelf;
     })

@@ -16,11 +16,11 @@ open-requires g c = (c.requires.beside Slave).head.ready
 
 pub returns-then-not-is_empty-clause-held : goal.returns-then-not-is_empty-clause-held
 returns-then-not-is_empty-clause-held g c =
-    record { hand = c.open.ensures.keeps.hand ∙ c.requires.hand; beside = renewed-beside (g.B.Blocks.value c.args.store.now) (g.B.Blocks.value c.open.new.store) c.args.self.now c.open.new.self c.requires.beside Slave c.open.ensures.driver c.open.ensures.stack c.open.ensures.keeps }
+    record { hand = c.open.ensures.keeps.hand ∙ c.requires.hand; beside = renewed-beside (g.B.Blocks.value c.args.store.now) (g.B.Blocks.value c.open.new.store) c.args.self.now c.open.new.self c.requires.beside Slave c.open.ensures.driver c.open.ensures.stack c.open.ensures.shelf c.open.ensures.keeps }
 
 pub returns-else-not-is_empty-clause-held : goal.returns-else-not-is_empty-clause-held
 returns-else-not-is_empty-clause-held g c =
-    record { hand = c.open.ensures.keeps.hand ∙ c.requires.hand; beside = renewed-beside (g.B.Blocks.value c.args.store.now) (g.B.Blocks.value c.open.new.store) c.args.self.now c.open.new.self c.requires.beside Slave c.open.ensures.driver c.open.ensures.stack c.open.ensures.keeps }
+    record { hand = c.open.ensures.keeps.hand ∙ c.requires.hand; beside = renewed-beside (g.B.Blocks.value c.args.store.now) (g.B.Blocks.value c.open.new.store) c.args.self.now c.open.new.self c.requires.beside Slave c.open.ensures.driver c.open.ensures.stack c.open.ensures.shelf c.open.ensures.keeps }
 
 pub returns-then-not-is_empty-clause-state : goal.returns-then-not-is_empty-clause-state
 returns-then-not-is_empty-clause-state g c =
@@ -31,7 +31,7 @@ returns-then-not-is_empty-clause-state g c =
     let x = c.open.new.self in
     let e = c.open.ensures in
     ap (λ (v : State ℕ). record v { enabled = c.enable.new.self })
-    (renewed-state s t p x c.requires.beside Slave e.driver e.stack e.keeps
+    (renewed-state s t p x c.requires.beside Slave e.driver e.stack e.shelf e.keeps
     ∙ ap (λ (o : Openness). with_stream Slave (record (stream Slave st) { opened = o; head = head_in t x.head }) st) e.opened
     ∙ ap (λ (h : Head ℕ). with_stream Slave (record (stream Slave st) { opened = Open; head = h }) st) e.head)
     ∙ ap (λ names. record (with_stream Slave (record (stream Slave st) { opened = Open; head = new_head }) st) { enabled = names })
@@ -46,7 +46,7 @@ returns-else-not-is_empty-clause-state g c =
     let x = c.open.new.self in
     let e = c.open.ensures in
     ap (λ (v : State ℕ). record v { enabled = p.enabled })
-    (renewed-state s t p x c.requires.beside Slave e.driver e.stack e.keeps
+    (renewed-state s t p x c.requires.beside Slave e.driver e.stack e.shelf e.keeps
     ∙ ap (λ (o : Openness). with_stream Slave (record (stream Slave st) { opened = o; head = head_in t x.head }) st) e.opened
     ∙ ap (λ (h : Head ℕ). with_stream Slave (record (stream Slave st) { opened = Open; head = h }) st) e.head)
     ∙ ap (λ names. record (with_stream Slave (record (stream Slave st) { opened = Open; head = new_head }) st) { enabled = names })

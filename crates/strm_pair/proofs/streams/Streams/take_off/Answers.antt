@@ -1,16 +1,18 @@
 -- Nothing of a turn is under way at the modules, so that their stack keeps nothing in hand.
 use Rattle.std.proofs.Common.{◌≡◌, ap, sym, subst, ◌∙◌}
-use Rattle.std.specs.Prelude.{IfSome, MatchOption}
+use Rattle.std.specs.Prelude.{Option, None, Some, IfNone, IfSome, MatchOption, is_some, true, ◌+◌}
 use Rattle.strm_types.specs.Dropped.{is_met}
 use Rattle.strm_laws.specs.Pushes.{below_top}
 use Rattle.strm_laws.proofs.ModulesIdle.{AllIdle}
 use Rattle.strm_pair.specs.declared.ends.StreamEnd.{StreamEnd}
-use Rattle.strm_pair.specs.Pairs.{end_at}
+use Rattle.strm_pair.specs.Lists.{first_list}
+use Rattle.strm_pair.specs.Pairs.{end_at, with_end}
 use Rattle.strm_pair.specs.Taken.{TookNone, TookTop}
-use Rattle.strm_pair.proofs.Sides.{modules-are, stack-there}
+use Rattle.strm_pair.specs.declared.stacks.Taken.{Taken}
+use Rattle.strm_pair.proofs.Sides.{end-there, modules-are, same-end}
 use Rattle.strm_pair.proofs.streams.Streams.take_off.Goals as goal
 use Rattle.strm_pair.specs.ModuleStacks.{stack-idle}
-use Rattle.strm_pair.specs.Stacks.{modules_in}
+use Rattle.strm_pair.specs.Stacks.{modules_in, stack_owns}
 
 pub take_top-requires-clause-held : goal.take_top-requires-clause-held
 take_top-requires-clause-held g c = rw c.get_mut.ensures.value (c.requires.held.beside c.args.side).stack
@@ -23,15 +25,30 @@ take_top-requires-clause-rests g c =
     rw c.get_mut.ensures.value (stack-idle s (end_at side p).stack (c.requires.held.beside side).stack (subst AllIdle (modules-are s p side) (c.requires.idle side)))
 
 pub returns-clause-streams : goal.returns-clause-streams
-returns-clause-streams g c = (stack-there c.args.self.now c.args.side c.get_mut.result.now c.take_top.new.stack c.get_mut.ensures.value).1
+returns-clause-streams g c = (end-there c.args.self.now c.args.side c.get_mut.result.now c.take_top.new.end c.get_mut.ensures.value c.take_top.ensures.end).1
+
+pub returns-clause-none : goal.returns-clause-none
+returns-clause-none g c = by c.take_top.result c.take_top.ensures.none
+  where
+    by : (o : Option Taken) → IfNone o (c.take_top.new.end ≡ c.get_mut.result.now) → IfNone o (with_end c.args.side c.take_top.new.end c.args.self.now ≡ c.args.self.now)
+    by None same = ap (λ e. with_end c.args.side e c.args.self.now) (same ∙ c.get_mut.ensures.value) ∙ same-end c.args.side c.args.self.now
+    by (Some taken) same = tt
+
+pub returns-clause-shelf : goal.returns-clause-shelf
+returns-clause-shelf g c =
+    let p = c.args.self.now in
+    let side = c.args.side in
+    let there = (end-there p side c.get_mut.result.now c.take_top.new.end c.get_mut.ensures.value c.take_top.ensures.end).0 in
+    subst (λ (e : StreamEnd). stack_owns e.stack (first_list side + 2) ≡ 0 → is_some e.shelf ≡ true) (sym there)
+    (c.take_top.ensures.shelf (first_list side + 2) (rw c.get_mut.ensures.value (c.requires.held.beside side).shelf))
 
 pub returns-clause-took : goal.returns-clause-took
 returns-clause-took g c =
     let s = g.B.Blocks.value c.args.store.now in
     let t = g.B.Blocks.value c.take_top.new.store in
     let x = (end_at c.args.side c.args.self.now).stack in
-    let there = (stack-there c.args.self.now c.args.side c.get_mut.result.now c.take_top.new.stack c.get_mut.ensures.value).0 in
-    subst (λ y. MatchOption c.take_top.result (TookNone s t x y c.args.told.now c.take_top.new.told) (λ taken. TookTop c.args.side c.args.rule s t x y c.args.told.now c.take_top.new.told taken)) (sym there)
+    let there = (end-there c.args.self.now c.args.side c.get_mut.result.now c.take_top.new.end c.get_mut.ensures.value c.take_top.ensures.end).0 in
+    subst (λ (e : StreamEnd). MatchOption c.take_top.result (TookNone s t x e.stack c.args.told.now c.take_top.new.told) (λ taken. TookTop c.args.side c.args.rule s t x e.stack c.args.told.now c.take_top.new.told taken)) (sym there)
     (rw c.get_mut.ensures.value at c.take_top.ensures.took)
 
 pub returns-clause-met : goal.returns-clause-met

@@ -9,7 +9,7 @@ asks-requires g c =
     rw c.disable.ensures (omega arith, (c.requires.inside, (omega arith, c.requires.rest.are.held)))
 
 pub can_pass-requires : goal.can_pass-requires
-can_pass-requires g c = rw c.disable.ensures (omega arith, (c.requires.rest.are.held, c.in-Room.ensures.band))
+can_pass-requires g c = rw c.disable.ensures (omega arith, c.requires.rest.are.held)
 
 pub end_turn-requires-then-eq-clause-rest : goal.end_turn-requires-then-eq-clause-rest
 end_turn-requires-then-eq-clause-rest g c = record {
