@@ -234,7 +234,6 @@ module _ (s t : StoreValue) (x : Ldterm) (q' : Queue) (m : InHand) (held : IsHel
     output = output;
     some = some;
     size = size;
-    low = (let l = is.chain.low in omega (arith, banded));
     idle = refl;
     none = refl;
     quiet = refl;

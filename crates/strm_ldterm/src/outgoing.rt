@@ -49,6 +49,13 @@ fn return_output<B: Blocks>(ldterm: &mut Ldterm, store: &mut B)
     return_rest(store, &mut ldterm.write_queue, message);
 }
 
+// Does nothing. Its contract is what holds of every band, as its number is a byte.
+fn audit_band(band: Band)
+    ensures { band.0 < 256 }
+{
+    let _ = usize::from(band.0);
+}
+
 /// Gives a message of data in hand another band.
 pub(crate) fn reband<B: Blocks>(store: &mut B, message: &InHand, band: Band)
     requires in_hand { IsInHand (B.value store.old) (token message.now) }
@@ -58,6 +65,7 @@ pub(crate) fn reband<B: Blocks>(store: &mut B, message: &InHand, band: Band)
     ensures blocks { FreesNone (B.value store.old) (B.value store.new) }
 {
     store.audit();
+    audit_band(band);
     store.set_band(message, band);
 }
 
