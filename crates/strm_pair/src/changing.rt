@@ -1,6 +1,6 @@
 //! Modules that are pushed on a side's stream and taken off it (streamio(7I): I_PUSH, I_POP, I_LOOK; close(2)).
 
-ghost use Rattle.std.specs.Prelude.{ℕ, List, ◌≡◌, ◌<◌, ◌∷◌, ◌&&◌, not, true, MatchOption, IfNone, IfSome, Some, is_some, length};
+ghost use Rattle.std.specs.Prelude.{ℕ, List, ◌≡◌, ◌<◌, ◌∷◌, ◌+◌, ◌&&◌, not, true, MatchOption, IfNone, IfSome, Some, is_some, length};
 ghost use Rattle.strm_types.specs.declared.answers.Answer.TheVariants.{Done};
 ghost use Rattle.strm_laws.specs.Calls.{looked};
 ghost use Rattle.strm_types.specs.Deliver.{tallied};

@@ -1,11 +1,14 @@
 -- What toys do, step by step.
-use Rattle.std.proofs.Common.{ℕ, ◌≡◌, ◌<◌, ◌≤◌, ◌==◌, eqb, true, false, Bool, List, [], ◌∷◌, Option, ◌∙◌, cond, ap, refl, subst, sym, arith}
+use Rattle.std.proofs.Common.{ℕ, ◌≡◌, ◌<◌, ◌≤◌, ◌==◌, eqb, true, false, Bool, List, [], ◌∷◌, Option, Some, None, ◌∙◌, cond, ap, refl, subst, sym, arith}
 use Rattle.strm_types.specs.declared.limits.TheConstants.{MODULES}
 use Rattle.strm_types.specs.declared.kinds.MsgKind.{MsgKind}
+use Rattle.strm_types.specs.declared.names.ModuleName.{ModuleName}
 use Rattle.strm_types.specs.declared.names.Way.{Way}
 use Rattle.strm_types.specs.declared.names.Way.TheVariants.{Up, Down}
 use Rattle.strm_types.specs.declared.spots.Spot.{Spot}
 use Rattle.strm_types.specs.Deliver.{Parcel, AreLower, toward}
+use Rattle.strm_types.specs.ModuleQueues.{messages_at}
+use Rattle.strm_types.specs.Queue.{first_size}
 use Rattle.std.proofs.lemmas.Bool.Decides.{nat_tests}
 use Rattle.strm_types.specs.Message.{Message}
 use Rattle.strm_types.specs.declared.kinds.MsgKind.TheVariants as kinds
@@ -23,8 +26,10 @@ use Rattle.strm_frame.specs.Outboxes.{message_in, times_sent, parcels_in, parcel
 use Rattle.strm_frame.specs.Serves.{later_cost}
 use Rattle.strm_frame.specs.Hands.{once, OnlyOwn, CanPut, Handles, Hands, SameFor, HasRoom, Spends, Takes}
 use Rattle.strm_frame.proofs.Handing.{alone-can, once-apart, one-parts}
+use Rattle.strm_frame.proofs.FirstSizes.{first-few}
 use Rattle.strm_frame.proofs.Shifting.{shifts-joined}
-use Rattle.strm_tests.specs.Toys.{Stock, is_flush, onward, far_at, counts, nothing, stays, stocked, stocks, turns, idle, stock_sends, serves_of, stock_serves}
+use Rattle.strm_tests.specs.Toys.{Stock, is_flush, onward, far_at, counts, nothing, stays, stocked, stocks, stock_queue, turns, idle, stock_sends, serves_of, stock_serves}
+use Rattle.strm_tests.specs.ToyLaws.{stock_in, IsStocked, owned}
 
 -- a message that comes up, turned or not
 up-falls : (turned : Bool) (here : Spot) → 0 < here.at → here.at ≤ 3 →
@@ -111,6 +116,16 @@ joined-hands s t i q q' st can is frees =
 
 pub frees-spends : (s t : StoreValue) (most : ℕ) → FreesBlocks s t → Spends s t most 0
 frees-spends s t most frees = record { mblks = (let m = frees.mblks in omega arith); dblks = (let d = frees.dblks in omega arith) }
+
+-- the list of a module's queue is its own
+pub owned-by : (s t : StoreValue) (o : Option Queue) (q : Queue) (owns : ℕ → ℕ) → o ≡ Some q → OnlyOwn s t (once q.list) owns → OnlyOwn s t (owned o) owns
+owned-by s t o q owns is own = subst (λ v. OnlyOwn s t (owned v) owns) (sym is) own
+
+-- the first message on a module's queue isn't long
+pub stock-few : (s : StoreValue) (way : Way) (name : ModuleName) (o : Option Queue) → IsStore s → IsStocked s o → first_size (messages_at stock_queue way (stock_in s name o)) ≤ 16777216
+stock-few s Up name o st held = omega arith
+stock-few s Down name (Some q) st held = first-few s q st held
+stock-few s Down name None st held = absurd held
 
 -- a service procedure with nothing before it, and one with a message
 pub serves-none : (here : Spot) (again : Bool) (stop : Option ℕ) (p : Stock) → p.queue.messages ≡ [] → stock_serves here again stop p ≡ idle p

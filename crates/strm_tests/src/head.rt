@@ -231,8 +231,8 @@ fn control_messages_are_obeyed(rt: HostRuntime) -> Result<(), Fail> {
         ),
         (
             MsgKind::Flush,
-            b"\x07\x02",
-            (turned(Some(Band(2))), 0, 0, 1, false),
+            b"\x07\xc8",
+            (turned(Some(Band(200))), 0, 0, 1, false),
         ),
         (MsgKind::Hangup, b"", (NOTHING, 0, 0, 1, true)),
         (MsgKind::Ctl, b"x", (NOTHING, 0, 0, 1, false)),

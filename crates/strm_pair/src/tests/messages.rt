@@ -31,12 +31,6 @@ const PUT_HIGH_DATA: Event<&'static [u8]> = Event::Put {
     body: Some(CDE),
 };
 
-const PUT_IN_BAND_8: Event<&'static [u8]> = Event::Put {
-    prio: Prio::Band(Band(8)),
-    control: Some(AB),
-    body: None,
-};
-
 const PUT_LONG: Event<&'static [u8]> = Event::Put {
     prio: BANDED,
     control: Some(LONG),
@@ -77,12 +71,6 @@ const GET_FROM_BAND_2: Event<&'static [u8]> = Event::Get {
     wanted: Wanted::Band(Band(2)),
     cmax: 1,
     dmax: 5000,
-};
-
-const GET_FROM_BAND_8: Event<&'static [u8]> = Event::Get {
-    wanted: Wanted::Band(Band(8)),
-    cmax: 9,
-    dmax: 9,
 };
 
 const GET_ANY: Event<&'static [u8]> = Event::Get {
@@ -132,11 +120,9 @@ fn a_message_crosses_with_its_parts(rt: HostRuntime) -> Result<(), Fail> {
     Ok(run(&rt, rt.alloc(), SIZES, &OPENING, &CROSSING)?)
 }
 
-const REFUSING: [Step<'static>; 11] = [
+const REFUSING: [Step<'static>; 9] = [
     Step::Call(MASTER, PUT_HIGH_DATA, INVALID),
-    Step::Call(MASTER, PUT_IN_BAND_8, INVALID),
     Step::Call(MASTER, PUT_LONG, TOO_LONG),
-    Step::Call(SLAVE, GET_FROM_BAND_8, INVALID),
     Step::Call(SLAVE, GET_ANY, AGAIN),
     Step::Call(MASTER, PUT_NOTHING, DONE),
     Step::Sizes(MASTER_DRIVER, 0, 0),
@@ -173,4 +159,69 @@ const HIGH_FIRST: [Step<'static>; 6] = [
 #[test]
 fn high_priority_comes_first(rt: HostRuntime) -> Result<(), Fail> {
     Ok(run(&rt, rt.alloc(), SIZES, &OPENING, &HIGH_FIRST)?)
+}
+
+const PUT_IN_BAND_7: Event<&'static [u8]> = Event::Put {
+    prio: Prio::Band(Band(7)),
+    control: None,
+    body: Some(AB),
+};
+
+const PUT_IN_BAND_200: Event<&'static [u8]> = Event::Put {
+    prio: Prio::Band(Band(200)),
+    control: None,
+    body: Some(AB),
+};
+
+const PUT_IN_BAND_255: Event<&'static [u8]> = Event::Put {
+    prio: Prio::Band(Band(255)),
+    control: None,
+    body: Some(AB),
+};
+
+const BANDS_IN_ORDER: [Step<'static>; 9] = [
+    Step::Call(MASTER, PUT_IN_BAND_7, DONE),
+    Step::Call(MASTER, PUT_IN_BAND_255, DONE),
+    Step::Call(MASTER, PUT_IN_BAND_200, DONE),
+    Step::Turn(MASTER_DRIVER, Ok(Turn::Moved(2))),
+    Step::Turn(MASTER_DRIVER, Ok(Turn::Moved(2))),
+    Step::Turn(MASTER_DRIVER, Ok(Turn::Moved(2))),
+    Step::Call(
+        SLAVE,
+        GET_ANY,
+        Ok(Answer::Msg {
+            prio: Prio::Band(Band(255)),
+            control: None,
+            body: Some(2),
+            more_control: false,
+            more_data: false,
+        }),
+    ),
+    Step::Call(
+        SLAVE,
+        GET_ANY,
+        Ok(Answer::Msg {
+            prio: Prio::Band(Band(200)),
+            control: None,
+            body: Some(2),
+            more_control: false,
+            more_data: false,
+        }),
+    ),
+    Step::Call(
+        SLAVE,
+        GET_ANY,
+        Ok(Answer::Msg {
+            prio: Prio::Band(Band(7)),
+            control: None,
+            body: Some(2),
+            more_control: false,
+            more_data: false,
+        }),
+    ),
+];
+
+#[test]
+fn higher_bands_come_first(rt: HostRuntime) -> Result<(), Fail> {
+    Ok(run(&rt, rt.alloc(), SIZES, &OPENING, &BANDS_IN_ORDER)?)
 }

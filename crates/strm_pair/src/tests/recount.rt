@@ -223,10 +223,6 @@ fn is_wrong(side: Side, event: &Event<&[u8]>) -> bool {
     match event {
         Event::Unlock => side == Side::Slave,
         Event::Push { name } => *name != Some(ModuleName::Ptem),
-        Event::Flush {
-            band: Some(band),
-            ..
-        } => band.0 > 7,
         _ => false,
     }
 }

@@ -124,9 +124,9 @@ fn what_of(x: u64) -> FlushQueues {
     }
 }
 
-// All bands, or some band, which may be none of a queue's; not band 0, where all bytes are, while queues fill.
+// All bands, or some band; not band 0, where all bytes are, while queues fill.
 fn band_of(x: u64, fills: bool) -> Option<Band> {
-    let some = ((x >> 48) % 9) as u8;
+    let some = ((x >> 48) % 256) as u8;
     match (x >> 55) % 8 {
         0..=3 if !fills => None,
         4 if !fills => Some(Band(0)),

@@ -105,7 +105,7 @@ fn with_more(gotten: Gotten, control: bool, data: bool) -> Gotten {
 
 pub(super) const ORDINARY: Prio = Prio::Band(Band(0));
 
-const BANDED: Prio = Prio::Band(Band(2));
+const BANDED: Prio = Prio::Band(Band(200));
 
 pub(super) const AB: &[u8] = b"ab";
 
@@ -126,11 +126,11 @@ fn gets_give_the_message_that_is_asked_for(rt: HostRuntime) -> Result<(), Fail> 
     let high: Got<'_> = (got(Some(2), Some(3), Prio::High), ABCDE);
     let rows: [(Sent<'_>, Wanted, Got<'_>, Got<'_>); 8] = [
         (BOTH, Wanted::Any, whole, none),
-        (BOTH, Wanted::Band(Band(2)), whole, none),
-        (BOTH, Wanted::Band(Band(3)), none, whole),
+        (BOTH, Wanted::Band(Band(200)), whole, none),
+        (BOTH, Wanted::Band(Band(201)), none, whole),
         (BOTH, Wanted::High, none, whole),
         (HIGH, Wanted::High, high, none),
-        (HIGH, Wanted::Band(Band(7)), high, none),
+        (HIGH, Wanted::Band(Band(255)), high, none),
         (
             (ORDINARY, None, Some(EMPTY)),
             Wanted::Any,

@@ -87,7 +87,7 @@ fn goes<B: Blocks>(store: &mut B, head: &mut Head, step: Step<'_>) -> bool
         Step::Signals(numbers) => has_signals(head, numbers),
         Step::ReadsIn(mode) => head.read_mode == mode,
         Step::Marked(high, low) => {
-            let flow = head.queue.flows.at(Band(7));
+            let flow = head.queue.flows.at(Band(255));
             (flow.high, flow.low) == (high, low)
         }
         Step::Begins(number, command) => {

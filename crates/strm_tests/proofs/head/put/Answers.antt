@@ -2,16 +2,9 @@
 use Rattle.strm_queue.proofs.OneMade.{one-made}
 use Rattle.strm_types.specs.Flush.{is_data_kind}
 use Rattle.strm_queue.proofs.Holding.{data-readable}
-use Rattle.strm_queue.proofs.Queued.{sent-keeps, low-band, list-within}
+use Rattle.strm_queue.proofs.Queued.{sent-keeps, list-within}
 use Rattle.strm_tests.proofs.head.put.Goals as goal
 use Rattle.strm_blocks.specs.Blocks.{token}
-
-pub putq-requires-clause-band : goal.putq-requires-clause-band
-putq-requires-clause-band g c =
-    let s = g.B.Blocks.value c.args.store.now in
-    let made = g.B.Blocks.value c.from_bytes.new.store in
-    let i = token c.in-Ok.message in
-    low-band s made i c.args.bytes.now (one-made s made i c.args.bytes.now c.requires.small c.in-Ok.ensures)
 
 pub returns : goal.returns
 returns g c =

@@ -57,6 +57,7 @@ returns-in-OpenMaster-clause-held g c =
       once = is.once;
       owned = is.owned;
       spare = is.spare;
+      shelf = is.shelf;
     }))
 
 pub returns-in-Mode-clause-held : goal.returns-in-Mode-clause-held

@@ -6,7 +6,6 @@ use Rattle.strm_types.specs.declared.events.Event.{Event}
 use Rattle.strm_types.specs.Events.{request}
 use Rattle.strm_laws.specs.Refusals.{refused_at_once}
 use Rattle.strm_pair.specs.Pairs.{state_in}
-use Rattle.strm_pair.proofs.Refusing.{put-low}
 use Rattle.strm_pair.proofs.streams.Streams.unfit.Goals as goal
 
 pub returns-in-Unlock : goal.returns-in-Unlock

@@ -1,5 +1,5 @@
 -- The message stays on the queue, or is sent on as it is.
-use Rattle.std.proofs.Common.{ℕ, true, false, cond, List, [], ◌∷◌, sym, ap, ◌∙◌, arith}
+use Rattle.std.proofs.Common.{ℕ, true, false, cond, List, [], ◌∷◌, Some, sym, ap, ◌∙◌, arith}
 use Rattle.strm_types.specs.declared.spots.Spot.{Spot}
 use Rattle.strm_types.specs.declared.spots.Note.{Note}
 use Rattle.strm_types.specs.declared.spots.Note.TheVariants.{Enable}
@@ -10,10 +10,10 @@ use Rattle.strm_blocks.specs.Blocks.{in_hand, token}
 use Rattle.strm_msg.proofs.Chains.{kind-is}
 use Rattle.strm_frame.specs.Hands.{once}
 use Rattle.strm_frame.specs.Outboxes.{message_in}
-use Rattle.strm_tests.specs.Toys.{Stock, far, onward}
+use Rattle.strm_tests.specs.Toys.{Stock, far, onward, stocks}
 use Rattle.strm_tests.specs.ToyLaws.{stock_in}
 use Rattle.strm_frame.proofs.Handing.{can-in_hand, no-parts, none-chains, none-lower, none-hands, one-parts, one-chains, one-hands}
-use Rattle.strm_tests.proofs.ToySteps.{onward-falls, kind-stays, stocks-stay, stocks-on, joined-hands, frees-spends, own-list, one-lower}
+use Rattle.strm_tests.proofs.ToySteps.{onward-falls, kind-stays, stocks-stay, stocks-on, joined-hands, frees-spends, own-list, owned-by, one-lower}
 use Rattle.strm_tests.proofs.frame.stock.StockModule.put.Goals as goal
 
 pub kind-kind-requires-clause-in_hand : goal.kind-kind-requires-clause-in_hand
@@ -26,36 +26,44 @@ pub returns-then-stays-clause-state : goal.returns-then-stays-clause-state
 returns-then-stays-clause-state g c =
     let s = g.B.Blocks.value c.args.store.now in
     let n = token c.args.message in
-    let p = stock_in s c.args.self.now.name c.args.self.now.queue in
+    let p = stock_in s c.args.self.now.name (Some c.in-Some.queue) in
+    let same = ap (stock_in s c.args.self.now.name) (sym c.in-Some.is) in
     let did = stocks-stay c.args.here (message_in s n) p (kind-stays s n c.args.here.way c.kind-kind.result c.stays.result true c.kind-kind.ensures c.stays.ensures c.if-stays.true) in
-    ap (λ (q : plain.Queue ℕ). record p { queue = q }) c.enqueue-enables.ensures.queue ∙ ap (λ (a : Acted ℕ Stock). a.state) (sym did)
+    ap (λ (q : plain.Queue ℕ). record p { queue = q }) c.enqueue-enables.ensures.queue ∙ ap (λ (a : Acted ℕ Stock). a.state) (sym did ∙ ap (stocks c.args.here (message_in s n)) same)
 
 pub returns-then-stays-clause-notes : goal.returns-then-stays-clause-notes
 returns-then-stays-clause-notes g c =
     let s = g.B.Blocks.value c.args.store.now in
     let n = token c.args.message in
-    let p = stock_in s c.args.self.now.name c.args.self.now.queue in
+    let p = stock_in s c.args.self.now.name (Some c.in-Some.queue) in
+    let same = ap (stock_in s c.args.self.now.name) (sym c.in-Some.is) in
     let did = stocks-stay c.args.here (message_in s n) p (kind-stays s n c.args.here.way c.kind-kind.result c.stays.result true c.kind-kind.ensures c.stays.ensures c.if-stays.true) in
-    c.note_if.ensures ∙ ap (λ v. cond {A = List Note} v (Enable Down ∷ []) []) c.enqueue-enables.ensures.enables ∙ ap (λ (a : Acted ℕ Stock). a.notes) (sym did)
+    c.note_if.ensures ∙ ap (λ v. cond {A = List Note} v (Enable Down ∷ []) []) c.enqueue-enables.ensures.enables ∙ ap (λ (a : Acted ℕ Stock). a.notes) (sym did ∙ ap (stocks c.args.here (message_in s n)) same)
 
 pub returns-then-stays-clause-sent : goal.returns-then-stays-clause-sent
 returns-then-stays-clause-sent g c =
     let s = g.B.Blocks.value c.args.store.now in
     let n = token c.args.message in
-    let p = stock_in s c.args.self.now.name c.args.self.now.queue in
+    let p = stock_in s c.args.self.now.name (Some c.in-Some.queue) in
+    let same = ap (stock_in s c.args.self.now.name) (sym c.in-Some.is) in
     let did = stocks-stay c.args.here (message_in s n) p (kind-stays s n c.args.here.way c.kind-kind.result c.stays.result true c.kind-kind.ensures c.stays.ensures c.if-stays.true) in
-    no-parts _ _ c.none.ensures ∙ ap (λ (a : Acted ℕ Stock). a.sent) (sym did)
+    no-parts _ _ c.none.ensures ∙ ap (λ (a : Acted ℕ Stock). a.sent) (sym did ∙ ap (stocks c.args.here (message_in s n)) same)
 
 pub returns-then-stays-clause-told : goal.returns-then-stays-clause-told
 returns-then-stays-clause-told g c =
     let s = g.B.Blocks.value c.args.store.now in
     let n = token c.args.message in
-    let p = stock_in s c.args.self.now.name c.args.self.now.queue in
+    let p = stock_in s c.args.self.now.name (Some c.in-Some.queue) in
+    let same = ap (stock_in s c.args.self.now.name) (sym c.in-Some.is) in
     let did = stocks-stay c.args.here (message_in s n) p (kind-stays s n c.args.here.way c.kind-kind.result c.stays.result true c.kind-kind.ensures c.stays.ensures c.if-stays.true) in
-    ap (λ (a : Acted ℕ Stock). tallied a.gone c.args._told.now) (sym did)
+    ap (λ (a : Acted ℕ Stock). tallied a.gone c.args._told.now) (sym did ∙ ap (stocks c.args.here (message_in s n)) same)
 
 pub returns-then-stays-clause-own : goal.returns-then-stays-clause-own
-returns-then-stays-clause-own g c = let own = own-list _ _ _ _ c.enqueue-enables.ensures.changes in record { lists = own.lists; owns_same = own.owns_same }
+returns-then-stays-clause-own g c =
+    let s = g.B.Blocks.value c.args.store.now in
+    let t = g.B.Blocks.value c.enqueue-enables.new.store in
+    let own = own-list _ _ _ _ c.enqueue-enables.ensures.changes in
+    owned-by s t c.args.self.now.queue c.in-Some.queue (once c.enqueue-enables.new.queue.list) c.in-Some.is (record { lists = own.lists; owns_same = own.owns_same })
 
 pub returns-then-stays-clause-chains : goal.returns-then-stays-clause-chains
 returns-then-stays-clause-chains g c = none-chains _ _ c.none.ensures
