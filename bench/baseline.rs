@@ -22,8 +22,8 @@ fn round(pair: &mut Pair, act: usize, text: &[u8], asked: usize, out: &mut Vec<u
     if act == 5 {
         return pair.window_size(1, out).map(|()| out.len());
     }
-    if act == 4 {
-        pair.putmsg(0, 0, b"head", text)?;
+    if act == 4 || act == 6 {
+        pair.putmsg(0, if act == 6 { 200 } else { 0 }, b"head", text)?;
         turns(pair)?;
         return pair.getmsg(1, 64, 256, out).map(|()| out.len());
     }

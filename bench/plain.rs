@@ -75,10 +75,10 @@ impl Pool {
 struct Queue {
     first: u32,
     last: u32,
-    counts: [usize; 8],
+    counts: Vec<usize>,
     marks: [usize; 2],
     want_read: bool,
-    want_write: u8,
+    want_write: [u64; 4],
 }
 
 impl Queue {
@@ -141,7 +141,7 @@ impl Pair {
     pub fn new(blocks: usize, entries: usize, stack: usize) -> Pair {
         Pair {
             pool: Pool::new(blocks),
-            queues: MARKS.map(|marks| Queue { first: NONE, last: NONE, counts: [0; 8], marks, want_read: true, want_write: 0 }),
+            queues: MARKS.map(|marks| Queue { first: NONE, last: NONE, counts: vec![0; 256], marks, want_read: true, want_write: [0; 4] }),
             lined: stack.min(1),
             entries: Vec::with_capacity(entries),
             bytes: Vec::with_capacity(entries * 4096),
@@ -188,10 +188,14 @@ impl Pair {
             self.queues[queue].insert(&mut self.pool, NONE, rest);
         }
         let Queue { want_write, counts, marks, .. } = &mut self.queues[queue];
-        let low = |band: &usize| counts[*band] <= marks[1] && *want_write >> band & 1 == 1;
-        let waits = if *want_write == 0 { 0 } else { (0..8).filter(low).map(|band| 1 << band).sum() };
-        if waits > 0 {
-            *want_write &= !waits;
+        let mut went = false;
+        for (word, waits) in want_write.iter_mut().enumerate().filter(|(_, waits)| **waits != 0) {
+            let low = |bit: &usize| *waits >> bit & 1 == 1 && counts[word * 64 + bit] <= marks[1];
+            let go: u64 = (0..64).filter(low).map(|bit| 1 << bit).sum();
+            *waits &= !go;
+            went |= go != 0;
+        }
+        if went {
             (2..6).find(|&before| BEHIND[self.lined][before] == queue).map(|before| self.enable(before));
         }
     }
@@ -232,7 +236,6 @@ impl Pair {
     }
 
     pub fn putmsg(&mut self, side: usize, band: u8, control: &[u8], body: &[u8]) -> Result<(), &'static str> {
-        unless(band < 8, "EINVAL")?;
         unless(control.len() <= 64 && body.len() <= BLOCK, "ERANGE")?;
         self.allows(control.len() + body.len(), 34)?;
         unless(!self.queues[TOPS[self.lined][side]].is_full(band), "EAGAIN")?;
@@ -283,7 +286,7 @@ impl Pair {
         let band = self.pool.blocks[m as usize].band;
         let behind = &mut self.queues[BEHIND[self.lined][queue]];
         let held = behind.is_full(band);
-        behind.want_write |= (held as u8) << band;
+        behind.want_write[band as usize / 64] |= (held as u64) << (band % 64);
         let size = if held { 0 } else { self.serve(queue, m) };
         self.queues[queue].want_read = self.queues[queue].first == NONE;
         if !held && self.queues[queue].first != NONE {

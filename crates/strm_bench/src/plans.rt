@@ -15,6 +15,8 @@ pub enum Act {
     Shows,
     /// The master sends a message with a control part of four bytes by putmsg(2), and the slave takes it by getmsg(2).
     Messages,
+    /// The same in band 200.
+    BandedMessages,
     /// The slave asks for the size of its window (termio(7I): TIOCGWINSZ).
     Winsizes,
 }

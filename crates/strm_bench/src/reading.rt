@@ -76,6 +76,7 @@ fn act_as(number: u32) -> Option<Act>
         3 => Some(Act::Shows),
         4 => Some(Act::Messages),
         5 => Some(Act::Winsizes),
+        6 => Some(Act::BandedMessages),
         _ => None,
     }
 }

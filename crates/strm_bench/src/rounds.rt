@@ -110,17 +110,18 @@ fn given(round: &Round, out: &Content) -> Option<u32>
     Some(bytes)
 }
 
-// Sends a message with a control part, whose data part is the text, and takes it on the slave.
+// Sends a message of a band with a control part, whose data part is the text, and takes it on the slave.
 fn messages<B: Blocks + Drop>(
     pair: &mut Pair<B>,
     round: &Round,
+    band: Band,
     text: &[u8],
     out: &mut Content,
 ) -> Option<u32>
     ensures { IfSome result (λ bytes. bytes ≤ round.now.asked) }
 {
     let put = Event::Put {
-        prio: Prio::Band(Band(0)),
+        prio: Prio::Band(band),
         control: Some(&b"head"[..]),
         body: Some(text),
     };
@@ -159,7 +160,8 @@ pub fn makes_round<B: Blocks + Drop>(
     ensures { IfSome result (λ bytes. bytes ≤ round.now.asked) }
 {
     match round.act {
-        Act::Messages => messages(pair, round, text, out),
+        Act::Messages => messages(pair, round, Band(0), text, out),
+        Act::BandedMessages => messages(pair, round, Band(200), text, out),
         Act::Winsizes => winsizes(pair, round, out),
         _ => moves(pair, round, text, out),
     }
