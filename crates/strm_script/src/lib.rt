@@ -1,0 +1,21 @@
+//! Scripts of calls on a pair: commands, one a line, and an answer line for each. `run_script` reads and writes them;
+//! its contract says what is written, by the definitions of script text in `specs`.
+#![tactic(auto)]
+
+mod answers;
+mod commands;
+mod engine;
+mod ioctls;
+mod ledgers;
+mod lines;
+mod numbers;
+mod output;
+mod script;
+mod session;
+mod texts;
+mod words;
+
+pub use script::{ScriptEnd, ScriptStatus, run_script};
+
+#[cfg(test)]
+mod tests;
