@@ -30,7 +30,7 @@ use Rattle.strm_script.specs.declared.answers.Line.TheVariants as lines
 use Rattle.strm_script.specs.Plain.{plain}
 use Rattle.strm_script.specs.Lines.{line_of}
 use Rattle.strm_script.specs.Outcomes.{LeadsTo, answered_as}
-use Rattle.strm_script.specs.declared.session.Answered.{Answered}
+use Rattle.strm_script.specs.declared.outcomes.Answered.{Answered}
 
 -- what the pool had, by whether it had enough
 supply_of : Bool → Supply

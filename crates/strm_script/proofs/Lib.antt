@@ -13,6 +13,8 @@ pub mod Fronts
 pub mod MessageSpellings
 pub mod IoctlSpellings
 pub mod GroupSpellings
+pub mod QueueSpellings
+pub mod StreamSpellings
 pub mod Spellings
 mod ScriptRows
 mod RunRows

@@ -9,7 +9,7 @@ use Rattle.strm_script.specs.ScriptRun as script
 use Rattle.strm_script.specs.ScriptRun.{Supply, PlainPair, Session, session_behind, Told, told_after, told_from, first_of, line_if, answered}
 use Rattle.strm_script.specs.Lines.{line_of}
 use Rattle.strm_script.specs.Outcomes.{LeadsTo, answered_as}
-use Rattle.strm_script.specs.declared.session.Answered.{Answered}
+use Rattle.strm_script.specs.declared.outcomes.Answered.{Answered}
 use Rattle.strm_script.specs.Points.{Point, lines_behind, told_at, behind, Goes, Ends, Breaks, Shows, Says}
 use Rattle.strm_script.proofs.Supplies.{told-enough}
 

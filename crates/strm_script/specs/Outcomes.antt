@@ -5,7 +5,7 @@ use Rattle.strm_script.specs.ScriptRun as script
 use Rattle.strm_script.specs.ScriptRun.{Supply, PlainPair}
 use Rattle.strm_script.specs.Plain.{plain}
 use Rattle.strm_script.specs.Lines.{line_of}
-use Rattle.strm_script.specs.declared.session.Answered.{Answered}
+use Rattle.strm_script.specs.declared.outcomes.Answered.{Answered}
 
 -- what the code answers, as the definitions of script text have it
 abbrev pub answered_as : Answered → List ℕ → Option PlainPair → List Supply → script.Answered

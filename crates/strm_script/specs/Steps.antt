@@ -7,7 +7,7 @@ use Rattle.strm_script.specs.Plain.{plain}
 use Rattle.strm_script.specs.Lines.{line_of}
 use Rattle.strm_script.specs.Outcomes.{LeadsTo}
 use Rattle.strm_script.specs.Points.{Point, beginning, Goes, Ends, Breaks, Shows, Says}
-use Rattle.strm_script.specs.declared.session.Answered.{Answered}
+use Rattle.strm_script.specs.declared.outcomes.Answered.{Answered}
 use Rattle.strm_script.specs.declared.engine.Engine.{Engine}
 use Rattle.strm_script.specs.declared.engine.Stop.{Stop}
 use Rattle.strm_script.specs.declared.engine.Stop.TheVariants.{Malformed, NoMemory}

@@ -9,7 +9,7 @@ ghost use Rattle.strm_script.specs.Lines.{line_of};
 use crate::answers::{Line, Shown};
 use crate::commands::{Command, Reading};
 use crate::lines::{LINE_MAX, reading};
-use crate::session::{answer, callers_behind};
+use crate::obeying::{answer, callers_behind};
 use std::alloc::{AllocError, Global};
 use strm_blocks::Reserve;
 use strm_pair::Pair;

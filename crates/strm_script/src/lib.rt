@@ -3,16 +3,20 @@
 #![tactic(auto)]
 
 mod answers;
+mod calls;
 mod commands;
 mod engine;
 mod ioctls;
 mod ledgers;
 mod lines;
+mod looks;
 mod numbers;
+mod obeying;
+mod outcomes;
 mod output;
 mod script;
-mod session;
 mod texts;
+mod turns;
 mod words;
 
 pub use script::{ScriptEnd, ScriptStatus, run_script};
