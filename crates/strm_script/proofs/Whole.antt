@@ -7,14 +7,15 @@ use Rattle.strm_script.specs.ScriptReading.{Reading, Silent, Malformed as Malfor
 use Rattle.strm_script.specs.ScriptAnswers.{printed_line, Wrong}
 use Rattle.strm_script.specs.ScriptRun.{Supply, Session, new_session, session_behind, Told, told_from, told, answered}
 use Rattle.strm_script.specs.Points.{Point, beginning, last_line, lines_behind, told_at, Shows, Says}
-use Rattle.strm_script.specs.Steps.{point_of, Ready, Took, Steps, Finishes, EndsInput}
+use Rattle.strm_script.specs.Sessions.{SessionValue, fresh_session, Took, Steps, Finishes, EndsInput}
+use Rattle.strm_script.specs.Steps.{point_of, value_of}
 use Rattle.strm_script.specs.Output.{Writes}
 use Rattle.strm_script.specs.Serving.{Serves, Ended, status_of}
 use Rattle.strm_script.specs.Runs.{Agrees, IsScript, IsRun}
 use Rattle.strm_script.proofs.PlainTexts.{told-same, told-front}
 use Rattle.strm_script.specs.declared.engine.Engine.{Engine}
 use Rattle.strm_script.specs.declared.engine.Stop.{Stop}
-use Rattle.strm_script.specs.declared.engine.Stop.TheVariants.{Malformed, NoMemory}
+use Rattle.strm_script.specs.declared.engine.Stop.TheVariants.{Malformed, Broken}
 use Rattle.strm_script.specs.declared.script.ScriptStatus.{ScriptStatus}
 use Rattle.strm_script.specs.declared.script.ScriptStatus.TheVariants as ends
 use Rattle.strm_script.proofs.Ways.{Goes-none, Goes-join, Ends-join, Breaks-join, Says-behind, Says-ended, Shows-broken, Shows-going, Shows-behind, Shows-less}
@@ -133,14 +134,17 @@ run_by None r1 w0 w1 status short input h f = tt
 run_by (Some bytes) None w0 w1 status short input h f = absurd h
 run_by (Some bytes) (Some rest) w0 w1 status short input h f = subst (Outcome w0 w1 status short) (sym h) (f rest refl)
 
-pub serves_first : {B : Type 0} (r w : Option (List ℕ)) (e : Engine B) → Ready e → Serves r r w w e
-serves_first r w e x = record {
-  input = [];
-  written = [];
-  reads = Consumes-none r;
-  writes = Appends-none w;
-  goes = rw (x.point, x.answers) (Goes-none beginning);
-}
+pub serves_first : {B : Type 0} (r w : Option (List ℕ)) (e : Engine B) → value_of e ≡ fresh_session → Serves r r w w e
+serves_first r w e x =
+    let point : point_of e ≡ beginning = ap (λ (v : SessionValue). v.point) x in
+    let none : e.answers.items ≡ [] = ap (λ (v : SessionValue). v.answers) x in
+    record {
+      input = [];
+      written = [];
+      reads = Consumes-none r;
+      writes = Appends-none w;
+      goes = rw (point, none) (Goes-none beginning);
+    }
 
 -- the answers are written
 pub serves_sent : {B : Type 0} (r0 r1 w0 w1 w2 : Option (List ℕ)) (e sent : Engine B) → Serves r0 r1 w0 w1 e → Writes w1 w2 e.answers.items true
@@ -181,7 +185,7 @@ serves_failed r0 r1 r2 w0 w1 e x k =
     ))
 
 -- more was read, and taken
-pub serves_took : {B : Type 0} (r0 r1 r2 w0 w1 : Option (List ℕ)) (e took : Engine B) (bytes : List ℕ) → Serves r0 r1 w0 w1 e → Consumes r1 r2 bytes → Took e took bytes
+pub serves_took : {B : Type 0} (r0 r1 r2 w0 w1 : Option (List ℕ)) (e took : Engine B) (bytes : List ℕ) → Serves r0 r1 w0 w1 e → Consumes r1 r2 bytes → Took (value_of e) (value_of took) bytes
     → Serves r0 r2 w0 w1 took
 serves_took r0 r1 r2 w0 w1 e took bytes x read y = record {
   input = x.input ++ bytes;
@@ -259,7 +263,7 @@ said_text written old new text e = append_assoc written old text ∙ ap (λ k. w
 
 -- a script that stops among bytes
 pub serves_stopped : {B : Type 0} (r0 r1 r2 w0 w1 w2 : Option (List ℕ)) (e done : Engine B) (bytes : List ℕ) (stop : Stop) (status : ScriptStatus) (short : Option ℕ)
-    → Serves r0 r1 w0 w1 e → Consumes r1 r2 bytes → Steps e done bytes (Err stop) → Ended w1 w2 done.answers.items status (status_of stop)
+    → Serves r0 r1 w0 w1 e → Consumes r1 r2 bytes → Steps (value_of e) (value_of done) bytes (Err stop) → Ended w1 w2 done.answers.items status (status_of stop)
     → short ≡ done.short → IsRun r0 w0 w2 status short
 serves_stopped r0 r1 r2 w0 w1 w2 e done bytes Malformed status short x read y end same =
     run_by r0 r2 w0 w2 status short (x.input ++ bytes) (Consumes-join r0 r1 r2 x.input bytes x.reads read) (λ rest left.
@@ -267,7 +271,7 @@ serves_stopped r0 r1 r2 w0 w1 w2 e done bytes Malformed status short x read y en
     (Ends-join beginning (point_of e) x.input bytes (x.written ++ e.answers.items) y.text done.short y.number x.goes y.ends) in
     rw (same) (outcome_faulty w0 w1 w2 status done.short y.number ((x.input ++ bytes) ++ rest) x.written done.answers.items
     (rw (sym (said_text x.written e.answers.items done.answers.items y.text y.answers)) says) x.writes end))
-serves_stopped r0 r1 r2 w0 w1 w2 e done bytes NoMemory status short x read y end same =
+serves_stopped r0 r1 r2 w0 w1 w2 e done bytes Broken status short x read y end same =
     run_by r0 r2 w0 w2 status short (x.input ++ bytes) (Consumes-join r0 r1 r2 x.input bytes x.reads read) (λ rest left.
     let shows = Shows-broken beginning (x.input ++ bytes) rest ((x.written ++ e.answers.items) ++ y.text) done.short
     (Breaks-join beginning (point_of e) x.input bytes (x.written ++ e.answers.items) y.text done.short x.goes y.breaks) in
@@ -279,7 +283,7 @@ at_end : (r : Option (List ℕ)) (rest : List ℕ) → r ≡ Some rest → IsAtE
 at_end None rest e h = absurd cc
 at_end (Some bytes) rest e h = let same : bytes ≡ rest = cc in sym same ∙ h
 
-finish_says : {B : Type 0} (r0 r1 w0 w1 : Option (List ℕ)) (e done : Engine B) (fault : Option ℕ) (x : Serves r0 r1 w0 w1 e) → Finishes e done fault
+finish_says : {B : Type 0} (r0 r1 w0 w1 : Option (List ℕ)) (e done : Engine B) (fault : Option ℕ) (x : Serves r0 r1 w0 w1 e) → Finishes (value_of e) (value_of done) fault
     → Says beginning (x.input ++ []) (x.written ++ done.answers.items) done.short fault
 finish_says r0 r1 w0 w1 e done fault x y =
     rw (sym (said_text x.written e.answers.items done.answers.items y.text y.answers))
@@ -287,14 +291,14 @@ finish_says r0 r1 w0 w1 e done fault x y =
 
 -- a script whose input has ended, and whose last answers are sent or not
 pub serves_finished : {B : Type 0} (r0 r1 w0 w1 w2 : Option (List ℕ)) (e done : Engine B) (short : Option ℕ) → Serves r0 r1 w0 w1 e → IsAtEnd r1
-    → EndsInput e done (Ok tt) → Writes w1 w2 done.answers.items true → short ≡ done.short → IsRun r0 w0 w2 ends.Whole short
+    → EndsInput (value_of e) (value_of done) (Ok tt) → Writes w1 w2 done.answers.items true → short ≡ done.short → IsRun r0 w0 w2 ends.Whole short
 serves_finished r0 r1 w0 w1 w2 e done short x none y sent same =
     run_by r0 r1 w0 w2 ends.Whole short x.input x.reads (λ rest left.
     rw (same, at_end r1 rest left none)
     (outcome_whole w0 w1 w2 done.short (x.input ++ []) x.written done.answers.items (finish_says r0 r1 w0 w1 e done None x y) x.writes sent))
 
 pub serves_unsent : {B : Type 0} (r0 r1 w0 w1 w2 : Option (List ℕ)) (e done : Engine B) (well : Bool) (short : Option ℕ) → Serves r0 r1 w0 w1 e → IsAtEnd r1
-    → EndsInput e done (Ok tt) → Writes w1 w2 done.answers.items well → short ≡ done.short → IsRun r0 w0 w2 ends.Broken short
+    → EndsInput (value_of e) (value_of done) (Ok tt) → Writes w1 w2 done.answers.items well → short ≡ done.short → IsRun r0 w0 w2 ends.Broken short
 serves_unsent r0 r1 w0 w1 w2 e done well short x none y sent same =
     run_by r0 r1 w0 w2 ends.Broken short x.input x.reads (λ rest left.
     rw (same, at_end r1 rest left none)
@@ -304,12 +308,12 @@ serves_unsent r0 r1 w0 w1 w2 e done well short x none y sent same =
     x.writes sent.appends sent.bytes_are))
 
 pub serves_ended : {B : Type 0} (r0 r1 w0 w1 w2 : Option (List ℕ)) (e done : Engine B) (stop : Stop) (status : ScriptStatus) (short : Option ℕ) → Serves r0 r1 w0 w1 e → IsAtEnd r1
-    → EndsInput e done (Err stop) → Ended w1 w2 done.answers.items status (status_of stop) → short ≡ done.short → IsRun r0 w0 w2 status short
+    → EndsInput (value_of e) (value_of done) (Err stop) → Ended w1 w2 done.answers.items status (status_of stop) → short ≡ done.short → IsRun r0 w0 w2 status short
 serves_ended r0 r1 w0 w1 w2 e done Malformed status short x none y end same =
     run_by r0 r1 w0 w2 status short x.input x.reads (λ rest left.
     rw (same, at_end r1 rest left none)
     (outcome_faulty w0 w1 w2 status done.short y.0 (x.input ++ []) x.written done.answers.items (finish_says r0 r1 w0 w1 e done (Some y.0) x y.1) x.writes end))
-serves_ended r0 r1 w0 w1 w2 e done NoMemory status short x none y end same =
+serves_ended r0 r1 w0 w1 w2 e done Broken status short x none y end same =
     run_by r0 r1 w0 w2 status short x.input x.reads (λ rest left.
     rw (same, at_end r1 rest left none)
     (outcome_broken w0 w1 w2 status done.short (x.input ++ []) x.written done.answers.items

@@ -9,6 +9,7 @@ pub mod Lines
 pub mod Plain
 pub mod Outcomes
 pub mod Points
+pub mod Sessions
 pub mod Steps
 pub mod Output
 pub mod Runs

@@ -28,4 +28,4 @@ pub record Ended (w0 w1 : Option (List ℕ)) (answers : List ℕ) (status good :
 -- the status of a script that stopped, if all its answers are written
 abbrev pub status_of : Stop → ScriptStatus
 status_of stops.Malformed = Malformed
-status_of stops.NoMemory = Broken
+status_of stops.Broken = Broken

@@ -1,16 +1,17 @@
 -- What the engine of a script does with bytes.
-use Rattle.std.specs.Prelude.{◌≡◌, ℕ, suc, List, [], ◌∷◌, ◌++◌, Option, None, Some, Result, Ok, Err, option_map, ◌⊎◌}
+use Rattle.std.specs.Prelude.{◌≡◌, ℕ, suc, List, [], ◌∷◌, ◌++◌, Option, Result, Ok, Err, option_map, ◌⊎◌}
 use Rattle.strm_script.specs.Script.{Command}
 use Rattle.strm_script.specs.ScriptAnswers.{printed_line, Wrong}
 use Rattle.strm_script.specs.ScriptRun.{answered, callers_behind, first_of, line_if, PlainPair, Session}
 use Rattle.strm_script.specs.Plain.{plain}
 use Rattle.strm_script.specs.Lines.{line_of}
 use Rattle.strm_script.specs.Outcomes.{LeadsTo}
-use Rattle.strm_script.specs.Points.{Point, beginning, Goes, Ends, Breaks, Shows, Says}
+use Rattle.strm_script.specs.Points.{Point, Goes}
+use Rattle.strm_script.specs.Sessions.{SessionValue, Refuses, Fails}
 use Rattle.strm_script.specs.declared.outcomes.Answered.{Answered}
 use Rattle.strm_script.specs.declared.engine.Engine.{Engine}
 use Rattle.strm_script.specs.declared.engine.Stop.{Stop}
-use Rattle.strm_script.specs.declared.engine.Stop.TheVariants.{Malformed, NoMemory}
+use Rattle.strm_script.specs.declared.engine.Stop.TheVariants.{Malformed, Broken}
 
 -- the pair of the script
 abbrev pub pair_of : {B : Type 0} → Engine B → Option PlainPair
@@ -28,15 +29,14 @@ point_of e = record { session = session_of e; lines = e.lines; line = e.line.ite
 abbrev pub point_behind : {B : Type 0} → Engine B → Point
 point_behind e = record { session = session_of e; lines = suc e.lines; line = []; short = e.short }
 
--- an engine that has read nothing
-pub record Ready {B : Type 0} (e : Engine B) : Type 0 where
-  pub point : point_of e ≡ beginning
-  pub answers : e.answers.items ≡ []
+-- how far it has come, and the answers that nobody took
+abbrev pub value_of : {B : Type 0} → Engine B → SessionValue
+value_of e = record { point = point_of e; answers = e.answers.items }
 
 -- the engine has said that the next line is malformed, or had no memory for it
 abbrev pub Refused : {B : Type 0} → Engine B → Engine B → Stop → Type 0
 Refused old new Malformed = (new.short ≡ old.short) × (new.answers.items ≡ old.answers.items ++ printed_line (Wrong (suc old.lines)))
-Refused old new NoMemory = (new.short ≡ old.short) × (new.answers.items ≡ old.answers.items)
+Refused old new Broken = (new.short ≡ old.short) × (new.answers.items ≡ old.answers.items)
 
 -- a command led to an outcome
 pub record Obeys {B : Type 0} (command : Command) (old new : Engine B) (found : Answered) : Type 0 where
@@ -48,13 +48,7 @@ pub record Obeys {B : Type 0} (command : Command) (old new : Engine B) (found : 
 abbrev pub Obeyed : {B : Type 0} → Command → Engine B → Engine B → Result (Unit {0}) Stop → Type 0
 Obeyed command old new (Ok _) = (found : Answered) × Obeys command old new found × (new.answers.items ≡ old.answers.items ++ printed_line (line_of new.out.items found.line))
 Obeyed command old new (Err Malformed) = ⊥
-Obeyed command old new (Err NoMemory) = ((new.short ≡ old.short) ⊎ ((found : Answered) × Obeys command old new found)) × (new.answers.items ≡ old.answers.items)
-
--- the engine took bytes, and put the answers of their lines behind the others
-pub record Took {B : Type 0} (old new : Engine B) (input : List ℕ) : Type 0 where
-  pub text : List ℕ
-  pub goes : Goes (point_of old) input text (point_of new)
-  pub answers : new.answers.items ≡ old.answers.items ++ text
+Obeyed command old new (Err Broken) = ((new.short ≡ old.short) ⊎ ((found : Answered) × Obeys command old new found)) × (new.answers.items ≡ old.answers.items)
 
 -- the engine answered a line
 pub record Answers {B : Type 0} (old new : Engine B) : Type 0 where
@@ -62,43 +56,8 @@ pub record Answers {B : Type 0} (old new : Engine B) : Type 0 where
   pub goes : Goes (point_of old) (10 ∷ []) text (point_behind new)
   pub answers : new.answers.items ≡ old.answers.items ++ text
 
--- the engine came to a malformed line among bytes, and said so
-pub record Refuses {B : Type 0} (old new : Engine B) (input : List ℕ) : Type 0 where
-  pub text : List ℕ
-  pub number : ℕ
-  pub ends : Ends (point_of old) input text new.short number
-  pub answers : new.answers.items ≡ old.answers.items ++ text
-
--- the engine ran out of memory among bytes; each of its answers is whole
-pub record Fails {B : Type 0} (old new : Engine B) (input : List ℕ) : Type 0 where
-  pub text : List ℕ
-  pub breaks : Breaks (point_of old) input text new.short
-  pub answers : new.answers.items ≡ old.answers.items ++ text
-
--- what the engine did with bytes
-abbrev pub Steps : {B : Type 0} → Engine B → Engine B → List ℕ → Result (Unit {0}) Stop → Type 0
-Steps old new input (Ok _) = Took old new input
-Steps old new input (Err Malformed) = Refuses old new input
-Steps old new input (Err NoMemory) = Fails old new input
-
 -- what the engine did with a line
 abbrev pub AnswersLine : {B : Type 0} → Engine B → Engine B → Result (Unit {0}) Stop → Type 0
 AnswersLine old new (Ok _) = Answers old new
-AnswersLine old new (Err Malformed) = Refuses old new (10 ∷ [])
-AnswersLine old new (Err NoMemory) = Fails old new (10 ∷ [])
-
--- what the engine did at the end of the input
-pub record Finishes {B : Type 0} (old new : Engine B) (fault : Option ℕ) : Type 0 where
-  pub text : List ℕ
-  pub says : Says (point_of old) [] text new.short fault
-  pub answers : new.answers.items ≡ old.answers.items ++ text
-
-pub record BreaksOff {B : Type 0} (old new : Engine B) : Type 0 where
-  pub text : List ℕ
-  pub shows : Shows (point_of old) [] text new.short
-  pub answers : new.answers.items ≡ old.answers.items ++ text
-
-abbrev pub EndsInput : {B : Type 0} → Engine B → Engine B → Result (Unit {0}) Stop → Type 0
-EndsInput old new (Ok _) = Finishes old new None
-EndsInput old new (Err Malformed) = (n : ℕ) × Finishes old new (Some n)
-EndsInput old new (Err NoMemory) = BreaksOff old new
+AnswersLine old new (Err Malformed) = Refuses (value_of old) (value_of new) (10 ∷ [])
+AnswersLine old new (Err Broken) = Fails (value_of old) (value_of new) (10 ∷ [])

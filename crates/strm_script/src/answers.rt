@@ -292,18 +292,15 @@ impl fmt::Display for ShownPart<'_> {
     }
 }
 
-/// What there is more of in a message, as it is printed.
+/// Whether there is more of a message's control part, and of its data part, as it is printed.
 #[derive(Drop)]
-struct More {
-    control: bool,
-    body: bool,
-}
+struct More(bool, bool);
 
 impl fmt::Display for More {
-    ghost output = { λ more. Some (more_text more.control more.body) };
+    ghost output = { λ more. Some (more_text more.0 more.1) };
 
     fn fmt<W: fmt::Write>(&self, f: &mut fmt::Formatter<W>) -> fmt::Result {
-        match (self.control, self.body) {
+        match (self.0, self.1) {
             (false, false) => write!(f, "-"),
             (true, false) => write!(f, "c"),
             (false, true) => write!(f, "d"),
@@ -412,10 +409,7 @@ impl fmt::Display for ShownAnswer<'_> {
             } => {
                 let prio = ShownPrio(*prio);
                 let (control, body) = shown_parts(*control, *body, self.bytes);
-                let more = More {
-                    control: *more_control,
-                    body: *more_data,
-                };
+                let more = More(*more_control, *more_data);
                 write!(f, "msg {prio} {control} {body} {more}")
             }
             Answer::Sizes { first, messages } => write!(f, "ok {first} {messages}"),

@@ -16,12 +16,12 @@ use strm_pair::Pair;
 use strm_types::{Both, Caller, Content, Side};
 
 /// Why a script ends before its input does.
-#[derive(Clone, Copy)]
+#[derive(Clone, Copy, Debug, PartialEq)]
 pub enum Stop {
-    /// A line was malformed, and the answers say so.
+    /// A line spells no command, or is longer than 4096 bytes; the last answer, `err line N`, says which.
     Malformed,
-    /// Memory was refused.
-    NoMemory,
+    /// Memory was refused, or 2^59 lines have ended. Each answer is whole.
+    Broken,
 }
 
 /// A script on its way: its pair and who makes the calls on it, the line that is read, and the answers that aren't written yet.
@@ -55,11 +55,12 @@ fn say(alloc: Global, line: &Line, bytes: &[u8], answers: &mut Vec<u8>) -> Resul
 }
 
 impl<B: Reserve> Engine<B> {
-    ghost use Rattle.strm_script.specs.Steps.{Steps, Ready, Refused, Obeyed, AnswersLine, EndsInput};
+    ghost use Rattle.strm_script.specs.Sessions.{Steps, EndsInput, fresh_session};
+    ghost use Rattle.strm_script.specs.Steps.{Refused, Obeyed, AnswersLine, value_of};
 
     /// A script that begins.
     pub fn new(alloc: Global) -> Engine<B>
-        ensures { Ready result }
+        ensures { value_of result ≡ fresh_session }
     {
         Engine {
             pair: None,
@@ -95,7 +96,7 @@ impl<B: Reserve> Engine<B> {
         if say(alloc, &line, &[], &mut self.answers).is_ok() {
             Stop::Malformed
         } else {
-            Stop::NoMemory
+            Stop::Broken
         }
     }
 
@@ -107,7 +108,7 @@ impl<B: Reserve> Engine<B> {
     {
         let callers = self.callers;
         let Ok(answered) = answer(alloc, &mut self.pair, &callers, command, &mut self.out) else {
-            return Err(Stop::NoMemory);
+            return Err(Stop::Broken);
         };
         self.callers = callers_behind(callers, command);
         self.note(answered.short);
@@ -121,7 +122,7 @@ impl<B: Reserve> Engine<B> {
         {
             Ok(())
         } else {
-            Err(Stop::NoMemory)
+            Err(Stop::Broken)
         }
     }
 
@@ -132,7 +133,7 @@ impl<B: Reserve> Engine<B> {
         ensures lines { self.new.lines ≡ self.old.lines }
     {
         let Ok(found) = reading(alloc, self.line.as_slice()) else {
-            return Err(Stop::NoMemory);
+            return Err(Stop::Broken);
         };
         match found {
             Reading::Silent => Ok(()),
@@ -144,7 +145,7 @@ impl<B: Reserve> Engine<B> {
     /// Answers the line that ends, and begins the next.
     fn end_line(&mut self, alloc: Global) -> Result<(), Stop>
         requires { self.old.lines < 2 ^ 60 }
-        ensures steps { Steps self.old self.new (10 ∷ []) result }
+        ensures steps { Steps (value_of self.old) (value_of self.new) (10 ∷ []) result }
         ensures fresh { OnOk result (self.new.line.items ≡ []) }
         ensures count { self.new.lines ≤ self.old.lines + 1 }
     {
@@ -159,7 +160,7 @@ impl<B: Reserve> Engine<B> {
     /// Takes the next byte.
     fn take_byte(&mut self, alloc: Global, byte: u8) -> Result<(), Stop>
         requires { self.old.lines < 2 ^ 60 }
-        ensures steps { Steps self.old self.new (byte ∷ []) result }
+        ensures steps { Steps (value_of self.old) (value_of self.new) (byte ∷ []) result }
         ensures count { self.new.lines ≤ self.old.lines + 1 }
     {
         if byte == b'\n' {
@@ -171,14 +172,14 @@ impl<B: Reserve> Engine<B> {
         if self.line.push(byte).is_ok() {
             Ok(())
         } else {
-            Err(Stop::NoMemory)
+            Err(Stop::Broken)
         }
     }
 
     /// Takes the next bytes of the script.
     pub fn take(&mut self, alloc: Global, bytes: &[u8]) -> Result<(), Stop>
         requires { self.old.lines + length bytes.now < 2 ^ 60 }
-        ensures steps { Steps self.old self.new bytes.now result }
+        ensures steps { Steps (value_of self.old) (value_of self.new) bytes.now result }
         ensures count { self.new.lines ≤ self.old.lines + length bytes.now }
     {
         for byte in bytes {
@@ -192,7 +193,7 @@ impl<B: Reserve> Engine<B> {
     /// Answers the last line, where it lacks its LF.
     pub fn finish(&mut self, alloc: Global) -> Result<(), Stop>
         requires { self.old.lines < 2 ^ 60 }
-        ensures { EndsInput self.old self.new result }
+        ensures { EndsInput (value_of self.old) (value_of self.new) result }
     {
         if self.line.is_empty() {
             return Ok(());

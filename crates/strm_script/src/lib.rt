@@ -15,11 +15,14 @@ mod obeying;
 mod outcomes;
 mod output;
 mod script;
+mod session;
 mod texts;
 mod turns;
 mod words;
 
+pub use engine::Stop;
 pub use script::{ScriptEnd, ScriptStatus, run_script};
+pub use session::Session;
 
 #[cfg(test)]
 mod tests;

@@ -4,7 +4,8 @@ ghost use Rattle.std.specs.Prelude.{◌≡◌, ◌+◌, ◌<◌, ◌≤◌, ◌^
 ghost use Rattle.strm_script.specs.Runs.{IsRun, exit_number};
 ghost use Rattle.strm_script.specs.Output.{Writes};
 ghost use Rattle.strm_script.specs.Serving.{Serves, Ended, status_of};
-ghost use Rattle.strm_script.specs.Steps.{Ready, point_of};
+ghost use Rattle.strm_script.specs.Sessions.{fresh_session};
+ghost use Rattle.strm_script.specs.Steps.{point_of, value_of};
 
 use crate::engine::{Engine, Stop};
 use crate::output::send;
@@ -17,14 +18,14 @@ use strm_blocks::Reserve;
 pub enum ScriptStatus {
     /// The input ended, and all was written.
     Whole,
-    /// A line was malformed, and the text says so.
+    /// A line spells no command, or is longer than 4096 bytes; the last answer, `err line N`, says which. Nothing behind it was carried out.
     Malformed,
     /// The reader or the writer failed, memory was refused, or 2^32 - 1 reads were made.
     Broken,
 }
 
 impl ScriptStatus {
-    /// The number by which the program tells it.
+    /// The exit status by which a program tells it: 0, 1 or 2, in the order of the variants.
     pub fn number(self) -> u8
         ensures { result ≡ exit_number self }
     {
@@ -39,9 +40,10 @@ impl ScriptStatus {
 /// What a run of a script came to.
 #[derive(Clone, Copy, Debug, PartialEq)]
 pub struct ScriptEnd {
+    /// Why it ended.
     pub status: ScriptStatus,
-    /// The first line in which a call or a turn got ENOSR, or a turn of a module's queue moved fewer bytes than its first message had: it
-    /// stopped within it for want of blocks.
+    /// The first line, counted from 1, in which a call or a turn got ENOSR, or a turn of a module's queue moved fewer bytes than its first message
+    /// had: it stopped within it for want of blocks.
     pub short: Option<u64>,
 }
 
@@ -79,7 +81,7 @@ fn serve<B: Reserve, R: Read, W: Write>(
     reader: &mut R,
     writer: &mut W,
 ) -> ScriptStatus
-    requires { Ready engine.old }
+    requires { value_of engine.old ≡ fresh_session }
     ensures { IsRun (R.remaining reader.old) (W.contents writer.old) (W.contents writer.new) result engine.new.short }
 {
     let mut chunk = [0u8; CHUNK];
@@ -123,10 +125,15 @@ fn end_of<B: Reserve>(status: ScriptStatus, engine: &Engine<B>) -> ScriptEnd
     }
 }
 
-/// Runs a script: reads commands, one a line, and writes an answer line for each. What it writes, up to a fault, is the
+/// Runs a script: reads commands, one a line of at most 4096 bytes, and writes an answer line for each. What it writes, up to a fault, is the
 /// text that the script's bytes say, for some account of which calls and turns the pool had enough blocks for and of how far turns of
 /// modules' queues went; before the line `short`, and where there is none in all of it, the pool had enough, and each turn went to the
 /// end of its message.
+///
+/// It reads at most 4096 bytes at a time, 2^32 - 1 times at most, and writes and flushes the answers to them before it reads again; a read or a
+/// write that was interrupted is made again. Memory is taken for the pair where a line opens it, for a line, and for the answers to a read.
+/// `status` says how it ended: none of its faults is an `Err`, as what was written stands. A line costs what its command costs, and a step a
+/// byte.
 pub fn run_script<B: Reserve, R: Read, W: Write>(
     alloc: Global,
     reader: &mut R,

@@ -1,11 +1,12 @@
 use Rattle.std.proofs.Common.{arith, ap, ℕ, length-take}
+use Rattle.strm_script.specs.Sessions.{SessionValue}
 use Rattle.strm_script.proofs.Known.{Keeps-same}
 use Rattle.strm_script.proofs.Whole.{serves_first, serves_sent, serves_cut, serves_failed, serves_took, serves_again, serves_stopped, serves_finished, serves_unsent, serves_ended, read_none}
 use Rattle.strm_script.proofs.script.serve.Goals as goal
 use Rattle.strm_script.proofs.script.serve.Goals.{in-Ok+in_default, in-Err+else-ne}
 
 pub loop-turn-init : goal.loop-turn-init
-loop-turn-init g c = (omega (arith, ap (λ p. p.lines) c.requires.point), serves_first _ _ c.args.engine.now c.requires)
+loop-turn-init g c = (omega (arith, ap (λ (v : SessionValue). v.point.lines) c.requires), serves_first _ _ c.args.engine.now c.requires)
 
 pub returns-then-not-send_answers : goal.returns-then-not-send_answers
 returns-then-not-send_answers g c =
