@@ -1,10 +1,10 @@
 -- What the engine's parts do, joined.
-use Rattle.std.proofs.Common.{◌≡◌, ℕ, suc, ◌≤◌, List, [], ◌∷◌, ◌++◌, length, None, Some, Result, Ok, Err, sym, ap, ◌∙◌, append_assoc, append-nil, inl, inr, OnOk}
+use Rattle.std.proofs.Common.{◌≡◌, ℕ, suc, ◌≤◌, List, [], ◌∷◌, ◌++◌, length, None, Some, Result, Ok, Err, refl, sym, ap, ◌∙◌, append_assoc, append-nil, inl, inr, OnOk}
 use Rattle.strm_script.specs.Script.{Command}
 use Rattle.strm_script.specs.ScriptReading.{reading, Malformed as MalformedLine, Spoken}
 use Rattle.strm_script.specs.ScriptAnswers.{printed_line, Wrong}
 use Rattle.strm_script.specs.Lines.{line_of}
-use Rattle.strm_script.specs.Sessions.{SessionValue, Took, Fails, Steps, Finishes, EndsInput}
+use Rattle.strm_script.specs.Sessions.{SessionValue, Took, Fails, Steps, Finishes, BreaksOff, EndsInput}
 use Rattle.strm_script.specs.Steps.{pair_of, point_of, value_of, Refused, Obeyed, AnswersLine}
 use Rattle.strm_script.specs.declared.engine.Engine.{Engine}
 use Rattle.strm_script.specs.declared.engine.Stop.{Stop}
@@ -120,4 +120,12 @@ finished_last old new (Err Broken) ne x fresh = record {
   text = x.text;
   shows = Shows-last old.point x.text new.point.short ne (Shows-broken old.point (10 ∷ []) [] x.text new.point.short x.breaks);
   answers = x.answers;
+}
+
+-- the end of the input, where nothing was done
+pub breaks_none : (e : SessionValue) → BreaksOff e e
+breaks_none e = record {
+  text = [];
+  shows = Shows-broken e.point [] [] [] e.point.short (Breaks-none e.point [] e.point.short refl);
+  answers = sym (append-nil e.answers);
 }
