@@ -1,6 +1,6 @@
 //! Commands that make a call on the pair of a script.
 
-ghost use Rattle.std.specs.Prelude.{◌≡◌, Some, None, option_map};
+ghost use Rattle.std.specs.Prelude.{◌≡◌, Some, option_map};
 ghost use Rattle.strm_types.specs.Events.{request};
 ghost use Rattle.strm_script.specs.ScriptRun.{by_call, by_flush, by_put, by_get, band_of, prio_of, wanted_of};
 ghost use Rattle.strm_script.specs.Plain.{plain};

@@ -1,6 +1,7 @@
 //! A script that its user hands over piece by piece, line by line say.
 
 ghost use Rattle.std.specs.Prelude.{◌≡◌, [], option_map};
+ghost use Rattle.std.specs.Option.{option_copied};
 ghost use Rattle.strm_script.specs.Plain.{plain};
 ghost use Rattle.strm_script.specs.Sessions.{SessionValue, Steps, EndsInput, fresh_session};
 
@@ -11,7 +12,7 @@ use strm_blocks::Reserve;
 use strm_pair::Pair;
 
 /// How many lines of a script are answered, and how many bytes of it are taken at once, at most: 2^59.
-const LINES_MAX: u64 = 1 << 59;
+const LINES_MAX: u64 = 576_460_752_303_423_488;
 
 /// A script on its way, over a store of its user's choice: it takes the script's bytes, and keeps the answers until its user has them.
 /// Contracts see it as how far its script has come and the answers that it keeps. Memory is taken for the pair where a line opens it, for a
@@ -88,7 +89,7 @@ impl<B: Reserve> Session<B> {
 
     /// The pair, once a line has opened it.
     pub fn pair(&self) -> Option<&Pair<B>>
-        ensures { option_map (λ p. plain p.now) result ≡ self.now.point.session.pair }
+        ensures { option_map plain (option_copied result) ≡ self.now.point.session.pair }
     {
         self.engine.pair.as_ref()
     }
