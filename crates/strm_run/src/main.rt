@@ -1,27 +1,11 @@
 //! Scripts of calls on a pair: reads commands from standard input, one a line, and writes an answer line for each to
-//! standard output. `run_script` does the work; its contract says what is written, by the definitions of script text
-//! in `specs`.
+//! standard output. `strm_script` does the work; its contract says what is written.
 #![tactic(auto)]
 
-mod answers;
-mod commands;
-mod engine;
-mod ioctls;
-mod ledgers;
-mod lines;
-mod numbers;
-mod output;
-mod script;
-mod session;
-#[cfg(test)]
-mod tests;
-mod texts;
-mod words;
-
-use crate::script::run_script;
 use std::io;
 use std::process::ExitCode;
 use strm_raw::RawStore;
+use strm_script::run_script;
 
 /// The store of the program's pair.
 type Store = RawStore;

@@ -1,6 +1,0 @@
-use Rattle.std.proofs.Common.{◌≤◌, ◌+◌, take}
-use Rattle.strm_run.specs.Steps.{Took}
-use Rattle.strm_run.proofs.engine.Engine.take.Given as goal
-
-abbrev pub invariant-loop-byte : goal.invariant-loop-byte
-invariant-loop-byte g l = Took l.fn.self l.self (take l.byte-index l.bytes) × (l.self.lines ≤ l.fn.self.lines + l.byte-index)

@@ -1,6 +1,0 @@
-use Rattle.std.proofs.Common.{rules}
-use Rattle.strm_run.proofs.Readings.{position-found}
-use Rattle.strm_run.proofs.numbers.word_len.Goals as goal
-
-pub returns : goal.returns
-returns c = search (rules, position-found)

@@ -1,5 +1,0 @@
-use Rattle.std.proofs.Common.{refl}
-use Rattle.strm_run.proofs.script.end_of.Goals as goal
-
-pub returns : goal.returns
-returns g c = refl

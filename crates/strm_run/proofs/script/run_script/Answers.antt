@@ -1,4 +1,0 @@
-use Rattle.strm_run.proofs.script.run_script.Goals as goal
-
-pub returns : goal.returns
-returns g c = rw c.end_of.ensures c.serve-status.ensures

@@ -1,6 +1,0 @@
-use Rattle.strm_run.specs.Plain.{plain}
-use Rattle.strm_run.proofs.Events.{RunsTo}
-use Rattle.strm_run.proofs.session.run.Given as goal
-
-abbrev pub invariant-loop-taken : goal.invariant-loop-taken
-invariant-loop-taken g l = RunsTo l.turns l.taken l.short (plain l.fn.pair) (plain l.pair)

@@ -1,5 +1,0 @@
-use Rattle.std.proofs.Common.{rules}
-use Rattle.strm_run.proofs.session.size.Goals as goal
-
-pub returns : goal.returns
-returns g c = search rules steps 100000

@@ -1,0 +1,22 @@
+pub mod Readings
+pub mod Printings
+pub mod Stopping
+pub mod Events
+pub mod Ways
+pub mod EngineSteps
+pub mod Supplies
+pub mod Known
+pub mod Whole
+pub mod PlainTexts
+pub mod Grammar
+pub mod Fronts
+pub mod MessageSpellings
+pub mod IoctlSpellings
+pub mod GroupSpellings
+pub mod QueueSpellings
+pub mod StreamSpellings
+pub mod Spellings
+mod ScriptRows
+mod RunRows
+mod TurnRows
+mod SpellingRows

@@ -1,0 +1,77 @@
+-- The names of queues are read where they are spelled, and only there.
+use Rattle.std.proofs.Common.{◌≡◌, ℕ, List, ◌∷◌, ◌++◌, Some, option_map, refl, sym, ap, ◌∙◌, inl, inr, codes}
+use Rattle.strm_types.specs.declared.names.Side.{Side}
+use Rattle.strm_types.specs.declared.names.Side.TheVariants.{Master, Slave}
+use Rattle.strm_types.specs.declared.names.Place.{Place}
+use Rattle.strm_types.specs.declared.names.Place.TheVariants.{Head, Ldterm, Driver}
+use Rattle.strm_types.specs.declared.names.Way.{Way}
+use Rattle.strm_types.specs.declared.names.Way.TheVariants.{Up, Down}
+use Rattle.strm_types.specs.declared.names.QueueName.{QueueName}
+use Rattle.strm_script.specs.Script.{side_name, place_name, way_name, queue_name}
+use Rattle.strm_script.specs.ScriptReading.{and_then, after, Front, side_in, place_in, way_in, queue_in, placed_in, sided_in}
+use Rattle.strm_script.proofs.Grammar.{and_then-found, option_map-found, after-found}
+use Rattle.strm_script.proofs.Fronts.{either-found, whole-found, Stands, before-found, side-found}
+
+place-found : (line : List ℕ) (found : Front Place) → place_in line ≡ Some found → Stands place_name line found
+unfolding place_in
+place-found line found h = elim (either-found _ _ found h) [
+  | inl a ↦ before-found place_name Head line found a
+  | inr b ↦ elim (either-found _ _ found b) [
+    | inl c ↦ before-found place_name Ldterm line found c
+    | inr d ↦ before-found place_name Driver line found d
+  ]
+]
+
+way-found : (line : List ℕ) (way : Way) → way_in line ≡ Some way → line ≡ way_name way
+unfolding way_in
+way-found line way h = elim (either-found _ _ way h) [
+  | inl a ↦ let w = whole-found (codes "r") Up way line a in w.1 ∙ ap way_name w.0
+  | inr b ↦ let w = whole-found (codes "w") Down way line b in w.1 ∙ ap way_name w.0
+]
+
+placed-found : (side : Side) (place : Place) (line : List ℕ) (name : QueueName) → placed_in side place line ≡ Some name
+    → (way : Way) × (line ≡ 46 ∷ way_name way) × (name ≡ record { side = side; place = place; way = way })
+placed-found side place line name h =
+    let last = and_then-found (λ rest. option_map (λ way. record { side = side; place = place; way = way }) (way_in rest)) (after (codes ".") line) name h in
+    let way = option_map-found (λ way. record { side = side; place = place; way = way }) (way_in last.value) name last.second in
+    (way.value, after-found (codes ".") line last.value last.first ∙ ap (λ k. 46 ∷ k) (way-found last.value way.value way.first), sym way.second)
+
+sided-found : (side : Side) (line : List ℕ) (name : QueueName) → sided_in side line ≡ Some name
+    → (place : Place) × (way : Way) × (line ≡ 46 ∷ place_name place ++ 46 ∷ way_name way) × (name ≡ record { side = side; place = place; way = way })
+sided-found side line name h =
+    let dot = and_then-found (λ rest. and_then (λ (place : Front Place). placed_in side place.value place.rest) (place_in rest)) (after (codes ".") line) name h in
+    let place = and_then-found (λ (place : Front Place). placed_in side place.value place.rest) (place_in dot.value) name dot.second in
+    let last = placed-found side place.value.value place.value.rest name place.second in (
+      place.value.value,
+      last.0,
+      after-found (codes ".") line dot.value dot.first
+          ∙ ap (λ k. 46 ∷ k) ((place-found dot.value place.value place.first).line_is ∙ ap (λ k. place_name place.value.value ++ k) last.1),
+      last.2,
+    )
+
+pub queue-found : (line : List ℕ) (name : QueueName) → queue_in line ≡ Some name → line ≡ queue_name name
+unfolding queue_in
+queue-found line name h =
+    let side = and_then-found (λ (side : Front Side). sided_in side.value side.rest) (side_in line) name h in
+    let rest = sided-found side.value.value side.value.rest name side.second in
+    (side-found line side.value side.first).line_is ∙ ap (λ k. side_name side.value.value ++ k) rest.2 ∙ ap queue_name (sym rest.3)
+
+-- every name of a queue is read
+parts-only : (side : Side) (place : Place) (way : Way)
+    → queue_in (queue_name (record { side = side; place = place; way = way })) ≡ Some (record { side = side; place = place; way = way })
+unfolding queue_in side_in place_in way_in
+parts-only Master Head Up = refl
+parts-only Master Head Down = refl
+parts-only Master Ldterm Up = refl
+parts-only Master Ldterm Down = refl
+parts-only Master Driver Up = refl
+parts-only Master Driver Down = refl
+parts-only Slave Head Up = refl
+parts-only Slave Head Down = refl
+parts-only Slave Ldterm Up = refl
+parts-only Slave Ldterm Down = refl
+parts-only Slave Driver Up = refl
+parts-only Slave Driver Down = refl
+
+pub queue-only : (name : QueueName) → queue_in (queue_name name) ≡ Some name
+queue-only name = parts-only name.side name.place name.way

@@ -1,0 +1,6 @@
+use Rattle.std.proofs.Common.{rules}
+use Rattle.strm_script.proofs.Readings.{position-found}
+use Rattle.strm_script.proofs.texts.unmarked_len.Goals as goal
+
+pub returns : goal.returns
+returns c = search (rules, position-found)

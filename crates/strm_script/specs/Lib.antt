@@ -1,0 +1,16 @@
+pub mod Script
+pub mod ScriptReading
+pub mod ScriptAnswers
+pub mod ScriptRun
+pub mod Views
+pub mod Commands
+pub mod Modes
+pub mod Lines
+pub mod Plain
+pub mod Outcomes
+pub mod Points
+pub mod Sessions
+pub mod Steps
+pub mod Output
+pub mod Runs
+pub mod Serving
