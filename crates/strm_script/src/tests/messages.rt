@@ -110,6 +110,56 @@ run 10
 get m 7 9 9
   msg hi "c" "d" -
 
+title: Bands go up to 255, and the highest comes first
+setup: pair
+put m 200 - "a"
+  ok
+put m 7 - "b"
+  ok
+put m 255 - "c"
+  ok
+put m 0 - "d"
+  ok
+put m 256 - "e"
+  err EINVAL
+run 10
+  ran 4
+get s 201 9 9
+  msg 255 - "c" -
+get s 201 9 9
+  err EAGAIN
+get s
+  msg 200 - "a" -
+get s
+  msg 7 - "b" -
+get s
+  msg 0 - "d" -
+
+title: A band that is full leaves the others open
+setup: pair
+put m 200 - "zzzzzzzzzzzzzzzzzzzzzzzzzzzzzzzzzzzzzzzzzzzzzzzzzzzzzzzzzzzzzzzzzzzzzzzzzzzzzzzzzzzzzzzzzzzzzzzzzzzzzzzzzzzzzzzzzzzzzzzzzzzzzzzzzzzzzzzzzzzzzzzzzzzzzzzzzzzzzzzzzzzzzzzzzzzzzzzzzzzzzzzzzzzzzzzzzzzzzzzzzzzzzzzzzzzzzzzzzzzzzzzzzzzzzzzzzzzzzzzzzzzzzzzzzzzzzzzz"
+  ok
+put m 200 - "zzzzzzzzzzzzzzzzzzzzzzzzzzzzzzzzzzzzzzzzzzzzzzzzzzzzzzzzzzzzzzzzzzzzzzzzzzzzzzzzzzzzzzzzzzzzzzzzzzzzzzzzzzzzzzzzzzzzzzzzzzzzzzzzzzzzzzzzzzzzzzzzzzzzzzzzzzzzzzzzzzzzzzzzzzzzzzzzzzzzzzzzzzzzzzzzzzzzzzzzzzzzzzzzzzzzzzzzzzzzzzzzzzzzzzzzzzzzzzzzzzzzzzzzzzzzzzzz"
+  ok
+put m 200 - "a"
+  err EAGAIN
+put m 255 - "b"
+  ok
+put m 7 - "c"
+  ok
+write m "d"
+  ok 1
+run 1
+  ran 1
+put m 200 - "a"
+  err EAGAIN
+run 1
+  ran 1
+put m 200 - "a"
+  ok
+get s
+  msg 255 - "b" -
+
 title: What is written is got, and the data part of what is put is read
 setup: pair
 write m "\x00\"z"
@@ -140,7 +190,7 @@ get s hi 1 1
 put s 0 - "a"
   err ENXIO
 
-title: High priority wants a control part, bands are from 0 to 7, and parts have their limits
+title: High priority wants a control part, bands are from 0 to 255, and parts have their limits
 setup: nothing
 open
   ok
@@ -154,10 +204,10 @@ get s 255 1 1
   err ENXIO
 put m hi - "a"
   err EINVAL
-put m 8 - "a"
-  err EINVAL
-get m 8 1 1
-  err EINVAL
+put m 255 - "a"
+  ok
+get m 255 1 1
+  err EAGAIN
 put m 0 "zzzzzzzzzzzzzzzzzzzzzzzzzzzzzzzzzzzzzzzzzzzzzzzzzzzzzzzzzzzzzzzz" -
   ok
 put m 0 "zzzzzzzzzzzzzzzzzzzzzzzzzzzzzzzzzzzzzzzzzzzzzzzzzzzzzzzzzzzzzzzzz" -
@@ -168,8 +218,6 @@ put m 0 - -
 title: What is refused is sent nowhere, and neither is what has no part
 setup: pair
 put m hi - "a"
-  err EINVAL
-put m 8 - "a"
   err EINVAL
 put m 0 - -
   ok

@@ -117,7 +117,7 @@ flush m w 0
 show m
   show m head.r 0 0 drv.w 0 0
 
-title: A band is from 0 to 7, and one above 255 is refused before all else
+title: A band is from 0 to 255, and one above is refused before all else
 setup: nothing
 open
   ok
@@ -129,10 +129,35 @@ flush m r 4294967295
   err EINVAL
 flush m r 256
   err EINVAL
-flush m r 8
-  err EINVAL
+flush m r 255
+  ok
 flush m r 7
   ok
+
+title: A flush of band 200 leaves bands 0 and 255, and one of band 0 leaves band 200
+setup: pair
+put m 200 - "a"
+  ok
+put m 255 - "b"
+  ok
+put m 0 - "c"
+  ok
+flush m w 200
+  ok
+show m
+  show m head.r 0 0 drv.w 2 2
+put m 200 - "d"
+  ok
+flush m w 0
+  ok
+run 10
+  ran 2
+get s
+  msg 255 - "b" -
+get s
+  msg 200 - "d" -
+get s
+  err EAGAIN
 
 page: streamio(7I): I_PUSH, I_POP, I_LOOK
 
