@@ -93,7 +93,7 @@ unfolding told_from reading command_in open_in named_in write_in read_in turn_in
 streams-want-a-pair = refl
 
 -- a band above 255 is refused before the call is made, and so on a stream that isn't open; what stands is told of that too
-pub bands-and-sizes-of-a-closed-stream : told_from 1 [] new_session (codes "open" ∷ codes "flush s r 256" ∷ codes "flush s r 255" ∷ codes "flush m r 4294967295" ∷ codes "flush m r 8" ∷ codes "flush m r 7" ∷ codes "show s" ∷ []) ≡ wrote (codes "ok" ∷ codes "err EINVAL" ∷ codes "err ENXIO" ∷ codes "err EINVAL" ∷ codes "err EINVAL" ∷ codes "ok" ∷ stands (codes "show s") 0 0 0 0 ∷ []) None
+pub bands-and-sizes-of-a-closed-stream : told_from 1 [] new_session (codes "open" ∷ codes "flush s r 256" ∷ codes "flush s r 255" ∷ codes "flush m r 4294967295" ∷ codes "flush m r 255" ∷ codes "flush m r 7" ∷ codes "show s" ∷ []) ≡ wrote (codes "ok" ∷ codes "err EINVAL" ∷ codes "err ENXIO" ∷ codes "err EINVAL" ∷ codes "ok" ∷ codes "ok" ∷ stands (codes "show s") 0 0 0 0 ∷ []) None
 unfolding told_from reading command_in open_in named_in write_in read_in turn_in run_in stream_in sided_call_in push_in flush_in show_in message_in put_in get_in set_mode_in control_in ioctl_in poll_in ledger_in group_in side_alone module_in is_name flush_queues_in band_in number_in number_from digit_of text_in text_from side_in place_in way_in queue_in answered by_open by_call by_flush by_show call_of by_run turns_of by_turn turn_of line_text chunk_count data_message rank_of band_of size_of cells_of is_high_priority is_held is_data_kind carried
 bands-and-sizes-of-a-closed-stream = refl
 
@@ -133,7 +133,7 @@ unfolding told_from reading command_in open_in named_in write_in read_in turn_in
 gets-leave-a-rest = refl
 
 -- a band above 255 is refused before the call is made, on a stream that isn't open too; a put of high priority has a control part
-pub bands-of-puts-and-gets : told_from 1 [] new_session (codes "open" ∷ codes "put s 256 - \"a\"" ∷ codes "put s 255 - \"a\"" ∷ codes "get s 256 1 1" ∷ codes "get s 255 1 1" ∷ codes "put m 256 - -" ∷ codes "put m 8 - -" ∷ codes "get m 8 1 1" ∷ codes "put m hi - \"a\"" ∷ codes "put m 0 - -" ∷ codes "get m" ∷ []) ≡ wrote (codes "ok" ∷ codes "err EINVAL" ∷ codes "err ENXIO" ∷ codes "err EINVAL" ∷ codes "err ENXIO" ∷ codes "err EINVAL" ∷ codes "err EINVAL" ∷ codes "err EINVAL" ∷ codes "err EINVAL" ∷ codes "ok" ∷ codes "err EAGAIN" ∷ []) None
+pub bands-of-puts-and-gets : told_from 1 [] new_session (codes "open" ∷ codes "put s 256 - \"a\"" ∷ codes "put s 255 - \"a\"" ∷ codes "get s 256 1 1" ∷ codes "get s 255 1 1" ∷ codes "put m 256 - -" ∷ codes "put m 255 - -" ∷ codes "get m 255 1 1" ∷ codes "put m hi - \"a\"" ∷ codes "put m 0 - -" ∷ codes "get m" ∷ []) ≡ wrote (codes "ok" ∷ codes "err EINVAL" ∷ codes "err ENXIO" ∷ codes "err EINVAL" ∷ codes "err ENXIO" ∷ codes "err EINVAL" ∷ codes "ok" ∷ codes "err EAGAIN" ∷ codes "err EINVAL" ∷ codes "ok" ∷ codes "err EAGAIN" ∷ []) None
 unfolding told_from reading command_in open_in named_in write_in read_in turn_in run_in stream_in sided_call_in push_in flush_in show_in message_in put_in get_in set_mode_in control_in ioctl_in poll_in ledger_in group_in side_alone module_in is_name flush_queues_in band_in number_at quoted_len inside_at text_at part_at prio_at wanted_at mode_in number_in number_from digit_of text_in text_from escaped hex_of side_in place_in way_in queue_in answered by_open by_call by_flush by_put by_get named_band by_show call_of by_run turns_of by_turn turn_of line_text chunk_count data_message rank_of band_of size_of cells_of is_high_priority is_held is_data_kind carried
 bands-of-puts-and-gets = refl
 

@@ -67,9 +67,7 @@ put-want prio control body = at (is_no_prio prio control) (is_too_long control b
 -- and any call
 wrong-want : (asked : Request) → is_want (needs asked).wrong ≡ false
 wrong-want (calls.Push name) = unless-want _ Einval refl
-wrong-want (calls.Flush what band) = unless-want _ Einval refl
 wrong-want (calls.Put prio control body) = put-want prio control body
-wrong-want (calls.Get wanted cmax dmax) = unless-want _ Einval refl
 wrong-want (calls.Ioctl command sent) = unless-want _ Erange refl
 wrong-want _ = none-want
 
