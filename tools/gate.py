@@ -4,7 +4,8 @@
     tools/gate.py [--anew] [--write] [CRATE..]
 
 Run it at the top of the repository; .ci/run does. The output is that of `rt ci`, then the table, and then the closing line of `rt ci`
-once more; the status is that of `rt ci`, which passes over what an earlier run on this machine passed: with --anew it proves and tries
+once more; the status is that of `rt ci`, but an edit that can't be applied, compiled or read fails it too (`rt ci` counts such a one neither
+as passed nor as failed). It passes over what an earlier run on this machine passed: with --anew it proves and tries
 all. With crates it is `rt ci` of these and those below them, and the table has those that were at work. --write puts the table into docs/GATE.md too, for a run with nothing else at work on the machine. It looks twice a second at the
 checker's processes: what each has used of the processor counts for the proof, the tests or an edit of its crate. A crate's edits are
 tried in the order of their names: the first one pays for the crate's check from nothing too, and behind the last one the crate is
@@ -159,6 +160,11 @@ def write_table(lines):
         out.write("\n".join([head + HEADING, "", *lines, ""]))
 
 
+def bad_edits(log):
+    """The lines of a log that tell of an edit that never reached the prover."""
+    return sorted({line.strip() for line in log.splitlines() if "BAD EDIT" in line})
+
+
 def main():
     parser = argparse.ArgumentParser(description=__doc__, formatter_class=argparse.RawDescriptionHelpFormatter)
     parser.add_argument("--anew", action="store_true")
@@ -167,9 +173,14 @@ def main():
     asked = parser.parse_args()
     with tempfile.TemporaryDirectory(prefix="gate-") as room:
         status, seen, wall, used = run_gate(f"{room}/log", [*(["--anew"] if asked.anew else []), *asked.names])
-        closing = (text_of(f"{room}/log").rstrip("\n").splitlines() or ["0 passed, 1 failed"])[-1]
+        log = text_of(f"{room}/log")
+    closing = (log.rstrip("\n").splitlines() or ["0 passed, 1 failed"])[-1]
+    bad = bad_edits(log)
+    if bad:
+        status = status or 1
+        closing = re.sub(r"(\d+) failed$", lambda failed: f"{int(failed[1]) + len(bad)} failed", closing)
     lines = [*table(seen, wall, used, closing)]
-    print("\n".join(["", *lines, "", closing]), flush=True)
+    print("\n".join(["", *lines, "", *bad, closing]), flush=True)
     if asked.write:
         write_table(lines)
     sys.exit(status)
