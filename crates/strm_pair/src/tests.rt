@@ -405,12 +405,7 @@ const ALL_WRITES: Event<&'static [u8]> = Event::Flush {
 
 const LAST_BAND: Event<&'static [u8]> = Event::Flush {
     what: FlushQueues::Write,
-    band: Some(Band(7)),
-};
-
-const NO_BAND: Event<&'static [u8]> = Event::Flush {
-    what: FlushQueues::Write,
-    band: Some(Band(8)),
+    band: Some(Band(255)),
 };
 
 const FLUSHING: [Step<'static>; 11] = [
@@ -477,7 +472,7 @@ const PTEM: Event<&'static [u8]> = Event::Push {
     name: Some(ModuleName::Ptem),
 };
 
-const UNKNOWN: [Step<'static>; 9] = [
+const UNKNOWN: [Step<'static>; 8] = [
     Step::Call(SLAVE, PTEM, DONE),
     Step::Call(SLAVE, PTEM, INVALID),
     Step::Call(SLAVE, Event::Look, Ok(Answer::Name(ModuleName::Ptem))),
@@ -485,11 +480,10 @@ const UNKNOWN: [Step<'static>; 9] = [
     Step::Call(SLAVE, Event::Push { name: None }, INVALID),
     Step::Call(SLAVE, Event::Pop, INVALID),
     Step::Call(SLAVE, Event::Look, INVALID),
-    Step::Call(SLAVE, NO_BAND, INVALID),
     Step::Entered(6, b""),
 ];
 
 #[test]
-fn one_ptem_stands_and_no_eighth_band_is_known(rt: HostRuntime) -> Result<(), Fail> {
+fn one_ptem_stands_and_no_unknown_name(rt: HostRuntime) -> Result<(), Fail> {
     Ok(run(&rt, rt.alloc(), SIZES, &OPENING, &UNKNOWN)?)
 }
