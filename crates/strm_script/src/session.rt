@@ -3,7 +3,7 @@
 ghost use Rattle.std.specs.Prelude.{◌≡◌, [], option_map};
 ghost use Rattle.std.specs.Option.{option_copied};
 ghost use Rattle.strm_script.specs.Plain.{plain};
-ghost use Rattle.strm_script.specs.Sessions.{SessionValue, Steps, EndsInput, fresh_session};
+ghost use Rattle.strm_script.specs.Sessions.{Steps, EndsInput, fresh_session};
 
 use crate::engine::{Engine, Stop};
 use std::alloc::Global;
@@ -23,6 +23,7 @@ pub struct Session<B: Reserve> {
 }
 
 impl<B: Reserve> Model for Session<B> {
+    ghost use Rattle.strm_script.specs.Sessions.{SessionValue};
     ghost use Rattle.strm_script.specs.Steps.{value_of};
 
     ghost Value = { SessionValue };

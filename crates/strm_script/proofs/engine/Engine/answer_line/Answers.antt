@@ -20,9 +20,9 @@ returns-in-Silent g c =
 pub returns-in-Malformed-clause-answers : goal.returns-in-Malformed-clause-answers
 returns-in-Malformed-clause-answers g c =
     let line = ap reading (sym c.as_slice.ensures.value) ∙ sym c.in-Ok.ensures.same ∙ ap reading_of c.in-Malformed.is in
-    refused_line _ _ _ c.refuse.ensures.refused line
+    refused_line c.args.self.now c.refuse.new.self c.refuse.result c.refuse.ensures.refused line
 
 pub returns-in-Spoken-clause-answers : goal.returns-in-Spoken-clause-answers
 returns-in-Spoken-clause-answers g c =
     let line = ap reading (sym c.as_slice.ensures.value) ∙ sym c.in-Ok.ensures.same ∙ ap reading_of c.in-Spoken.is in
-    obeyed_line _ _ _ c.obey.result c.obey.ensures.obeyed c.obey.ensures.lines line
+    obeyed_line _ c.args.self.now c.obey.new.self c.obey.result c.obey.ensures.obeyed c.obey.ensures.lines line

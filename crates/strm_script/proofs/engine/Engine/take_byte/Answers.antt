@@ -10,7 +10,7 @@ returns-then-len-ge-LINE_MAX-clause-steps g c =
 
 pub returns-then-is_ok-clause-steps : goal.returns-then-is_ok-clause-steps
 returns-then-is_ok-clause-steps g c =
-    took_byte c.args.self.now _ c.args.byte refl refl refl refl refl
+    took_byte c.args.self.now (record c.args.self.now { line = c.push.new.self }) c.args.byte refl refl refl refl refl
     (c.push.ensures.items ∙ cond-true _ _ _ (sym c.is_ok.ensures.value ∙ c.if-is_ok.true)) c.if-byte-eq10.false
 
 pub returns-else-is_ok-clause-steps : goal.returns-else-is_ok-clause-steps
