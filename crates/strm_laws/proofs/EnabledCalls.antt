@@ -1,5 +1,5 @@
 -- Over a call enabled queues exist, and none is enabled twice: those of a module that is taken off go with it (streamio(7I): I_PUSH, I_POP; close(2)).
-use Rattle.std.proofs.Common.{ℕ, ◌≡◌, ◌≤◌, Bool, true, false, cond, List, [], ◌∷◌, length, map, refl, sym, ap, subst, ◌∙◌, arith}
+use Rattle.std.proofs.Common.{ℕ, ◌≡◌, Bool, true, false, cond, List, [], ◌∷◌, map, refl, sym, subst}
 use Rattle.std.proofs.lemmas.Bool.{false≢true}
 use Rattle.std.specs.Prelude.{◌&&◌, not, min, slice_index_or, Option, None, Some}
 use Rattle.std.specs.List.{AllByRecursion}
@@ -21,7 +21,6 @@ use Rattle.strm_types.specs.declared.names.Way.{Way}
 use Rattle.strm_types.specs.declared.names.Way.TheVariants.{Up, Down}
 use Rattle.strm_types.specs.declared.rules.Rule.{Rule}
 use Rattle.strm_types.specs.declared.rules.Rule.TheVariants.{EndClosed, ModulePopped}
-use Rattle.strm_types.specs.declared.spots.Note.{Note}
 use Rattle.strm_types.specs.declared.spots.Spot.{Spot}
 use Rattle.strm_types.specs.declared.slots.Slot.TheVariants.{Free}
 use Rattle.strm_types.specs.Cells.{Cells, cells_written}
@@ -35,15 +34,15 @@ use Rattle.strm_types.specs.JobControl.{asks_group, group_behind}
 use Rattle.strm_types.specs.Message.{Message}
 use Rattle.strm_types.specs.ModuleQueues.{has_queue}
 use Rattle.strm_types.specs.Modules.{without_module}
-use Rattle.strm_types.specs.Names.{IsOnce, direction_from, driver_of, enable_if, enable_some, is_open, place_of, same_place, same_queue, same_side, same_way, without}
+use Rattle.strm_types.specs.Names.{direction_from, driver_of, enable_some, is_open, place_of, same_place, same_queue, same_side, same_way, without}
 use Rattle.strm_types.specs.Options.{mode_message}
-use Rattle.strm_types.specs.Queue.{Queue, is_none_left}
+use Rattle.strm_types.specs.Queue.{is_none_left}
 use Rattle.strm_types.specs.Reads.{read_lets_go, read_queue}
 use Rattle.strm_types.specs.Slots.{slot_behind}
-use Rattle.strm_laws.specs.Calls.{Outcome, group_at, ioctl_at, ioctl_begun, ioctl_called, ioctl_sent, message_put, mode_set, performed, put_at}
+use Rattle.strm_laws.specs.Calls.{group_at, ioctl_at, ioctl_begun, ioctl_called, ioctl_sent, message_put, mode_set, performed, put_at}
 use Rattle.strm_laws.specs.Closes.{closed_at, driver_emptied, ended, head_emptied, hung_up_at, stream_emptied}
 use Rattle.strm_laws.specs.Earlier.{before_at, before_driver, before_head, driver_place, places_of, queue_named}
-use Rattle.strm_laws.specs.Pushes.{all_taken, below_top, enable_waiting, head_above, ioctl_dropped, let_come, messages_on, mode_behind, mode_on_push, mode_put, modules_emptied, named_by, module_named, popped, pushed, pushed_named, taken_off, top_on, top_taken, with_modules}
+use Rattle.strm_laws.specs.Pushes.{all_taken, enable_waiting, head_above, let_come, messages_on, mode_behind, mode_on_push, mode_put, named_by, popped, pushed, pushed_named, top_on, top_taken, with_modules}
 use Rattle.strm_laws.specs.Puts.{delivered, earlier_at, noted}
 use Rattle.strm_laws.specs.Restorable.{AreEnabled, IsThere, is_there_among}
 use Rattle.strm_laws.specs.StackCosts.{Stands, stands_of, stands_on}

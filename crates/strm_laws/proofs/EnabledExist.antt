@@ -1,10 +1,8 @@
 -- Enabled queues exist: each is a driver's, or one of an ldterm that stands on its side, and none is enabled twice. So it stays over puts and turns,
 -- which change no module's name (STREAMS Programming Guide, "Service Procedures"; qenable(9F)).
-use Rattle.std.proofs.Common.{ℕ, zero, suc, ◌≡◌, ◌-◌, Bool, true, false, cond, List, [], ◌∷◌, ◌++◌, map, refl, sym, ap, subst, ◌∙◌}
-use Rattle.std.proofs.lemmas.Bool.{false≢true}
-use Rattle.std.specs.Prelude.{◌==◌, ◌&&◌, ◌||◌, not, min, nat_le, slice_index_or, length, Option, None, Some}
+use Rattle.std.proofs.Common.{ℕ, zero, suc, ◌≡◌, ◌-◌, Bool, true, false, cond, List, [], ◌∷◌, ◌++◌, map, refl, ap, subst}
+use Rattle.std.specs.Prelude.{◌||◌, not, min, nat_le, slice_index_or, length, Option, None, Some}
 use Rattle.std.specs.List.{AllByRecursion, list_any}
-use Rattle.strm_types.specs.declared.kinds.MsgKind.{MsgKind}
 use Rattle.strm_types.specs.declared.names.ModuleName.{ModuleName}
 use Rattle.strm_types.specs.declared.names.Place.{Place}
 use Rattle.strm_types.specs.declared.names.Place.TheVariants.{Head, Ldterm, Driver}
@@ -17,9 +15,9 @@ use Rattle.strm_types.specs.declared.spots.Note.{Note}
 use Rattle.strm_types.specs.declared.spots.Note.TheVariants.{Enable, Room}
 use Rattle.strm_types.specs.declared.limits.TheConstants.{MODULES}
 use Rattle.strm_types.specs.ModuleQueues.{place_before}
-use Rattle.strm_types.specs.Names.{IsOnce, driver_of, enable, enable_found, enable_if, enable_some, is_enabled, other, place_of, same_queue, without}
-use Rattle.strm_laws.specs.Earlier.{before_among, before_at, before_by, before_modules, places_of, queue_named}
-use Rattle.strm_laws.specs.Puts.{earlier_at, noted}
+use Rattle.strm_types.specs.Names.{driver_of, enable, enable_found, enable_if, enable_some, is_enabled, other, same_queue, without}
+use Rattle.strm_laws.specs.Earlier.{before_at, before_by, before_modules, places_of, queue_named}
+use Rattle.strm_laws.specs.Puts.{noted}
 use Rattle.strm_laws.specs.Restorable.{AreEnabled, IsThere, is_ldterm, is_there_among}
 use Rattle.strm_laws.specs.StackCosts.{Stands, stands_of, stands_on}
 use Rattle.strm_laws.specs.Stacked.{Module, OfLdterm, OfPtem, OfPckt, module_name, module_queue}

@@ -1,49 +1,43 @@
 -- Over a delivery and a turn enabled queues exist, and none is enabled twice.
-use Rattle.std.proofs.Common.{ℕ, zero, suc, ◌≡◌, ◌+◌, ◌-◌, ◌*◌, Bool, true, false, cond, List, [], ◌∷◌, map, refl, sym, ap, subst, ◌∙◌}
+use Rattle.std.proofs.Common.{ℕ, zero, suc, ◌≡◌, ◌+◌, ◌-◌, ◌*◌, Bool, true, false, cond, List, [], ◌∷◌, map, refl, ◌∙◌}
 use Rattle.std.specs.Prelude.{◌==◌, ◌&&◌, ◌||◌, not, slice_index_or, Option, None, Some}
-use Rattle.std.specs.List.{AllByRecursion, list_any}
 use Rattle.strm_types.specs.declared.answers.Turn.{Turn}
 use Rattle.strm_types.specs.declared.ioctls.Ioc.{Ioc}
 use Rattle.strm_types.specs.declared.kinds.MsgKind.{MsgKind}
 use Rattle.strm_types.specs.declared.kinds.MsgKind.TheVariants.{Data, Proto, Sig, Ctl, Ioctl, Setopts, Iocack, Iocnak, Pcproto, Pcsig, Read, Flush, Stop, Start, Hangup, Error}
-use Rattle.strm_types.specs.declared.limits.TheConstants.{HOPS, MODULES}
-use Rattle.strm_types.specs.declared.names.Dir.{Dir}
+use Rattle.strm_types.specs.declared.limits.TheConstants.{HOPS}
 use Rattle.strm_types.specs.declared.names.Place.{Place}
 use Rattle.strm_types.specs.declared.names.Place.TheVariants.{Head, Ldterm, Driver}
 use Rattle.strm_types.specs.declared.names.QueueName.{QueueName}
 use Rattle.strm_types.specs.declared.names.Side.{Side}
-use Rattle.strm_types.specs.declared.names.Side.TheVariants.{Master, Slave}
 use Rattle.strm_types.specs.declared.names.Way.{Way}
 use Rattle.strm_types.specs.declared.names.Way.TheVariants.{Up, Down}
 use Rattle.strm_types.specs.declared.spots.Across.{Across}
 use Rattle.strm_types.specs.declared.spots.Asks.{Asks}
 use Rattle.strm_types.specs.declared.spots.Asks.TheVariants as asked
-use Rattle.strm_types.specs.declared.spots.Note.{Note}
 use Rattle.strm_types.specs.declared.spots.Note.TheVariants.{Enable, Room}
 use Rattle.strm_types.specs.declared.spots.Spot.{Spot}
-use Rattle.strm_types.specs.Books.{with_made}
 use Rattle.strm_types.specs.Cells.{Cells}
-use Rattle.strm_types.specs.Deliver.{Acted, Carried, carried, in_turn}
-use Rattle.strm_types.specs.Drivers.{answered, bottom_across, crosses, driver_put, flush_across, flush_down, freed, ioctl_put, own_flushed, put_across, put_down, reader_flush, taken_in}
+use Rattle.strm_types.specs.Deliver.{Acted, carried, in_turn}
+use Rattle.strm_types.specs.Drivers.{answered, bottom_across, crosses, driver_put, flush_down, freed, ioctl_put, own_flushed, put_across, put_down, reader_flush, taken_in}
 use Rattle.strm_types.specs.Emptied.{of_data, writer_goes}
 use Rattle.strm_types.specs.Flushing.{asked_by}
 use Rattle.strm_types.specs.Heads.{Head as TheHead, head_flushed, head_put, passed_by, is_doubled, obeyed, waits_for_readers}
 use Rattle.strm_types.specs.Ioctls.{read_ioc}
 use Rattle.strm_types.specs.Message.{Message, band_of, has_parts, size_of}
-use Rattle.strm_types.specs.ModuleQueues.{at_place, has_queue, place_past, with_waiting}
+use Rattle.strm_types.specs.ModuleQueues.{at_place, place_past, with_waiting}
 use Rattle.strm_types.specs.Modules.{put_among}
-use Rattle.strm_types.specs.Names.{driver_of, enable_if, enable_some, is_enabled, is_master, is_open, other, same_queue, without}
+use Rattle.strm_types.specs.Names.{driver_of, is_enabled, is_master, is_open, other, without}
 use Rattle.strm_types.specs.Queue.{Queue, is_none_left, left_with, put_enables, relieves}
 use Rattle.strm_types.specs.Service.{end_relieves, has_more, turn_ended}
 use Rattle.strm_laws.specs.Earlier.{before_driver, driver_place, places_of}
-use Rattle.strm_laws.specs.ModuleTurns.{Calls, again_at, asked_turn, bytes_at, call_at, calls, made_below, module_called, module_turned, moved_on, moved_within, place_named, queue_ended, turned_named, turned_there, waits_there}
+use Rattle.strm_laws.specs.ModuleTurns.{again_at, asked_turn, bytes_at, call_at, calls, made_below, module_called, moved_on, moved_within, place_named, queue_ended, turned_named, turned_there, waits_there}
 use Rattle.strm_laws.specs.Past.{has_room_past, waits_on, writer_waits}
-use Rattle.strm_laws.specs.Puts.{across_of, booked, delivered, earlier_at, made_above, module_acted, put_at_driver, put_at_head, put_at_module, put_in}
+use Rattle.strm_laws.specs.Puts.{across_of, delivered, earlier_at, made_above, module_acted, put_at_driver, put_at_head, put_at_module, put_in}
 use Rattle.strm_laws.specs.Restorable.{AreEnabled, IsThere}
 use Rattle.strm_laws.specs.StackCosts.{Stands, stands_of}
 use Rattle.strm_laws.specs.Stacked.{Module, module_asks, module_name, module_puts, module_queue, module_rests}
-use Rattle.strm_laws.specs.State.{State, Stream, book, stream, with_book, with_driver_queue, with_stream}
-use Rattle.strm_laws.specs.TurnOutcomes.{TurnOutcome}
+use Rattle.strm_laws.specs.State.{State, Stream, stream, with_driver_queue, with_stream}
 use Rattle.strm_laws.specs.Turns.{driver_serves, held_back, is_stopped_across, moved_across, turned, turned_at, turned_queue, up_across, with_driver}
 use Rattle.strm_types.proofs.DeliveryHolds.{PutHolds, carried-holds, in_turn-holds}
 use Rattle.strm_laws.proofs.EnabledExist.{AreNoted, among-there, any-noted, before-there, if-there, index-there, noted-there, some-there, without-there}
@@ -179,18 +173,20 @@ module _ {C : Type 0} (all : Stands) where
   driver-enabled side here m s is =
       let below = stream side s in
       let at = driver_place side s in
-      let t = driver_put side (across_of side s) (record here { at = at }) m below.driver.queue in
-      (same-names side (with_driver_queue t.state below) s refl ∙ is.0,
-      noted-there all side (Some Driver) (earlier_at side at s) (λ way. before-there all s is.0 side way at) t.notes (driver-notes side (across_of side s) m below.driver.queue (record here { at = at })) s.enabled is.1)
+      let t = driver_put side (across_of side s) (record here { at = at }) m below.driver.queue in (
+        same-names side (with_driver_queue t.state below) s refl ∙ is.0,
+        noted-there all side (Some Driver) (earlier_at side at s) (λ way. before-there all s is.0 side way at) t.notes (driver-notes side (across_of side s) m below.driver.queue (record here { at = at })) s.enabled is.1,
+      )
 
   -- a module that has acted and keeps its name
   acted-enabled : (here : Spot) (t : Acted C (List (Module C))) (s : State C) → map module_name t.state ≡ map module_name (stream here.side s).modules → Enabled s → Enabled (module_acted here t s).state
   acted-enabled here t s same is =
       let on = stream here.side s in
       let place = slice_index_or (places_of on.modules) (here.at - 1) None in
-      booked-holds Enabled (λ dir n s is. is) t.gone _
-      (same-names here.side (record on { modules = t.state }) s same ∙ is.0,
-      noted-there all here.side place (earlier_at here.side here.at s) (λ way. before-there all s is.0 here.side way here.at) t.notes (any-noted all here.side place (λ way. index-there all s is.0 here.side way (here.at - 1)) t.notes) s.enabled is.1)
+      booked-holds Enabled (λ dir n s is. is) t.gone _ (
+        same-names here.side (record on { modules = t.state }) s same ∙ is.0,
+        noted-there all here.side place (earlier_at here.side here.at s) (λ way. before-there all s is.0 here.side way here.at) t.notes (any-noted all here.side place (λ way. index-there all s is.0 here.side way (here.at - 1)) t.notes) s.enabled is.1,
+      )
 
   module _ (cells : Cells C) where
     stack-enabled : (here : Spot) (m : Message C) (s : State C) → Enabled s → Enabled (put_at_module cells here m s).state
@@ -241,10 +237,11 @@ module _ {C : Type 0} (all : Stands) where
           let behind = calls-enabled (3 * bytes + 1) false bytes s is in
           let took = not (t.bytes == 0) in
           let on = stream here.side t.state in
-          outcome-holds Enabled t.ended _ _
-          ((ended-enabled here took t.state behind).0,
-          if-there all (at_place (has_more module_queue here.way) false here.at on.modules) name _ there
-          (some-there all (at_place (end_relieves module_queue took here.way) false here.at on.modules) (earlier_at here.side here.at t.state here.way) t.state.enabled (before-there all t.state behind.0 here.side here.way here.at) behind.1))
+          outcome-holds Enabled t.ended _ _ (
+            (ended-enabled here took t.state behind).0,
+            if-there all (at_place (has_more module_queue here.way) false here.at on.modules) name _ there
+                (some-there all (at_place (end_relieves module_queue took here.way) false here.at on.modules) (earlier_at here.side here.at t.state here.way) t.state.enabled (before-there all t.state behind.0 here.side here.way here.at) behind.1),
+          )
           is
 
       asked-enabled : (asks : Asks) (turn : Turn) (s : State C) → Enabled s → Enabled (asked_turn cells here asks name turn s).state
@@ -274,10 +271,11 @@ module _ {C : Type 0} (all : Stands) where
         let from = with_driver side (left_with rest (stream side s).driver.queue) s in
         let t = (delivered cells (up_across side from) m from).state in
         let went = delivered-enabled cells (up_across side from) m from (driver-with side (left_with rest (stream side s).driver.queue) s is) in
-        let q = turned_queue (stream side t).driver.queue in
-        ((driver-with side _ t went).0,
-        if-there all (not (is_none_left q.messages)) (driver_of side) _ refl
-        (some-there all (not (size_of m == 0) && relieves q) (before_driver side t) t.enabled (before-there all t went.0 side Down (driver_place side t)) went.1))
+        let q = turned_queue (stream side t).driver.queue in (
+          (driver-with side _ t went).0,
+          if-there all (not (is_none_left q.messages)) (driver_of side) _ refl
+              (some-there all (not (size_of m == 0) && relieves q) (before_driver side t) t.enabled (before-there all t went.0 side Down (driver_place side t)) went.1),
+        )
 
     serves-driver : (side : Side) (ms : List (Message C)) (s : State C) → Enabled s → Enabled (driver_serves cells side ms s).state
     serves-driver side [] s is = driver-with side (record (stream side s).driver.queue { want_read = true }) s is

@@ -1,18 +1,15 @@
 -- A call on a pair of good streams leaves them good, where its band is one that queues have and nothing refuses it.
-use Rattle.std.proofs.Common.{ℕ, zero, suc, ◌≡◌, ◌≤◌, ◌<◌, Bool, true, false, cond, List, [], ◌∷◌, length, map, refl, sym, ap, subst, ◌∙◌, arith}
+use Rattle.std.proofs.Common.{ℕ, suc, ◌≡◌, ◌≤◌, Bool, true, false, cond, List, [], ◌∷◌, length, map, refl, sym, ap, ◌∙◌, arith}
 use Rattle.std.proofs.lemmas.Bool.{false≢true, and_parts}
 use Rattle.std.proofs.lemmas.Bool.Decides.{nat_tests}
-use Rattle.std.proofs.lemmas.List.{length-map}
-use Rattle.std.specs.Prelude.{◌&&◌, ◌||◌, not, nat_le, nat_lt, min, Option, None, Some, option_map}
-use Rattle.std.specs.List.{AllByRecursion}
+use Rattle.std.specs.Prelude.{◌||◌, not, nat_le, nat_lt, min, Option, None, Some}
 use Rattle.strm_types.specs.declared.events.Caller.{Caller}
-use Rattle.strm_types.specs.declared.events.Event.TheVariants.{OpenMaster, Unlock, OpenSlave, Shut, Push, Pop, Look, Flush, Write, Read, Put, Get, Mode, Nread, Ioctl, IoctlResult, Signals}
-use Rattle.strm_types.specs.declared.limits.TheConstants.{BANDS, IOCTL_END, IOCTL_MAX, MODULES, READ_MAX}
+use Rattle.strm_types.specs.declared.events.Event.TheVariants.{OpenMaster, OpenSlave, Shut, Push, Pop, Flush, Write, Read, Put, Get, Mode, Ioctl, IoctlResult, Signals}
+use Rattle.strm_types.specs.declared.limits.TheConstants.{IOCTL_END, IOCTL_MAX, MODULES, READ_MAX}
 use Rattle.strm_types.specs.declared.modes.Mode as modes
 use Rattle.strm_types.specs.declared.modes.Mode.TheVariants as chosen
 use Rattle.strm_types.specs.declared.modes.Prio.{Prio}
 use Rattle.strm_types.specs.declared.modes.Prio.TheVariants as prios
-use Rattle.strm_types.specs.declared.modes.ReadMode.{ReadMode}
 use Rattle.strm_types.specs.declared.names.ModuleName.{ModuleName}
 use Rattle.strm_types.specs.declared.names.ModuleName.TheVariants as names
 use Rattle.strm_types.specs.declared.names.Openness.TheVariants.{Open, Closed}
@@ -36,27 +33,24 @@ use Rattle.strm_types.specs.Heads.{Head, head_put, new_head}
 use Rattle.strm_types.specs.Ioctls.{asking, ioctl_message}
 use Rattle.strm_types.specs.JobControl.{asks_group, group_behind}
 use Rattle.strm_types.specs.Kinds.{is_body_kind, is_control_kind}
-use Rattle.strm_types.specs.Message.{Message, data_message, is_high_priority, is_part, part}
+use Rattle.strm_types.specs.Message.{Message, data_message, is_high_priority, is_part}
 use Rattle.strm_types.specs.Modules.{stands}
-use Rattle.strm_types.specs.Names.{direction_from, is_master, is_open}
-use Rattle.strm_types.specs.Needs.{needs}
+use Rattle.strm_types.specs.Names.{direction_from, is_open}
 use Rattle.strm_types.specs.Options.{mode_message}
-use Rattle.strm_types.specs.PutMsg.{is_no_prio, is_too_long, no_parts, put_band, put_kind, put_message, put_refusal}
-use Rattle.strm_types.specs.Queue.{Queue}
+use Rattle.strm_types.specs.PutMsg.{is_no_prio, is_too_long, put_message, put_refusal}
 use Rattle.strm_types.specs.Reads.{read_queue}
 use Rattle.strm_types.specs.Refused.{or_else, unless}
-use Rattle.strm_types.specs.Slots.{PlainSlot, slot_behind}
+use Rattle.strm_types.specs.Slots.{slot_behind}
 use Rattle.strm_types.specs.Write.{chunk_count, chunks_of}
 use Rattle.strm_laws.specs.Calls.{group_at, ioctl_at, ioctl_begun, ioctl_called, ioctl_sent, message_put, mode_set, performed, put_at}
 use Rattle.strm_laws.specs.Closes.{closed_at, driver_emptied, ended, head_emptied, hung_up_at, stream_emptied}
-use Rattle.strm_laws.specs.Pushes.{all_taken, head_above, may_stand, module_named, named_by, popped, pushed, pushed_named, top_taken, with_modules}
+use Rattle.strm_laws.specs.Pushes.{all_taken, head_above, may_stand, module_named, named_by, pushed_named, top_taken, with_modules}
 use Rattle.strm_laws.specs.Puts.{delivered, put_at_head}
 use Rattle.strm_laws.specs.Refusals.{goes_down, is_numbered, refused_at_once, unfit}
-use Rattle.strm_laws.specs.Restorable.{GoodHead, GoodMessage, GoodModule, GoodModules, GoodStream, IsBanded, IsShut, IsWithinCall, stands_below}
-use Rattle.strm_laws.specs.StackCosts.{EachOnce}
+use Rattle.strm_laws.specs.Restorable.{GoodHead, GoodMessage, GoodModule, GoodModules, GoodStream, IsBanded, IsWithinCall, stands_below}
 use Rattle.strm_laws.specs.Stacked.{Module, module_name}
 use Rattle.strm_laws.specs.State.{State, Stream, book, opening, stream, with_driver_queue, with_head_queue, with_ioctl, with_stream}
-use Rattle.strm_laws.specs.Writes.{Wrote, below_head, cells_sent, chunks_sent, is_full_below}
+use Rattle.strm_laws.specs.Writes.{Wrote, below_head, chunks_sent, is_full_below}
 use Rattle.strm_types.proofs.BySide.{each-side}
 use Rattle.strm_laws.proofs.GoodHeads.{data-good, flush-good, ioctl-good, mode-good}
 use Rattle.strm_laws.proofs.GoodQueues.{behind-good, new-good}
@@ -111,9 +105,10 @@ module _ {C : Type 0} where
   survives side = record {
     named = λ names s all. all;
     apart = λ ps s good all. (
-        streams-with side (record (stream side s) { modules = ps }) s
-        (let t = all.0.0 side in record { head = t.head; modules = good; driver = t.driver; shut = λ closed. absurd (false≢true (sym closed ∙ all.1)) }) all.0,
-        with-open side (record (stream side s) { modules = ps }) s all.1);
+      streams-with side (record (stream side s) { modules = ps }) s
+          (let t = all.0.0 side in record { head = t.head; modules = good; driver = t.driver; shut = λ closed. absurd (false≢true (sym closed ∙ all.1)) }) all.0,
+      with-open side (record (stream side s) { modules = ps }) s all.1,
+    );
     given = λ mode s all. ((head-puts side (head_above side) (mode_message mode false) s (mode-good mode false) all.0).state, head-open side (head_above side) (mode_message mode false) s all.1);
     good = λ s all. (all.0.0 side).modules;
     dropped = λ ms s all. (let t = stream side s in (opens side (record t.head { ioctl = slot_dropped ms t.head.ioctl }) s all.1 (let h = (all.0.0 side).head in record { queue = h.queue; group = h.group }) all.0, with-open side (record t { head = record t.head { ioctl = slot_dropped ms t.head.ioctl } }) s all.1));
@@ -195,7 +190,8 @@ module _ {C : Type 0} where
       streams-with side (record t { head = record t.head { ioctl = slot_behind t.head.ioctl } }) s
       (record {
         head = record { queue = good.head.queue; group = good.head.group };
-        modules = good.modules; driver = good.driver;
+        modules = good.modules;
+        driver = good.driver;
         shut = λ closed. (let was = good.shut closed in record { modules = was.modules; signals = was.signals; ioctl = ap (λ slot. slot_behind slot) was.ioctl; unread = was.unread });
       }) all
 
@@ -205,7 +201,8 @@ module _ {C : Type 0} where
       streams-with side (record (stream side s) { head = record (stream side s).head { signals = [] } }) s
       (record {
         head = record { queue = good.head.queue; group = good.head.group };
-        modules = good.modules; driver = good.driver;
+        modules = good.modules;
+        driver = good.driver;
         shut = λ closed. (let was = good.shut closed in record { modules = was.modules; signals = refl; ioctl = was.ioctl; unread = was.unread });
       }) all
 
@@ -240,16 +237,34 @@ module _ {C : Type 0} where
     unfolding is_control_kind is_body_kind is_high_priority
     put-good prios.High None body low some prio = absurd (false≢true (sym prio))
     put-good prios.High (Some xs) body low some prio = record {
-      control = refl; body = λ is. absurd (false≢true is); bare = λ is. absurd (false≢true (sym is)); plain = λ is. refl; band = omega arith;
-      high = λ is. refl; header = λ is. absurd (false≢true is); options = λ is. absurd (false≢true is);
+      control = refl;
+      body = λ is. absurd (false≢true is);
+      bare = λ is. absurd (false≢true (sym is));
+      plain = λ is. refl;
+      band = omega arith;
+      high = λ is. refl;
+      header = λ is. absurd (false≢true is);
+      options = λ is. absurd (false≢true is);
     }
     put-good (prios.Band band) (Some xs) body low some prio = record {
-      control = refl; body = λ is. absurd (false≢true is); bare = λ is. absurd (false≢true (sym is)); plain = λ is. refl; band = low;
-      high = λ is. absurd (false≢true is); header = λ is. absurd (false≢true is); options = λ is. absurd (false≢true is);
+      control = refl;
+      body = λ is. absurd (false≢true is);
+      bare = λ is. absurd (false≢true (sym is));
+      plain = λ is. refl;
+      band = low;
+      high = λ is. absurd (false≢true is);
+      header = λ is. absurd (false≢true is);
+      options = λ is. absurd (false≢true is);
     }
     put-good (prios.Band band) None body low some prio = record {
-      control = refl; body = λ is. some; bare = λ is. absurd (false≢true (sym is)); plain = λ is. refl; band = low;
-      high = λ is. absurd (false≢true is); header = λ is. absurd (false≢true is); options = λ is. absurd (false≢true is);
+      control = refl;
+      body = λ is. some;
+      bare = λ is. absurd (false≢true (sym is));
+      plain = λ is. refl;
+      band = low;
+      high = λ is. absurd (false≢true is);
+      header = λ is. absurd (false≢true is);
+      options = λ is. absurd (false≢true is);
     }
 
     abbrev below : Side → Spot

@@ -1,5 +1,5 @@
 -- What is put at a driver leaves its queue good, and what it sends is good (ptm(7D), pts(7D)).
-use Rattle.std.proofs.Common.{◌≡◌, Bool, true, false, cond, [], ◌∷◌, ◌++◌, refl, ap, subst, ◌∙◌}
+use Rattle.std.proofs.Common.{◌≡◌, Bool, true, false, cond, refl, ap, subst, ◌∙◌}
 use Rattle.std.proofs.lemmas.Bool.{false≢true}
 use Rattle.std.specs.Prelude.{◌==◌, ◌&&◌, ◌||◌, Option, None, Some}
 use Rattle.strm_types.specs.declared.flushing.FlushAsked.{FlushAsked}
@@ -20,7 +20,7 @@ use Rattle.strm_types.specs.Ioctls.{read_ioc}
 use Rattle.strm_types.specs.Kinds.{is_body_kind, is_control_kind}
 use Rattle.strm_types.specs.Message.{Message, has_parts}
 use Rattle.strm_types.specs.Names.{is_master}
-use Rattle.strm_types.specs.Queue.{Queue, put_on}
+use Rattle.strm_types.specs.Queue.{Queue}
 use Rattle.strm_laws.specs.Restorable.{GoodMessage, GoodQueue, StandsOn, is_part_kind, stands_below}
 use Rattle.strm_laws.proofs.GoodDeliveries.{AreGood, all-join}
 use Rattle.strm_laws.proofs.GoodHeads.{flush-good, nak-good, with-parts}

@@ -1,9 +1,8 @@
 -- What comes up to a head leaves it good, and what it sends down is good (STREAMS Programming Guide, "Stream Head").
-use Rattle.std.proofs.Common.{ℕ, ◌≡◌, ◌≤◌, ◌<◌, Bool, true, false, cond, List, [], ◌∷◌, ◌++◌, length, refl, sym, ap, ◌∙◌, arith}
+use Rattle.std.proofs.Common.{ℕ, ◌≡◌, ◌≤◌, Bool, true, false, cond, List, [], ◌∷◌, length, refl, sym, arith}
 use Rattle.std.proofs.lemmas.Bool.{false≢true}
 use Rattle.std.proofs.lemmas.List.{length-append}
 use Rattle.std.specs.Prelude.{◌==◌, ◌+◌, ◌||◌, Option, None, Some}
-use Rattle.std.specs.Int.{w32, to_be_bytes}
 use Rattle.strm_types.specs.declared.flushing.FlushAsked.{FlushAsked}
 use Rattle.strm_types.specs.declared.ioctls.Ioc.{Ioc}
 use Rattle.strm_types.specs.declared.kinds.MsgKind.{MsgKind}
@@ -16,16 +15,16 @@ use Rattle.strm_types.specs.declared.names.Way.TheVariants.{Down}
 use Rattle.strm_types.specs.declared.options.Marks.{Marks}
 use Rattle.strm_types.specs.declared.options.Options.{Options}
 use Rattle.strm_types.specs.declared.spots.Spot.{Spot}
-use Rattle.strm_types.specs.Deliver.{Acted, Parcel}
+use Rattle.strm_types.specs.Deliver.{Acted}
 use Rattle.strm_types.specs.Emptied.{of_data}
 use Rattle.strm_types.specs.Flushing.{asked_by, flush_bytes, flush_message}
 use Rattle.strm_types.specs.Heads.{Head, flush_up, head_flushed, head_put, is_doubled, nak_down, obeyed, passed_by, turned_round, waits_for_readers, with_options}
-use Rattle.strm_types.specs.Ioctls.{ioc_bytes, ioctl_message, nak_message, read_ioc, refused, word_bytes}
+use Rattle.strm_types.specs.Ioctls.{ioc_bytes, ioctl_message, nak_message, read_ioc, refused}
 use Rattle.strm_types.specs.Kinds.{is_control_kind, is_body_kind}
 use Rattle.strm_types.specs.Message.{Message, data_message, has_parts, is_high_priority, is_part}
 use Rattle.strm_types.specs.Options.{mode_message, options_in}
 use Rattle.strm_types.specs.Typing.{bare}
-use Rattle.strm_laws.specs.Restorable.{GoodHead, GoodMessage, GoodQueue, StandsOn, is_part_kind, sets_options}
+use Rattle.strm_laws.specs.Restorable.{GoodHead, GoodMessage, StandsOn, is_part_kind, sets_options}
 use Rattle.strm_laws.proofs.GoodDeliveries.{AreGood}
 use Rattle.strm_laws.proofs.GoodQueues.{behind-good, put-good}
 
@@ -38,44 +37,80 @@ module _ {C : Type 0} where
   pub data-good : (cells : List C) → GoodMessage (data_message cells)
   unfolding data_message is_control_kind is_body_kind is_high_priority
   data-good cells = record {
-    control = refl; body = λ is. refl; bare = λ is. absurd (false≢true (sym is)); plain = λ is. refl; band = omega arith;
-    high = λ is. refl; header = λ is. absurd (false≢true is); options = λ is. absurd (false≢true is);
+    control = refl;
+    body = λ is. refl;
+    bare = λ is. absurd (false≢true (sym is));
+    plain = λ is. refl;
+    band = omega arith;
+    high = λ is. refl;
+    header = λ is. absurd (false≢true is);
+    options = λ is. absurd (false≢true is);
   }
 
   pub flush-good : (bytes : List ℕ) → GoodMessage {C = C} (flush_message bytes)
   unfolding is_control_kind is_body_kind is_high_priority
   flush-good bytes = record {
-    control = refl; body = λ is. absurd (false≢true is); bare = λ is. refl; plain = λ is. absurd (false≢true is); band = omega arith;
-    high = λ is. refl; header = λ is. absurd (false≢true is); options = λ is. absurd (false≢true is);
+    control = refl;
+    body = λ is. absurd (false≢true is);
+    bare = λ is. refl;
+    plain = λ is. absurd (false≢true is);
+    band = omega arith;
+    high = λ is. refl;
+    header = λ is. absurd (false≢true is);
+    options = λ is. absurd (false≢true is);
   }
 
   -- one without parts, of a kind that has neither a header nor options
   pub signal-good : (bytes : List ℕ) → GoodMessage {C = C} (bare Pcsig bytes)
   unfolding is_control_kind is_body_kind is_high_priority
   signal-good bytes = record {
-    control = refl; body = λ is. absurd (false≢true is); bare = λ is. refl; plain = λ is. absurd (false≢true is); band = omega arith;
-    high = λ is. refl; header = λ is. absurd (false≢true is); options = λ is. absurd (false≢true is);
+    control = refl;
+    body = λ is. absurd (false≢true is);
+    bare = λ is. refl;
+    plain = λ is. absurd (false≢true is);
+    band = omega arith;
+    high = λ is. refl;
+    header = λ is. absurd (false≢true is);
+    options = λ is. absurd (false≢true is);
   }
 
   pub stop-good : GoodMessage {C = C} (bare Stop [])
   unfolding is_control_kind is_body_kind is_high_priority
   stop-good = record {
-    control = refl; body = λ is. absurd (false≢true is); bare = λ is. refl; plain = λ is. absurd (false≢true is); band = omega arith;
-    high = λ is. refl; header = λ is. absurd (false≢true is); options = λ is. absurd (false≢true is);
+    control = refl;
+    body = λ is. absurd (false≢true is);
+    bare = λ is. refl;
+    plain = λ is. absurd (false≢true is);
+    band = omega arith;
+    high = λ is. refl;
+    header = λ is. absurd (false≢true is);
+    options = λ is. absurd (false≢true is);
   }
 
   pub start-good : GoodMessage {C = C} (bare Start [])
   unfolding is_control_kind is_body_kind is_high_priority
   start-good = record {
-    control = refl; body = λ is. absurd (false≢true is); bare = λ is. refl; plain = λ is. absurd (false≢true is); band = omega arith;
-    high = λ is. refl; header = λ is. absurd (false≢true is); options = λ is. absurd (false≢true is);
+    control = refl;
+    body = λ is. absurd (false≢true is);
+    bare = λ is. refl;
+    plain = λ is. absurd (false≢true is);
+    band = omega arith;
+    high = λ is. refl;
+    header = λ is. absurd (false≢true is);
+    options = λ is. absurd (false≢true is);
   }
 
   pub mode-good : (mode : ReadMode) (tostop : Bool) → GoodMessage {C = C} (mode_message mode tostop)
   unfolding is_control_kind is_body_kind is_high_priority
   mode-good mode tostop = record {
-    control = refl; body = λ is. absurd (false≢true is); bare = λ is. refl; plain = λ is. absurd (false≢true is); band = omega arith;
-    high = λ is. absurd (false≢true is); header = λ is. absurd (false≢true is); options = λ is. sets mode tostop;
+    control = refl;
+    body = λ is. absurd (false≢true is);
+    bare = λ is. refl;
+    plain = λ is. absurd (false≢true is);
+    band = omega arith;
+    high = λ is. absurd (false≢true is);
+    header = λ is. absurd (false≢true is);
+    options = λ is. sets mode tostop;
   }
     where
       sets : (mode : ReadMode) (tostop : Bool) → (options_in (mode_message {C = C} mode tostop).plain).marks ≡ None
@@ -89,15 +124,27 @@ module _ {C : Type 0} where
   pub ioctl-good : (ioc : Ioc) (given : List ℕ) → length given ≤ IOCTL_MAX → GoodMessage {C = C} (ioctl_message ioc given)
   unfolding is_control_kind is_body_kind is_high_priority
   ioctl-good ioc given few = record {
-    control = refl; body = λ is. absurd (false≢true is); bare = λ is. refl; plain = λ is. absurd (false≢true is); band = omega arith;
-    high = λ is. absurd (false≢true is); header = λ is. (omega (arith, length-append (ioc_bytes ioc) given, header-long ioc), omega (arith, length-append (ioc_bytes ioc) given, header-long ioc, few)); options = λ is. absurd (false≢true is);
+    control = refl;
+    body = λ is. absurd (false≢true is);
+    bare = λ is. refl;
+    plain = λ is. absurd (false≢true is);
+    band = omega arith;
+    high = λ is. absurd (false≢true is);
+    header = λ is. (omega (arith, length-append (ioc_bytes ioc) given, header-long ioc), omega (arith, length-append (ioc_bytes ioc) given, header-long ioc, few));
+    options = λ is. absurd (false≢true is);
   }
 
   pub nak-good : (ioc : Ioc) → GoodMessage {C = C} (nak_message ioc)
   unfolding is_control_kind is_body_kind is_high_priority
   nak-good ioc = record {
-    control = refl; body = λ is. absurd (false≢true is); bare = λ is. refl; plain = λ is. absurd (false≢true is); band = omega arith;
-    high = λ is. refl; header = λ is. (omega (arith, header-long (refused ioc)), omega (arith, header-long (refused ioc))); options = λ is. absurd (false≢true is);
+    control = refl;
+    body = λ is. absurd (false≢true is);
+    bare = λ is. refl;
+    plain = λ is. absurd (false≢true is);
+    band = omega arith;
+    high = λ is. refl;
+    header = λ is. (omega (arith, header-long (refused ioc)), omega (arith, header-long (refused ioc)));
+    options = λ is. absurd (false≢true is);
   }
 
   -- a message with parts is of a kind that has them

@@ -1,9 +1,9 @@
 -- A call of ldterm's service procedures leaves it good, and what it sends is good (ldterm(7M); termio(7I)).
 use Rattle.std.proofs.Common.{ℕ, zero, suc, ◌≡◌, ◌≤◌, ◌+◌, ◌-◌, ◌*◌, Bool, true, false, cond, List, [], ◌∷◌, ◌++◌, length, take, drop, map, refl, sym, ap, subst, ◌∙◌, arith}
 use Rattle.std.proofs.lemmas.Bool.Decides.{nat_tests}
-use Rattle.std.proofs.lemmas.Bool.{false≢true, and_parts}
+use Rattle.std.proofs.lemmas.Bool.{false≢true}
 use Rattle.std.proofs.lemmas.List.{length-append, length-take}
-use Rattle.std.specs.Prelude.{◌&&◌, ◌||◌, not, nat_lt, Option, None, Some, option_map, unwrap_or}
+use Rattle.std.specs.Prelude.{◌&&◌, not, nat_lt, Option, None, Some, option_map, unwrap_or}
 use Rattle.std.specs.List.{AllByRecursion}
 use Rattle.strm_types.specs.declared.flushing.FlushAsked.{FlushAsked}
 use Rattle.strm_types.specs.declared.keys.Key.{Key}
@@ -15,25 +15,23 @@ use Rattle.strm_types.specs.declared.kinds.MsgKind.TheVariants as kinds
 use Rattle.strm_types.specs.declared.names.Way.{Way}
 use Rattle.strm_types.specs.declared.names.Way.TheVariants.{Up, Down}
 use Rattle.strm_types.specs.declared.output.TheConstants.{COLUMN_MAX}
-use Rattle.strm_types.specs.declared.rules.Rule.{Rule}
-use Rattle.strm_types.specs.declared.rules.Rule.TheVariants.{LineFull, LineOver, Flushed, SignalKey, Erased, Killed}
+use Rattle.strm_types.specs.declared.rules.Rule.TheVariants.{LineFull, LineOver, Flushed, SignalKey}
 use Rattle.strm_types.specs.declared.spots.Spot.{Spot}
 use Rattle.strm_types.specs.Cells.{Cells, cells_made}
 use Rattle.strm_types.specs.Deliver.{Acted, Parcel}
 use Rattle.strm_types.specs.Flushing.{flush_bytes, flush_message}
-use Rattle.strm_types.specs.Input.{back_on, begins_next, cells_left, finished, input_begins, is_data, left_of, made_of, next_stage, nothing_served, passes, stage_at, stages, stages_done, then_on, to_treat, treats, with_left}
+use Rattle.strm_types.specs.Input.{back_on, begins_next, cells_left, finished, input_begins, is_data, left_of, made_of, next_stage, passes, stage_at, stages, stages_done, then_on, to_treat, treats, with_left}
 use Rattle.strm_types.specs.Keys.{restarts}
 use Rattle.strm_types.specs.Kinds.{is_body_kind, is_control_kind}
 use Rattle.strm_types.specs.LdtermServes.{ldterm_serves}
-use Rattle.strm_types.specs.Ldterms.{Ldterm, Stage, Between, Begun, Answered, onward, queue_at, sends, waits_there, with_queue_at}
-use Rattle.strm_types.specs.Lines.{Edit, ErasesAll, ErasesByte, ErasesWord, Types, edited, has_room, without_end, without_last, without_word}
+use Rattle.strm_types.specs.Ldterms.{Ldterm, Stage, Between, Begun, Answered, onward, queue_at, sends, waits_there}
+use Rattle.strm_types.specs.Lines.{ErasesByte, ErasesWord, Types, edited, has_room, without_end, without_last, without_word}
 use Rattle.strm_types.specs.Message.{Message, cells_of, data_message}
 use Rattle.strm_types.specs.Output.{posts}
 use Rattle.strm_types.specs.OutputTurns.{Outgoing, outgoing, output_dir, output_serves, posted, unchanged, with_given}
 use Rattle.strm_types.specs.Queue.{Queue, is_full, is_none_left, left_with, put_back}
-use Rattle.strm_types.specs.Service.{Serving}
 use Rattle.strm_types.specs.Termios.{icanon, imaxbel, noflsh, opost}
-use Rattle.strm_types.specs.Typing.{added, bare, begins, both_ways, dropped, echo_dir, echo_grows, echo_lost, echo_stands, echoed, edits, gathered_up, grown, is_blank_cell, is_lnext, lost, sigint, signals, sigquit, sigtstp, strikes, stroke_at, struck, up_alone}
+use Rattle.strm_types.specs.Typing.{added, bare, begins, both_ways, dropped, echo_dir, echo_grows, echo_lost, echo_stands, echoed, gathered_up, grown, is_blank_cell, is_lnext, lost, sigint, signals, sigquit, sigtstp, strikes, stroke_at, struck, up_alone}
 use Rattle.strm_types.proofs.Outputs.{posts-low}
 use Rattle.strm_laws.specs.Restorable.{GoodLdterm, GoodMessage, GoodQueue, IsWork, StandsOn, goes_out, is_part_kind}
 use Rattle.strm_laws.proofs.GoodDeliveries.{AreGood, all-join}
@@ -92,7 +90,11 @@ module _ {C : Type 0} where
         control = sym (ap (λ kind. is_control_kind kind) same ∙ data-controls);
         body = λ is. refl;
         bare = λ none. absurd (false≢true (sym none ∙ ap (λ kind. is_part_kind kind) same ∙ data-parts));
-        plain = good.plain; band = good.band; high = good.high; header = good.header; options = good.options;
+        plain = good.plain;
+        band = good.band;
+        high = good.high;
+        header = good.header;
+        options = good.options;
       }
 
   stands-left : (stands : MsgKind → Bool) (m : Message C) (cells : List C) → is_data m.kind ≡ true → StandsOn stands m → StandsOn stands (left_of cells m)

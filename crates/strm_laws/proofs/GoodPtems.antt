@@ -1,30 +1,30 @@
 -- What is put at ptem and at pckt leaves them good, and what they send of good messages is good (ptem(7M), pckt(7M)).
-use Rattle.std.proofs.Common.{ℕ, ◌≡◌, ◌≤◌, ◌<◌, Bool, true, false, cond, List, [], ◌∷◌, ◌++◌, length, refl, sym, ap, ◌∙◌, subst, arith}
-use Rattle.std.proofs.lemmas.Bool.{false≢true, and_parts, not-true}
+use Rattle.std.proofs.Common.{ℕ, ◌≡◌, ◌≤◌, ◌<◌, Bool, true, false, cond, List, [], ◌∷◌, length, refl, sym, subst, arith}
+use Rattle.std.proofs.lemmas.Bool.{false≢true, and_parts}
 use Rattle.std.proofs.lemmas.List.{length-append, length-drop}
 use Rattle.std.proofs.lemmas.Bool.Decides.{nat_tests}
 use Rattle.std.proofs.lemmas.Option.{same_Some}
-use Rattle.std.specs.Prelude.{◌==◌, ◌+◌, ◌-◌, ◌&&◌, ◌||◌, not, drop, Option, None, Some}
+use Rattle.std.specs.Prelude.{◌==◌, ◌+◌, not, drop, Option, None, Some}
 use Rattle.strm_types.specs.declared.ioctls.Ioc.{Ioc}
 use Rattle.strm_types.specs.declared.ioctls.TheConstants.{TCGETS, TIOCGWINSZ, TIOCSIGNAL, TIOCSWINSZ}
 use Rattle.strm_types.specs.declared.kinds.MsgKind.{MsgKind}
-use Rattle.strm_types.specs.declared.kinds.MsgKind.TheVariants.{Data, Proto, Sig, Ctl, Ioctl, Setopts, Iocack, Iocnak, Pcproto, Pcsig, Read, Flush, Stop, Start, Hangup, Error}
+use Rattle.strm_types.specs.declared.kinds.MsgKind.TheVariants.{Ioctl}
 use Rattle.strm_types.specs.declared.limits.TheConstants.{BANDS, IOCTL_MAX}
 use Rattle.strm_types.specs.declared.names.Way.{Way}
 use Rattle.strm_types.specs.declared.names.Way.TheVariants.{Up, Down}
 use Rattle.strm_types.specs.declared.spots.Spot.{Spot}
 use Rattle.strm_types.specs.declared.termios.Termios.{Termios}
 use Rattle.strm_types.specs.declared.winsize.Winsize.{Winsize}
-use Rattle.strm_types.specs.Acks.{ack_message, acked, payload, telling_message}
+use Rattle.strm_types.specs.Acks.{ack_message, acked, payload}
 use Rattle.strm_types.specs.Cells.{Cells}
 use Rattle.strm_types.specs.Commands.{is_asked, is_ioctl, sets_termios}
-use Rattle.strm_types.specs.Deliver.{Acted, Parcel}
+use Rattle.strm_types.specs.Deliver.{Acted}
 use Rattle.strm_types.specs.Flushing.{asked_by}
 use Rattle.strm_types.specs.Ioctls.{asking, ioc_bytes, read_ioc, word_at}
 use Rattle.strm_types.specs.Kinds.{is_body_kind, is_control_kind}
 use Rattle.strm_types.specs.Ldterms.{onward}
-use Rattle.strm_types.specs.Message.{Message, band_of, has_parts, is_high_priority, is_part}
-use Rattle.strm_types.specs.Pckts.{Pckt, flush_passed, is_flush_passed, is_packed, packet, pckt_on_way, pckt_packs, pckt_passes, pckt_puts, writers_flush}
+use Rattle.strm_types.specs.Message.{Message, band_of, has_parts, is_high_priority}
+use Rattle.strm_types.specs.Pckts.{flush_passed, is_flush_passed, is_packed, packet, pckt_on_way, pckt_packs, pckt_passes, pckt_puts, writers_flush}
 use Rattle.strm_types.specs.Ptems.{Ptem, acks, asked_above, asked_below, asked_by_header, asked_on_way, naks, ptem_passes, ptem_puts, set_above, signal_told, signals_up, sigwinch, termios_set, window_set, window_signal, window_told}
 use Rattle.strm_types.specs.Signals.{signal_in}
 use Rattle.strm_types.specs.Termios.{read_termios, termios_bytes}
@@ -45,7 +45,11 @@ module _ {C : Type 0} where
   pub ack-good : (ioc : Ioc) (given : List ℕ) → length given ≤ IOCTL_MAX → GoodMessage {C = C} (ack_message ioc given)
   unfolding is_control_kind is_body_kind is_high_priority
   ack-good ioc given few = record {
-    control = refl; body = λ is. absurd (false≢true is); bare = λ is. refl; plain = λ is. absurd (false≢true is); band = omega arith;
+    control = refl;
+    body = λ is. absurd (false≢true is);
+    bare = λ is. refl;
+    plain = λ is. absurd (false≢true is);
+    band = omega arith;
     high = λ is. refl;
     header = λ is. (omega (arith, length-append (ioc_bytes (acked ioc)) given, header-long (acked ioc)), omega (arith, length-append (ioc_bytes (acked ioc)) given, header-long (acked ioc), few));
     options = λ is. absurd (false≢true is);
@@ -150,8 +154,14 @@ module _ {C : Type 0} where
     packet-good : GoodMessage (packet cells made here m)
     unfolding is_control_kind is_body_kind is_high_priority
     packet-good = record {
-      control = refl; body = λ is. absurd (false≢true is); bare = λ is. absurd (false≢true (sym is)); plain = λ is. refl; band = counted-band;
-      high = λ is. absurd (false≢true is); header = λ is. absurd (false≢true is); options = λ is. absurd (false≢true is);
+      control = refl;
+      body = λ is. absurd (false≢true is);
+      bare = λ is. absurd (false≢true (sym is));
+      plain = λ is. refl;
+      band = counted-band;
+      high = λ is. absurd (false≢true is);
+      header = λ is. absurd (false≢true is);
+      options = λ is. absurd (false≢true is);
     }
 
     passed-good : (kind : MsgKind) → AreGood {C = C} GoodMessage (flush_passed here kind m.plain)

@@ -1,5 +1,5 @@
 -- A queue of good messages with marks in order stays one as puts, flushes, takes and waiting writers change it.
-use Rattle.std.proofs.Common.{ℕ, zero, suc, ◌≡◌, ◌≤◌, ◌<◌, Bool, true, false, cond, List, [], ◌∷◌}
+use Rattle.std.proofs.Common.{ℕ, zero, suc, ◌≤◌, ◌<◌, Bool, true, false, cond, List, [], ◌∷◌}
 use Rattle.std.specs.Prelude.{◌&&◌, ◌^◌, not, nat_le, nat_lt, replicate}
 use Rattle.std.specs.List.{AllByRecursion}
 use Rattle.strm_types.specs.declared.kinds.MsgKind.{MsgKind}
@@ -9,7 +9,7 @@ use Rattle.strm_types.specs.Message.{Message, rank_of}
 use Rattle.strm_types.specs.ModuleQueues.{with_waiting}
 use Rattle.strm_types.specs.Queue.{Flow, Queue, count_of, new_queue, put, put_back, put_on, relieved, relieved_from, with_writer_at}
 use Rattle.strm_types.specs.Service.{turn_ended}
-use Rattle.strm_laws.specs.Restorable.{AreMarks, GoodMessage, GoodQueue, StandsOn}
+use Rattle.strm_laws.specs.Restorable.{AreMarks, GoodQueue, StandsOn}
 
 module _ {C : Type 0} (P : Message C → Type 0) where
   -- what holds of all messages of a queue, and of one that is put there

@@ -1,5 +1,5 @@
 -- What a read and a get leave at a head is good (read(2), getmsg(2); streamio(7I): I_SRDOPT).
-use Rattle.std.proofs.Common.{ℕ, zero, suc, ◌≡◌, ◌<◌, ◌-◌, Bool, true, false, cond, List, [], ◌∷◌, ◌++◌, length, drop, refl, sym, subst, ◌∙◌, arith}
+use Rattle.std.proofs.Common.{ℕ, zero, suc, ◌≡◌, ◌<◌, Bool, true, false, cond, List, [], ◌∷◌, ◌++◌, length, drop, refl, sym, subst, ◌∙◌, arith}
 use Rattle.std.proofs.lemmas.Bool.{false≢true}
 use Rattle.std.specs.Prelude.{◌==◌, ◌||◌, nat_lt, Option, None, Some}
 use Rattle.std.specs.List.{AllByRecursion}
@@ -13,13 +13,13 @@ use Rattle.strm_types.specs.declared.modes.ReadMode.{ReadMode}
 use Rattle.strm_types.specs.declared.modes.ReadMode.TheVariants.{ByteStream, MessageKeep, MessageDiscard}
 use Rattle.strm_types.specs.declared.modes.Wanted.{Wanted}
 use Rattle.strm_types.specs.GetQueues.{get_queue, gets_none, none_got, queue_got}
-use Rattle.strm_types.specs.Gets.{Got, got_none, head_get, is_wanted, left_behind, parts_of}
+use Rattle.strm_types.specs.Gets.{got_none, head_get, is_wanted, left_behind, parts_of}
 use Rattle.strm_types.specs.Kinds.{is_body_kind, is_control_kind}
 use Rattle.strm_types.specs.Message.{Message, band_of, is_high_priority, is_part, part}
-use Rattle.strm_types.specs.Queue.{Queue, is_none_left, left_with, put_back, relieved}
-use Rattle.strm_types.specs.Reads.{Drawn, all_cells, and_more, control_gone, drawn, emptied_of, front_of, head_draw, is_passed, is_refused, no_cells, none_went, offered, part_left, queue_drawn, read_queue, rest_after, rest_with, shown, stopped, takes_none, wanted_after}
+use Rattle.strm_types.specs.Queue.{Queue, is_none_left, left_with, relieved}
+use Rattle.strm_types.specs.Reads.{Drawn, all_cells, and_more, control_gone, drawn, emptied_of, front_of, head_draw, is_passed, is_refused, no_cells, none_went, offered, queue_drawn, read_queue, rest_after, rest_with, shown, stopped, takes_none, wanted_after}
 use Rattle.strm_types.proofs.Drawing.{of-each}
-use Rattle.strm_laws.specs.Restorable.{GoodMessage, GoodQueue, StandsOn, has_header, is_part_kind, sets_options}
+use Rattle.strm_laws.specs.Restorable.{GoodMessage, GoodQueue, StandsOn, is_part_kind}
 use Rattle.strm_laws.proofs.GoodDeliveries.{all-join}
 use Rattle.strm_laws.proofs.GoodQueues.{all-put_back, relieved-good}
 
@@ -43,8 +43,14 @@ module _ {C : Type 0} where
   unfolding is_control_kind is_body_kind is_high_priority
   data-rest m cells none low = record {
     good = record {
-      control = refl; body = λ is. refl; bare = λ is. absurd (false≢true (sym is)); plain = λ is. none; band = low;
-      high = λ is. absurd (false≢true is); header = λ is. absurd (false≢true is); options = λ is. absurd (false≢true is);
+      control = refl;
+      body = λ is. refl;
+      bare = λ is. absurd (false≢true (sym is));
+      plain = λ is. none;
+      band = low;
+      high = λ is. absurd (false≢true is);
+      header = λ is. absurd (false≢true is);
+      options = λ is. absurd (false≢true is);
     };
     kind = refl;
   }
@@ -63,8 +69,14 @@ module _ {C : Type 0} where
       let is = sym fits.good.control ∙ there refl in
       record {
         good = record {
-          control = sym is; body = λ bodies. absurd (false≢true (sym (controls-only m.kind is) ∙ bodies)); bare = λ none. absurd (false≢true (sym none ∙ fits.kind)); plain = fits.good.plain;
-          band = fits.good.band; high = fits.good.high; header = fits.good.header; options = fits.good.options;
+          control = sym is;
+          body = λ bodies. absurd (false≢true (sym (controls-only m.kind is) ∙ bodies));
+          bare = λ none. absurd (false≢true (sym none ∙ fits.kind));
+          plain = fits.good.plain;
+          band = fits.good.band;
+          high = fits.good.high;
+          header = fits.good.header;
+          options = fits.good.options;
         };
         kind = fits.kind;
       }

@@ -1,6 +1,6 @@
 -- A turn of a pair of good streams leaves them good.
-use Rattle.std.proofs.Common.{ℕ, zero, suc, ◌≡◌, ◌+◌, ◌-◌, ◌*◌, Bool, true, false, cond, List, [], ◌∷◌, map, refl, subst}
-use Rattle.std.specs.Prelude.{◌==◌, not, min, Option, None, Some}
+use Rattle.std.proofs.Common.{ℕ, zero, suc, ◌+◌, ◌-◌, ◌*◌, Bool, true, false, cond, List, [], ◌∷◌}
+use Rattle.std.specs.Prelude.{◌==◌, not, Option, None, Some}
 use Rattle.std.specs.List.{AllByRecursion}
 use Rattle.strm_types.specs.declared.answers.Turn.{Turn}
 use Rattle.strm_types.specs.declared.kinds.MsgKind.{MsgKind}
@@ -15,7 +15,7 @@ use Rattle.strm_types.specs.declared.spots.Asks.{Asks}
 use Rattle.strm_types.specs.declared.spots.Asks.TheVariants as asked
 use Rattle.strm_types.specs.declared.spots.Spot.{Spot}
 use Rattle.strm_types.specs.Cells.{Cells}
-use Rattle.strm_types.specs.Deliver.{Carried, carried, in_turn}
+use Rattle.strm_types.specs.Deliver.{carried, in_turn}
 use Rattle.strm_types.specs.Message.{Message, band_of, size_of}
 use Rattle.strm_types.specs.ModuleQueues.{at_place, place_past, queue_changed, with_waiting}
 use Rattle.strm_types.specs.Modules.{change_among}
@@ -23,11 +23,11 @@ use Rattle.strm_types.specs.Names.{is_open, other, without}
 use Rattle.strm_types.specs.Queue.{Queue, left_with, relieved}
 use Rattle.strm_types.specs.Service.{turn_ended}
 use Rattle.strm_laws.specs.Earlier.{driver_place}
-use Rattle.strm_laws.specs.ModuleTurns.{Calls, again_at, asked_turn, bytes_at, call_at, calls, made_below, module_called, module_turned, moved_on, moved_within, place_named, queue_ended, turned_named, turned_there, waits_there}
+use Rattle.strm_laws.specs.ModuleTurns.{Calls, again_at, asked_turn, bytes_at, call_at, calls, made_below, module_called, moved_on, moved_within, place_named, queue_ended, turned_named, turned_there, waits_there}
 use Rattle.strm_laws.specs.Past.{has_room_past, waits_on, writer_waits}
 use Rattle.strm_laws.specs.Puts.{delivered, put_in}
-use Rattle.strm_laws.specs.Restorable.{GoodMessage, GoodModule, GoodQueue, GoodStream, StandsOn, goes_out, stands_below}
-use Rattle.strm_laws.specs.Stacked.{Module, OfLdterm, OfPtem, OfPckt, module_asks, module_name, module_queue, module_rests, module_serves, with_module_queue}
+use Rattle.strm_laws.specs.Restorable.{GoodMessage, GoodModule, GoodQueue, GoodStream, StandsOn, stands_below}
+use Rattle.strm_laws.specs.Stacked.{Module, OfLdterm, OfPtem, OfPckt, module_asks, module_queue, module_rests, module_serves, with_module_queue}
 use Rattle.strm_laws.specs.State.{State, Stream, stream, with_driver_queue, with_head_queue, with_stream}
 use Rattle.strm_laws.specs.TurnOutcomes.{TurnOutcome}
 use Rattle.strm_laws.specs.Turns.{driver_serves, held_back, is_stopped_across, moved_across, turned, turned_at, turned_queue, up_across, with_driver, turn_ended as driver_turn_ended}

@@ -1,8 +1,6 @@
 -- Each state of a legal journal is one that an image may hold.
 use Rattle.std.proofs.Common.{List, [], ◌∷◌, refl, subst, arith}
-use Rattle.strm_types.specs.declared.answers.Turn.{Turn}
 use Rattle.strm_types.specs.declared.entries.Entry.TheVariants.{Called, Turned}
-use Rattle.strm_types.specs.declared.names.QueueName.{QueueName}
 use Rattle.strm_types.specs.Cells.{Cells}
 use Rattle.strm_types.specs.Journal.{PlainEntry}
 use Rattle.strm_laws.specs.Restorable.{AreWithinEntries, IsWithinEntry, Restorable}

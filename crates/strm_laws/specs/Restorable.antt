@@ -1,6 +1,6 @@
--- What an image of a pair may hold. A checkpoint is refused for what no pair can have: each field here is one such reason turned round. It is said
--- of the state between calls and turns; two fields speak of a turn under way, as turns keep the rest by them.
-use Rattle.std.specs.Prelude.{ℕ, ◌≡◌, ◌≤◌, ◌<◌, ◌+◌, ◌^◌, ◌||◌, Bool, true, false, List, [], map, length, Option, None, Some}
+-- What an image of a pair may hold. A checkpoint is refused for what no pair can have: each field here is one such reason turned round. What is
+-- said of the message in work and of options isn't stored: by it calls and turns keep the rest.
+use Rattle.std.specs.Prelude.{◌≡◌, ◌≤◌, ◌<◌, ◌+◌, ◌^◌, ◌||◌, Bool, true, false, List, [], map, length, Option, None, Some}
 use Rattle.std.specs.List.{AllByRecursion, list_any}
 use Rattle.strm_types.specs.declared.events.Event.TheVariants.{Put}
 use Rattle.strm_types.specs.declared.entries.Entry.TheVariants.{Called, Turned}
@@ -65,7 +65,7 @@ stands_below kind = crosses kind || is_ioctl kind
 
 -- A message that fits its kind: M_PROTO and M_PCPROTO have a control part and no other kind has one, M_DATA has a data part, and a kind without
 -- parts has its bytes in neither; its band is one that queues have, 0 for high priority; an ioctl's header has 16 bytes, with 256 behind it at most.
--- No M_SETOPTS of this system sets marks.
+-- No M_SETOPTS that is sent here sets marks, and none stands on a queue.
 pub record GoodMessage {C : Type 0} (m : Message C) : Type 0 where
   pub control : is_part m.control ≡ is_control_kind m.kind
   pub body : is_body_kind m.kind ≡ true → is_part m.body ≡ true
@@ -122,7 +122,7 @@ module _ {C : Type 0} where
   IsWork None = Unit {0}
   IsWork (Some m) = StandsOn is_data m
 
-  -- ldterm: a termios with 19 control bytes, columns up to 65,535, a line of 255 bytes at most, and what stands on its queues (ldterm(7M); termio(7I))
+  -- ldterm: columns up to 65,535, a line of 255 bytes at most, and what stands on its queues (ldterm(7M); termio(7I))
   pub record GoodLdterm (l : TheLdterm C) : Type 0 where
     pub termios : IsWhole l.termios
     pub column : l.column ≤ COLUMN_MAX
@@ -161,7 +161,8 @@ module _ {C : Type 0} where
     pub driver : GoodQueue stands_below t.driver.queue
     pub shut : is_open t.opened ≡ false → IsShut t
 
-  -- A pair that an image may hold. Enabled queues exist, have a service procedure, and are enabled once each. What heads keep is bounded, no turn is under way, and the number of the next ioctl is above 0, one of 32 bits.
+  -- A pair that an image may hold. Enabled queues exist, have a service procedure, and are enabled once each. What heads keep is bounded, no
+  -- turn is under way, and the number of the next ioctl is above 0, one of 32 bits.
   pub record Restorable (s : State C) : Type 0 where
     pub streams : AllSides GoodStream s.ends
     pub heads : AreWithin s
@@ -170,7 +171,7 @@ module _ {C : Type 0} where
     pub numbered : 1 ≤ s.next_ioctl
     pub last : s.next_ioctl ≤ IOCTL_END
 
--- a call whose band is one that queues have, as that of each call that was made by a caller is
+-- a putmsg whose band is one that queues have, as each is that a caller can make; and such entries
 abbrev pub IsBanded : Prio → Type 0
 IsBanded High = Unit {0}
 IsBanded (Band band) = band.0 < BANDS
