@@ -84,9 +84,6 @@ module _ (all : Stands) where
   any-noted side place each (Enable way ∷ notes) = (each way, any-noted side place each notes)
   any-noted side place each (Room way ∷ notes) = any-noted side place each notes
 
-  pub driver-there : (side : Side) → IsThere all (driver_of side)
-  driver-there side = refl
-
   -- a queue that is enabled is there
   pub among-there : (name : QueueName) (names : List QueueName) → is_enabled name names ≡ true → AllByRecursion (λ n. IsThere all n) names → IsThere all name
   among-there name [] is each = absurd (cc is)

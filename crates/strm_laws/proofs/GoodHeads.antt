@@ -1,5 +1,5 @@
 -- What comes up to a head leaves it good, and what it sends down is good (STREAMS Programming Guide, "Stream Head").
-use Rattle.std.proofs.Common.{ℕ, ◌≡◌, ◌≤◌, Bool, true, false, cond, List, [], ◌∷◌, length, refl, sym, arith}
+use Rattle.std.proofs.Common.{ℕ, ◌≡◌, ◌≤◌, Bool, true, false, cond, List, [], ◌∷◌, length, refl, sym, ◌∙◌, arith}
 use Rattle.std.proofs.lemmas.Bool.{false≢true}
 use Rattle.std.proofs.lemmas.List.{length-append}
 use Rattle.std.specs.Prelude.{◌==◌, ◌+◌, ◌||◌, Option, None, Some}
@@ -24,7 +24,7 @@ use Rattle.strm_types.specs.Kinds.{is_control_kind, is_body_kind}
 use Rattle.strm_types.specs.Message.{Message, data_message, has_parts, is_high_priority, is_part}
 use Rattle.strm_types.specs.Options.{mode_message, options_in}
 use Rattle.strm_types.specs.Typing.{bare}
-use Rattle.strm_laws.specs.Restorable.{GoodHead, GoodMessage, StandsOn, is_part_kind, sets_options}
+use Rattle.strm_laws.specs.Restorable.{GoodHead, GoodMessage, StandsOn, has_header, is_part_kind, sets_options}
 use Rattle.strm_laws.proofs.GoodDeliveries.{AreGood}
 use Rattle.strm_laws.proofs.GoodQueues.{behind-good, put-good}
 
@@ -47,58 +47,39 @@ module _ {C : Type 0} where
     options = λ is. absurd (false≢true is);
   }
 
-  pub flush-good : (bytes : List ℕ) → GoodMessage {C = C} (flush_message bytes)
-  unfolding is_control_kind is_body_kind is_high_priority
-  flush-good bytes = record {
-    control = refl;
-    body = λ is. absurd (false≢true is);
+  -- one without parts, of a kind that has neither parts nor a header nor options
+  bare-good : (kind : MsgKind) (bytes : List ℕ) → is_control_kind kind ≡ false → is_body_kind kind ≡ false → has_header kind ≡ false → sets_options kind ≡ false → GoodMessage {C = C} (bare kind bytes)
+  bare-good kind bytes no_control no_body no_header no_options = record {
+    control = sym no_control;
+    body = λ is. absurd (false≢true (sym no_body ∙ is));
     bare = λ is. refl;
-    plain = λ is. absurd (false≢true is);
+    plain = λ is. absurd (false≢true (sym (none (is_control_kind kind) (is_body_kind kind) no_control no_body) ∙ is));
     band = omega arith;
     high = λ is. refl;
-    header = λ is. absurd (false≢true is);
-    options = λ is. absurd (false≢true is);
+    header = λ is. absurd (false≢true (sym no_header ∙ is));
+    options = λ is. absurd (false≢true (sym no_options ∙ is));
   }
+    where
+      none : (one two : Bool) → one ≡ false → two ≡ false → (one || two) ≡ false
+      none false false first second = refl
+      none true two first second = absurd (false≢true (sym first))
+      none false true first second = absurd (false≢true (sym second))
 
-  -- one without parts, of a kind that has neither a header nor options
+  pub flush-good : (bytes : List ℕ) → GoodMessage {C = C} (flush_message bytes)
+  unfolding is_control_kind is_body_kind
+  flush-good bytes = bare-good Flush bytes refl refl refl refl
+
   pub signal-good : (bytes : List ℕ) → GoodMessage {C = C} (bare Pcsig bytes)
-  unfolding is_control_kind is_body_kind is_high_priority
-  signal-good bytes = record {
-    control = refl;
-    body = λ is. absurd (false≢true is);
-    bare = λ is. refl;
-    plain = λ is. absurd (false≢true is);
-    band = omega arith;
-    high = λ is. refl;
-    header = λ is. absurd (false≢true is);
-    options = λ is. absurd (false≢true is);
-  }
+  unfolding is_control_kind is_body_kind
+  signal-good bytes = bare-good Pcsig bytes refl refl refl refl
 
   pub stop-good : GoodMessage {C = C} (bare Stop [])
-  unfolding is_control_kind is_body_kind is_high_priority
-  stop-good = record {
-    control = refl;
-    body = λ is. absurd (false≢true is);
-    bare = λ is. refl;
-    plain = λ is. absurd (false≢true is);
-    band = omega arith;
-    high = λ is. refl;
-    header = λ is. absurd (false≢true is);
-    options = λ is. absurd (false≢true is);
-  }
+  unfolding is_control_kind is_body_kind
+  stop-good = bare-good Stop [] refl refl refl refl
 
   pub start-good : GoodMessage {C = C} (bare Start [])
-  unfolding is_control_kind is_body_kind is_high_priority
-  start-good = record {
-    control = refl;
-    body = λ is. absurd (false≢true is);
-    bare = λ is. refl;
-    plain = λ is. absurd (false≢true is);
-    band = omega arith;
-    high = λ is. refl;
-    header = λ is. absurd (false≢true is);
-    options = λ is. absurd (false≢true is);
-  }
+  unfolding is_control_kind is_body_kind
+  start-good = bare-good Start [] refl refl refl refl
 
   pub mode-good : (mode : ReadMode) (tostop : Bool) → GoodMessage {C = C} (mode_message mode tostop)
   unfolding is_control_kind is_body_kind is_high_priority

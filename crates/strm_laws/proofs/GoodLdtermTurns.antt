@@ -152,9 +152,6 @@ module _ {C : Type 0} (cells : Cells C) (here : Spot) where
   stops-sent true l = tt
   stops-sent false l = (stop-good, tt)
 
-  same-good : (l : Ldterm C) → GoodLdterm l → (t : Acted C (Ldterm C)) → t.state ≡ l → t.sent ≡ [] → GoodAtLdterm t
-  same-good l good t is none = record { state = subst (λ l. GoodLdterm l) (sym is) good; sent = subst (λ sent. AreGood GoodMessage sent) (sym none) tt }
-
   -- a line that an edit leaves, or that goes up
   edited-good : (line : List C) (l : Ldterm C) → length line ≤ length l.line → GoodLdterm l → GoodLdterm (record l { line = line })
   edited-good line l fewer good = typed l l.stopped l.after_lnext line l.gathered l.stage (omega (arith, fewer, good.line)) good

@@ -60,10 +60,6 @@ module _ {C : Type 0} (stands : MsgKind → Bool) where
   pub new-good : (high low : ℕ) → 1 ≤ high → low ≤ high → high < 2 ^ 32 → GoodQueue {C = C} stands (new_queue high low)
   new-good high low some order bits = record { messages = tt; marks = marks-new BANDS high low some order bits }
 
-  -- with other messages that stand there, and other flags
-  pub with-good : (ms : List (Message C)) (want_read : Bool) (q : Queue C) → AllByRecursion (λ m. StandsOn stands m) ms → GoodQueue stands q → GoodQueue stands (record q { messages = ms; want_read = want_read })
-  with-good ms want_read q all good = record { messages = all; marks = good.marks }
-
   pub relieved-good : (q : Queue C) → GoodQueue stands q → GoodQueue stands (relieved q)
   relieved-good q good = record { messages = good.messages; marks = marks-relieved 0 q.messages q.flows good.marks }
 
