@@ -22,7 +22,7 @@ use Rattle.strm_types.specs.declared.rules.Rule.TheVariants.{EndClosed}
 use Rattle.strm_types.specs.declared.spots.Spot.{Spot}
 use Rattle.strm_types.specs.Books as books
 use Rattle.strm_types.specs.Books.{with_written}
-use Rattle.strm_types.specs.Events.{Reply, Request}
+use Rattle.strm_types.specs.Events.{Request}
 use Rattle.strm_laws.specs.Calls.{Outcome, called, delivers, group_at, ioctl_at, ioctl_begun, ioctl_sent, ioctl_told, message_put, performed, put_at, write_sent, wrote}
 use Rattle.strm_types.specs.Cells.{Cells, cells_written}
 use Rattle.strm_laws.specs.Closes.{closed_at, driver_emptied, ended, head_emptied, hung_up_at, stream_emptied}
@@ -47,6 +47,7 @@ use Rattle.strm_laws.specs.State.{State, book, stream, with_book, with_stream}
 use Rattle.strm_laws.specs.Step.{after}
 use Rattle.strm_laws.specs.Turns.{turned}
 use Rattle.strm_types.specs.Write.{chunk_count, chunks_of}
+use Rattle.strm_types.specs.Options.{mode_message}
 use Rattle.strm_laws.specs.Writes.{Wrote, below_head, cells_sent, chunks_sent, is_full_below}
 use Rattle.strm_laws.proofs.Replay.{fitting-met}
 use Rattle.strm_laws.proofs.Stopping.{of-allowed, of-called}
@@ -67,7 +68,7 @@ module _ {C : Type 0} where
   books-survive s side = record {
     named = λ names t same. same;
     apart = λ ps t good same. same;
-    given = λ m t same. head-same side (head_above side) m t ∙ same;
+    given = λ mode t same. head-same side (head_above side) (mode_message mode false) t ∙ same;
     good = λ t same. tt;
     dropped = λ ms t same. same;
     below = λ q ps good. tt;

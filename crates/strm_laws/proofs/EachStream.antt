@@ -36,6 +36,7 @@ use Rattle.strm_types.specs.Journal.{PlainEntry}
 use Rattle.strm_types.specs.Message.{Message}
 use Rattle.strm_types.specs.ModuleQueues.{with_waiting}
 use Rattle.strm_types.specs.Names.{direction_from, is_open}
+use Rattle.strm_types.specs.Options.{mode_message}
 use Rattle.strm_types.specs.Queue.{Queue}
 use Rattle.strm_types.specs.Reads.{read_queue}
 use Rattle.strm_types.specs.Refused.{or_else}
@@ -131,7 +132,7 @@ module _ {C : Type 0} (P : Side → Stream C → Type 0) where
     survives side = record {
       named = λ names s all. all;
       apart = λ ps s good all. changed side (record (stream side s) { modules = ps }) s (λ holds. changes.modules side ps (stream side s) good holds) all;
-      given = λ m s all. head-each side (head_above side) m s all;
+      given = λ mode s all. head-each side (head_above side) (mode_message mode false) s all;
       good = λ s all. changes.good side (stream side s) (all side);
       dropped = λ ms s all. slot-each side _ s (λ fits. dropped-fits ms (stream side s).head.ioctl fits) all;
       below = changes.below;

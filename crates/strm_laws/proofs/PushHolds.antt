@@ -25,7 +25,7 @@ use Rattle.strm_laws.proofs.PushForgets.{clears}
 pub record Survives {C : Type 0} (side : Side) (Holds : State C → Type 0) (Good : List (Module C) → Type 0) : Type 0 where
   pub named : (names : List QueueName) (s : State C) → Holds s → Holds (record s { enabled = names })
   pub apart : (ps : List (Module C)) (s : State C) → Good ps → Holds s → Holds (with_modules side ps s)
-  pub given : (m : Message C) (s : State C) → Holds s → Holds (put_at_head side (head_above side) m s).state
+  pub given : (mode : ReadMode) (s : State C) → Holds s → Holds (put_at_head side (head_above side) (mode_message mode false) s).state
   pub good : (s : State C) → Holds s → Good (stream side s).modules
   pub dropped : (ms : List (Message C)) (s : State C) → Holds s → Holds (ioctl_dropped side ms s)
   pub below : (p : Module C) (ps : List (Module C)) → Good (p ∷ ps) → Good ps
@@ -33,7 +33,7 @@ pub record Survives {C : Type 0} (side : Side) (Holds : State C → Type 0) (Goo
 module _ {C : Type 0} (side : Side) (Holds : State C → Type 0) (Good : List (Module C) → Type 0) (survives : Survives side Holds Good) where
   mode_put-holds : (mode : Option ReadMode) (s : State C) → Holds s → Holds (mode_put side mode s).state
   mode_put-holds None s holds = holds
-  mode_put-holds (Some mode) s holds = survives.given (mode_message mode false) s holds
+  mode_put-holds (Some mode) s holds = survives.given mode s holds
 
   let_come-holds : (reads : Bool) (s : State C) → Holds s → Holds (let_come reads side s)
   let_come-holds false s holds = holds

@@ -71,7 +71,7 @@ module _ {C : Type 0} where
       by (Some place) = queue-names way (with_waiting band) (place - 1) ps
 
   -- a stream with modules of the same names
-  same-names : (side : Side) (on : Stream C) (s : State C) → map module_name on.modules ≡ map module_name (stream side s).modules → stands_of (with_stream side on s) ≡ stands_of s
+  pub same-names : (side : Side) (on : Stream C) (s : State C) → map module_name on.modules ≡ map module_name (stream side s).modules → stands_of (with_stream side on s) ≡ stands_of s
   same-names Master on s is = ap (λ names. record (stands_of s) { master = names }) is
   same-names Slave on s is = ap (λ names. record (stands_of s) { slave = names }) is
 

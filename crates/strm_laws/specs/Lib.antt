@@ -15,6 +15,7 @@ pub mod Step
 pub mod Kept
 pub mod Pair
 pub mod Within
+pub mod Restorable
 pub mod Standing
 pub mod LdtermWeights
 pub mod LdtermOrigins

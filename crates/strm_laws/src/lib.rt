@@ -11,3 +11,4 @@ pub mod output_laws;
 pub mod pckt_laws;
 pub mod ptem_laws;
 pub mod put_laws;
+pub mod restore_laws;

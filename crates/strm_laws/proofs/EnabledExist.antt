@@ -1,0 +1,150 @@
+-- Enabled queues exist: each is a driver's, or one of an ldterm that stands on its side, and none is enabled twice. So it stays over puts and turns,
+-- which change no module's name (STREAMS Programming Guide, "Service Procedures"; qenable(9F)).
+use Rattle.std.proofs.Common.{ℕ, zero, suc, ◌≡◌, ◌-◌, Bool, true, false, cond, List, [], ◌∷◌, ◌++◌, map, refl, ap, subst}
+use Rattle.std.specs.Prelude.{◌||◌, not, min, nat_le, slice_index_or, length, Option, None, Some}
+use Rattle.std.specs.List.{AllByRecursion, list_any}
+use Rattle.strm_types.specs.declared.names.ModuleName.{ModuleName}
+use Rattle.strm_types.specs.declared.names.Place.{Place}
+use Rattle.strm_types.specs.declared.names.Place.TheVariants.{Head, Ldterm, Driver}
+use Rattle.strm_types.specs.declared.names.QueueName.{QueueName}
+use Rattle.strm_types.specs.declared.names.Side.{Side}
+use Rattle.strm_types.specs.declared.names.Side.TheVariants.{Master, Slave}
+use Rattle.strm_types.specs.declared.names.Way.{Way}
+use Rattle.strm_types.specs.declared.names.Way.TheVariants.{Up, Down}
+use Rattle.strm_types.specs.declared.spots.Note.{Note}
+use Rattle.strm_types.specs.declared.spots.Note.TheVariants.{Enable, Room}
+use Rattle.strm_types.specs.declared.limits.TheConstants.{MODULES}
+use Rattle.strm_types.specs.ModuleQueues.{place_before}
+use Rattle.strm_types.specs.Names.{driver_of, enable, enable_found, enable_if, enable_some, is_enabled, other, same_queue, without}
+use Rattle.strm_laws.specs.Earlier.{before_at, before_by, before_modules, places_of, queue_named}
+use Rattle.strm_laws.specs.Puts.{noted}
+use Rattle.strm_laws.specs.Restorable.{AreEnabled, IsThere, is_ldterm, is_there_among}
+use Rattle.strm_laws.specs.StackCosts.{Stands, stands_of, stands_on}
+use Rattle.strm_laws.specs.Stacked.{Module, OfLdterm, OfPtem, OfPckt, module_name, module_queue}
+use Rattle.strm_laws.specs.State.{State, stream}
+use Rattle.strm_types.proofs.EnabledNames.{once-added, once-without, same_queue-sound}
+
+-- what may name a queue names one that is there
+abbrev pub MayBe : Stands → Option QueueName → Type 0
+MayBe all None = Unit {0}
+MayBe all (Some name) = IsThere all name
+
+module _ (all : Stands) where
+  all-with : (name : QueueName) (names : List QueueName) → IsThere all name → AllByRecursion (IsThere all) names → AllByRecursion (IsThere all) (names ++ name ∷ [])
+  all-with name [] one each = (one, tt)
+  all-with name (n ∷ names) one each = (each.0, all-with name names one each.1)
+
+  pub enable-there : (name : QueueName) (names : List QueueName) → IsThere all name → AreEnabled all names → AreEnabled all (enable name names)
+  enable-there name names one are = at (is_enabled name names) refl
+    where
+      at : (stands : Bool) → is_enabled name names ≡ stands → AreEnabled all (cond stands names (names ++ name ∷ []))
+      at true is = are
+      at false is = record { once = once-added names name are.once is; there = all-with name names one are.there }
+
+  pub found-there : (name : Option QueueName) (names : List QueueName) → MayBe all name → AreEnabled all names → AreEnabled all (enable_found name names)
+  found-there None names one are = are
+  found-there (Some name) names one are = enable-there name names one are
+
+  pub some-there : (goes : Bool) (name : Option QueueName) (names : List QueueName) → MayBe all name → AreEnabled all names → AreEnabled all (enable_some goes name names)
+  some-there true name names one are = found-there name names one are
+  some-there false name names one are = are
+
+  pub if-there : (goes : Bool) (name : QueueName) (names : List QueueName) → IsThere all name → AreEnabled all names → AreEnabled all (enable_if goes name names)
+  if-there true name names one are = enable-there name names one are
+  if-there false name names one are = are
+
+  all-without : (name : QueueName) (names : List QueueName) → AllByRecursion (IsThere all) names → AllByRecursion (IsThere all) (without name names)
+  all-without name [] each = tt
+  all-without name (n ∷ names) each = at (not (same_queue n name)) (all-without name names each.1)
+    where
+      at : (stays : Bool) → AllByRecursion (IsThere all) (without name names) → AllByRecursion (IsThere all) (cond stays (n ∷ without name names) (without name names))
+      at true more = (each.0, more)
+      at false more = more
+
+  pub without-there : (name : QueueName) (names : List QueueName) → AreEnabled all names → AreEnabled all (without name names)
+  without-there name names are = record { once = once-without names name are.once; there = all-without name names are.there }
+
+  -- what a put says of its queues names queues that are there
+  abbrev pub AreNoted : Side → Option Place → List Note → Type 0
+  AreNoted side place [] = Unit {0}
+  AreNoted side place (Enable way ∷ notes) = MayBe all (queue_named side way place) × AreNoted side place notes
+  AreNoted side place (Room way ∷ notes) = AreNoted side place notes
+
+  pub noted-there : (side : Side) (place : Option Place) (earlier : Way → Option QueueName) → ((way : Way) → MayBe all (earlier way)) → (notes : List Note) → AreNoted side place notes → (names : List QueueName)
+      → AreEnabled all names → AreEnabled all (noted side place earlier notes names)
+  noted-there side place earlier before [] fine names are = are
+  noted-there side place earlier before (Enable way ∷ notes) fine names are =
+      noted-there side place earlier before notes fine.1 (enable_found (queue_named side way place) names) (found-there (queue_named side way place) names fine.0 are)
+  noted-there side place earlier before (Room way ∷ notes) fine names are =
+      noted-there side place earlier before notes fine (enable_found (earlier way) names) (found-there (earlier way) names (before way) are)
+
+  -- where the place is there, so is each of its queues
+  pub any-noted : (side : Side) (place : Option Place) → ((way : Way) → MayBe all (queue_named side way place)) → (notes : List Note) → AreNoted side place notes
+  any-noted side place each [] = tt
+  any-noted side place each (Enable way ∷ notes) = (each way, any-noted side place each notes)
+  any-noted side place each (Room way ∷ notes) = any-noted side place each notes
+
+  -- a queue that is enabled is there
+  pub among-there : (name : QueueName) (names : List QueueName) → is_enabled name names ≡ true → AllByRecursion (λ n. IsThere all n) names → IsThere all name
+  among-there name [] is each = absurd (cc is)
+  among-there name (n ∷ names) is each = at (same_queue n name) refl (λ more. among-there name names more each.1) is
+    where
+      at : (same : Bool) → same_queue n name ≡ same → (is_enabled name names ≡ true → IsThere all name) → (same || is_enabled name names) ≡ true → IsThere all name
+      at true same rest is = subst (λ n. IsThere all n) (same_queue-sound n name same) each.0
+      at false same rest is = rest is
+
+-- a place of a module is there where the module is
+abbrev PlaceAmong : Option Place → List ModuleName → Type 0
+PlaceAmong None ns = Unit {0}
+PlaceAmong (Some place) ns = (way : Way) → is_there_among place way ns ≡ true
+
+pub more-among : (place : Place) (way : Way) (n : ModuleName) (ns : List ModuleName) → is_there_among place way ns ≡ true → is_there_among place way (n ∷ ns) ≡ true
+more-among Head way n ns is = is
+more-among Driver Up n ns is = is
+more-among Driver Down n ns is = is
+more-among Ldterm way n ns is = at (is_ldterm n)
+  where
+    at : (first : Bool) → (first || list_any is_ldterm ns) ≡ true
+    at true = refl
+    at false = is
+
+one-more : (place : Option Place) (n : ModuleName) (ns : List ModuleName) → PlaceAmong place ns → PlaceAmong place (n ∷ ns)
+one-more None n ns is = tt
+one-more (Some place) n ns is = λ way. more-among place way n ns (is way)
+
+named-there : (all : Stands) (side : Side) (way : Way) (place : Option Place) → PlaceAmong place (stands_on side all) → MayBe all (queue_named side way place)
+named-there all side way None is = tt
+named-there all side way (Some place) is = is way
+
+module _ {C : Type 0} where
+  index-among : (ps : List (Module C)) (i : ℕ) → PlaceAmong (slice_index_or (places_of ps) i None) (map module_name ps)
+  index-among [] i = tt
+  index-among (OfLdterm l ∷ ps) zero = λ way. refl
+  index-among (OfPtem p ∷ ps) zero = tt
+  index-among (OfPckt p ∷ ps) zero = tt
+  index-among (p ∷ ps) (suc i) = one-more (slice_index_or (places_of ps) i None) (module_name p) (map module_name ps) (index-among ps i)
+
+  on-side : (all : Stands) (s : State C) → stands_of s ≡ all → (side : Side) → map module_name (stream side s).modules ≡ stands_on side all
+  on-side all s is Master = ap (λ (a : Stands). stands_on Master a) is
+  on-side all s is Slave = ap (λ (a : Stands). stands_on Slave a) is
+
+  pub index-there : (all : Stands) (s : State C) → stands_of s ≡ all → (side : Side) (way : Way) (i : ℕ) → MayBe all (queue_named side way (slice_index_or (places_of (stream side s).modules) i None))
+  index-there all s is side way i =
+      let place = slice_index_or (places_of (stream side s).modules) i None in
+      named-there all side way place (subst (λ ns. PlaceAmong place ns) (on-side all s is side) (index-among (stream side s).modules i))
+
+  -- and so the nearest earlier queues
+  pub before-there : (all : Stands) (s : State C) → stands_of s ≡ all → (side : Side) (way : Way) (at : ℕ) → MayBe all (before_at side way at s)
+  before-there all s is side way at = by (place_before module_queue way at (stream side s).modules)
+    where
+      ahead : (way : Way) (count : ℕ) → MayBe all (before_modules side way count at)
+      ahead Down count = tt
+      ahead Up count = over (nat_le at count)
+        where
+          over : (b : Bool) → MayBe all (cond b (Some (driver_of (other side))) None)
+          over true = refl
+          over false = tt
+
+      by : (o : Option ℕ) → MayBe all (before_by side way at (places_of (stream side s).modules) o)
+      by None = ahead way (min MODULES (length (places_of (stream side s).modules)))
+      by (Some place) = index-there all s is side way (place - 1)

@@ -1,0 +1,170 @@
+-- A turn of a pair of good streams leaves them good.
+use Rattle.std.proofs.Common.{ℕ, zero, suc, ◌+◌, ◌-◌, ◌*◌, Bool, true, false, cond, List, [], ◌∷◌}
+use Rattle.std.specs.Prelude.{◌==◌, not, Option, None, Some}
+use Rattle.std.specs.List.{AllByRecursion}
+use Rattle.strm_types.specs.declared.answers.Turn.{Turn}
+use Rattle.strm_types.specs.declared.kinds.MsgKind.{MsgKind}
+use Rattle.strm_types.specs.declared.limits.TheConstants.{HOPS}
+use Rattle.strm_types.specs.declared.names.Place.{Place}
+use Rattle.strm_types.specs.declared.names.Place.TheVariants.{Head, Ldterm, Driver}
+use Rattle.strm_types.specs.declared.names.QueueName.{QueueName}
+use Rattle.strm_types.specs.declared.names.Side.{Side}
+use Rattle.strm_types.specs.declared.names.Way.{Way}
+use Rattle.strm_types.specs.declared.names.Way.TheVariants.{Up, Down}
+use Rattle.strm_types.specs.declared.spots.Asks.{Asks}
+use Rattle.strm_types.specs.declared.spots.Asks.TheVariants as asked
+use Rattle.strm_types.specs.declared.spots.Spot.{Spot}
+use Rattle.strm_types.specs.Cells.{Cells}
+use Rattle.strm_types.specs.Deliver.{carried, in_turn}
+use Rattle.strm_types.specs.Message.{Message, band_of, size_of}
+use Rattle.strm_types.specs.ModuleQueues.{at_place, place_past, queue_changed, with_waiting}
+use Rattle.strm_types.specs.Modules.{change_among}
+use Rattle.strm_types.specs.Names.{is_open, other, without}
+use Rattle.strm_types.specs.Queue.{Queue, left_with, relieved}
+use Rattle.strm_types.specs.Service.{turn_ended}
+use Rattle.strm_laws.specs.Earlier.{driver_place}
+use Rattle.strm_laws.specs.ModuleTurns.{Calls, again_at, asked_turn, bytes_at, call_at, calls, made_below, module_called, moved_on, moved_within, place_named, queue_ended, turned_named, turned_there, waits_there}
+use Rattle.strm_laws.specs.Past.{has_room_past, waits_on, writer_waits}
+use Rattle.strm_laws.specs.Puts.{delivered, put_in}
+use Rattle.strm_laws.specs.Restorable.{GoodMessage, GoodModule, GoodQueue, GoodStream, StandsOn, stands_below}
+use Rattle.strm_laws.specs.Stacked.{Module, OfLdterm, OfPtem, OfPckt, module_asks, module_queue, module_rests, module_serves, with_module_queue}
+use Rattle.strm_laws.specs.State.{State, Stream, stream, with_driver_queue, with_head_queue, with_stream}
+use Rattle.strm_laws.specs.TurnOutcomes.{TurnOutcome}
+use Rattle.strm_laws.specs.Turns.{driver_serves, held_back, is_stopped_across, moved_across, turned, turned_at, turned_queue, up_across, with_driver, turn_ended as driver_turn_ended}
+use Rattle.strm_laws.proofs.GoodDeliveries.{delivered-good, sent-good}
+use Rattle.strm_laws.proofs.GoodLdterms.{queue-good, stands_at, with-queue-good}
+use Rattle.strm_laws.proofs.GoodLdtermTurns.{serves-good}
+use Rattle.strm_laws.proofs.GoodQueues.{ended-good, relieved-good, waiting-good}
+use Rattle.strm_laws.proofs.GoodStreams.{AreStreams, GoodActed, acted-good, acts-good, changes-good, driver-queue-good, modules-good, stream-parts, streams-with}
+use Rattle.strm_laws.proofs.StackStays.{queue-names, serve-names}
+use Rattle.strm_laws.proofs.TurnHolds.{any-holds}
+
+-- what holds of both holds of the one that is chosen
+module _ {C : Type 0} (P : State C → Type 0) where
+  pub outcome-holds : (b : Bool) (one another : TurnOutcome C) → P one.state → P another.state → P (cond b one another).state
+  outcome-holds true one another first second = first
+  outcome-holds false one another first second = second
+
+  pub calls-either : (b : Bool) (one another : Calls C) → P one.state → P another.state → P (cond b one another).state
+  calls-either true one another first second = first
+  calls-either false one another first second = second
+
+module _ {C : Type 0} where
+  -- a queue of a module changes, and is as good whatever may stand there
+  change-at : (way : Way) (change : Queue C → Queue C) → ((stands : MsgKind → Bool) (q : Queue C) → GoodQueue stands q → GoodQueue stands (change q))
+      → (p : Module C) → GoodModule p → GoodModule (queue_changed module_queue with_module_queue way change p)
+  change-at way change keeps (OfLdterm l) good = with-queue-good way _ l (keeps (stands_at way) _ (queue-good way l good)) good
+  change-at way change keeps (OfPtem p) good = good
+  change-at way change keeps (OfPckt p) good = good
+
+  change-stack : (side : Side) (way : Way) (change : Queue C → Queue C) → ((stands : MsgKind → Bool) (q : Queue C) → GoodQueue stands q → GoodQueue stands (change q))
+      → (i : ℕ) (t : Stream C) → GoodStream side t → GoodStream side (record t { modules = change_among (queue_changed module_queue with_module_queue way change) i t.modules })
+  change-stack side way change keeps i t good =
+      modules-good side _ t (queue-names way change i t.modules) (changes-good (queue_changed module_queue with_module_queue way change) (change-at way change keeps) i t.modules good.modules.each) good
+
+  -- a writer waits
+  head-waits : (side : Side) (band : ℕ) (t : Stream C) → GoodStream side t → GoodStream side (with_head_queue (with_waiting band t.head.queue) t)
+  head-waits side band t good = record {
+    head = record { queue = waiting-good _ band t.head.queue good.head.queue; group = good.head.group };
+    modules = good.modules;
+    driver = good.driver;
+    shut = λ closed. (let was = good.shut closed in record { modules = was.modules; signals = was.signals; ioctl = was.ioctl; unread = was.unread });
+  }
+
+  waits-stream : (side : Side) (way : Way) (band : ℕ) (o : Option ℕ) (t : Stream C) → GoodStream side t → GoodStream side (waits_on way band o t)
+  waits-stream side Up band None t good = head-waits side band t good
+  waits-stream side Down band None t good = driver-queue-good side _ t (waiting-good stands_below band t.driver.queue good.driver) good
+  waits-stream side way band (Some place) t good = change-stack side way (with_waiting band) (λ stands q fits. waiting-good stands band q fits) (place - 1) t good
+
+  waits-good : (side : Side) (way : Way) (at band : ℕ) (s : State C) → AreStreams s → AreStreams (writer_waits side way at band s)
+  waits-good side way at band s all =
+      let t = stream side s in
+      let o = place_past module_queue way at t.modules in
+      streams-with side (waits_on way band o t) s (waits-stream side way band o t (all.0 side)) all
+
+  ended-streams : (here : Spot) (took : Bool) (s : State C) → AreStreams s → AreStreams (with_stream here.side (queue_ended here took (stream here.side s)) s)
+  ended-streams here took s all =
+      let t = stream here.side s in
+      streams-with here.side (queue_ended here took t) s (change-stack here.side here.way (turn_ended took) (λ stands q fits. ended-good stands took q fits) (here.at - 1) t (all.0 here.side)) all
+
+  driver-streams : (side : Side) (q : Queue C) (s : State C) → GoodQueue stands_below q → AreStreams s → AreStreams (with_driver side q s)
+  driver-streams side q s fits all = streams-with side (with_driver_queue q (stream side s)) s (driver-queue-good side q (stream side s) fits (all.0 side)) all
+
+module _ {C : Type 0} (cells : Cells C) where
+  pub delivered-streams : (to : Spot) (m : Message C) (s : State C) → GoodMessage m → AreStreams s → AreStreams (delivered cells to m s).state
+  delivered-streams to m s fits all = delivered-good GoodMessage AreStreams cells (stream-parts cells) to m s fits all
+
+  module _ (here : Spot) where
+    serves-acted : (again : Bool) (made : ℕ) (stop : Option ℕ) (p : Module C) → GoodModule p → GoodActed (module_serves cells here made again stop p).acted
+    serves-acted again made stop (OfLdterm l) good = let t = serves-good cells here made again stop l good in record { state = t.state; sent = t.sent }
+    serves-acted again made stop (OfPtem p) good = record { state = good; sent = tt }
+    serves-acted again made stop (OfPckt p) good = record { state = tt; sent = tt }
+
+    calls-good : (n : ℕ) (again : Bool) (left : ℕ) (s : State C) → AreStreams s → AreStreams (calls cells here n again left s).state
+    calls-good zero again left s all = all
+    calls-good (suc more) again left s all =
+        let ps = (stream here.side s).modules in
+        let made = made_below here.side s in
+        let i = here.at - 1 in
+        let t = module_called cells here again left s in
+        let u = in_turn (carried (put_in cells) HOPS) t.sent t.state in
+        let acted = call_at cells here made again left ps in
+        let took = acted-good cells here acted s (serve-names cells here made again (Some left) i ps) (acts-good (λ p. (module_serves cells here made again (Some left) p).acted) (serves-acted again made (Some left)) i ps (all.0 here.side).modules.each) all in
+        let sent = sent-good GoodMessage AreStreams cells (stream-parts cells) t.sent t.state took.sent took.state in
+        calls-either AreStreams (again_at cells here made again left ps) _ _ (calls-good more true (left - bytes_at cells here made again left ps) u.state sent) sent
+
+    moved-good : (name : QueueName) (bytes : ℕ) (s : State C) → AreStreams s → AreStreams (moved_on cells here name bytes s).state
+    moved-good name bytes s all =
+        let t = calls cells here (3 * bytes + 1) false bytes s in
+        outcome-holds AreStreams t.ended _ _ (ended-streams here (not (t.bytes == 0)) t.state (calls-good (3 * bytes + 1) false bytes s all)) all
+
+    asked-good : (asks : Asks) (name : QueueName) (turn : Turn) (s : State C) → AreStreams s → AreStreams (asked_turn cells here asks name turn s).state
+    asked-good asked.Empty name turn s all = ended-streams here false s all
+    asked-good asked.Held name turn s all = ended-streams here false s all
+    asked-good asked.Free name turn s all = moved-good name _ s all
+    asked-good (asked.Room band) name turn s all =
+        let waiting = writer_waits here.side here.way here.at band.0 s in
+        outcome-holds AreStreams (has_room_past here.side here.way here.at band.0 s) (moved_within cells here name turn s) (waits_there band.0 here s) (moved-good name _ s all)
+        (ended-streams here false waiting (waits-good here.side here.way here.at band.0 s all))
+
+    there-good : (name : QueueName) (turn : Turn) (s : State C) → AreStreams s → AreStreams (turned_there cells here name turn s).state
+    there-good name turn s all =
+        let ps = (stream here.side s).modules in
+        outcome-holds AreStreams (at_place module_rests false here.at ps) _ _ (asked-good (at_place (module_asks here.way) asked.Empty here.at ps) name turn s all) all
+
+  named-good : (name : QueueName) (turn : Turn) (s : State C) (o : Option ℕ) → AreStreams s → AreStreams (turned_named cells name turn s o).state
+  named-good name turn s None all = all
+  named-good name turn s (Some at) all = there-good (record { side = name.side; at = at; way = name.way }) name turn s all
+
+  -- drivers
+  driver-ended : (side : Side) (size : ℕ) (s : State C) → AreStreams s → AreStreams (driver_turn_ended side size s)
+  driver-ended side size s all =
+      let q = turned_queue (stream side s).driver.queue in
+      let fits : GoodQueue stands_below q = record { messages = (all.0 side).driver.messages; marks = (all.0 side).driver.marks } in
+      driver-streams side _ s (at (not (size == 0)) q fits) all
+    where
+      at : (went : Bool) (q : Queue C) → GoodQueue stands_below q → GoodQueue stands_below (cond went (relieved q) q)
+      at true q fits = relieved-good stands_below q fits
+      at false q fits = fits
+
+  moved-driver : (side : Side) (m : Message C) (rest : List (Message C)) (s : State C) → StandsOn stands_below m → AllByRecursion (λ m. StandsOn stands_below m) rest → AreStreams s → AreStreams (moved_across cells side m rest s).state
+  moved-driver side m rest s fits behind all =
+      let from = with_driver side (left_with rest (stream side s).driver.queue) s in
+      let left = driver-streams side (left_with rest (stream side s).driver.queue) s (record { messages = behind; marks = (all.0 side).driver.marks }) all in
+      driver-ended side (size_of m) (delivered cells (up_across side from) m from).state (delivered-streams (up_across side from) m from fits.good left)
+
+  serves-driver : (side : Side) (ms : List (Message C)) (s : State C) → AllByRecursion (λ m. StandsOn stands_below m) ms → AreStreams s → AreStreams (driver_serves cells side ms s).state
+  serves-driver side [] s each all = driver-streams side (record (stream side s).driver.queue { want_read = true }) s (record { messages = (all.0 side).driver.messages; marks = (all.0 side).driver.marks }) all
+  serves-driver side (m ∷ rest) s each all =
+      let kept = with_driver side (held_back (stream side s).driver.queue) s in
+      let waits = driver-streams side (held_back (stream side s).driver.queue) s (record { messages = (all.0 side).driver.messages; marks = (all.0 side).driver.marks }) all in
+      any-holds (λ t. AreStreams t.state) (is_open (stream (other side) s).opened) (is_stopped_across side m s) _ _ _
+      waits (waits-good (other side) Up (driver_place (other side) kept) (band_of m) kept waits) (moved-driver side m rest s each.0 each.1 all)
+
+  pub turn-good : (name : QueueName) (turn : Turn) (s : State C) → AreStreams s → AreStreams (turned cells name turn s).state
+  turn-good name turn s all = at name.place (record s { enabled = without name s.enabled }) all
+    where
+      at : (place : Place) (s : State C) → AreStreams s → AreStreams (turned_at cells place name turn s).state
+      at Driver s all = serves-driver name.side (stream name.side s).driver.queue.messages s (all.0 name.side).driver.messages all
+      at Head s all = all
+      at Ldterm s all = named-good name turn s (place_named name.place (stream name.side s).modules) all

@@ -1,0 +1,188 @@
+-- What an image of a pair may hold. A checkpoint is refused for what no pair can have: each field here is one such reason turned round. What is
+-- said of the message in work and of options isn't stored: by it calls and turns keep the rest.
+use Rattle.std.specs.Prelude.{◌≡◌, ◌≤◌, ◌<◌, ◌+◌, ◌^◌, ◌||◌, Bool, true, false, List, [], map, length, Option, None, Some}
+use Rattle.std.specs.List.{AllByRecursion, list_any}
+use Rattle.strm_types.specs.declared.events.Event.TheVariants.{Put}
+use Rattle.strm_types.specs.declared.entries.Entry.TheVariants.{Called, Turned}
+use Rattle.strm_types.specs.declared.kinds.MsgKind.{MsgKind}
+use Rattle.strm_types.specs.declared.kinds.MsgKind.TheVariants.{Ioctl, Iocack, Iocnak, Setopts}
+use Rattle.strm_types.specs.declared.limits.TheConstants.{BANDS, IOCTL_MAX, IOCTL_END, MODULES}
+use Rattle.strm_types.specs.declared.keys.TheConstants.{LINE_MAX}
+use Rattle.strm_types.specs.declared.output.TheConstants.{COLUMN_MAX}
+use Rattle.strm_types.specs.declared.modes.Prio.{Prio}
+use Rattle.strm_types.specs.declared.modes.Prio.TheVariants.{High, Band}
+use Rattle.strm_types.specs.declared.names.ModuleName.{ModuleName}
+use Rattle.strm_types.specs.declared.names.ModuleName.TheVariants as names
+use Rattle.strm_types.specs.declared.names.Place.{Place}
+use Rattle.strm_types.specs.declared.names.Place.TheVariants.{Head, Ldterm, Driver}
+use Rattle.strm_types.specs.declared.names.QueueName.{QueueName}
+use Rattle.strm_types.specs.declared.names.Side.{Side}
+use Rattle.strm_types.specs.declared.names.Way.{Way}
+use Rattle.strm_types.specs.declared.names.Way.TheVariants.{Up, Down}
+use Rattle.strm_types.specs.declared.slots.Slot.TheVariants.{Free}
+use Rattle.strm_types.specs.declared.termios.Termios.{Termios}
+use Rattle.strm_types.specs.Both.{AllSides}
+use Rattle.strm_types.specs.Drivers.{crosses}
+use Rattle.strm_types.specs.Events.{Request}
+use Rattle.strm_types.specs.Heads.{Head as TheHead}
+use Rattle.strm_types.specs.Input.{is_data}
+use Rattle.strm_types.specs.Journal.{PlainEntry}
+use Rattle.strm_types.specs.Kinds.{is_control_kind, is_body_kind}
+use Rattle.strm_types.specs.Commands.{is_ioctl}
+use Rattle.strm_types.specs.Ldterms.{Ldterm as TheLdterm, waits_there}
+use Rattle.strm_types.specs.Message.{Message, is_part, is_high_priority}
+use Rattle.strm_types.specs.Names.{IsOnce, is_master, is_open}
+use Rattle.strm_types.specs.Options.{options_in}
+use Rattle.strm_types.specs.Queue.{Flow, Queue}
+use Rattle.strm_laws.specs.Kept.{AreIdle}
+use Rattle.strm_laws.specs.StackCosts.{EachOnce, Stands, stands_of, stands_on}
+use Rattle.strm_laws.specs.Within.{AreWithin}
+use Rattle.strm_laws.specs.Stacked.{Module, OfLdterm, OfPtem, OfPckt, module_name}
+use Rattle.strm_laws.specs.State.{State, Stream}
+
+-- the kinds that have parts: M_DATA, M_PROTO and M_PCPROTO (STREAMS Programming Guide, "Message Types")
+abbrev pub is_part_kind : MsgKind → Bool
+is_part_kind kind = is_control_kind kind || is_body_kind kind
+
+-- the kinds that begin with the header of an ioctl: M_IOCTL, M_IOCACK and M_IOCNAK (streamio(7I): I_STR; sys/stream.h: struct iocblk)
+abbrev pub has_header : MsgKind → Bool
+has_header Ioctl = true
+has_header Iocack = true
+has_header Iocnak = true
+has_header _ = false
+
+abbrev pub sets_options : MsgKind → Bool
+sets_options Setopts = true
+sets_options _ = false
+
+-- the kinds that stand on ldterm's write queue: M_DATA, M_PROTO, and M_IOCTL behind them (ldterm(7M); termio(7I): TCSETSW)
+abbrev pub goes_out : MsgKind → Bool
+goes_out kind = waits_there kind || is_ioctl kind
+
+-- the kinds that stand on a driver's queue: what crosses, and M_IOCTL (ptm(7D), pts(7D))
+abbrev pub stands_below : MsgKind → Bool
+stands_below kind = crosses kind || is_ioctl kind
+
+-- A message that fits its kind: M_PROTO and M_PCPROTO have a control part and no other kind has one, M_DATA has a data part, and a kind without
+-- parts has its bytes in neither; its band is one that queues have, 0 for high priority; an ioctl's header has 16 bytes, with 256 behind it at most.
+-- No M_SETOPTS that is sent here sets marks, and none stands on a queue.
+pub record GoodMessage {C : Type 0} (m : Message C) : Type 0 where
+  pub control : is_part m.control ≡ is_control_kind m.kind
+  pub body : is_body_kind m.kind ≡ true → is_part m.body ≡ true
+  pub bare : is_part_kind m.kind ≡ false → is_part m.body ≡ false
+  pub plain : is_part_kind m.kind ≡ true → m.plain ≡ []
+  pub band : m.band < BANDS
+  pub high : is_high_priority m.kind ≡ true → m.band ≡ 0
+  pub header : has_header m.kind ≡ true → (16 ≤ length m.plain) × (length m.plain ≤ 16 + IOCTL_MAX)
+  pub options : sets_options m.kind ≡ true → (options_in m.plain).marks ≡ None
+
+-- one that stands on a queue is of a kind that stands there
+pub record StandsOn {C : Type 0} (stands : MsgKind → Bool) (m : Message C) : Type 0 where
+  pub good : GoodMessage m
+  pub kind : stands m.kind ≡ true
+
+-- A high-water mark is above 0, and a low-water mark no higher than it (STREAMS Programming Guide, "Flow Control"); both have 32 bits.
+pub record AreMarks (flow : Flow) : Type 0 where
+  pub some : 1 ≤ flow.high
+  pub order : flow.low ≤ flow.high
+  pub bits : flow.high < 2 ^ 32
+
+-- a queue, by the kinds that stand there
+pub record GoodQueue {C : Type 0} (stands : MsgKind → Bool) (q : Queue C) : Type 0 where
+  pub messages : AllByRecursion (λ m. StandsOn stands m) q.messages
+  pub marks : AllByRecursion AreMarks q.flows
+
+abbrev pub is_ldterm : ModuleName → Bool
+is_ldterm names.Ldterm = true
+is_ldterm names.Ptem = false
+is_ldterm names.Pckt = false
+
+-- a queue with a service procedure is a driver's, or one of an ldterm that stands on its side (srv(9E))
+abbrev pub is_there_among : Place → Way → List ModuleName → Bool
+is_there_among Head way on = false
+is_there_among Ldterm way on = list_any is_ldterm on
+is_there_among Driver Up on = false
+is_there_among Driver Down on = true
+
+abbrev pub IsThere : Stands → QueueName → Type 0
+IsThere all name = is_there_among name.place name.way (stands_on name.side all) ≡ true
+
+-- enabled queues, where modules of these names stand: each is there, and none is enabled twice (qenable(9F))
+pub record AreEnabled (all : Stands) (enabled : List QueueName) : Type 0 where
+  pub once : IsOnce enabled
+  pub there : AllByRecursion (λ name. IsThere all name) enabled
+
+-- a termios has 19 control bytes (termio(7I): c_cc)
+abbrev pub IsWhole : Termios → Type 0
+IsWhole t = length t.control ≡ 19
+
+module _ {C : Type 0} where
+  -- in a turn of ldterm's read queue the message in work is M_DATA
+  abbrev pub IsWork : Option (Message C) → Type 0
+  IsWork None = Unit {0}
+  IsWork (Some m) = StandsOn is_data m
+
+  -- ldterm: columns up to 65,535, a line of 255 bytes at most, and what stands on its queues (ldterm(7M); termio(7I))
+  pub record GoodLdterm (l : TheLdterm C) : Type 0 where
+    pub termios : IsWhole l.termios
+    pub column : l.column ≤ COLUMN_MAX
+    pub line : length l.line ≤ LINE_MAX
+    pub read_queue : GoodQueue waits_there l.read_queue
+    pub write_queue : GoodQueue goes_out l.write_queue
+    pub work : IsWork l.in_work
+
+  -- ptem has a termios too, and pckt nothing
+  abbrev pub GoodModule : Module C → Type 0
+  GoodModule (OfLdterm l) = GoodLdterm l
+  GoodModule (OfPtem p) = IsWhole p.termios
+  GoodModule (OfPckt p) = Unit {0}
+
+  -- three modules at most, and none twice (streamio(7I): I_PUSH)
+  pub record GoodModules (ps : List (Module C)) : Type 0 where
+    pub each : AllByRecursion GoodModule ps
+    pub few : length ps ≤ MODULES
+    pub once : EachOnce (map module_name ps)
+
+  -- a head: what stands for its readers has parts, and the slave's alone has a foreground group (termio(7I): TIOCSPGRP)
+  pub record GoodHead (side : Side) (h : TheHead C) : Type 0 where
+    pub queue : GoodQueue is_part_kind h.queue
+    pub group : is_master side ≡ true → h.group ≡ 0
+
+  -- a side that isn't open: no module, no signal that waits, no ioctl under way, and nothing to read (close(2))
+  pub record IsShut (t : Stream C) : Type 0 where
+    pub modules : t.modules ≡ []
+    pub signals : t.head.signals ≡ []
+    pub ioctl : t.head.ioctl ≡ Free
+    pub unread : t.head.queue.messages ≡ []
+
+  pub record GoodStream (side : Side) (t : Stream C) : Type 0 where
+    pub head : GoodHead side t.head
+    pub modules : GoodModules t.modules
+    pub driver : GoodQueue stands_below t.driver.queue
+    pub shut : is_open t.opened ≡ false → IsShut t
+
+  -- A pair that an image may hold. Enabled queues exist, have a service procedure, and are enabled once each. What heads keep is bounded, no
+  -- turn is under way, and the number of the next ioctl is above 0, one of 32 bits.
+  pub record Restorable (s : State C) : Type 0 where
+    pub streams : AllSides GoodStream s.ends
+    pub heads : AreWithin s
+    pub idle : AreIdle s
+    pub enabled : AreEnabled (stands_of s) s.enabled
+    pub numbered : 1 ≤ s.next_ioctl
+    pub last : s.next_ioctl ≤ IOCTL_END
+
+-- a putmsg whose band is one that queues have, as each is that a caller can make; and such entries
+abbrev pub IsBanded : Prio → Type 0
+IsBanded High = Unit {0}
+IsBanded (Band band) = band.0 < BANDS
+
+abbrev pub IsWithinCall : Request → Type 0
+IsWithinCall (Put prio control body) = IsBanded prio
+IsWithinCall _ = Unit {0}
+
+abbrev pub IsWithinEntry : PlainEntry → Type 0
+IsWithinEntry (Called caller asked answer) = IsWithinCall asked
+IsWithinEntry (Turned name turn) = Unit {0}
+
+abbrev pub AreWithinEntries : List PlainEntry → Type 0
+AreWithinEntries entries = AllByRecursion IsWithinEntry entries

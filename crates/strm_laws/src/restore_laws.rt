@@ -1,0 +1,16 @@
+//! What an image of a pair may hold, every pair has: each reason for which an image would be refused is impossible of the states of a legal
+//! journal. Each law is the contract of a function that does nothing, and holds of bytes and of bytes with their origin alike.
+
+ghost use Rattle.std.specs.Prelude.{◌≡◌, List};
+ghost use Rattle.strm_types.specs.Cells.{Cells};
+ghost use Rattle.strm_types.specs.Journal.{PlainEntry};
+ghost use Rattle.strm_laws.specs.Restorable.{AreWithinEntries, IsWithinEntry, Restorable};
+ghost use Rattle.strm_laws.specs.State.{State, opening};
+ghost use Rattle.strm_laws.specs.Step.{IsLegal, Step, replay};
+
+/// A pair as it is made can be restored, and so can each pair behind a step, and behind a legal journal, whose calls name bands that queues have.
+pub fn restorable_stays<C>()
+    ensures opening { (s : State C) → s ≡ opening → Restorable s }
+    ensures step { (cells : Cells C) (old new : State C) (entry : PlainEntry) → IsWithinEntry entry → Restorable old → Step cells old entry new → Restorable new }
+    ensures journal { (cells : Cells C) (s : State C) (entries : List PlainEntry) → AreWithinEntries entries → Restorable s → IsLegal cells s entries → Restorable (replay cells s entries) }
+{}
