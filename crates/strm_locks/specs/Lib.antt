@@ -7,4 +7,3 @@ pub mod Shares
 pub mod Systems
 pub mod Tallies
 pub mod Turns
-pub mod Unopened

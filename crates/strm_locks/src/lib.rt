@@ -10,8 +10,6 @@ mod lock;
 mod object;
 mod rule;
 mod system;
-#[cfg(test)]
-mod tests;
 mod told;
 mod view;
 mod visit;
@@ -25,4 +23,4 @@ pub use object::Object;
 pub use system::{PairEnd, System};
 pub use told::{Each, Told};
 pub use visit::Visit;
-pub use workers::Report;
+pub use workers::{Report, Round, work};

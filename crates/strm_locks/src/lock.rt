@@ -14,6 +14,7 @@ use atomic_table::{Refused, Table};
 use std::alloc::{AllocError, Global};
 use std::marker::Model;
 use std::sync::Wait;
+use std::sync::atomic::{AtomicU64, Ordering};
 
 /// A pair under its lock, which threads share by a `&`. One thread at a time has the pair, and with it the book of what all ends were told.
 ///
@@ -24,6 +25,8 @@ use std::sync::Wait;
 #[derive(Drop)]
 pub struct Lock<P: Object> {
     pub(crate) table: Board<P>,
+    // How many threads park, or are about to. No contract speaks of it: it saves the system call where none does.
+    waiting: AtomicU64,
 }
 
 impl<P: Object> Model for Lock<P> {
@@ -45,7 +48,10 @@ impl<P: Object> Lock<P> {
         let mut slots = Vec::with_capacity(alloc, 1)?;
         slots.push_reserved(held);
         match Table::new(alloc, &[0], slots, &()) {
-            Ok((table, _seat)) => Ok(Lock { table }),
+            Ok((table, _seat)) => Ok(Lock {
+                table,
+                waiting: AtomicU64::new(0),
+            }),
             Err(Refused { slots: _ }) => Err(AllocError),
         }
     }
@@ -69,9 +75,23 @@ impl<P: Object> Lock<P> {
             if shared.compare_exchange::<Take>(seat, 0, 0, 1) == 0 {
                 return;
             }
-            shared.park(rt, 0, 1);
+            self.wait(rt);
         }
         unreachable!()
+    }
+
+    // Parks while the word is 1. It is noted before: who gives the lock back sees the note, or this thread sees the word at 0.
+    fn wait<R: Wait>(&self, rt: &R) {
+        self.waiting.fetch_add(1, Ordering::SeqCst);
+        self.table.shared.park(rt, 0, 1);
+        self.waiting.fetch_sub(1, Ordering::SeqCst);
+    }
+
+    // Wakes one that waits, behind the store that gave the lock back.
+    fn wake(&self) {
+        if self.waiting.load(Ordering::SeqCst) > 0 {
+            self.table.shared.wake_one(0);
+        }
     }
 
     // Gives the pair and the lock back, and wakes one that waits. The seat was told what the book gained.
@@ -83,7 +103,7 @@ impl<P: Object> Lock<P> {
         ensures told { (k : Kept) → seat.old.me.1 ≡ (0, k) ∷ [] → seat.new.me ≡ (grown seat.old.me.0 seat.old.me.0.found k.book, []) }
     {
         self.table.shared.store::<Give>(seat, 0, 0);
-        self.table.shared.wake_one(0);
+        self.wake();
     }
 
     // The same where the book was closed, by a seat that had all parts.
@@ -94,7 +114,7 @@ impl<P: Object> Lock<P> {
         ensures { IsSame seat.old seat.new × (seat.new.me ≡ (fresh, [])) }
     {
         self.table.shared.store::<Empty>(seat, 0, 0);
-        self.table.shared.wake_one(0);
+        self.wake();
     }
 
     // The same at the end of a visit, where the book stayed: the seat was told nothing, and has met the pair that it leaves.
@@ -106,7 +126,7 @@ impl<P: Object> Lock<P> {
         ensures met { (k : Kept) → seat.old.me.1 ≡ (0, k) ∷ [] → seat.new.me ≡ (leaving seat.old.me.0 k.pair, []) }
     {
         self.table.shared.store::<Pass>(seat, 0, 0);
-        self.table.shared.wake_one(0);
+        self.wake();
     }
 
     // Cuts a seat in two: this one keeps what was told, and the second has half of the parts, rounded down.

@@ -73,8 +73,8 @@ impl Report {
     }
 }
 
-/// What a worker visits: pairs, by their numbers.
-pub(crate) trait Round {
+/// What a worker visits: pairs, by their numbers. A system's workers visit its pairs; a fake in memory shows what a visit reads and writes.
+pub trait Round {
     ghost use Rattle.strm_locks.specs.declared.held.Made.{Made};
 
     /// How many there are.
@@ -83,14 +83,16 @@ pub(crate) trait Round {
     /// What a visit to a pair, which makes this, leads to.
     ghost leads: { Self → ℕ → Option Made → Self → Type 0 };
 
+    /// Visits a pair, and makes a turn of the queue that was enabled first there, if any.
     fn visit(&mut self, worker: u32, pair: u32) -> Option<Made>
         requires { pair < count self.old }
         ensures made { leads self.old pair result self.new }
         ensures same { count self.new ≡ count self.old };
 }
 
-// One worker: it visits one pair after the other, first the one of its number.
-pub(crate) fn work<V: Round>(round: &mut V, pairs: u32, worker: u32, visits: u32) -> Report
+/// One worker, which makes so many visits: it goes from pair to pair, first to that of its number, modulo the number of pairs. It tells each
+/// visit once, as a turn, a refused turn, or one that found no queue enabled.
+pub fn work<V: Round>(round: &mut V, pairs: u32, worker: u32, visits: u32) -> Report
     requires some { 0 < pairs }
     requires all { V.count round.old ≡ pairs }
     ensures tours { Tours V.leads pairs worker visits round.old result round.new }

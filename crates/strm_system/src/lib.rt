@@ -4,10 +4,6 @@
 mod laws;
 mod locked;
 #[cfg(test)]
-mod server;
-#[cfg(test)]
-mod systems;
-#[cfg(test)]
 mod tests;
 
 pub use laws::entries_are_tallied;

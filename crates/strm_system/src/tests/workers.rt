@@ -1,25 +1,24 @@
-//! Threads at the locks of pairs that nobody can open, as their journals take no entry: each visit takes the lock and gives it back.
+//! Workers at pairs that nobody can open, and at pairs in memory: each visit takes the lock and gives it back, and is counted.
 
 ghost use Rattle.std.specs.Prelude.{◌≡◌, ◌+◌, ◌*◌, ◌<◌, Some};
 ghost use Rattle.strm_types.specs.Events.{request};
 ghost use Rattle.strm_types.specs.declared.events.Caller.{Caller};
 ghost use Rattle.strm_laws.specs.Pair.{call_refused};
-ghost use Rattle.strm_locks.specs.Unopened.{unopened};
+ghost use Rattle.strm_system.specs.Shut.{shut};
 
-use super::*;
-use crate::workers::{Round, work};
 use std::test::Fail;
+use strm_locks::{End, Lock, Made, NoGate, Object, PairEnd, Round, System, work};
 use strm_types::{
     Answer, Caller, Content, Dir, Event, Ledger, Place, QueueName, Refusal, Side, Turn, Way,
 };
 
 // A pair whose journal takes no entry.
 #[derive(Drop)]
-struct Unopened;
+struct Shut;
 
 // Why it refuses a call.
 fn refusal(event: &Event<&[u8]>) -> Refusal
-    ensures { (caller : Caller) → call_refused unopened caller (request event.now) ≡ Some result }
+    ensures { (caller : Caller) → call_refused shut caller (request event.now) ≡ Some result }
 {
     match event {
         Event::OpenMaster => Refusal::JournalFull,
@@ -27,8 +26,8 @@ fn refusal(event: &Event<&[u8]>) -> Refusal
     }
 }
 
-impl Object for Unopened {
-    ghost pair_of = { λ _. unopened };
+impl Object for Shut {
+    ghost pair_of = { λ _. shut };
 
     fn call(
         &mut self,
@@ -77,17 +76,17 @@ fn may_be_shared<T: Sync>() {}
 // Threads share locks and systems, and have ends of their own.
 #[test]
 fn ends_may_be_sent_and_locks_shared() {
-    may_be_sent::<End<Unopened>>();
-    may_be_sent::<PairEnd<Unopened>>();
-    may_be_shared::<Lock<Unopened>>();
-    may_be_shared::<System<Unopened>>();
+    may_be_sent::<End<Shut>>();
+    may_be_sent::<PairEnd<Shut>>();
+    may_be_shared::<Lock<Shut>>();
+    may_be_shared::<System<Shut>>();
 }
 
 #[test]
 fn threads_take_turns_at_two_locks(rt: HostRuntime) -> Result<(), Fail> {
     let mut pairs = Vec::new(rt.alloc());
-    pairs.push(Unopened)?;
-    pairs.push(Unopened)?;
+    pairs.push(Shut)?;
+    pairs.push(Shut)?;
     let (system, mut opener) = System::new(rt.alloc(), pairs)?;
     let report = system.run_workers(&rt, 4, 10000, &NoGate);
     assert_eq!(rt; report.started, 4);

@@ -3,15 +3,16 @@
 ghost use Rattle.std.specs.Prelude.{◌<◌, length};
 ghost use Rattle.strm_locks.specs.Systems.{IsOne};
 
-use crate::systems::{PairSystem, SIZES, SystemEnd, system};
+use super::systems::{SIZES, system};
 use std::sync::Wait;
 use std::test::Fail;
 use std::thread::{Threads, join};
+use strm_locks::{Object, PairEnd, System};
 use strm_minors::Minor;
 use strm_types::{Content, Event, Refusal};
 
 // The master's thread writes a greeting.
-fn greet<R: Wait>(rt: &R, system: &PairSystem, end: SystemEnd) -> SystemEnd
+fn greet<P: Object, R: Wait>(rt: &R, system: &System<P>, end: PairEnd<P>) -> PairEnd<P>
     requires { IsOne system.now end }
     ensures { IsOne system.now result }
 {
@@ -22,7 +23,7 @@ fn greet<R: Wait>(rt: &R, system: &PairSystem, end: SystemEnd) -> SystemEnd
 }
 
 // The slave's thread makes turns and reads, until it has the greeting.
-fn listen<R: Wait>(rt: &R, system: &PairSystem, end: SystemEnd) -> SystemEnd
+fn listen<P: Object, R: Wait>(rt: &R, system: &System<P>, end: PairEnd<P>) -> PairEnd<P>
     requires { IsOne system.now end }
     ensures { IsOne system.now result }
 {
@@ -38,9 +39,9 @@ fn listen<R: Wait>(rt: &R, system: &PairSystem, end: SystemEnd) -> SystemEnd
 }
 
 // Opens a pair, gives its ends to two threads, and settles it: how many calls they made.
-fn serve<R: Threads + Wait + Sync>(
+fn serve<P: Object + Send, R: Threads + Wait + Sync>(
     rt: &R,
-    system: &PairSystem,
+    system: &System<P>,
     minor: &Minor,
 ) -> Result<u64, Refusal>
     requires { minor.now < length system.now.locks }
@@ -50,11 +51,11 @@ fn serve<R: Threads + Wait + Sync>(
     let slave = system.open_slave(rt, &mut master)?;
     let (master, slave) = join(
         rt,
-        || -> SystemEnd
+        || -> PairEnd<P>
             requires { IsOne system.now master }
             ensures { IsOne system.entry.now result }
         { greet(rt, system, master) },
-        || -> SystemEnd
+        || -> PairEnd<P>
             requires { IsOne system.now slave }
             ensures { IsOne system.entry.now result }
         { listen(rt, system, slave) },

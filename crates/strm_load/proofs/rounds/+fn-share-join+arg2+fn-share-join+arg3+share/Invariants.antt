@@ -1,0 +1,10 @@
+use Rattle.strm_load.proofs.rounds.+fn-share-join+arg2+fn-share-join+arg3+share.Given as goal
+
+abbrev pub decreases-join+arg2 : goal.decreases-join+arg2
+decreases-join+arg2 g l = l.half.threads
+
+abbrev pub decreases-join+arg3 : goal.decreases-join+arg3
+decreases-join+arg3 g l = l.rest.threads
+
+abbrev pub decreases-share : goal.decreases-share
+decreases-share g l = l.crew.threads

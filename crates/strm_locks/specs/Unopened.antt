@@ -1,5 +1,0 @@
--- The pair of the tests: nobody opened it, and its journal takes no entry.
-use Rattle.strm_laws.specs.Pair.{PairState, new_pair}
-
-abbrev pub unopened : PairState
-unopened = new_pair record { mblks = 0; dblks = 0; journal_events = 0; journal_bytes = 0 }
