@@ -12,6 +12,8 @@ pub mod Beside
 pub mod Steps
 pub mod Asking
 pub mod Relief
+pub mod Flows
+pub mod FrontOut
 pub mod Flushed
 pub mod Before
 pub mod Passing

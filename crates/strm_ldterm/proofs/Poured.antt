@@ -18,16 +18,18 @@ use Rattle.strm_types.specs.OutputTurns.{output_dir}
 use Rattle.strm_blocks.specs.Blocks.{StoreValue, IsStore}
 use Rattle.strm_frame.specs.declared.parcels.Sent.{Sent}
 use Rattle.strm_frame.specs.Hands.{HasRoom}
+use Rattle.strm_ldterm.specs.declared.flowing.Flow.{Flow}
 use Rattle.strm_ldterm.specs.declared.ldterm.Ldterm.{Ldterm}
 use Rattle.strm_ldterm.specs.FreeBefore.{IsFreeBefore, all_free, blocks_grown}
 use Rattle.strm_ldterm.specs.Does.{Proceeds}
-use Rattle.strm_ldterm.specs.Posting.{bytes_given, is_printed, poured}
+use Rattle.strm_ldterm.specs.Posting.{FlowsAs, poured}
 use Rattle.strm_ldterm.specs.Stands.{IsHeld, ldterm_in}
 use Rattle.strm_ldterm.specs.Turns.{one_after}
 use Rattle.strm_ldterm.proofs.Bytes.{kept-some}
-use Rattle.strm_ldterm.proofs.FreeBefore.{all-front, each-more, grown-two, room-for, room-none, take-front}
+use Rattle.strm_ldterm.proofs.Flows.{out-fewer}
+use Rattle.strm_ldterm.proofs.FreeBefore.{each-more, grown-two, room-for, room-none}
 use Rattle.strm_ldterm.proofs.Joining.{proceeds-joined, stays-so}
-use Rattle.strm_ldterm.proofs.Pouring.{byte-out, pours-both, pours-left, pours-work, run-out}
+use Rattle.strm_ldterm.proofs.Pouring.{pours-both, pours-left, pours-work}
 use Rattle.strm_ldterm.proofs.RunsDone.{left-whole}
 
 -- the column behind a stage is another one, and more has gone
@@ -74,86 +76,45 @@ module _ (here : Spot) (s s1 s2 : StoreValue) (x x1 x2 : Ldterm) (n : ℕ) (u : 
       (record { state = record rest { gathered = p.gathered ++ w.given; column = w.column }; notes = []; sent = []; gone = w.told })) (sym is)
       (turned s s2 x x2 1 u.column [] f f' u.told (one_after (sends [] rest) next) did counts)
 
--- nothing was taken
-pub pours-zero : (here : Spot) (s s1 : StoreValue) (x x1 : Ldterm) (f : Fates) (run : List ℕ) → run ≡ []
-    → (let p = ldterm_in s x in Proceeds s s1 x x1 0 [] [] f f (sends [] (with_left (drop (length run) (cells_left p)) p))) → Proceeds s s1 x x1 1 [] [] f f (poured here 0 (ldterm_in s x))
-pours-zero here s s1 x x1 f run none front =
-    let p = ldterm_in s x in
-    let did = subst (λ l. Proceeds s s1 x x1 0 [] [] f f (sends [] (with_left (drop (length l) (cells_left p)) p))) none front in
-    record {
-      state = did.state ∙ ap (λ g. record (with_left (drop 0 (cells_left p)) p) { gathered = g }) (sym (append-nil p.gathered));
-      noted = did.noted;
-      parcels = did.parcels;
-      told = did.told;
-      held = did.held;
-      own = did.own;
-      chains = did.chains;
-      hands = did.hands;
-      mblks = (let a = did.mblks in omega arith);
-      dblks = (let a = did.dblks in omega arith);
-      pool = did.pool;
-    }
-
-module _ (here : Spot) (s s1 s2 : StoreValue) (x x1 x2 : Ldterm) (f f' : Fates) (st : IsStore s1) where
-  -- what is to go out
-  abbrev cells : List ℕ
-  cells = cells_left (ldterm_in s x)
-
-  -- the first so many bytes were taken, and these bytes were gathered
-  abbrev Takes : ℕ → Type 0
-  Takes n = Proceeds s s1 x x1 0 [] [] f f (sends [] (with_left (drop n cells) (ldterm_in s x)))
-
-  abbrev Gathers : List ℕ → Type 0
-  Gathers bytes = Proceeds s1 s2 x1 x2 1 [] [] f f (sends [] (record (ldterm_in s1 x1) { gathered = (ldterm_in s1 x1).gathered ++ bytes }))
-
-  -- a byte
-  pub pours-byte : (byte : ℕ) (given : Posted) → cells ≡ byte ∷ drop 1 cells → Takes 1 → given ≡ post x1.termios x1.column byte → Gathers (bytes_given given.given)
-      → f' ≡ tallied (told_for plain (output_dir plain here) given.given 0 byte) f → Proceeds s s2 x (record x2 { column = given.column }) 1 [] [] f f' (poured here 1 (ldterm_in s x))
-  pours-byte byte given is front so gathers counts =
-      let dir = output_dir plain here in
-      let termios : x1.termios ≡ x.termios = ap (λ (q : ldterms.Ldterm ℕ). q.termios) front.state in
-      let column : x1.column ≡ x.column = ap (λ (q : ldterms.Ldterm ℕ). q.column) front.state in
-      let here-so : given ≡ post x.termios x.column byte = so ∙ ap (λ t. post t x1.column byte) termios ∙ ap (λ k. post x.termios k byte) column in
-      let of : Posted → Output ℕ = λ g. record { given = bytes_given g.given; column = g.column; told = told_for plain dir g.given 0 byte } in
-      pours-so here s s1 s2 x x1 x2 1 (of given) f f' st front gathers
-      (ap (λ xs. posts plain dir 0 x.termios x.column (take 1 xs)) is ∙ byte-out dir x.termios x.column byte ∙ ap of (sym here-so)) counts
-
-  -- printed bytes
-  pub pours-run : (run : List ℕ) (column : ℕ) → cells ≡ run ++ drop (length run) cells → Takes (length run) → Gathers run → column ≡ wrapped (x.column + length run)
-      → x.column ≤ COLUMN_MAX → length run ≤ 256 → AllByRecursion (λ b. is_printed x.termios b ≡ true) run
-      → Proceeds s s2 x (record x2 { column = column }) 1 [] [] f f (poured here (length run) (ldterm_in s x))
-  pours-run run column is front gathers moved low few all =
-      let dir = output_dir plain here in
-      let of : ℕ → Output ℕ = λ k. record { given = run; column = k; told = [] } in
-      let taken : take (length run) cells ≡ run = ap (take (length run)) is ∙ take-append_seam run (drop (length run) cells) in
-      pours-so here s s1 s2 x x1 x2 (length run) (of column) f f st front gathers
-      (ap (λ xs. posts plain dir 0 x.termios x.column xs) taken ∙ run-out dir x.termios x.column run low few all ∙ ap of (sym moved)) refl
+-- what the first bytes of a block gave is gathered, where nothing was given before
+pub pours-flow : (here : Spot) (s s1 s2 : StoreValue) (x x1 x2 : Ldterm) (f f' : Fates) → IsStore s1 → (n : ℕ) (front : List ℕ) (y z : Flow) → y.given.items ≡ [] → y.column ≡ x.column
+    → FlowsAs here x.termios front n y z f f' → (let p = ldterm_in s x in take n (cells_left p) ≡ take n front × Proceeds s s1 x x1 0 [] [] f f (sends [] (with_left (drop n (cells_left p)) p)))
+    → Proceeds s1 s2 x1 x2 1 [] [] f f (sends [] (record (ldterm_in s1 x1) { gathered = (ldterm_in s1 x1).gathered ++ z.given.items }))
+    → Proceeds s s2 x (record x2 { column = z.column }) 1 [] [] f f' (poured here n (ldterm_in s x))
+pours-flow here s s1 s2 x x1 x2 f f' st n front y z none from flows taken gathers =
+    let u = posts plain (output_dir plain here) 0 x.termios y.column (take n front) in
+    let given : z.given.items ≡ u.given = flows.given ∙ ap (λ l. l ++ u.given) none in
+    subst (λ k. Proceeds s s2 x (record x2 { column = k }) 1 [] [] f f' (poured here n (ldterm_in s x))) (sym flows.column)
+    (pours-so here s s1 s2 x x1 x2 n u f f' st taken.1
+    (subst (λ l. Proceeds s1 s2 x1 x2 1 [] [] f f (sends [] (record (ldterm_in s1 x1) { gathered = (ldterm_in s1 x1).gathered ++ l }))) given gathers)
+    (ap (posts plain (output_dir plain here) 0 x.termios x.column) taken.0 ∙ ap (λ k. posts plain (output_dir plain here) 0 x.termios k (take n front)) (sym from)) flows.told)
 
 -- what is gathered is longer by what so many bytes give, and the echo is the same
 pours-grown : (here : Spot) (p : ldterms.Ldterm ℕ) (n k : ℕ) → length (poured here n p).state.gathered ≡ length p.gathered + k → k ≤ 256 → blocks_grown p (poured here n p).state ≤ 2
 pours-grown here p n k long few = grown-two p (poured here n p).state (omega arith) (omega arith)
 
--- each of these printed bytes begins with blocks enough
-pub run-begins : (here : Spot) (s : StoreValue) (x : Ldterm) (run : List ℕ) → (let cells = cells_left (ldterm_in s x) in cells ≡ run ++ drop (length run) cells) → x.column ≤ COLUMN_MAX → length run ≤ 256
-    → AllByRecursion (λ b. is_printed x.termios b ≡ true) run → HasRoom s (STOP_BLOCKS + 2) → (byte : ℕ) → byte < length run → HasRoom s (STOP_BLOCKS + blocks_grown (ldterm_in s x) (poured here byte (ldterm_in s x)).state)
-run-begins here s x run is low few all room byte within =
-    let p = ldterm_in s x in
-    let cells = cells_left p in
-    let front = take byte run in
-    let long : length front ≡ byte = omega (arith, length-take byte run, within) in
-    let taken : take byte cells ≡ front = ap (take byte) is ∙ take-front byte run (drop (length run) cells) (omega arith) in
-    let given = ap (λ xs. (posts plain (output_dir plain here) 0 x.termios x.column xs).given) taken
-    ∙ ap (λ (o : Output ℕ). o.given) (run-out (output_dir plain here) x.termios x.column front low (omega (arith, long, few, within)) (all-front (λ b. is_printed x.termios b ≡ true) byte run all)) in
-    let grown = ap (λ xs. length (p.gathered ++ xs)) given ∙ length-append p.gathered front in
-    room-for s (blocks_grown p (poured here byte p).state) room (pours-grown here p byte (length front) grown (omega (arith, long, few, within)))
-
--- so does the next one, where so many blocks are free
+-- the next byte begins with blocks enough, where so many are free
 pub byte-begins : (here : Spot) (s : StoreValue) (x : Ldterm) → HasRoom s STOP_BLOCKS → (byte : ℕ) → byte < 1 → HasRoom s (STOP_BLOCKS + blocks_grown (ldterm_in s x) (poured here byte (ldterm_in s x)).state)
 byte-begins here s x room zero first =
     let p = ldterm_in s x in
     let l = ap length (append-nil p.gathered) in
     room-none s (blocks_grown p (poured here 0 p).state) room (omega (arith, l))
 byte-begins here s x room (suc n) first = absurd (omega arith)
+
+-- so does each of those that give no more than a block has room for
+pub flow-begins : (here : Spot) (s : StoreValue) (x : Ldterm) (n : ℕ) → HasRoom s STOP_BLOCKS → (1 < n → HasRoom s (STOP_BLOCKS + 2))
+    → length (posts plain (output_dir plain here) 0 x.termios x.column (take n (cells_left (ldterm_in s x)))).given ≤ 256
+    → (byte : ℕ) → byte < n → HasRoom s (STOP_BLOCKS + blocks_grown (ldterm_in s x) (poured here byte (ldterm_in s x)).state)
+flow-begins here s x n one more few zero within = byte-begins here s x one zero (omega arith)
+flow-begins here s x n one more few (suc k) within =
+    let p = ldterm_in s x in
+    let cells = cells_left p in
+    let given : ℕ → List ℕ = λ b. (posts plain (output_dir plain here) 0 x.termios x.column (take b cells)).given in
+    let behind : suc k + (n - suc k) ≡ n = omega (arith, within) in
+    let less : length (given (suc k)) ≤ length (given n) =
+    subst (λ b. length (given (suc k)) ≤ length (given b)) behind (out-fewer (output_dir plain here) x.termios x.column (suc k) (n - suc k) cells) in
+    room-for s (blocks_grown p (poured here (suc k) p).state) (more (omega (arith, within)))
+    (pours-grown here p (suc k) (length (given (suc k))) (length-append p.gathered (given (suc k))) (omega (arith, less, few)))
 
 -- of so many bytes all went out but those that are left
 pub record Pours (s t : StoreValue) (here : Spot) (x y : Ldterm) (bytes left : ℕ) (f f' : Fates) : Type 0 where

@@ -1,6 +1,6 @@
 -- Output on plain bytes: what a byte gives, what a run of printed bytes gives, and bytes that go out one after the other.
 use Rattle.std.proofs.Common.{ℕ, suc, ◌≡◌, ◌≤◌, ◌<◌, ◌+◌, ◌-◌, Bool, true, false, cond, List, [], ◌∷◌, ◌++◌, get_or, length, take, drop, replicate, refl, sym, ap, subst, ◌∙◌, arith, append_assoc}
-use Rattle.std.specs.Prelude.{Option, None, Some, is_some, not, nat_le, nat_lt, ◌==◌}
+use Rattle.std.specs.Prelude.{Option, None, Some, is_some, not, nat_le, nat_lt, ◌==◌, ◌&&◌}
 use Rattle.std.specs.List.{AllByRecursion}
 use Rattle.std.proofs.lemmas.Bool.{and_parts, false≢true}
 use Rattle.std.proofs.lemmas.Bool.Decides.{nat_tests}
@@ -23,6 +23,7 @@ use Rattle.strm_types.specs.Message.{Message, cells_of}
 use Rattle.strm_types.specs.Output.{Motion, Newline, Return, Tab, Backspace, Control, Printing, Output, backspace, given_for, made_for, motion_of, post, posted_as, posts, raised, space, told_for, wrapped}
 use Rattle.strm_types.specs.OutputTurns.{output_dir}
 use Rattle.strm_types.proofs.Outputs.{in_front, posts-alone, posts-join, posts-low, posts-same}
+use Rattle.strm_types.specs.Termios.{olcuc}
 use Rattle.strm_ldterm.specs.Posting.{bytes_given, is_printed, poured}
 use Rattle.strm_ldterm.specs.Turns.{one_after}
 use Rattle.strm_ldterm.proofs.EchoStands.{made-plain}
@@ -61,7 +62,7 @@ printing b out =
     at false false false true _ n r t k c = absurd (false≢true (sym k))
     at false false false false true n r t k c = absurd (false≢true (sym c))
 
-not-false : (b : Bool) → not b ≡ true → b ≡ false
+pub not-false : (b : Bool) → not b ≡ true → b ≡ false
 not-false true is = absurd (false≢true is)
 not-false false is = refl
 
@@ -103,10 +104,16 @@ run-out dir t column (b ∷ run) low few all =
     ∙ ap (λ u. in_front (b ∷ []) [] u) (run-out dir t (wrapped (column + 1)) run next (omega arith) all.1)
     ∙ ap (λ n. record { given = b ∷ run; column = n; told = [] }) (wrapped-on column (length run) low (omega arith))
 
--- bytes that aren't marked are printed
-pub all-printed : (t : Termios) (odd : List Bool) (run : List ℕ) → ((b : ℕ) → get_or odd b true ≡ false → is_printed t b ≡ true) → AllByRecursion (λ b. get_or odd b true ≡ false) run → AllByRecursion (λ b. is_printed t b ≡ true) run
-all-printed t odd [] is all = tt
-all-printed t odd (b ∷ run) is all = (is b all.0, all-printed t odd run is all.1)
+-- where no letter is raised, each byte is that is no control byte
+pub all-printed : (t : Termios) (run : List ℕ) → olcuc t ≡ false → AllByRecursion (λ b. is_control b ≡ false) run → AllByRecursion (λ b. is_printed t b ≡ true) run
+all-printed t [] off all = tt
+all-printed t (b ∷ run) off all = (one, all-printed t run off all.1)
+  where
+    one : is_printed t b ≡ true
+    one =
+        ap (λ c. not c && (raised t b == b)) all.0
+        ∙ ap (λ o. cond (o && (nat_le 97 b && nat_le b 122)) (b - 32) b == b) off
+        ∙ (let same : (b == b) ≡ true = grind (arith, nat_tests) in same)
 
 -- bytes go out one after the other
 

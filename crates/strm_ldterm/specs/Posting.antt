@@ -1,5 +1,5 @@
 -- Output on plain bytes: what bytes of the message in work give is gathered, to go down together (termio(7I): "Output Modes"; ldterm(7M)).
-use Rattle.std.specs.Prelude.{ℕ, ◌≤◌, ◌<◌, ◌-◌, ◌==◌, Bool, not, ◌&&◌, List, [], ◌∷◌, ◌++◌, take, drop, replicate}
+use Rattle.std.specs.Prelude.{ℕ, ◌≡◌, ◌≤◌, ◌<◌, ◌-◌, ◌==◌, Bool, not, ◌&&◌, List, [], ◌∷◌, ◌++◌, length, take, drop, replicate}
 use Rattle.strm_types.specs.declared.limits.TheConstants.{STOP_BLOCKS}
 use Rattle.strm_types.specs.declared.output.Given.{Given}
 use Rattle.strm_types.specs.declared.output.Given.TheVariants.{Byte, Ended, Spaces, Nothing}
@@ -7,15 +7,16 @@ use Rattle.strm_types.specs.declared.rules.Fates.{Fates}
 use Rattle.strm_types.specs.declared.spots.Spot.{Spot}
 use Rattle.strm_types.specs.declared.termios.Termios.{Termios}
 use Rattle.strm_types.specs.Cells.{plain}
-use Rattle.strm_types.specs.Deliver.{Acted}
+use Rattle.strm_types.specs.Deliver.{Acted, tallied}
 use Rattle.strm_types.specs.Echo.{is_control}
 use Rattle.strm_types.specs.Input.{cells_left, with_left}
 use Rattle.strm_types.specs.Keys.{carriage_return, newline}
 use Rattle.strm_types.specs.Ldterms as ldterms
-use Rattle.strm_types.specs.Output.{posts, raised, space}
+use Rattle.strm_types.specs.Output.{Output, posts, raised, space}
 use Rattle.strm_types.specs.OutputTurns.{output_dir}
 use Rattle.strm_blocks.specs.Blocks.{StoreValue}
 use Rattle.strm_frame.specs.Serves.{least_free}
+use Rattle.strm_ldterm.specs.declared.flowing.Flow.{Flow}
 use Rattle.strm_ldterm.specs.declared.ldterm.Ldterm.{Ldterm}
 use Rattle.strm_ldterm.specs.FreeBefore.{IsFreeBefore, all_free}
 use Rattle.strm_ldterm.specs.Does.{Proceeds}
@@ -43,6 +44,18 @@ poured here n p =
       sent = [];
       gone = t.told;
     }
+
+module _ (here : Spot) (t : Termios) where
+  -- what bytes give that go out one after the other, from a column on
+  abbrev pub out_of : ℕ → List ℕ → Output ℕ
+  out_of column bytes = posts plain (output_dir plain here) 0 t column bytes
+
+  -- The first bytes went out, so many: what they give stands behind what was given before, the carriage moved, and what is made or goes was told.
+  pub record FlowsAs (bytes : List ℕ) (n : ℕ) (old new : Flow) (f f' : Fates) : Type 0 where
+    pub within : n ≤ length bytes
+    pub given : new.given.items ≡ old.given.items ++ (out_of old.column (take n bytes)).given
+    pub column : new.column ≡ (out_of old.column (take n bytes)).column
+    pub told : f' ≡ tallied (out_of old.column (take n bytes)).told f
 
 module _ (old new : StoreValue) (here : Spot) (x x' : Ldterm) where
   -- Of so many bytes of the message in work all went out but those that are left. Before each of them blocks enough are free, and before the

@@ -9,6 +9,7 @@ mod echoes;
 mod echoing;
 mod ending;
 mod finishing;
+mod flowing;
 mod flushing;
 mod growing;
 mod ldterm;

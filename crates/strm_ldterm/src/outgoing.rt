@@ -23,7 +23,7 @@ ghost use Rattle.strm_ldterm.specs.Turns.{stages_left};
 use crate::finishing::return_rest;
 use crate::ldterm::Ldterm;
 use crate::opening::{OutputBegun, Passed, begin_output};
-use crate::posting::{odd_output, post_bytes};
+use crate::posting::post_bytes;
 use crate::serving::of_whole;
 use crate::wholes::{goes_down, post_whole};
 use arrayvec::ArrayVec;
@@ -113,8 +113,8 @@ fn let_go<B: Blocks>(ldterm: &mut Ldterm, store: &mut B, here: Spot, band: Band)
 
 /// A turn of the write queue: what stands first there goes down, and M_DATA goes out byte by byte under OPOST, until fewer than
 /// `STOP_BLOCKS` blocks of some kind are free before the next byte. What is left goes back to the front of its queue then. M_DATA whose bytes
-/// all go out as themselves goes down in its own blocks. The cost is in proportion to the bytes that go out and to what they give, a step for
-/// each block of the message, and a pass over a table of 256 bytes.
+/// all go out as themselves goes down in its own blocks. The cost is in proportion to the bytes that go out and to what they give, and a
+/// step for each block of the message.
 pub(crate) fn serve_output<B: Blocks>(
     ldterm: &mut Ldterm,
     store: &mut B,
@@ -134,12 +134,11 @@ pub(crate) fn serve_output<B: Blocks>(
         OutputBegun::Whole(passed) => of_whole(passed),
         OutputBegun::InWork { bytes, band } => {
             store.audit();
-            let odd = odd_output(&ldterm.termios);
-            if goes_down(ldterm, store, &odd, bytes) {
+            if goes_down(ldterm, store, bytes) {
                 let sent = post_whole(ldterm, store, here, band, bytes);
                 return of_whole(Passed { sent, bytes });
             }
-            let left = post_bytes(ldterm, store, here, &odd, bytes, told);
+            let left = post_bytes(ldterm, store, here, bytes, told);
             store.audit();
             let sent = let_go(ldterm, store, here, band);
             Served {

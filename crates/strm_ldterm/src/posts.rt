@@ -23,8 +23,8 @@ const BACKSPACE: u8 = 8;
 // By how much a column is lowered that would pass the greatest one: a multiple of 8.
 const LOWERED: usize = 65_528;
 
-// A lower-case letter as the upper-case one, where OLCUC says so.
-fn raised(termios: &Termios, byte: u8) -> u8
+/// A lower-case letter as the upper-case one, where OLCUC says so.
+pub(crate) fn raised(termios: &Termios, byte: u8) -> u8
     ensures { result ≡ raised termios.now byte }
 {
     if termios.oflag.contains(OutputModes::OLCUC) && b'a' <= byte && byte <= b'z' {

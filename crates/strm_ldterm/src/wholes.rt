@@ -19,9 +19,10 @@ ghost use Rattle.strm_ldterm.specs.Posting.{is_printed, poured};
 ghost use Rattle.strm_ldterm.specs.Stands.{IsHeld, keeps, ldterm_in};
 ghost use Rattle.strm_ldterm.specs.Turns.{one_after};
 
+use crate::flowing::{is_printed, printed_len};
 use crate::ldterm::Ldterm;
 use crate::outgoing::reband;
-use crate::pasting::{has_keys, plain_len, turns_ends};
+use crate::pasting::{has_keys, turns_ends};
 use crate::posts::moved_on;
 use bitflags::Flags;
 use strm_blocks::{Blocks, InHand};
@@ -102,18 +103,13 @@ pub(crate) fn pass_work<B: Blocks>(
     })
 }
 
-/// Whether the message in work, so many bytes, goes down as it is: all of them stand in its first block, and none is marked. The cost is a
-/// step for each byte up to the first one that is.
-pub(crate) fn goes_down<B: Blocks>(
-    ldterm: &Ldterm,
-    store: &B,
-    odd: &[bool; 256],
-    bytes: usize,
-) -> bool
+/// Whether the message in work, so many bytes, goes down as it is: all of them stand in its first block, and go out as themselves. The cost
+/// is a step for each byte up to the first one that doesn't.
+pub(crate) fn goes_down<B: Blocks>(ldterm: &Ldterm, store: &B, bytes: usize) -> bool
     requires held { IsHeld (B.value store.now) ldterm.now }
     requires bytes { bytes ≡ length (cells_left (ldterm_in (B.value store.now) ldterm.now)) }
     requires some { 0 < bytes }
-    ensures plain { result ≡ true → AllByRecursion (λ b. slice_index_or odd.now b true ≡ false) (cells_left (ldterm_in (B.value store.now) ldterm.now)) }
+    ensures printed { result ≡ true → AllByRecursion (λ b. is_printed ldterm.now.termios b ≡ true) (cells_left (ldterm_in (B.value store.now) ldterm.now)) }
     ensures short { result ≡ true → bytes ≤ 256 }
     ensures room { result ≡ true → HasRoom (B.value store.now) (STOP_BLOCKS + blocks_for bytes) }
 {
@@ -126,10 +122,10 @@ pub(crate) fn goes_down<B: Blocks>(
         return false;
     }
     // Most output that has a newline ends with one, and so isn't walked twice.
-    if odd[usize::from(first[bytes - 1])] {
+    if !is_printed(&ldterm.termios, first[bytes - 1]) {
         return false;
     }
-    if plain_len(odd, first) < bytes {
+    if printed_len(&ldterm.termios, first) < bytes {
         return false;
     }
     is_free_for(store, message, bytes)

@@ -10,7 +10,6 @@ use Rattle.strm_ldterm.specs.Stands.{ldterm_in}
 use Rattle.strm_ldterm.proofs.Bytes.{kept-some}
 use Rattle.strm_ldterm.proofs.Joining.{still-kept}
 use Rattle.strm_ldterm.proofs.Outgone.{out-serves}
-use Rattle.strm_ldterm.proofs.Pouring.{all-printed}
 use Rattle.strm_ldterm.proofs.Whole.{whole-is}
 use Rattle.strm_ldterm.proofs.WholeOut.{whole-serves-out}
 use Rattle.strm_ldterm.proofs.Turned.{down≢up, down-serves, whole-serves}
@@ -50,8 +49,7 @@ pub post_whole-sent-requires-clause-short : goal.post_whole-sent-requires-clause
 post_whole-sent-requires-clause-short g c = c.goes_down.ensures.short c.if-goes_down.true
 
 pub post_whole-sent-requires-clause-printed : goal.post_whole-sent-requires-clause-printed
-post_whole-sent-requires-clause-printed g c =
-    all-printed c.begin_output.new.ldterm.termios c.odd_output-odd.result (cells_left (ldterm_in (g.B.Blocks.value c.begin_output.new.store) c.begin_output.new.ldterm)) c.odd_output-odd.ensures (c.goes_down.ensures.plain c.if-goes_down.true)
+post_whole-sent-requires-clause-printed g c = c.goes_down.ensures.printed c.if-goes_down.true
 
 pub returns-then-goes_down : goal.returns-then-goes_down
 returns-then-goes_down g c = λ again.
@@ -70,7 +68,7 @@ returns-then-goes_down g c = λ again.
     subst (λ v. ServesAs s s3 c.args.here x x3 again v told told) (sym (whole-is whole.result sent bytes whole.ensures.sent whole.ensures.bytes whole.ensures.stopped whole.ensures.again))
     (whole-serves-out s s1 s3 c.args.here x x1 x3 bytes c.in-InWork.band.0 whole.result.acts.notes sent told c.requires.way c.requires.stage c.in-InWork.ensures c.audit.ensures whole.ensures.notes
     (c.in-InWork.ensures.works told).held c.post_whole-sent.ensures.column (c.goes_down.ensures.short down) (c.in-InWork.ensures.size ∙ sym (ap (λ (q : ldterms.Ldterm ℕ). length (cells_left q)) works))
-    (all-printed x1.termios c.odd_output-odd.result (cells_left (ldterm_in s1 x1)) c.odd_output-odd.ensures (c.goes_down.ensures.plain down)) (c.goes_down.ensures.room down) (c.post_whole-sent.ensures.did told) again)
+    (c.goes_down.ensures.printed down) (c.goes_down.ensures.room down) (c.post_whole-sent.ensures.did told) again)
 
 pub post_bytes-left-requires-clause-held : goal.post_bytes-left-requires-clause-held
 post_bytes-left-requires-clause-held g c = (c.in-InWork.ensures.works c.args.told.now).held

@@ -1,9 +1,10 @@
 -- All bytes stand in the first block.
-use Rattle.std.proofs.Common.{◌≡◌, length, take, true, false, get_or, sym, ap, subst, ◌∙◌, arith}
+use Rattle.std.proofs.Common.{◌≡◌, length, take, true, sym, ap, subst, ◌∙◌, arith}
 use Rattle.std.proofs.Math.Seq.{take-length}
 use Rattle.std.specs.List.{AllByRecursion}
 use Rattle.std.specs.Prelude.{IfSome}
 use Rattle.strm_blocks.specs.Blocks.{in_hand, token}
+use Rattle.strm_ldterm.specs.Posting.{is_printed}
 use Rattle.strm_ldterm.specs.Stands.{IsData}
 use Rattle.strm_ldterm.proofs.Beside.{chain-in-hand}
 use Rattle.strm_ldterm.proofs.Finished.{work-cells}
@@ -28,8 +29,8 @@ is_free_for-requires-clause-in_hand g c =
     let is : IsData s (token c.in-Some.message) = subst (λ o. IfSome o (λ m. IsData s (token m))) c.in-Some.is c.requires.held.work in
     chain-in-hand s (token c.in-Some.message) c.audit.ensures is.chain.some
 
-pub returns-clause-plain : goal.returns-clause-plain
-returns-clause-plain g c = λ goes.
+pub returns-clause-printed : goal.returns-clause-printed
+returns-clause-printed g c = λ goes.
     let s = g.B.Blocks.value c.args.store.now in
     let x = c.args.ldterm.now in
     let m = c.in-Some.message in
@@ -39,6 +40,6 @@ returns-clause-plain g c = λ goes.
     let same = c.bytes_at-first.ensures.bytes in
     let size = c.requires.bytes in
     let cells = first-all (in_hand s (token m)) is.chain is.kind (omega (arith, size, ap length shown, ap length same, c.if-first-bytes.false)) in
-    let all : c.plain_len.result ≡ length first = omega (arith, c.plain_len.ensures.within, size, ap length shown, ap length cells, ap length same, c.if-plain_len-bytes.false) in
-    subst (AllByRecursion (λ b. get_or c.args.odd.now b true ≡ false)) (sym (shown ∙ cells ∙ sym same))
-    (subst (AllByRecursion (λ b. get_or c.args.odd.now b true ≡ false)) (ap (λ k. take k first) all ∙ take-length first) c.plain_len.ensures.plain)
+    let all : c.printed_len.result ≡ length first = omega (arith, c.printed_len.ensures.within, size, ap length shown, ap length cells, ap length same, c.if-printed_len-bytes.false) in
+    subst (AllByRecursion (λ b. is_printed c.args.ldterm.now.termios b ≡ true)) (sym (shown ∙ cells ∙ sym same))
+    (subst (AllByRecursion (λ b. is_printed c.args.ldterm.now.termios b ≡ true)) (ap (λ k. take k first) all ∙ take-length first) c.printed_len.ensures.printed)

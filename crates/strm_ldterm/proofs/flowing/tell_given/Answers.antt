@@ -8,7 +8,7 @@ use Rattle.strm_types.specs.Output.{space, told_for}
 use Rattle.strm_types.specs.OutputTurns.{output_dir}
 use Rattle.strm_types.specs.Rules.{made_more, told_more}
 use Rattle.strm_types.proofs.MadeCells.{made-long}
-use Rattle.strm_ldterm.proofs.posting.tell_given.Goals as goal
+use Rattle.strm_ldterm.proofs.flowing.tell_given.Goals as goal
 
 pub returns-in-Spaces : goal.returns-in-Spaces
 returns-in-Spaces c = λ byte.
