@@ -1,0 +1,14 @@
+pub mod Formats
+pub mod CodeRows
+pub mod MessageRows
+pub mod FlowRows
+pub mod BandRows
+pub mod QueueRows
+pub mod ModuleRows
+pub mod StreamRows
+pub mod ImageRows
+pub mod LoadRows
+pub mod CountRows
+pub mod ReadRows
+pub mod LaterRows
+pub mod TextRows

@@ -1,0 +1,99 @@
+-- The texts of modules are exact.
+use Rattle.std.proofs.Common.{◌≡◌, ℕ, Bool, true, false, not, List, [], ◌∷◌, Option, Some, None, refl}
+use Rattle.std.specs.Prelude.{is_some}
+use Rattle.std.proofs.lemmas.Bool.{and_parts}
+use Rattle.strm_types.specs.declared.names.ModuleName.{ModuleName}
+use Rattle.strm_types.specs.declared.names.ModuleName.TheVariants as names
+use Rattle.strm_types.specs.Ldterms.{Ldterm, Stage, Between, Begun, Answered, is_between}
+use Rattle.strm_types.specs.Message.{Message}
+use Rattle.strm_types.specs.Names.{same_module}
+use Rattle.strm_types.specs.Queue.{is_none_left}
+use Rattle.strm_laws.specs.LdtermTurns.{ldterm_rests}
+use Rattle.strm_laws.specs.Stacked.{Module, OfLdterm, OfPtem, OfPckt, module_name}
+use Rattle.strm_image.specs.declared.versions.QueueKind.TheVariants as queues
+use Rattle.strm_image.specs.declared.versions.Version.{Version}
+use Rattle.strm_image.specs.Codes.{module_kind}
+use Rattle.strm_image.specs.Format.{IsExact, nothing}
+use Rattle.strm_image.specs.Messages.{any}
+use Rattle.strm_image.specs.Modules.{termios, termios_of, termios_parts, winsize, winsize_of, winsize_parts, is_column, ldterm, ldterm_of, ldterm_parts, ptem, ptem_of, ptem_parts, is_named, the_ldterm, the_ptem, pckt_of, pckt_parts, module_body, module_format, module_below, next_names, are_few, modules}
+use Rattle.strm_image.proofs.CodeRows.{flag_exact, module_kind_exact}
+use Rattle.strm_image.proofs.Formats.{byte_exact, nothing_exact, u16_exact, u32_exact, bytes_exact, bytes_long, only_exact, chain_exact, chain_long, counted_exact, tagged_exact, then_exact, made_exact, IsMade}
+use Rattle.strm_image.proofs.QueueRows.{queue_exact}
+
+pub termios_exact : IsExact termios
+unfolding termios
+termios_exact = made_exact any termios_of termios_parts _ (then_exact _ _ u32_exact (then_exact _ _ u32_exact (then_exact _ _ u32_exact (then_exact _ _ u32_exact (bytes_exact 19))))) (record { back = λ x fits. (refl, refl); whole = λ y shape. refl })
+
+pub winsize_exact : IsExact winsize
+unfolding winsize
+winsize_exact = made_exact any winsize_of winsize_parts _ (then_exact _ _ u16_exact (then_exact _ _ u16_exact (then_exact _ _ u16_exact u16_exact))) (record { back = λ x fits. (refl, refl); whole = λ y shape. refl })
+
+-- ldterm between two turns is what its text tells
+ldterm_whole : (l : Ldterm ℕ) → ldterm_rests l ≡ true → ldterm_of (ldterm_parts l) ≡ l
+ldterm_whole l rests =
+    let p = and_parts _ _ rests in
+    let q = and_parts _ _ p.1 in
+    let r = and_parts _ _ q.1 in
+    at l.in_work l.gathered l.echoing l.stage p.0 q.0 r.0 r.1
+  where
+    at : (in_work : Option (Message ℕ)) (gathered : List ℕ) (echoing : Bool) (stage : Stage ℕ)
+        → not (is_some in_work) ≡ true → is_none_left gathered ≡ true → not echoing ≡ true → is_between stage ≡ true
+        → ldterm_of (ldterm_parts l) ≡ record l { in_work = in_work; gathered = gathered; echoing = echoing; stage = stage }
+    at None [] false Between a b c d = refl
+    at (Some m) gathered echoing stage a b c d = absurd cc
+    at None (x ∷ gathered) echoing stage a b c d = absurd cc
+    at None [] true stage a b c d = absurd cc
+    at None [] false (Begun started x) a b c d = absurd cc
+    at None [] false (Answered bytes) a b c d = absurd cc
+
+pub ldterm_exact : (v : Version) → IsExact (ldterm v)
+unfolding ldterm
+ldterm_exact v = made_exact ldterm_rests ldterm_of ldterm_parts _
+    (then_exact _ _ termios_exact (then_exact _ _ flag_exact (then_exact _ _ flag_exact (then_exact _ _ (only_exact _ u32_exact is_column) (then_exact _ _ (counted_exact _ _ byte_exact bytes_exact bytes_long) (then_exact _ _ (queue_exact v queues.LdtermRead) (queue_exact v queues.LdtermWrite)))))))
+    (record { back = λ x fits. (refl, refl); whole = ldterm_whole })
+
+pub ptem_exact : IsExact ptem
+unfolding ptem
+ptem_exact = made_exact any ptem_of ptem_parts _ (then_exact _ _ termios_exact winsize_exact) (record { back = λ x fits. (refl, refl); whole = λ y shape. refl })
+
+ldterm_made : (v : Version) → IsMade (is_named names.Ldterm) OfLdterm the_ldterm (ldterm v)
+ldterm_made v = record { back = λ x fits. (refl, refl); whole = λ m shape. elim m as (λ m. is_named names.Ldterm m ≡ true → OfLdterm (the_ldterm m) ≡ m) [ OfLdterm l ↦ λ e. refl | OfPtem p ↦ λ e. absurd cc | OfPckt p ↦ λ e. absurd cc ] shape }
+
+ptem_made : IsMade (is_named names.Ptem) OfPtem the_ptem ptem
+ptem_made = record { back = λ x fits. (refl, refl); whole = λ m shape. elim m as (λ m. is_named names.Ptem m ≡ true → OfPtem (the_ptem m) ≡ m) [ OfLdterm l ↦ λ e. absurd cc | OfPtem p ↦ λ e. refl | OfPckt p ↦ λ e. absurd cc ] shape }
+
+pckt_made : IsMade (is_named names.Pckt) pckt_of pckt_parts (nothing tt)
+pckt_made = record { back = λ x fits. (refl, refl); whole = λ m shape. elim m as (λ m. is_named names.Pckt m ≡ true → pckt_of (pckt_parts m) ≡ m) [ OfLdterm l ↦ λ e. absurd cc | OfPtem p ↦ λ e. absurd cc | OfPckt p ↦ λ e. refl ] shape }
+
+body_exact : (v : Version) (name : ModuleName) → IsExact (module_body v name)
+body_exact v names.Ldterm = made_exact _ _ _ _ (ldterm_exact v) (ldterm_made v)
+body_exact v names.Ptem = made_exact _ _ _ _ ptem_exact ptem_made
+body_exact v names.Pckt = made_exact _ _ _ _ (nothing_exact tt (λ y. refl)) pckt_made
+
+same_name : (a b : ModuleName) → same_module a b ≡ true → a ≡ b
+same_name names.Ldterm names.Ldterm e = refl
+same_name names.Ldterm names.Ptem e = absurd cc
+same_name names.Ldterm names.Pckt e = absurd cc
+same_name names.Ptem names.Ldterm e = absurd cc
+same_name names.Ptem names.Ptem e = refl
+same_name names.Ptem names.Pckt e = absurd cc
+same_name names.Pckt names.Ldterm e = absurd cc
+same_name names.Pckt names.Ptem e = absurd cc
+same_name names.Pckt names.Pckt e = refl
+
+body_named : (v : Version) (name : ModuleName) (m : Module ℕ) → (module_body v name).fits m ≡ true → module_name m ≡ name
+body_named v names.Ldterm m fits = same_name (module_name m) names.Ldterm (and_parts _ _ fits).0
+body_named v names.Ptem m fits = same_name (module_name m) names.Ptem (and_parts _ _ fits).0
+body_named v names.Pckt m fits = same_name (module_name m) names.Pckt (and_parts _ _ fits).0
+
+pub module_exact : (v : Version) → IsExact (module_format v)
+unfolding module_format
+module_exact v = tagged_exact module_name module_kind (module_body v) module_kind_exact (body_exact v) (body_named v)
+
+below_exact : (v : Version) (above : List ModuleName) → IsExact (module_below v above)
+unfolding module_below
+below_exact v above = only_exact (module_format v) (module_exact v) _
+
+pub modules_exact : (v : Version) → IsExact (modules v)
+unfolding modules
+modules_exact v = counted_exact _ _ (only_exact _ byte_exact are_few) (chain_exact next_names (module_below v) (below_exact v) []) (chain_long next_names (module_below v) [])

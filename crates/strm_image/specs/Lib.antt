@@ -1,0 +1,16 @@
+pub mod Format
+pub mod Codes
+pub mod Messages
+pub mod Queues
+pub mod Modules
+pub mod Streams
+pub mod Loads
+pub mod Image
+pub mod Counts
+pub mod Texts
+pub mod FlowTexts
+pub mod QueueTexts
+pub mod ModuleTexts
+pub mod StreamTexts
+pub mod AccountTexts
+pub mod ImageTexts

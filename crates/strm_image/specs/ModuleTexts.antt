@@ -1,0 +1,30 @@
+-- Modules in a text, seen as plain values.
+use Rattle.std.specs.Prelude.{ℕ, List, map}
+use Rattle.strm_types.specs.declared.names.ModuleName.{ModuleName}
+use Rattle.strm_types.specs.Ldterms.{Ldterm}
+use Rattle.strm_types.specs.Pckts.{new_pckt}
+use Rattle.strm_types.specs.Ptems.{Ptem}
+use Rattle.strm_laws.specs.Stacked.{Module, OfLdterm, OfPtem, OfPckt, module_name}
+use Rattle.strm_image.specs.declared.modules.LdtermText.{LdtermText}
+use Rattle.strm_image.specs.declared.modules.ModuleText.{ModuleText}
+use Rattle.strm_image.specs.declared.modules.ModuleText.TheVariants as texts
+use Rattle.strm_image.specs.declared.modules.PtemText.{PtemText}
+use Rattle.strm_image.specs.Modules.{ldterm_of, ptem_of}
+use Rattle.strm_image.specs.QueueTexts.{queue_now}
+
+abbrev pub ldterm_now : LdtermText → Ldterm ℕ
+ldterm_now l = ldterm_of (l.termios, (l.stopped, (l.after_lnext, (l.column, (l.line.now, (queue_now l.read_queue, queue_now l.write_queue))))))
+
+abbrev pub ptem_now : PtemText → Ptem
+ptem_now p = ptem_of (p.termios, p.window)
+
+abbrev pub module_now : ModuleText → Module ℕ
+module_now (texts.Ldterm l) = OfLdterm (ldterm_now l)
+module_now (texts.Ptem p) = OfPtem (ptem_now p)
+module_now texts.Pckt = OfPckt new_pckt
+
+abbrev pub modules_now : List ModuleText → List (Module ℕ)
+modules_now ms = map module_now ms
+
+abbrev pub names_now : List ModuleText → List ModuleName
+names_now ms = map (λ m. module_name (module_now m)) ms

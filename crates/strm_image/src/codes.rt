@@ -1,0 +1,169 @@
+//! Values that stand in a text as one byte each. Each reader answers the value and the bytes behind it, and none where the byte is that
+//! of no value.
+
+ghost use Rattle.std.specs.Prelude.{◌≡◌};
+ghost use Rattle.strm_image.specs.Codes.{control_mode, flag, kind, module_kind, openness, place, read_mode, side, version, way};
+ghost use Rattle.strm_image.specs.Format.{Reads};
+
+use crate::fields::byte_at;
+use crate::versions::Version;
+use strm_types::{ControlMode, ModuleName, MsgKind, Openness, Place, ReadMode, Side, Way};
+
+/// A truth value.
+#[tactic(auto, unfolding(crate::specs::Codes::flag))]
+pub fn flag_at(text: &[u8]) -> Option<(bool, &[u8])>
+    ensures { Reads (λ x. (x.0, x.1.now)) result (flag.read text.now) }
+{
+    let (code, rest) = byte_at(text)?;
+    let value = match code {
+        0 => false,
+        1 => true,
+        _ => return None,
+    };
+    Some((value, rest))
+}
+
+/// The version of an image.
+#[tactic(auto, unfolding(crate::specs::Codes::version))]
+pub fn version_at(text: &[u8]) -> Option<(Version, &[u8])>
+    ensures { Reads (λ x. (x.0, x.1.now)) result (version.read text.now) }
+{
+    let (code, rest) = byte_at(text)?;
+    let value = match code {
+        1 => Version::First,
+        2 => Version::Second,
+        _ => return None,
+    };
+    Some((value, rest))
+}
+
+/// Whether a side is open.
+#[tactic(auto, unfolding(crate::specs::Codes::openness))]
+pub fn openness_at(text: &[u8]) -> Option<(Openness, &[u8])>
+    ensures { Reads (λ x. (x.0, x.1.now)) result (openness.read text.now) }
+{
+    let (code, rest) = byte_at(text)?;
+    let value = match code {
+        0 => Openness::Never,
+        1 => Openness::Open,
+        2 => Openness::Closed,
+        _ => return None,
+    };
+    Some((value, rest))
+}
+
+/// How a read treats the ends of messages.
+#[tactic(auto, unfolding(crate::specs::Codes::read_mode))]
+pub fn read_mode_at(text: &[u8]) -> Option<(ReadMode, &[u8])>
+    ensures { Reads (λ x. (x.0, x.1.now)) result (read_mode.read text.now) }
+{
+    let (code, rest) = byte_at(text)?;
+    let value = match code {
+        0 => ReadMode::ByteStream,
+        1 => ReadMode::MessageDiscard,
+        2 => ReadMode::MessageKeep,
+        _ => return None,
+    };
+    Some((value, rest))
+}
+
+/// How a read treats control parts.
+#[tactic(auto, unfolding(crate::specs::Codes::control_mode))]
+pub fn control_mode_at(text: &[u8]) -> Option<(ControlMode, &[u8])>
+    ensures { Reads (λ x. (x.0, x.1.now)) result (control_mode.read text.now) }
+{
+    let (code, rest) = byte_at(text)?;
+    let value = match code {
+        0 => ControlMode::Refuse,
+        1 => ControlMode::Data,
+        2 => ControlMode::Discard,
+        _ => return None,
+    };
+    Some((value, rest))
+}
+
+/// An end of the pair.
+#[tactic(auto, unfolding(crate::specs::Codes::side))]
+pub fn side_at(text: &[u8]) -> Option<(Side, &[u8])>
+    ensures { Reads (λ x. (x.0, x.1.now)) result (side.read text.now) }
+{
+    let (code, rest) = byte_at(text)?;
+    let value = match code {
+        0 => Side::Master,
+        1 => Side::Slave,
+        _ => return None,
+    };
+    Some((value, rest))
+}
+
+/// What a queue belongs to.
+#[tactic(auto, unfolding(crate::specs::Codes::place))]
+pub fn place_at(text: &[u8]) -> Option<(Place, &[u8])>
+    ensures { Reads (λ x. (x.0, x.1.now)) result (place.read text.now) }
+{
+    let (code, rest) = byte_at(text)?;
+    let value = match code {
+        0 => Place::Head,
+        1 => Place::Ldterm,
+        2 => Place::Driver,
+        _ => return None,
+    };
+    Some((value, rest))
+}
+
+/// Whether a queue is a read queue or a write queue.
+#[tactic(auto, unfolding(crate::specs::Codes::way))]
+pub fn way_at(text: &[u8]) -> Option<(Way, &[u8])>
+    ensures { Reads (λ x. (x.0, x.1.now)) result (way.read text.now) }
+{
+    let (code, rest) = byte_at(text)?;
+    let value = match code {
+        0 => Way::Up,
+        1 => Way::Down,
+        _ => return None,
+    };
+    Some((value, rest))
+}
+
+/// Which module one is.
+#[tactic(auto, unfolding(crate::specs::Codes::module_kind))]
+pub fn module_kind_at(text: &[u8]) -> Option<(ModuleName, &[u8])>
+    ensures { Reads (λ x. (x.0, x.1.now)) result (module_kind.read text.now) }
+{
+    let (code, rest) = byte_at(text)?;
+    let value = match code {
+        1 => ModuleName::Ldterm,
+        2 => ModuleName::Ptem,
+        3 => ModuleName::Pckt,
+        _ => return None,
+    };
+    Some((value, rest))
+}
+
+/// The kind of a message.
+#[tactic(auto, unfolding(crate::specs::Codes::kind, strm_types::specs::Kinds::kind_number))]
+pub fn kind_at(text: &[u8]) -> Option<(MsgKind, &[u8])>
+    ensures { Reads (λ x. (x.0, x.1.now)) result (kind.read text.now) }
+{
+    let (code, rest) = byte_at(text)?;
+    let value = match code {
+        0x00 => MsgKind::Data,
+        0x01 => MsgKind::Proto,
+        0x0b => MsgKind::Sig,
+        0x0d => MsgKind::Ctl,
+        0x0e => MsgKind::Ioctl,
+        0x10 => MsgKind::Setopts,
+        0x81 => MsgKind::Iocack,
+        0x82 => MsgKind::Iocnak,
+        0x83 => MsgKind::Pcproto,
+        0x84 => MsgKind::Pcsig,
+        0x85 => MsgKind::Read,
+        0x86 => MsgKind::Flush,
+        0x87 => MsgKind::Stop,
+        0x88 => MsgKind::Start,
+        0x89 => MsgKind::Hangup,
+        0x8a => MsgKind::Error,
+        _ => return None,
+    };
+    Some((value, rest))
+}

@@ -1,0 +1,33 @@
+//! The image of a pair: its plain state, and what has gone by each rule, as bytes. `specs/` says which states have an image, and
+//! which one; the readers here say what stands in bytes, without taking memory.
+#![tactic(auto)]
+
+mod accounts;
+mod bands;
+mod codes;
+mod enabled;
+mod fields;
+mod flows;
+mod image;
+pub mod laws;
+mod loads;
+mod messages;
+mod modules;
+mod passed;
+mod queues;
+mod streams;
+mod versions;
+
+pub use accounts::AccountText;
+pub use enabled::NAMES;
+pub use flows::Flow;
+pub use image::{ImageText, StateText, read};
+pub use messages::{MessageText, message_behind};
+pub use modules::{LdtermText, ModuleText, PtemText};
+pub use passed::MessagesText;
+pub use queues::QueueText;
+pub use streams::{HeadBits, StreamText};
+pub use versions::{FIRST_BANDS, Load, QueueKind, SlotKind, Version};
+
+#[cfg(test)]
+mod tests;
