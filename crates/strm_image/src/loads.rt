@@ -128,7 +128,7 @@ impl<'a> StreamText<'a> {
             + (blocks_of_modules(self.modules.as_slice()) + self.driver.messages.blocks())
     }
 
-    // How many bytes stand on its queues on the way up.
+    /// How many bytes that a ledger counts stand on its queues on the way up.
     pub fn up_cells(&self) -> u128
         ensures value { result ≡ up_cells (laid_now self.now) }
         ensures few { result < 2 ^ 68 }
@@ -136,7 +136,7 @@ impl<'a> StreamText<'a> {
         self.head.messages.cells() + cells_of_modules(self.modules.as_slice(), Way::Up)
     }
 
-    // How many bytes stand on its queues on the way down.
+    /// How many bytes that a ledger counts stand on its queues on the way down.
     pub fn down_cells(&self) -> u128
         ensures value { result ≡ down_cells (laid_now self.now) }
         ensures few { result < 2 ^ 68 }
@@ -144,7 +144,7 @@ impl<'a> StreamText<'a> {
         cells_of_modules(self.modules.as_slice(), Way::Down) + self.driver.messages.cells()
     }
 
-    // How many bytes stand in its unfinished lines.
+    /// How many bytes stand in its unfinished lines.
     pub fn inline_cells(&self) -> u128
         ensures value { result ≡ inline_cells (laid_now self.now) }
         ensures few { result < 2 ^ 65 }
