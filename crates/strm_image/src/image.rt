@@ -1,10 +1,10 @@
 //! The image of a pair, read: its plain state as it stands in a text.
 
-ghost use Rattle.std.specs.Prelude.{◌≡◌, ◌&&◌, IfSome, IfNone};
+ghost use Rattle.std.specs.Prelude.{◌≡◌, ◌<◌, ◌+◌, ◌^◌, ◌&&◌, IfSome, IfNone};
 ghost use Rattle.strm_image.specs.declared.versions.Version.{Version};
 ghost use Rattle.strm_image.specs.Format.{IsTextOf, Reads, whole};
 ghost use Rattle.strm_image.specs.AccountTexts.{account_now};
-ghost use Rattle.strm_image.specs.Counts.{balances};
+ghost use Rattle.strm_image.specs.Counts.{balances, laid_blocks};
 ghost use Rattle.strm_image.specs.Image.{Imaged, are_balanced, are_quiet, are_there, body, image, is_quiet, is_there, stream_of};
 ghost use Rattle.strm_image.specs.ImageTexts.{image_now, imaged_now};
 ghost use Rattle.strm_image.specs.StreamTexts.{laid_now};
@@ -51,6 +51,14 @@ impl<'a> StreamText<'a> {
 }
 
 impl<'a> StateText<'a> {
+    /// How many blocks of each kind the messages on all queues take.
+    pub fn blocks(&self) -> usize
+        ensures value { result ≡ laid_blocks (laid_now self.now.streams.master) + laid_blocks (laid_now self.now.streams.slave) }
+        ensures few { result < 2 ^ 62 }
+    {
+        self.streams.master.blocks() + self.streams.slave.blocks()
+    }
+
     // Whether sides that aren't open hold nothing for their callers.
     fn are_quiet(&self) -> bool
         ensures { result ≡ are_quiet (imaged_now self.now) }
