@@ -46,7 +46,7 @@ pub record IsRound (words : Words) : Type 0 where
   pub line : IsNumber (word words 10)
   pub size : IsNumber (word words 11)
   pub asked : IsNumber (word words 12)
-  pub known_act : number_of (word words 7) ≤ 5
+  pub known_act : number_of (word words 7) ≤ 6
   pub known_stack : number_of (word words 8) ≤ 2
   pub known_text : number_of (word words 9) ≤ 2
   pub small : number_of (word words 11) ≤ 4096
