@@ -10,9 +10,9 @@ use crate::signals::Signals;
 use crate::standing::{finds_none, starts_refused};
 use crate::{reading, standing};
 use strm_blocks::Blocks;
-use strm_queue::{HEAD_HIGH, HEAD_LOW, Queue};
 use strm_queue::lengths::first_data;
 use strm_queue::standing::sizes;
+use strm_queue::{HEAD_HIGH, HEAD_LOW, Queue};
 use strm_types::{
     Access, Caller, Content, ControlMode, Dir, Fates, Mode, READ_MAX, ReadMode, Refusal,
     SIGNALS_MAX, Slot, Verdict, Wanted, held,

@@ -97,9 +97,9 @@ impl<'a> StateText<'a> {
     // Whether what each side wrote, and what was made of it, is on its way to the other one or has gone.
     fn both_balance(&self) -> bool
         ensures { result ≡ (balances (account_now self.now.accounts.master)
-                (laid_now self.now.streams.master) (laid_now self.now.streams.slave)
+            (laid_now self.now.streams.master) (laid_now self.now.streams.slave)
             && balances (account_now self.now.accounts.slave)
-                (laid_now self.now.streams.slave) (laid_now self.now.streams.master)) }
+            (laid_now self.now.streams.slave) (laid_now self.now.streams.master)) }
     {
         let (master, slave) = (&self.streams.master, &self.streams.slave);
         is_balanced(&self.accounts.master, master, slave)

@@ -11,8 +11,8 @@ ghost use Rattle.strm_ldterm.specs.Stands.{ldterm_in, owns, keeps, IsHeld};
 
 use crate::lines::Line;
 use arrayvec::ArrayVec;
-use strm_blocks::InHand;
 use std::alloc::{AllocError, Global};
+use strm_blocks::InHand;
 use strm_queue::{OTHER_HIGH, OTHER_LOW, Queue, Table};
 use strm_types::{ModuleName, Termios};
 

@@ -274,9 +274,11 @@ same-end Slave p = refl
 pub end-there : (p : Streams) (side : Side) (r e : StreamEnd) → r ≡ end_at side p → e ≡ record r { stack = e.stack; shelf = e.shelf }
     → let q = with_end side e p in (end_at side q ≡ e) × (q ≡ with_end side (record (end_at side p) { stack = (end_at side q).stack; shelf = (end_at side q).shelf }) p)
 end-there p side r e is only =
-    let there = get-set-same side e p.ends in
-    (there, ap (λ x. with_end side x p) only ∙ ap (λ (x : StreamEnd). with_end side (record x { stack = e.stack; shelf = e.shelf }) p) is
-    ∙ ap (λ (x : StreamEnd). with_end side (record (end_at side p) { stack = x.stack; shelf = x.shelf }) p) (sym there))
+    let there = get-set-same side e p.ends in (
+      there,
+      ap (λ x. with_end side x p) only ∙ ap (λ (x : StreamEnd). with_end side (record x { stack = e.stack; shelf = e.shelf }) p) is
+          ∙ ap (λ (x : StreamEnd). with_end side (record (end_at side p) { stack = x.stack; shelf = x.shelf }) p) (sym there),
+    )
 
 -- the state with another stream of a side
 pub set-state : (s : StoreValue) (p : Streams) (side : Side) (e : StreamEnd) → state_in s (with_end side e p) ≡ with_stream side (stream_in s e) (state_in s p)

@@ -17,4 +17,3 @@ longest_part _ = 0
 abbrev pub is_held_back : Prio → (ℕ → Bool) → Bool
 is_held_back High full = false
 is_held_back (Band band) full = full band.0
-

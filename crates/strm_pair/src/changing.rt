@@ -90,14 +90,7 @@ impl Streams {
         ensures met { IfSome result
             (λ taken. taken.met ≡ is_met seeking (below_top (stream side (state_in (B.value store.old) self.old)).modules)) }
     {
-        take_top(
-            self.ends.get_mut(side),
-            store,
-            side,
-            rule,
-            seeking,
-            told,
-        )
+        take_top(self.ends.get_mut(side), store, side, rule, seeking, told)
     }
 
     /// Takes the module off that is on top of a side's stream, and tells its name, where one stands there: what stands on its

@@ -30,9 +30,9 @@ use std::alloc::Global;
 use std::marker::Model;
 use strm_blocks::Blocks;
 use strm_types::{
-    Answer, Band, Caller, Config, Content, Dir, Entry, Event, Fates, LISTS, Ledger,
-    NoMemory, Place, QueueName, READ_MAX, ReadBytes, Refusal, Side, StopSignal, Turn, Verdict,
-    turn_blocks, unless,
+    Answer, Band, Caller, Config, Content, Dir, Entry, Event, Fates, LISTS, Ledger, NoMemory,
+    Place, QueueName, READ_MAX, ReadBytes, Refusal, Side, StopSignal, Turn, Verdict, turn_blocks,
+    unless,
 };
 
 /// A pair of a master and a slave, whose messages stand in a store of its own. Contracts see it as its plain state, its

@@ -48,12 +48,7 @@ fn goes_to(mut acts: Acts, spots: &[Spot]) -> bool {
 }
 
 // Puts a row's message, which is of data or of a kind without parts.
-fn puts<B: Blocks>(
-    rt: &impl Abort,
-    store: &mut B,
-    table: Table,
-    row: &Row<'_>,
-) -> Result<(), Fail>
+fn puts<B: Blocks>(rt: &impl Abort, store: &mut B, table: Table, row: &Row<'_>) -> Result<(), Fail>
     requires { list_at (B.value store.old) 3 ≡ [] }
 {
     if row.kind.is_control_kind() {

@@ -11,6 +11,8 @@ pub returns : goal.returns
 returns g c =
     let chain = in_hand (g.B.Blocks.value c.args.store.now) (token c.args.message.now) in
     let count = c.first_bytes-count in
-    record { asked = c.read.ensures.asked
-    ∙ ap asked_by (ap (λ xs. take count.result xs) count.ensures.given ∙ first-of (0 ∷ 0 ∷ []) (bytes_of chain) count.result count.ensures.count)
-    ∙ asked-first (bytes_of chain) ∙ ap (λ m. asked_by m.plain) (sym (plain-is chain c.requires.kind)) }
+    record {
+      asked = c.read.ensures.asked
+          ∙ ap asked_by (ap (λ xs. take count.result xs) count.ensures.given ∙ first-of (0 ∷ 0 ∷ []) (bytes_of chain) count.result count.ensures.count)
+          ∙ asked-first (bytes_of chain) ∙ ap (λ m. asked_by m.plain) (sym (plain-is chain c.requires.kind));
+    }
