@@ -1,6 +1,7 @@
 //! How a plan is carried out.
 
 ghost use Rattle.std.specs.Prelude.{◌<◌, ◌≤◌, ◌≡◌, IfOk, length};
+ghost use Rattle.strm_minors.specs.Openers.{IsOf, opening};
 
 use crate::plans::{Plan, Sums};
 use crate::rounds::{Crew, share};
@@ -8,11 +9,27 @@ use std::alloc::{AllocError, Global};
 use std::sync::Wait;
 use std::thread::{Threads, map_indices};
 use strm_locks::{Object, System};
-use strm_minors::Minor;
+use strm_minors::{Minor, Opener};
 use strm_system::{Locked, Store, unopened};
 use strm_types::{Config, Content, Event};
 
 type PairSystem = System<Locked<Store>>;
+
+// So many pairs of these sizes.
+fn system(
+    alloc: Global,
+    pairs: u32,
+    sizes: Config,
+) -> Result<(PairSystem, Opener), AllocError>
+    requires { pairs ≤ 64 }
+    ensures { IfOk result (λ made. (length made.0.locks ≡ pairs) × (made.1 ≡ opening made.0.minors)) }
+{
+    let mut all = Vec::new(alloc);
+    for made in 0..pairs {
+        all.push(unopened::<Store>(alloc, sizes)?)?;
+    }
+    System::new(alloc, all)
+}
 
 // A system of a plan's pairs, and the minor of each.
 fn made(alloc: Global, plan: &Plan) -> Result<(PairSystem, Vec<Minor>), AllocError> {
@@ -22,11 +39,7 @@ fn made(alloc: Global, plan: &Plan) -> Result<(PairSystem, Vec<Minor>), AllocErr
         journal_events: plan.entries as usize,
         journal_bytes: plan.entries as usize * 8,
     };
-    let mut pairs = Vec::new(alloc);
-    for _ in 0..plan.pairs {
-        pairs.push(unopened::<Store>(alloc, sizes)?)?;
-    }
-    let (system, mut opener) = System::new(alloc, pairs)?;
+    let (system, mut opener) = system(alloc, plan.pairs, sizes)?;
     let mut minors = Vec::new(alloc);
     for _ in 0..plan.pairs {
         let Ok(minor) = system.minors().claim(&mut opener) else {
