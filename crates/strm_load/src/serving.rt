@@ -16,11 +16,7 @@ use strm_types::{Config, Content, Event};
 type PairSystem = System<Locked<Store>>;
 
 // So many pairs of these sizes.
-fn system(
-    alloc: Global,
-    pairs: u32,
-    sizes: Config,
-) -> Result<(PairSystem, Opener), AllocError>
+fn system(alloc: Global, pairs: u32, sizes: Config) -> Result<(PairSystem, Opener), AllocError>
     requires { pairs ≤ 64 }
     ensures { IfOk result (λ made. (length made.0.locks ≡ pairs) × (made.1 ≡ opening made.0.minors)) }
 {
