@@ -28,3 +28,4 @@ pub mod Pushes
 pub mod Past
 pub mod Based
 pub mod Ledgers
+pub mod Bases
