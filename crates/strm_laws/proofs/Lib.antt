@@ -142,6 +142,7 @@ pub mod PutsBook
 pub mod ChangesMake
 pub mod StepBooks
 pub mod Balances
+pub mod Based
 pub mod JournalPlaces
 pub mod LedgerSums
 pub mod RefusedForgets
