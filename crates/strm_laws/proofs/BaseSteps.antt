@@ -1,5 +1,5 @@
 -- A pair as it is made is a base, and so is each state of a legal journal that begins at one.
-use Rattle.std.proofs.Common.{ℕ, ◌≡◌, ◌<◌, ◌+◌, ◌^◌, List, [], ◌∷◌, ◌++◌, refl, arith}
+use Rattle.std.proofs.Common.{ℕ, ◌<◌, ◌^◌, List, [], ◌∷◌, ◌++◌, refl, arith}
 use Rattle.std.specs.List.{AllByRecursion}
 use Rattle.strm_types.specs.declared.names.Dir.{Dir}
 use Rattle.strm_types.specs.declared.names.Dir.TheVariants.{MasterToSlave, SlaveToMaster}
@@ -68,6 +68,7 @@ base-on s fates es base within legal few =
     record {
       ordered = restorable-order (replay plain s es) is;
       restorable = is;
-      balanced = λ dir. agrees dir s fates es (restorable-unread s base.restorable) base.restorable.idle legal (base.balanced dir) (let w = few.written dir in let m = few.made dir in omega arith);
+      balanced = λ dir. agrees dir s fates es (restorable-unread s base.restorable) base.restorable.idle legal (base.balanced dir)
+          (let w = few.written dir in let m = few.made dir in omega arith);
       few = few;
     }

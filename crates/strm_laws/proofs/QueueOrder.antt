@@ -1,7 +1,7 @@
 -- The messages of a queue stay in order of rank where some are taken, where others come, and where its last one grows.
-use Rattle.std.proofs.Common.{ℕ, ◌≡◌, ◌≤◌, Bool, true, false, cond, List, [], ◌∷◌, ◌++◌, length, refl, sym, subst, arith, append-nil}
+use Rattle.std.proofs.Common.{ℕ, ◌≤◌, Bool, true, false, cond, List, [], ◌∷◌, ◌++◌, length, sym, subst, arith, append-nil}
 use Rattle.std.proofs.Math.Seq.{append_snoc}
-use Rattle.std.specs.Prelude.{◌==◌, ◌||◌, not, nat_lt, drop}
+use Rattle.std.specs.Prelude.{◌==◌, ◌||◌, not, nat_lt}
 use Rattle.std.specs.List.{AllByRecursion}
 use Rattle.strm_types.specs.declared.modes.ControlMode.{ControlMode}
 use Rattle.strm_types.specs.declared.modes.ReadMode.{ReadMode}

@@ -11,6 +11,7 @@ use Rattle.strm_laws.specs.Step.{replay}
 use Rattle.strm_laws.proofs.JournalPlaces.{one-place, own-place}
 use Rattle.strm_laws.proofs.LedgerSums.{sum_of}
 use Rattle.strm_laws.proofs.BaseSteps.{restorable-unread}
+use Rattle.strm_laws.proofs.RefusedForgets.{legal-from}
 use Rattle.strm_pair.specs.Pairs.{state_in, journal_of}
 use Rattle.strm_pair.proofs.Balanced.{balance, elsewhere-few}
 use Rattle.strm_pair.proofs.pair.Pair.ledger.Goals as goal
@@ -90,7 +91,7 @@ returns-clause-once g c = λ o.
     let base = p.base.state in
     let is = c.self.invariant.based.restorable in
     subst (λ (v : PairState). places_of o v.base v.journal ≡ (if is_booked o v.base (replay tagged (based v.base) v.journal) then 1 else 0)) c.self.view_is
-    (one-place o base (journal_of p.journal) (restorable-unread base is) is.idle c.self.invariant.legal)
+    (one-place o base (journal_of p.journal) (restorable-unread base is) is.idle (legal-from base (journal_of p.journal) is.idle c.self.invariant.legal))
 
 pub returns-clause-own : goal.returns-clause-own
 returns-clause-own g c = λ o.
@@ -98,4 +99,4 @@ returns-clause-own g c = λ o.
     let base = p.base.state in
     let is = c.self.invariant.based.restorable in
     subst (λ (v : PairState). own_places_of o v.base v.journal ≡ (if is_booked o v.base (replay tagged (based v.base) v.journal) then 1 else 0)) c.self.view_is
-    (own-place o base (journal_of p.journal) (restorable-unread base is) is.idle c.self.invariant.legal)
+    (own-place o base (journal_of p.journal) (restorable-unread base is) is.idle (legal-from base (journal_of p.journal) is.idle c.self.invariant.legal))
