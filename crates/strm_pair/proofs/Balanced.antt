@@ -8,14 +8,14 @@ use Rattle.strm_types.specs.Rules.{fates_of}
 use Rattle.strm_laws.specs.State.{book}
 use Rattle.strm_laws.proofs.LedgerSums.{sum_of}
 use Rattle.strm_blocks.specs.Blocks.{StoreValue}
-use Rattle.strm_pair.specs.declared.base.Base.{Base}
 use Rattle.strm_pair.specs.declared.journal.Journal.{Journal}
 use Rattle.strm_pair.specs.declared.streams.Streams.{Streams}
 use Rattle.strm_pair.specs.Pairs.{state_in}
 use Rattle.strm_pair.specs.PairViews.{IsKept}
+use Rattle.strm_pair.specs.Starts.{Start}
 use Rattle.strm_pair.proofs.Steps.{kept-base}
 
-module _ (s : StoreValue) (p : Streams) (j : Journal) (b : Base) (limits : Config) (fates : Fates) (kept : IsKept s p j b limits fates) (dir : Dir) where
+module _ (s : StoreValue) (p : Streams) (j : Journal) (b : Start) (limits : Config) (fates : Fates) (kept : IsKept s p j b limits fates) (dir : Dir) where
   -- what was written and made is what stands there and has gone
   pub balance : let st = state_in s p in (book dir st).written + (book dir st).made ≡ queued dir st + (inline dir st + sum_of (fates_of dir fates))
   balance = ((kept-base s p j b limits fates kept).balanced dir).agree

@@ -15,18 +15,18 @@ use Rattle.strm_laws.specs.Step.{Step, after, replay, IsLegal}
 use Rattle.strm_laws.proofs.BaseSteps.{base-on}
 use Rattle.strm_laws.proofs.Replay.{kept-legal, replay-append}
 use Rattle.strm_blocks.specs.Blocks.{StoreValue}
-use Rattle.strm_pair.specs.declared.base.Base.{Base}
 use Rattle.strm_pair.specs.declared.streams.Streams.{Streams}
 use Rattle.strm_pair.specs.declared.journal.Journal.{Journal}
 use Rattle.strm_pair.specs.Pairs.{state_in, journal_of, AreHeld, SamePool}
 use Rattle.strm_pair.specs.PairViews.{IsKept, led_to, pair_of}
+use Rattle.strm_pair.specs.Starts.{Start, led_on}
 
 -- an empty journal leads nowhere
-pub led-nowhere : (b : Base) (j : Journal) → journal_of j ≡ [] → led_to b j ≡ b.state
+pub led-nowhere : (b : Start) (j : Journal) → journal_of j ≡ [] → led_to b j ≡ b.state
 led-nowhere b j empty = ap (λ js. replay plain b.state js) empty
 
 -- where the journal has gained an entry, it leads to the state behind the entry
-pub led-on : (s : StoreValue) (p : Streams) (j k : Journal) (b : Base) (limits : Config) (fates : Fates) (entry : PlainEntry) → IsKept s p j b limits fates → journal_of k ≡ journal_of j ++ entry ∷ [] → led_to b k ≡ after plain (state_in s p) entry
+pub led-on : (s : StoreValue) (p : Streams) (j k : Journal) (b : Start) (limits : Config) (fates : Fates) (entry : PlainEntry) → IsKept s p j b limits fates → journal_of k ≡ journal_of j ++ entry ∷ [] → led_to b k ≡ after plain (state_in s p) entry
 led-on s p j k b limits fates entry kept added =
     ap (λ js. replay plain b.state js) added ∙ replay-append plain b.state (journal_of j) (entry ∷ []) ∙ ap (λ t. after plain t entry) (sym kept.replayed)
 
@@ -45,7 +45,7 @@ within-on : (es : List PlainEntry) (e : PlainEntry) → AreWithinEntries es → 
 within-on [] e all one = (one, tt)
 within-on (x ∷ es) e all one = (all.0, within-on es e all.1 one)
 
-pub kept-step : (s new : StoreValue) (p q : Streams) (j k : Journal) (b : Base) (limits : Config) (fates fates' : Fates) (entry : PlainEntry) → IsKept s p j b limits fates
+pub kept-step : (s new : StoreValue) (p q : Streams) (j k : Journal) (b : Start) (limits : Config) (fates fates' : Fates) (entry : PlainEntry) → IsKept s p j b limits fates
     → Step plain (state_in s p) entry (after plain (state_in s p) entry) → IsWithinEntry entry
     → state_in new q ≡ after plain (state_in s p) entry → AreHeld new q → SamePool s new → FewBooked (state_in new q) → fates' ≡ tallied (gone plain (state_in s p) entry) fates
     → journal_of k ≡ journal_of j ++ entry ∷ [] → k.most_entries ≡ j.most_entries → k.most_bytes ≡ j.most_bytes → IsKept new q k b limits fates'
@@ -68,23 +68,23 @@ kept-step s new p q j k b limits fates fates' entry kept step within stands held
 }
 
 -- what the blocks stand for is a base, with what has gone
-pub kept-base : (s : StoreValue) (p : Streams) (j : Journal) (b : Base) (limits : Config) (fates : Fates) → IsKept s p j b limits fates → IsBase (state_in s p) fates
+pub kept-base : (s : StoreValue) (p : Streams) (j : Journal) (b : Start) (limits : Config) (fates : Fates) → IsKept s p j b limits fates → IsBase (state_in s p) fates
 kept-base s p j b limits fates kept =
     let there = base-on b.state b.fates (journal_of j) kept.based kept.within kept.legal (subst FewBooked kept.replayed kept.few) in
     subst (λ f. IsBase (state_in s p) f) (sym kept.told) (subst (λ t. IsBase t (told_by plain b.state (journal_of j) b.fates)) (sym kept.replayed) there)
 
 -- nothing of a turn is under way at any module between calls
-pub led-idle : (s : StoreValue) (p : Streams) (j : Journal) (b : Base) (limits : Config) (fates : Fates) → IsKept s p j b limits fates → AreIdle (state_in s p)
+pub led-idle : (s : StoreValue) (p : Streams) (j : Journal) (b : Start) (limits : Config) (fates : Fates) → IsKept s p j b limits fates → AreIdle (state_in s p)
 led-idle s p j b limits fates kept = (kept-base s p j b limits fates kept).restorable.idle
 
 -- a base that has gone on to where the journal led, and an empty journal
-module _ (s : StoreValue) (p : Streams) (j k : Journal) (b c : Base) (limits : Config) (fates : Fates) (kept : IsKept s p j b limits fates)
-    (state : c.state ≡ led_to b j) (gone : c.fates ≡ told_by plain b.state (journal_of j) b.fates) (empty : journal_of k ≡ []) where
+module _ (s : StoreValue) (p : Streams) (j k : Journal) (b c : Start) (limits : Config) (fates : Fates) (kept : IsKept s p j b limits fates)
+    (on : c ≡ led_on (journal_of j) b) (empty : journal_of k ≡ []) where
   here : c.state ≡ state_in s p
-  here = state ∙ sym kept.replayed
+  here = ap (λ (t : Start). t.state) on ∙ sym kept.replayed
 
   went : c.fates ≡ fates
-  went = gone ∙ sym kept.told
+  went = ap (λ (t : Start). t.fates) on ∙ sym kept.told
 
   pub kept-restarted : k.most_entries ≡ j.most_entries → k.most_bytes ≡ j.most_bytes → IsKept s p k c limits fates
   kept-restarted events bytes = record {

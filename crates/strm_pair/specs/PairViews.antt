@@ -11,13 +11,13 @@ use Rattle.strm_laws.specs.Restorable.{AreWithinEntries}
 use Rattle.strm_laws.specs.State.{State}
 use Rattle.strm_laws.specs.Step.{replay, IsLegal}
 use Rattle.strm_blocks.specs.Blocks.{StoreValue}
-use Rattle.strm_pair.specs.declared.base.Base.{Base}
 use Rattle.strm_pair.specs.declared.streams.Streams.{Streams}
 use Rattle.strm_pair.specs.declared.journal.Journal.{Journal}
 use Rattle.strm_pair.specs.Pairs.{state_in, free_in, journal_of, AreHeld}
+use Rattle.strm_pair.specs.Starts.{Start}
 
 -- the state to which a journal leads from a base
-abbrev pub led_to : Base → Journal → State ℕ
+abbrev pub led_to : Start → Journal → State ℕ
 led_to base journal = replay plain base.state (journal_of journal)
 
 -- the sizes of a pair over a store, which gives its numbers of blocks
@@ -25,7 +25,7 @@ abbrev pub sizes_over : StoreValue → Config → Config
 sizes_over s sizes = record sizes { mblks = s.mblks; dblks = s.dblks }
 
 -- the pair that the store, the streams and the journal from its base stand for
-abbrev pub pair_of : StoreValue → Streams → Journal → Base → Config → Fates → PairState
+abbrev pub pair_of : StoreValue → Streams → Journal → Start → Config → Fates → PairState
 pair_of s streams journal base limits fates = record {
   state = state_in s streams;
   base = base.state;
@@ -39,7 +39,7 @@ pair_of s streams journal base limits fates = record {
 -- The blocks stand for the state to which the journal leads from the base, each entry of it is a legal step, and names a band that queues have; no more
 -- is booked than a ledger can hold; the numbers that are kept beside the blocks are those of the blocks, and nothing is in hand; what has gone is told
 -- by its rules, from what had gone at the base on; and the sizes are those that the pair was made with.
-pub record IsKept (s : StoreValue) (streams : Streams) (journal : Journal) (base : Base) (limits : Config) (fates : Fates) : Type 0 where
+pub record IsKept (s : StoreValue) (streams : Streams) (journal : Journal) (base : Start) (limits : Config) (fates : Fates) : Type 0 where
   pub based : IsBase base.state base.fates
   pub replayed : state_in s streams ≡ led_to base journal
   pub legal : IsLegal plain base.state (journal_of journal)

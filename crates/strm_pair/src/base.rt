@@ -1,13 +1,8 @@
 //! Where a pair's journal begins, as proofs alone know it.
 
-ghost use Rattle.std.specs.Prelude.{◌≡◌, ℕ};
+ghost use Rattle.std.specs.Prelude.{◌≡◌};
 ghost use Rattle.std.specs.Borrow.{ftrue};
-ghost use Rattle.strm_laws.specs.State.{State, opening};
-ghost use Rattle.strm_laws.specs.Step.{replay};
-ghost use Rattle.strm_laws.specs.Kept.{told_by};
-ghost use Rattle.strm_types.specs.Cells.{plain};
-ghost use Rattle.strm_types.specs.Rules.{no_fates};
-ghost use Rattle.strm_types.specs.declared.rules.Fates.{Fates};
+ghost use Rattle.strm_pair.specs.Starts.{Start, led_on, new_start};
 
 use crate::journal::Journal;
 use std::marker::{Model, PhantomData, Send};
@@ -17,8 +12,7 @@ use std::marker::{Model, PhantomData, Send};
 #[derive(Drop)]
 pub(crate) struct Base {
     marker: PhantomData<u8>,
-    pub(crate) ghost state: { State ℕ },
-    pub(crate) ghost fates: { Fates },
+    pub(crate) ghost start: { Start },
 }
 
 impl Model for Base {
@@ -32,17 +26,15 @@ impl Base {
 
     /// The base of a pair as it is made.
     pub(crate) fn new() -> Base
-        ensures state { result.state ≡ opening }
-        ensures fates { result.fates ≡ no_fates }
+        ensures { result.start ≡ new_start }
     {
         Base {
             marker: PhantomData,
         }
     }
 
-    /// Goes on along a journal that begins there, to where it leads.
+    /// Goes on to where a journal leads that begins there.
     pub(crate) fn go_on(&mut self, _journal: &Journal)
-        ensures state { self.new.state ≡ replay plain self.old.state (journal_of _journal.now) }
-        ensures fates { self.new.fates ≡ told_by plain self.old.state (journal_of _journal.now) self.old.fates }
+        ensures { self.new.start ≡ led_on (journal_of _journal.now) self.old.start }
     {}
 }

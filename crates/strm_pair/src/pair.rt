@@ -62,9 +62,9 @@ impl<B: Blocks + Drop> Model for Pair<B> {
 
     ghost use Rattle.strm_pair.specs.PairViews.{pair_of, IsKept};
 
-    ghost view = { λ p. pair_of (B.value p.store) p.streams p.journal p.base p.limits p.fates };
+    ghost view = { λ p. pair_of (B.value p.store) p.streams p.journal p.base.start p.limits p.fates };
 
-    ghost invariant = { λ p. IsKept (B.value p.store) p.streams p.journal p.base p.limits p.fates };
+    ghost invariant = { λ p. IsKept (B.value p.store) p.streams p.journal p.base.start p.limits p.fates };
 }
 
 impl<B: Blocks + Drop> Pair<B> {

@@ -19,13 +19,13 @@ pub returns-clause-ordered : goal.returns-clause-ordered
 returns-clause-ordered g c =
     let p = c.self.inside in
     let s = g.B.Blocks.value p.store in
-    subst (λ (v : PairState). AreOrdered v.state) c.self.view_is (kept-base s p.streams p.journal p.base p.limits p.fates c.self.invariant).ordered
+    subst (λ (v : PairState). AreOrdered v.state) c.self.view_is (kept-base s p.streams p.journal p.base.start p.limits p.fates c.self.invariant).ordered
 
 pub returns-clause-blocks : goal.returns-clause-blocks
 returns-clause-blocks g c =
     let p = c.self.inside in
     let s = g.B.Blocks.value p.store in
-    let idle = led-idle s p.streams p.journal p.base p.limits p.fates c.self.invariant in
+    let idle = led-idle s p.streams p.journal p.base.start p.limits p.fates c.self.invariant in
     subst (λ (v : PairState). IsPoolOf (messages_in v.state) v.limits v.free) c.self.view_is
     (free-shown s p.streams c.self.invariant.held idle p.limits c.audit.ensures c.self.invariant.mblks c.self.invariant.dblks)
 
