@@ -24,6 +24,7 @@ pub record PairState : Type 0 where
   pub state : State ℕ
   pub base : State ℕ
   pub base_fates : Fates
+  pub past : List PlainEntry
   pub journal : List PlainEntry
   pub limits : Config
   pub free : Free
@@ -35,6 +36,7 @@ new_pair limits = record {
   state = opening;
   base = opening;
   base_fates = no_fates;
+  past = [];
   journal = [];
   limits = limits;
   free = record { mblks = limits.mblks; dblks = limits.dblks };
@@ -43,7 +45,7 @@ new_pair limits = record {
 
 -- a pair whose journal begins anew at the state that it has; all else stays
 abbrev pub restarted : PairState → PairState
-restarted p = record p { base = p.state; base_fates = p.fates; journal = [] }
+restarted p = record p { base = p.state; base_fates = p.fates; past = p.past ++ p.journal; journal = [] }
 
 -- the refusal of a call on a pair, if any
 abbrev pub call_refused : PairState → Caller → Request → Option Refusal
@@ -65,4 +67,5 @@ pub record AddsEntry (old new : PairState) (entry : PlainEntry) : Type 0 where
   pub fates : new.fates ≡ tallied (gone plain old.state entry) old.fates
   pub base : new.base ≡ old.base
   pub base_fates : new.base_fates ≡ old.base_fates
+  pub past : new.past ≡ old.past
   pub limits : new.limits ≡ old.limits

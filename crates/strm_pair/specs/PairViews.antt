@@ -30,6 +30,7 @@ pair_of s streams journal base limits fates = record {
   state = state_in s streams;
   base = base.state;
   base_fates = base.fates;
+  past = base.past;
   journal = journal_of journal;
   limits = limits;
   free = free_in s;

@@ -84,6 +84,7 @@ returns-clause-adds g c =
       fates = c.carry_out-answer.ensures.told ∙ ap (λ (o : Outcome ℕ). tallied o.gone p.fates) same;
       base = refl;
       base_fates = refl;
+      past = refl;
       limits = refl;
     })
 

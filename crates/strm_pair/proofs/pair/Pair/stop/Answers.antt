@@ -65,6 +65,7 @@ returns-clause-adds g c =
       fates = ap (λ (o : Outcome ℕ). tallied o.gone p.fates) same;
       base = refl;
       base_fates = refl;
+      past = refl;
       limits = refl;
     })
 

@@ -55,6 +55,7 @@ returns-clause-adds g c =
       fates = c.turn-turn.ensures.told;
       base = refl;
       base_fates = refl;
+      past = refl;
       limits = refl;
     })
 
