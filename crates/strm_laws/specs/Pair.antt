@@ -1,6 +1,8 @@
 -- A pair as its callers see it, and what a call or a turn adds to it.
-use Rattle.std.specs.Prelude.{◌≡◌, ℕ, List, [], ◌∷◌, ◌++◌, Option}
+use Rattle.std.specs.Prelude.{◌≡◌, ℕ, zero, suc, List, [], ◌∷◌, ◌++◌, Option, None, Some, slice_get}
 use Rattle.strm_types.specs.declared.limits.Config.{Config}
+use Rattle.strm_types.specs.declared.answers.Turn.{Turn}
+use Rattle.strm_types.specs.declared.entries.Entry.TheVariants.{Turned}
 use Rattle.strm_types.specs.declared.events.Caller.{Caller}
 use Rattle.strm_types.specs.declared.job_control.Verdict.{Verdict}
 use Rattle.strm_types.specs.declared.names.QueueName.{QueueName}
@@ -69,3 +71,23 @@ pub record AddsEntry (old new : PairState) (entry : PlainEntry) : Type 0 where
   pub base_fates : new.base_fates ≡ old.base_fates
   pub past : new.past ≡ old.past
   pub limits : new.limits ≡ old.limits
+
+-- the refusal of the next turn, that of the queue that was enabled first, if there is one
+abbrev pub refused_of : PairState → Option QueueName → Option Refusal
+refused_of p None = None
+refused_of p (Some name) = queue_refused p name
+
+abbrev pub next_refused : PairState → Option Refusal
+next_refused p = refused_of p (slice_get p.state.enabled 0)
+
+-- So many turns were made, each of the queue that was enabled first, and nothing else (STREAMS Programming Guide, "Service Procedures": the
+-- scheduler calls those of enabled queues in the order in which they were enabled).
+pub record TurnOfFirst (old new : PairState) : Type 0 where
+  pub name : QueueName
+  pub turn : Turn
+  pub first : slice_get old.state.enabled 0 ≡ Some name
+  pub adds : AddsEntry old new (Turned name turn)
+
+abbrev pub RanTurns : ℕ → PairState → PairState → Type 0
+RanTurns zero old new = new ≡ old
+RanTurns (suc n) old new = (mid : PairState) × (RanTurns n old mid × TurnOfFirst mid new)

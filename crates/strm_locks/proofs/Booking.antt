@@ -10,6 +10,7 @@ use Rattle.strm_types.specs.declared.refusals.Refusal.{Refusal}
 use Rattle.strm_types.specs.Events.{Request, Reply}
 use Rattle.strm_types.specs.Journal.{PlainEntry}
 use Rattle.strm_laws.specs.Pair.{PairState, AddsEntry, call_refused}
+use Rattle.strm_laws.proofs.Replay.{refused-by}
 use Rattle.strm_locks.specs.declared.end.TheConstants.{ALL_PARTS}
 use Rattle.strm_locks.specs.declared.held.Settled.{Settled}
 use Rattle.strm_locks.specs.declared.told.Told.{Told}
@@ -72,14 +73,6 @@ module _ (p q : PairState) where
         at (suc (suc zero)) = omega (arith, tally.written SlaveToMaster)
         at (suc (suc (suc zero))) = omega (arith, tally.read MasterToSlave)
         at (suc (suc (suc (suc i)))) = omega (arith, tally.read SlaveToMaster)
-
--- where a call was refused it was for the reason that there is, and all is as it was
-pub refused-by : {A K : Type 0} (o : Option Refusal) (x : Result A Refusal) → MatchOption o (IsOk x) (λ r. (x ≡ Err r) × K) → (r : Refusal) → x ≡ Err r → (o ≡ Some r) × K
-refused-by {A} None x is r err = let e : Result A Refusal = Err r in let wrong : IsOk e = subst (λ y. IsOk y) err is in absurd (cc)
-refused-by (Some z) x is r err = (ap (λ y. Some y) (same-reason z r (sym is.0 ∙ err)), is.1)
-  where
-    same-reason : {A : Type 0} (z r : Refusal) → (let e : Result A Refusal = Err z in e) ≡ Err r → z ≡ r
-    same-reason z r e = cc
 
 -- the same, said of what follows from that
 pub refused-map : (A K L : Type 0) (B : Refusal → Type 0) (o p : Option Refusal) → o ≡ p → (K → L) → MatchOption o A (λ r. B r × K) → MatchOption p A (λ r. B r × L)

@@ -29,6 +29,7 @@ pub mod DataLemmas
 pub mod Sends
 pub mod JournalLemmas
 pub mod FewBytes
+pub mod Runs
 pub mod ChunkSteps
 mod Refusing
 mod Fresh

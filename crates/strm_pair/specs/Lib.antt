@@ -14,6 +14,7 @@ pub mod Named
 pub mod Nearest
 pub mod Pairs
 pub mod PairViews
+pub mod Running
 pub mod Shows
 pub mod Pool
 pub mod Parts

@@ -81,6 +81,13 @@ impl Journal {
         self.entries.len() < self.most_entries && bytes <= self.most_bytes - self.bytes.len()
     }
 
+    /// How many more entries fit.
+    pub fn left(&self) -> usize
+        ensures { result + length (journal_of self.now) ≡ self.now.most_entries }
+    {
+        self.most_entries - self.entries.len()
+    }
+
     // Adds an entry with its bytes: those of its call, in two parts, and those of its answer. Inlined, so that an entry is
     // written once, where it stays.
     #[inline(always)]

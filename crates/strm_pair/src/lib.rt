@@ -21,6 +21,7 @@ mod pair;
 mod putting;
 mod refusals;
 mod room;
+mod running;
 mod serving;
 mod stacks;
 mod streams;
@@ -28,6 +29,7 @@ mod turning;
 mod writing;
 
 pub use pair::{Pair, Recorded};
+pub use running::Ran;
 
 #[cfg(test)]
 mod tests;

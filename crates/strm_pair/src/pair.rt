@@ -250,6 +250,13 @@ impl<B: Blocks + Drop> Pair<B> {
         self.journal.has_room(bytes)
     }
 
+    // How many more entries the journal takes.
+    pub(crate) fn entries_left(&self) -> usize
+        ensures { result + length self.now.journal ≡ self.now.limits.journal_events }
+    {
+        self.journal.left()
+    }
+
     // The verdict on a call.
     #[inline(always)]
     fn verdict(&self, caller: Caller, event: &Event<&[u8]>) -> Verdict
@@ -270,7 +277,7 @@ impl<B: Blocks + Drop> Pair<B> {
     }
 
     // The refusal of a turn, if any.
-    fn turn_refusal(&self, name: QueueName) -> Option<Refusal>
+    pub(crate) fn turn_refusal(&self, name: QueueName) -> Option<Refusal>
         ensures { result ≡ queue_refused self.now name }
     {
         or_else(

@@ -192,17 +192,9 @@ fn all_memory(alloc: Global) -> Result<Vec<Vec<u8>>, AllocError> {
     Ok(taken)
 }
 
-// Makes the turns that can be made, up to a number that is more than enough here; whether none was refused.
+// Makes the turns that can be made; whether none was refused.
 fn turns<B: Blocks + Drop>(pair: &mut Pair<B>) -> bool {
-    for _ in 0..16 {
-        let Some(queue) = pair.first_enabled() else {
-            break;
-        };
-        if pair.turn(queue).is_err() {
-            return false;
-        }
-    }
-    true
+    pair.runqueues().stopped.is_none()
 }
 
 // Makes each call and the turns behind it: the first call that doesn't go as it says, if any.

@@ -4,7 +4,8 @@ use Rattle.strm_types.specs.Journal.{reply_in}
 use Rattle.strm_laws.specs.Pair.{call_refused}
 use Rattle.strm_locks.specs.Books.{Adds, IsCounted, book_of, history_of, kept}
 use Rattle.strm_locks.specs.Shares.{entry_of}
-use Rattle.strm_locks.proofs.Booking.{adds-call, answered, counts-on, refused-by, refused-on}
+use Rattle.strm_laws.proofs.Replay.{refused-by}
+use Rattle.strm_locks.proofs.Booking.{adds-call, answered, counts-on, refused-on}
 use Rattle.strm_locks.proofs.held.Held.call.Goals as goal
 
 pub invariant_of-self : goal.invariant_of-self
