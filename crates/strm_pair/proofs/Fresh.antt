@@ -1,5 +1,5 @@
 -- A pair over a store with nothing in it, with an empty journal, is as new.
-use Rattle.std.proofs.Common.{ℕ, ◌≡◌, List, [], ap, sym, subst, refl, ◌∙◌, arith}
+use Rattle.std.proofs.Common.{ℕ, ◌≡◌, List, [], ap, sym, subst, refl, ◌∙◌}
 use Rattle.std.specs.Prelude.{replicate}
 use Rattle.strm_types.specs.declared.limits.Config.{Config}
 use Rattle.strm_laws.specs.State.{opening}
@@ -27,7 +27,7 @@ pub record AreFresh (mblks dblks : ℕ) (p : Streams) : Type 0 where
   pub state : state_in (empty_store mblks dblks) p ≡ opening
   pub held : AreHeld (empty_store mblks dblks) p
 
-pub fresh-kept : (s : StoreValue) (p : Streams) (j : Journal) (b : Base) (limits : Config) (fates : Fates) → IsOpening b → s ≡ empty_store limits.mblks limits.dblks → AreFresh limits.mblks limits.dblks p
+pub fresh-kept : (s : StoreValue) (p : Streams) (j : Journal) (b : Start) (limits : Config) (fates : Fates) → b ≡ new_start → s ≡ empty_store limits.mblks limits.dblks → AreFresh limits.mblks limits.dblks p
     → journal_of j ≡ [] → j.most_entries ≡ limits.journal_events → j.most_bytes ≡ limits.journal_bytes → fates ≡ no_fates → IsKept s p j b limits fates
 fresh-kept s p j b limits fates is blank fresh empty events bytes none = record {
   based = subst (λ (t : Start). IsBase t.state t.fates) (sym is) opening-base;
@@ -43,7 +43,7 @@ fresh-kept s p j b limits fates is blank fresh empty events bytes none = record 
   bytes = bytes;
 }
 
-pub fresh-shown : (s : StoreValue) (p : Streams) (j : Journal) (b : Base) (limits : Config) (fates : Fates) → IsOpening b → s ≡ empty_store limits.mblks limits.dblks → AreFresh limits.mblks limits.dblks p → journal_of j ≡ [] → fates ≡ no_fates → pair_of s p j b limits fates ≡ new_pair limits
+pub fresh-shown : (s : StoreValue) (p : Streams) (j : Journal) (b : Start) (limits : Config) (fates : Fates) → b ≡ new_start → s ≡ empty_store limits.mblks limits.dblks → AreFresh limits.mblks limits.dblks p → journal_of j ≡ [] → fates ≡ no_fates → pair_of s p j b limits fates ≡ new_pair limits
 fresh-shown s p j b limits fates is blank fresh empty none =
     ap (λ v. pair_of v p j b limits fates) blank
     ∙ rw (none, fresh.state, empty, is, free-empty limits.mblks limits.dblks) refl

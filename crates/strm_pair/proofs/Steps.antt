@@ -102,4 +102,4 @@ module _ (s : StoreValue) (p : Streams) (j k : Journal) (b c : Start) (limits : 
   }
 
   pub restarted-shown : pair_of s p k c limits fates ≡ restarted (pair_of s p j b limits fates)
-  restarted-shown = rw (empty, here, went) refl
+  restarted-shown = rw (empty, here, went, ap (λ (t : Start). t.past) on) refl

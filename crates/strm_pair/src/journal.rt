@@ -5,6 +5,7 @@ ghost use Rattle.strm_types.specs.declared.entries.Entry.TheVariants.{Called, Tu
 ghost use Rattle.strm_types.specs.Events.{request, payload_of};
 ghost use Rattle.strm_types.specs.Journal.{entry_in, entry_len, answer_len, reply_in};
 ghost use Rattle.strm_laws.specs.Restorable.{IsWithinCall};
+ghost use Rattle.strm_types.specs.declared.limits.TheConstants.{BANDS};
 ghost use Rattle.strm_pair.specs.Journals.{IsStored, has_room_for};
 
 use std::alloc::{AllocError, Global};
@@ -34,7 +35,12 @@ fn append(buffer: &mut Vec<u8>, bytes: &[u8])
     buffer.extend_from_slice(bytes).unwrap();
 }
 
-// A band that a call names is one that queues have: it is a byte. It does nothing.
+// The number of a band is that of one that queues have: it is a byte. It does nothing.
+fn is_low(number: u8)
+    ensures { number < BANDS }
+{}
+
+// So is each band that a call names. It does nothing.
 fn is_within(event: &Event<&[u8]>)
     ensures { IsWithinCall (request event.now) }
 {
@@ -43,7 +49,7 @@ fn is_within(event: &Event<&[u8]>)
         ..
     } = event
     {
-        let _low = band.0;
+        is_low(band.0);
     }
 }
 

@@ -4,6 +4,7 @@ mod ioctls;
 mod ledgers;
 mod messages;
 mod recount;
+mod restarts;
 mod running;
 mod walk;
 

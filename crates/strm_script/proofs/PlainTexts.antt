@@ -14,7 +14,7 @@ use Rattle.strm_types.specs.declared.events.Event.TheVariants as calls
 use Rattle.strm_types.specs.Events.{Request, Reply}
 use Rattle.strm_types.specs.Refused.{or_else, unless}
 use Rattle.strm_laws.specs.Refusals.{refused, refused_at_once, refused_by_state, blocks_asked}
-use Rattle.strm_script.specs.Script.{Command, Open, Call, Flush, Put, Get, Turn as TurnOf, Run, Show, Ledger, Group}
+use Rattle.strm_script.specs.Script.{Command, Open, Call, Flush, Put, Get, Turn as TurnOf, Run, Show, Ledger, Cut, Group}
 use Rattle.strm_script.specs.ScriptReading.{Reading, Silent, Malformed, Spoken, reading}
 use Rattle.strm_script.specs.ScriptAnswers.{printed_line, reply_line, turn_line, Ran, Wrong}
 use Rattle.strm_script.specs.ScriptRun as script
@@ -152,7 +152,7 @@ named-same caller asked (Some x) account p h = call_answer Enough p caller (aske
 
 answered-same : (callers : Both Caller) (command : Command) (account : List Supply) (pair : Option PlainPair) → (answered callers command account pair).is_short ≡ false
     → SameAnswer (answered callers command account pair) (answered callers command [] pair)
-unfolding answered by_call by_flush by_put by_get by_show by_ledger by_turn by_run
+unfolding answered by_call by_flush by_put by_get by_show by_ledger by_cut by_turn by_run
 answered-same callers (Open blocks) account None h = open-same callers.master (unwrap_or blocks 256) account h
 answered-same callers (Open blocks) account (Some p) h = record { line = refl; pair = refl }
 answered-same callers (Call side asked) account None h = record { line = refl; pair = refl }
@@ -176,6 +176,8 @@ answered-same callers (Show side) account None h = record { line = refl; pair = 
 answered-same callers (Show side) account (Some p) h = record { line = refl; pair = refl }
 answered-same callers (Ledger direction) account None h = record { line = refl; pair = refl }
 answered-same callers (Ledger direction) account (Some p) h = record { line = refl; pair = refl }
+answered-same callers Cut account None h = record { line = refl; pair = refl }
+answered-same callers Cut account (Some p) h = record { line = refl; pair = refl }
 answered-same callers (Group caller) account pair h = record { line = refl; pair = refl }
 
 -- a line with a command, and the same line where the events get their blocks

@@ -161,7 +161,7 @@ fn a_last_line_may_lack_its_end(rt: HostRuntime) {
 }
 
 // Lines about a stream that are malformed.
-const MALFORMED_LINES: [&[u8]; 54] = [
+const MALFORMED_LINES: [&[u8]; 56] = [
     b"ioctl m",
     b"ioctl m TCGET",
     b"ioctl s TCGETS \"x\"",
@@ -216,6 +216,8 @@ const MALFORMED_LINES: [&[u8]; 54] = [
     b"ledger m",
     b"ledger ms ",
     b"ledger  ms",
+    b"cut ",
+    b"cut m",
 ];
 
 #[test]
@@ -453,6 +455,29 @@ fn a_large_script_runs_on_one_pair(rt: HostRuntime) -> Result<(), Fail> {
         &rt,
         rt.alloc(),
         "a large script",
+        script.as_slice(),
+        answers.as_slice(),
+        WELL,
+    );
+    Ok(())
+}
+
+#[test]
+fn a_journal_that_is_full_goes_on_behind_a_cut(rt: HostRuntime) -> Result<(), Fail> {
+    let mut script = Vec::new(rt.alloc());
+    let mut answers = Vec::new(rt.alloc());
+    script.extend_from_slice(b"open\n")?;
+    answers.extend_from_slice(b"ok\n")?;
+    for _ in 1..8192 {
+        script.extend_from_slice(b"unlock\n")?;
+        answers.extend_from_slice(b"ok\n")?;
+    }
+    script.extend_from_slice(b"unlock\ncut\nunlock\ncut\n")?;
+    answers.extend_from_slice(b"err JournalFull\nok 8192\nok\nok 1\n")?;
+    plays(
+        &rt,
+        rt.alloc(),
+        "a full journal",
         script.as_slice(),
         answers.as_slice(),
         WELL,

@@ -140,4 +140,59 @@ read m 100
   data 9 "a       b"
 ledger sm
   ledger sm written 3 made 7 queued 0 inline 0 read 9 replaced 1
+
+title: Before open there is no journal to cut
+setup: nothing
+cut
+  err ENXIO
+
+title: A cut tells how many entries the journal held, and begins it anew
+setup: pair
+cut
+  ok 3
+cut
+  ok 0
+write m "abc"
+  ok 3
+write m ""
+  ok 0
+read s 9
+  err EAGAIN
+run 9
+  ran 1
+cut
+  ok 3
+
+title: A cut leaves queues, lines, signals and ledgers as they are
+setup: terminal
+write m "ab\r\x03cd"
+  ok 6
+run 50
+  ran 4
+write m "xyz"
+  ok 3
+read m 2
+  data 2 "ab"
+cut
+  ok 14
+show m
+  show m
+show s
+  show s
+ledger ms
+  ledger ms
+ledger sm
+  ledger sm
+read m 99
+  data
+run 50
+  ran
+write m "\r"
+  ok 1
+run 50
+  ran
+read s 99
+  data
+signals s
+  signals INT
 "#;

@@ -5,7 +5,6 @@ use base.Logic.{id⊢}
 use base.Fml.{ftrue, flft}
 use mir.Syntax.{named}
 use mir.Val.{vunit}
-use contract.Running.{tables}
 use types.Kit.{‵, ◌⊛◌, ◌$◌, ◌∵◌, !, qed, move, keep, use1, split, join, fsplit, fsplit3, feq_i, suffices, frame, group, done}
 use types.Run.{enter, of_opd, unit_lit, returns}
 use types.ByLocal.{alloc_all, pass_all, free_all, look_at, sets}

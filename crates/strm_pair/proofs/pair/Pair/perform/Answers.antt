@@ -1,8 +1,7 @@
 -- A call that isn't refused is a step, and the journal gains it with its answer.
-use Rattle.std.proofs.Common.{ℕ, true, ◌≡◌, ◌≤◌, ◌+◌, ◌∙◌, ◌++◌, ◌∷◌, [], length, ap, sym, refl, subst, rules, arith}
+use Rattle.std.proofs.Common.{ℕ, ◌≡◌, ◌≤◌, ◌+◌, ◌∙◌, ◌++◌, ◌∷◌, [], length, ap, sym, refl, subst, rules, arith}
 use Rattle.std.specs.Bool.{OnTrue}
-use Rattle.std.specs.Prelude.{nat_le, None}
-use Rattle.std.proofs.lemmas.Bool.Decides.{nat_tests}
+use Rattle.std.specs.Prelude.{None}
 use Rattle.strm_types.specs.declared.entries.Entry.TheVariants.{Called}
 use Rattle.strm_types.specs.Cells.{plain}
 use Rattle.strm_laws.specs.Calls.{Outcome, delivers}
@@ -14,10 +13,10 @@ use Rattle.strm_laws.specs.Ledgers.{FewBooked}
 use Rattle.strm_laws.specs.Step.{IsCall, after}
 use Rattle.strm_laws.specs.Refusals.{enough, blocks_asked, hold, refused_at_once, refused_by_state, stop_of, unfit}
 use Rattle.strm_laws.specs.Pair.{PairState, AddsEntry, call_refused}
-use Rattle.strm_laws.proofs.Balances.{both-true, call-few, written-by-blocks}
+use Rattle.strm_laws.proofs.Balances.{call-few, written-by-blocks}
 use Rattle.strm_laws.proofs.StackSpares.{call-low}
 use Rattle.strm_laws.proofs.Replay.{call-allowed, or_else-none}
-use Rattle.strm_blocks.specs.Blocks.{StoreValue, free_d, free_m}
+use Rattle.strm_blocks.specs.Blocks.{free_m}
 use Rattle.strm_blocks.proofs.Laws.{free_m-is}
 use Rattle.strm_pair.specs.Pairs.{state_in, journal_of, free_in}
 use Rattle.strm_pair.specs.PairViews.{pair_of}

@@ -1,5 +1,5 @@
 -- A call that stops its caller changes nothing, and the journal gains it with that answer.
-use Rattle.std.proofs.Common.{ℕ, true, ◌≡◌, ◌≤◌, ◌+◌, ◌∙◌, ◌++◌, ◌∷◌, [], length, ap, sym, refl, subst, arith}
+use Rattle.std.proofs.Common.{ℕ, ◌≡◌, ◌≤◌, ◌+◌, ◌∙◌, length, ap, sym, refl, subst, arith}
 use Rattle.std.specs.Prelude.{None, Some}
 use Rattle.strm_types.specs.declared.answers.Answer.TheVariants.{Stop}
 use Rattle.strm_types.specs.declared.entries.Entry.TheVariants.{Called}
@@ -14,7 +14,7 @@ use Rattle.strm_laws.specs.Step.{IsCall, after}
 use Rattle.strm_laws.proofs.Replay.{call-allowed, or_else-none}
 use Rattle.strm_blocks.specs.Blocks.{free_m}
 use Rattle.strm_blocks.proofs.Laws.{free_m-is}
-use Rattle.strm_pair.specs.Pairs.{SamePool, free_in, journal_of, state_in}
+use Rattle.strm_pair.specs.Pairs.{free_in, journal_of, state_in}
 use Rattle.strm_pair.specs.PairViews.{pair_of}
 use Rattle.strm_pair.proofs.FewBytes.{few-kept}
 use Rattle.strm_pair.proofs.JournalLemmas.{room-less}
