@@ -12,3 +12,4 @@ pub mod CountRows
 pub mod ReadRows
 pub mod LaterRows
 pub mod TextRows
+pub mod SinkRows

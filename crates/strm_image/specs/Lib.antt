@@ -1,4 +1,5 @@
 pub mod Format
+pub mod Sinks
 pub mod Codes
 pub mod Messages
 pub mod Queues

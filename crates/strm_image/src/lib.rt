@@ -15,8 +15,10 @@ mod messages;
 mod modules;
 mod passed;
 mod queues;
+mod sink;
 mod streams;
 mod versions;
+mod writes;
 
 pub use accounts::AccountText;
 pub use enabled::NAMES;
@@ -26,6 +28,7 @@ pub use messages::{MessageText, message_behind};
 pub use modules::{LdtermText, ModuleText, PtemText};
 pub use passed::MessagesText;
 pub use queues::QueueText;
+pub use sink::Sink;
 pub use streams::{HeadBits, StreamText};
 pub use versions::{FIRST_BANDS, Load, QueueKind, SlotKind, Version};
 
