@@ -94,3 +94,6 @@ kept_all text room g e few fits = let u = unput text room g e in u.1.0 ∙ take_
 
 pub kept_short : (text : List ℕ) (room : ℕ) (g : Given) → g ≡ put text (nothing_given room) → g.room < g.count → room < length text
 kept_short text room g e short = let u = unput text room g e in omega (arith, u.0, u.1.1, short)
+
+pub count_all : (text : List ℕ) (room : ℕ) (g : Given) → g ≡ put text (nothing_given room) → min g.count 18446744073709551615 ≡ min (length text) 18446744073709551615
+count_all text room g e = let u = unput text room g e in omega (arith, u.1.1)

@@ -86,7 +86,8 @@ impl Sink {
 
     /// How many bytes it was given, as far as 64 bits hold that.
     pub fn count(&self) -> usize
-        ensures { result ≡ min self.now.count 18446744073709551615 }
+        ensures count { result ≡ min self.now.count 18446744073709551615 }
+        ensures text { (text : List ℕ) (room : ℕ) → self.now ≡ put text (nothing_given room) → result ≡ min (length text) 18446744073709551615 }
     {
         self.count.min(u64::MAX as u128) as usize
     }
