@@ -1,5 +1,5 @@
 -- The texts of the formats in pieces, as writers put them.
-use Rattle.std.proofs.Common.{◌≡◌, ◌∙◌, ℕ, suc, ◌+◌, ◌<◌, ◌≤◌, Bool, true, false, cond, List, [], ◌∷◌, ◌++◌, length, drop, get_or, Some, refl, sym, ap, arith, append_assoc, length-append}
+use Rattle.std.proofs.Common.{◌≡◌, ◌∙◌, ℕ, suc, ◌+◌, ◌<◌, ◌≤◌, Bool, true, false, cond, List, [], ◌∷◌, ◌++◌, length, drop, get_or, refl, sym, ap, arith, append_assoc}
 use Rattle.std.specs.List.{flat_map}
 use Rattle.std.proofs.Math.Seq.{drop-cons}
 use Rattle.std.proofs.lemmas.List.{append-nil, drop_all}
@@ -14,17 +14,17 @@ use Rattle.strm_types.specs.Queue.{Flow, Queue}
 use Rattle.strm_laws.specs.Stacked.{Module, OfLdterm, OfPtem, OfPckt}
 use Rattle.strm_image.specs.declared.versions.QueueKind.{QueueKind}
 use Rattle.strm_image.specs.declared.versions.Version.TheVariants.{Second}
-use Rattle.strm_image.specs.Codes.{flag, module_kind, version}
+use Rattle.strm_image.specs.Codes.{module_kind, version}
 use Rattle.strm_image.specs.Format.{always, byte, keep, u32, u64, ◌then◌}
 use Rattle.strm_image.specs.Image.{Imaged, body, enabled, enabled_behind, image, next_enabled, queue_name, rule_counts}
-use Rattle.strm_image.specs.Messages.{message, message_behind, messages, next_rank, part}
+use Rattle.strm_image.specs.Messages.{message, message_behind, messages, next_rank}
 use Rattle.strm_image.specs.Modules.{ldterm, module_below, module_format, modules, next_names, ptem}
 use Rattle.strm_image.specs.Queues.{flow, listed, no_flow, queue, same_flow}
-use Rattle.strm_image.specs.Sinks.{Given, patch, put}
+use Rattle.strm_image.specs.Sinks.{Given, put}
 use Rattle.strm_image.specs.Streams.{Laid, laid}
-use Rattle.strm_image.specs.Written.{image_text, laid_text, ldterm_text, part_front, queue_text, with_more}
+use Rattle.strm_image.specs.Written.{image_text, laid_text, ldterm_text, queue_text}
 use Rattle.strm_image.proofs.Formats.{text_flat}
-use Rattle.strm_image.proofs.SinkRows.{patch_put, put_both, put_nothing}
+use Rattle.strm_image.proofs.SinkRows.{put_both, put_nothing}
 
 -- the bands that are listed from one up
 pub listed_step : (first : Flow) (i : ℕ) (fs : List Flow) (d : Flow) → i < length fs
@@ -72,26 +72,6 @@ messages_told at ms = ap (λ t. u32.text (length ms) ++ t) (text_flat next_rank 
 pub modules_told : (ms : List (Module ℕ)) → (modules Second).text ms ≡ byte.text (length ms) ++ flat_map (module_format Second).text ms
 unfolding modules module_below
 modules_told ms = ap (λ t. byte.text (length ms) ++ t) (text_flat next_names (module_below Second) (module_format Second).text (λ s x. refl) [] ms)
-
--- ---- a part that goes on
-
-unfold_part : (xs : List ℕ) → part.text (Some xs) ≡ part_front (length xs) ++ xs
-unfolding part flag
-unfold_part xs = refl
-
-same_length : (m n : ℕ) → length (part_front m) ≡ length (part_front n)
-same_length m n = refl
-
-pub more_put : (at had : ℕ) (xs bytes : List ℕ) (before : Given) → length before.kept ≡ at → length xs ≡ had
-    → with_more at had bytes (put (part.text (Some xs)) before) ≡ put (part.text (Some (xs ++ bytes))) before
-more_put at had xs bytes before place long =
-    let whole : put bytes (put (part.text (Some xs)) before) ≡ put (part_front (length xs) ++ (xs ++ bytes)) before =
-    ap (λ t. put bytes (put t before)) (unfold_part xs) ∙ (put_both (part_front (length xs) ++ xs) bytes before ∙ ap (λ t. put t before) (append_assoc (part_front (length xs)) xs bytes)) in
-    let n : had + length bytes ≡ length (xs ++ bytes) = ap (λ k. k + length bytes) (sym long) ∙ sym (length-append xs bytes) in
-    ap (λ k. patch k (part_front (had + length bytes)) (put bytes (put (part.text (Some xs)) before))) (sym place)
-    ∙ (ap (λ g. patch (length before.kept) (part_front (had + length bytes)) g) whole
-    ∙ (patch_put (part_front (length xs)) (part_front (had + length bytes)) (xs ++ bytes) before (same_length (length xs) (had + length bytes))
-    ∙ (ap (λ k. put (part_front k ++ (xs ++ bytes)) before) n ∙ ap (λ t. put t before) (sym (unfold_part (xs ++ bytes))))))
 
 -- ---- what stands where
 

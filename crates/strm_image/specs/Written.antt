@@ -1,6 +1,5 @@
 -- What writers put, in pieces of the texts of the formats.
-use Rattle.std.specs.Prelude.{ℕ, ◌<◌, ◌+◌, Bool, true, false, List, ◌∷◌, ◌++◌, length}
-use Rattle.std.specs.Int.{to_be_bytes, w32}
+use Rattle.std.specs.Prelude.{ℕ, ◌<◌, Bool, true, false, List, ◌∷◌, ◌++◌, length}
 use Rattle.strm_types.specs.declared.names.Openness.{Openness}
 use Rattle.strm_types.specs.declared.slots.Slot.TheVariants.{Free, Waiting, Answered}
 use Rattle.strm_types.specs.declared.names.ModuleName.TheVariants as names
@@ -17,7 +16,6 @@ use Rattle.strm_image.specs.Image.{Imaged, account, enabled, laid_on, mark}
 use Rattle.strm_image.specs.Messages.{messages}
 use Rattle.strm_image.specs.Modules.{modules, termios}
 use Rattle.strm_image.specs.Queues.{flags, flows, queue}
-use Rattle.strm_image.specs.Sinks.{Given, patch, put}
 use Rattle.strm_image.specs.Streams.{Laid, head_bits, laid, signals, slot}
 
 -- an answer whose length has 32 bits
@@ -25,14 +23,6 @@ abbrev pub IsShortSlot : PlainSlot → Type 0
 IsShortSlot Free = Unit {0}
 IsShortSlot (Waiting number command) = Unit {0}
 IsShortSlot (Answered number command acked error body) = length body < 4294967296
-
--- what stands in front of the bytes of a part that is there
-abbrev pub part_front : ℕ → List ℕ
-part_front n = 1 ∷ to_be_bytes w32 n
-
--- more bytes of the part that was put last, at a place, and has had so many
-abbrev pub with_more : ℕ → ℕ → List ℕ → Given → Given
-with_more at had bytes g = patch at (part_front (had + length bytes)) (put bytes g)
 
 -- a head without its queue
 abbrev pub head_text : Bool → Head ℕ → List ℕ
