@@ -12,3 +12,5 @@ pub mod CountRows
 pub mod ReadRows
 pub mod LaterRows
 pub mod TextRows
+pub mod SinkRows
+pub mod WrittenRows

@@ -1,4 +1,5 @@
 pub mod Format
+pub mod Sinks
 pub mod Codes
 pub mod Messages
 pub mod Queues
@@ -14,3 +15,4 @@ pub mod ModuleTexts
 pub mod StreamTexts
 pub mod AccountTexts
 pub mod ImageTexts
+pub mod Written
