@@ -11,4 +11,9 @@ pub mod LoadRows
 pub mod CountRows
 pub mod ReadRows
 pub mod LaterRows
+pub mod Fitting
+pub mod FitQueues
+pub mod EachOnce
+pub mod FitStreams
+pub mod FitImages
 pub mod TextRows

@@ -14,3 +14,4 @@ pub mod ModuleTexts
 pub mod StreamTexts
 pub mod AccountTexts
 pub mod ImageTexts
+pub mod HasImage

@@ -4,6 +4,7 @@ ghost use Rattle.std.specs.Prelude.{◌≡◌, true};
 ghost use Rattle.strm_image.specs.declared.versions.Version.{Version};
 ghost use Rattle.strm_image.specs.declared.versions.Version.TheVariants.{First, Second};
 ghost use Rattle.strm_image.specs.Image.{Imaged, image};
+ghost use Rattle.strm_image.specs.HasImage.{HasImage, new_imaged};
 
 /// A text is the image of one state at most, and has one version.
 pub fn one_image()
@@ -14,4 +15,11 @@ pub fn one_image()
 /// A state that has an image of version 1 has one of version 2, and what is read from both is this state.
 pub fn versions_agree()
     ensures { (x : Imaged) → image.fits (First, x) ≡ true → image.fits (Second, x) ≡ true }
+{}
+
+/// Every state of a pair has an image: a restorable state whose queues are in order, whose numbers have their widths, and whose ledgers
+/// balance. So has a pair as it is made.
+pub fn states_have_images()
+    ensures each { (x : Imaged) → HasImage x → image.fits (Second, x) ≡ true }
+    ensures new { image.fits (Second, new_imaged) ≡ true }
 {}
