@@ -22,7 +22,7 @@ use Rattle.strm_types.specs.Signals.{AreSignals, is_signal}
 use Rattle.strm_types.specs.Slots.{PlainSlot, answer_bytes, is_free}
 use Rattle.strm_laws.specs.LdtermTurns.{ldterm_rests}
 use Rattle.strm_laws.specs.Restorable.{GoodLdterm, GoodModule, GoodModules, GoodStream, IsShut, IsWhole, goes_out, is_part_kind, stands_below}
-use Rattle.strm_laws.specs.StackCosts.{times_there}
+use Rattle.strm_laws.specs.StackCosts.{EachOnce, times_there}
 use Rattle.strm_laws.specs.Stacked.{IsAtRest, Module, OfLdterm, OfPtem, OfPckt, module_name, module_queues, queues_of_modules}
 use Rattle.strm_laws.specs.State.{Stream, stream_queues}
 use Rattle.strm_laws.specs.Within.{IsWithin}
@@ -85,6 +85,10 @@ pub is_names_count : IsCount same_module names_count
 unfolding names_count
 is_names_count = record { none = λ name. refl; more = λ name n ns. top-times name n ns (length ns) }
 
+pub names_once : (ns : List ModuleName) → EachOnce ns → (name : ModuleName) → names_count name ns ≤ 1
+unfolding names_count
+names_once ns each name = each.once name (length ns)
+
 -- modules that fit, none of which has a name above
 record Below (above : List ModuleName) (ps : List (Module ℕ)) : Type 0 where
   new : AreNew same_module above (map module_name ps)
@@ -95,9 +99,9 @@ unfolding module_below AreNew
 below_fits above p ps b = (and_from _ _ b.each.0 (ap not b.new.0), record { new = b.new.1; each = b.each.1 })
 
 modules_fit : (ps : List (Module ℕ)) → GoodModules ps → AllByRecursion (λ p. (module_format Second).fits p ≡ true) ps → (modules Second).fits ps ≡ true
-unfolding modules names_count
+unfolding modules
 modules_fit ps good each =
-    let new = all_new same_module same_name names_count is_names_count (map module_name ps) (λ name. good.once.once name (length (map module_name ps))) in
+    let new = all_new same_module same_name names_count is_names_count (map module_name ps) (names_once (map module_name ps) good.once) in
     counted_fits next_names (module_below Second) (only are_few byte) [] ps (and_from _ _ (lt-ltb (length ps) 256 (omega (arith, good.few))) (le-leb (length ps) MODULES good.few))
     (chain_fits next_names (module_below Second) Below below_fits [] ps (record { new = new; each = each }))
 

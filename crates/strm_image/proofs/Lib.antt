@@ -16,4 +16,5 @@ pub mod FitQueues
 pub mod EachOnce
 pub mod FitStreams
 pub mod FitImages
+pub mod TextLengths
 pub mod TextRows

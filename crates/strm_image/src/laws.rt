@@ -4,7 +4,10 @@ ghost use Rattle.std.specs.Prelude.{◌≡◌, true};
 ghost use Rattle.strm_image.specs.declared.versions.Version.{Version};
 ghost use Rattle.strm_image.specs.declared.versions.Version.TheVariants.{First, Second};
 ghost use Rattle.strm_image.specs.Image.{Imaged, image};
-ghost use Rattle.strm_image.specs.HasImage.{HasImage, new_imaged};
+ghost use Rattle.std.specs.Prelude.{◌≤◌, ◌+◌, ◌*◌, length};
+ghost use Rattle.strm_laws.specs.State.{messages_in};
+ghost use Rattle.strm_image.specs.declared.sizes.TheConstants.{IMAGE_FIXED, MESSAGE_FIXED};
+ghost use Rattle.strm_image.specs.HasImage.{HasImage, bytes_in, new_imaged};
 
 /// A text is the image of one state at most, and has one version.
 pub fn one_image()
@@ -22,4 +25,9 @@ pub fn versions_agree()
 pub fn states_have_images()
     ensures each { (x : Imaged) → HasImage x → image.fits (Second, x) ≡ true }
     ensures new { image.fits (Second, new_imaged) ≡ true }
+{}
+
+/// An image of version 2 is no longer than what the messages say: [`IMAGE_FIXED`] bytes, and for each message its own and [`MESSAGE_FIXED`].
+pub fn image_is_bounded()
+    ensures { (x : Imaged) → HasImage x → length (image.text (Second, x)) ≤ IMAGE_FIXED + (MESSAGE_FIXED * messages_in x.state + bytes_in x.state) }
 {}
