@@ -17,4 +17,6 @@ pub mod EachOnce
 pub mod FitStreams
 pub mod FitImages
 pub mod TextLengths
+pub mod BlockRows
+pub mod ShortRows
 pub mod TextRows

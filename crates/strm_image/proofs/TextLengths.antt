@@ -6,7 +6,7 @@ use Rattle.std.proofs.Math.Nat.{suc-mul, zero-mul}
 use Rattle.std.proofs.lemmas.List.{length-append}
 use Rattle.std.proofs.lemmas.List.Concat.{flat_map-cons}
 use Rattle.std.proofs.lemmas.List.Sums.{sum_by-append, sum_by-cons}
-use Rattle.strm_types.specs.declared.limits.TheConstants.{BANDS, HIGH_PRIORITY_RANK, IOCTL_MAX, SIGNAL_LAST}
+use Rattle.strm_types.specs.declared.limits.TheConstants.{BANDS, BLOCK_SIZE, HIGH_PRIORITY_RANK, IOCTL_MAX, SIGNAL_LAST}
 use Rattle.strm_types.specs.declared.keys.TheConstants.{LINE_MAX}
 use Rattle.strm_types.specs.declared.names.ModuleName.{ModuleName}
 use Rattle.strm_types.specs.declared.names.ModuleName.TheVariants as names
@@ -31,7 +31,7 @@ use Rattle.strm_laws.specs.Stacked.{Module, OfLdterm, OfPtem, OfPckt, module_nam
 use Rattle.strm_laws.specs.State.{Stream, messages_in, queues_of, stream, stream_queues}
 use Rattle.strm_laws.specs.Within.{IsWithin}
 use Rattle.strm_types.proofs.SignalRoom.{signals-fit}
-use Rattle.strm_image.specs.declared.sizes.TheConstants.{IMAGE_FIXED, MESSAGE_FIXED, QUEUE_FIXED, STREAM_FIXED}
+use Rattle.strm_image.specs.declared.sizes.TheConstants.{IMAGE_BLOCK, IMAGE_FIXED, MESSAGE_FIXED, QUEUE_FIXED, STREAM_FIXED}
 use Rattle.strm_image.specs.declared.versions.QueueKind.{QueueKind}
 use Rattle.strm_image.specs.declared.versions.QueueKind.TheVariants as queues
 use Rattle.strm_image.specs.declared.versions.Version.TheVariants.{Second}
@@ -289,3 +289,10 @@ unfolding image version
 image_length x h =
     let all : AtMost (IMAGE_FIXED + (MESSAGE_FIXED * messages_in x.state + bytes_in x.state)) (image.text (Second, x)) = within (behind (short 4 mark (omega arith)) (behind (short 1 (version.text Second) (omega arith)) (body_length x h))) (omega (arith, loads (queues_of x.state))) in
     all.few
+
+pub image_length_in : (x : Imaged) (blocks : ℕ) → HasImage x → messages_in x.state ≤ blocks → bytes_in x.state ≤ BLOCK_SIZE * blocks → length (image.text (Second, x)) ≤ IMAGE_FIXED + IMAGE_BLOCK * blocks
+image_length_in x blocks h few small = let all = image_length x h in omega (arith, all, few, small)
+
+-- as docs/IMAGES.md has them
+pub sizes-in-numbers : IMAGE_FIXED ∷ MESSAGE_FIXED ∷ IMAGE_BLOCK ∷ [] ≡ 22267 ∷ 12 ∷ 268 ∷ []
+sizes-in-numbers = refl

@@ -15,3 +15,4 @@ pub mod StreamTexts
 pub mod AccountTexts
 pub mod ImageTexts
 pub mod HasImage
+pub mod InBlocks

@@ -27,7 +27,7 @@ pub use messages::{MessageText, message_behind};
 pub use modules::{LdtermText, ModuleText, PtemText};
 pub use passed::MessagesText;
 pub use queues::QueueText;
-pub use sizes::{IMAGE_FIXED, MESSAGE_FIXED, QUEUE_FIXED, STREAM_FIXED};
+pub use sizes::{IMAGE_BLOCK, IMAGE_FIXED, MESSAGE_FIXED, QUEUE_FIXED, STREAM_FIXED};
 pub use streams::{HeadBits, StreamText};
 pub use versions::{FIRST_BANDS, Load, QueueKind, SlotKind, Version};
 

@@ -1,9 +1,12 @@
 //! How long an image of version 2 is at most.
 
-use strm_types::BANDS;
+use strm_types::{BANDS, BLOCK_SIZE};
 
 /// How many bytes a message has in an image beside its own: its kind, its band, and for each part whether it is there and its length.
 pub const MESSAGE_FIXED: usize = 12;
+
+/// How many bytes an image has at most for each block of a pair: a message has at least one, and each block 256 bytes at most.
+pub const IMAGE_BLOCK: usize = MESSAGE_FIXED + BLOCK_SIZE;
 
 /// How many bytes a queue has at most beside its messages: its flags, ten for each band that is listed, and both numbers.
 pub const QUEUE_FIXED: usize = 7 + 10 * BANDS;
