@@ -6,11 +6,6 @@ pub mod BandRows
 pub mod QueueRows
 pub mod ModuleRows
 pub mod StreamRows
-pub mod ImageRows
-pub mod LoadRows
-pub mod CountRows
-pub mod ReadRows
-pub mod LaterRows
 pub mod Fitting
 pub mod FitQueues
 pub mod EachOnce
@@ -19,4 +14,9 @@ pub mod FitImages
 pub mod TextLengths
 pub mod BlockRows
 pub mod ShortRows
+pub mod ImageRows
+pub mod LoadRows
+pub mod CountRows
+pub mod ReadRows
+pub mod LaterRows
 pub mod TextRows

@@ -6,6 +6,8 @@ pub mod Modules
 pub mod Streams
 pub mod Loads
 pub mod Image
+pub mod HasImage
+pub mod InBlocks
 pub mod Counts
 pub mod Texts
 pub mod FlowTexts
@@ -14,5 +16,3 @@ pub mod ModuleTexts
 pub mod StreamTexts
 pub mod AccountTexts
 pub mod ImageTexts
-pub mod HasImage
-pub mod InBlocks

@@ -9,13 +9,14 @@ mod enabled;
 mod fields;
 mod flows;
 mod image;
+pub mod image_laws;
 pub mod laws;
+mod lengths;
 mod loads;
 mod messages;
 mod modules;
 mod passed;
 mod queues;
-mod sizes;
 mod streams;
 mod versions;
 
@@ -23,11 +24,11 @@ pub use accounts::AccountText;
 pub use enabled::NAMES;
 pub use flows::Flow;
 pub use image::{ImageText, StateText, read};
+pub use lengths::{IMAGE_BLOCK, IMAGE_FIXED, MESSAGE_FIXED, QUEUE_FIXED, STREAM_FIXED};
 pub use messages::{MessageText, message_behind};
 pub use modules::{LdtermText, ModuleText, PtemText};
 pub use passed::MessagesText;
 pub use queues::QueueText;
-pub use sizes::{IMAGE_BLOCK, IMAGE_FIXED, MESSAGE_FIXED, QUEUE_FIXED, STREAM_FIXED};
 pub use streams::{HeadBits, StreamText};
 pub use versions::{FIRST_BANDS, Load, QueueKind, SlotKind, Version};
 

@@ -4,7 +4,7 @@ use Rattle.strm_image.specs.Image.{image}
 use Rattle.strm_image.proofs.FitImages.{image_fits}
 use Rattle.strm_image.proofs.Formats.{whole_again, whole_takes}
 use Rattle.strm_image.proofs.ImageRows.{image_exact}
-use Rattle.strm_image.proofs.laws.image_of_image.Goals as goal
+use Rattle.strm_image.proofs.image_laws.image_of_image.Goals as goal
 
 pub returns : goal.returns
 returns c = record {
