@@ -3,6 +3,7 @@ pub mod JournalEntries
 pub mod StoredCalls
 pub mod Replay
 pub mod GoodDeliveries
+pub mod QueueOrder
 pub mod GoodQueues
 pub mod GoodHeads
 pub mod GoodDrivers
@@ -17,6 +18,7 @@ pub mod EnabledExist
 pub mod EnabledPuts
 pub mod EnabledCalls
 pub mod RestorableSteps
+pub mod BaseSteps
 pub mod Lanes
 pub mod Forgetting
 pub mod PushForgets
@@ -140,6 +142,7 @@ pub mod PutsBook
 pub mod ChangesMake
 pub mod StepBooks
 pub mod Balances
+pub mod Based
 pub mod JournalPlaces
 pub mod LedgerSums
 pub mod RefusedForgets

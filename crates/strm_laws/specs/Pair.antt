@@ -18,11 +18,12 @@ use Rattle.strm_types.specs.Deliver.{tallied}
 use Rattle.strm_types.specs.Rules.{no_fates}
 use Rattle.strm_types.specs.declared.rules.Fates.{Fates}
 
--- A pair: its plain state, the state that its journal began at, the journal, the sizes that it was made with, how many
--- blocks are free, and how many bytes have gone by each rule since the journal began.
+-- A pair: its plain state, the base at which its journal begins, that is a state and how many bytes had gone by each rule there, the journal,
+-- the sizes that it was made with, how many blocks are free, and how many bytes have gone by each rule since it was made.
 pub record PairState : Type 0 where
   pub state : State ℕ
   pub base : State ℕ
+  pub base_fates : Fates
   pub journal : List PlainEntry
   pub limits : Config
   pub free : Free
@@ -33,11 +34,16 @@ abbrev pub new_pair : Config → PairState
 new_pair limits = record {
   state = opening;
   base = opening;
+  base_fates = no_fates;
   journal = [];
   limits = limits;
   free = record { mblks = limits.mblks; dblks = limits.dblks };
   fates = no_fates;
 }
+
+-- a pair whose journal begins anew at the state that it has; all else stays
+abbrev pub restarted : PairState → PairState
+restarted p = record p { base = p.state; base_fates = p.fates; journal = [] }
 
 -- the refusal of a call on a pair, if any
 abbrev pub call_refused : PairState → Caller → Request → Option Refusal
@@ -58,4 +64,5 @@ pub record AddsEntry (old new : PairState) (entry : PlainEntry) : Type 0 where
   pub step : Step plain old.state entry new.state
   pub fates : new.fates ≡ tallied (gone plain old.state entry) old.fates
   pub base : new.base ≡ old.base
+  pub base_fates : new.base_fates ≡ old.base_fates
   pub limits : new.limits ≡ old.limits

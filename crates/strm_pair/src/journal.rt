@@ -4,10 +4,11 @@ ghost use Rattle.std.specs.Prelude.{◌≡◌, ◌+◌, ◌≤◌, ◌<◌, ◌^
 ghost use Rattle.strm_types.specs.declared.entries.Entry.TheVariants.{Called, Turned};
 ghost use Rattle.strm_types.specs.Events.{request, payload_of};
 ghost use Rattle.strm_types.specs.Journal.{entry_in, entry_len, answer_len, reply_in};
+ghost use Rattle.strm_laws.specs.Restorable.{IsWithinCall};
 ghost use Rattle.strm_pair.specs.Journals.{IsStored, has_room_for};
 
 use std::alloc::{AllocError, Global};
-use strm_types::{Answer, Caller, Entry, Event, QueueName, Turn};
+use strm_types::{Answer, Caller, Entry, Event, Prio, QueueName, Turn};
 
 /// All that was carried out on a pair, in order: the entries, and their bytes in a buffer. Both have their room from
 /// the beginning.
@@ -31,6 +32,19 @@ fn append(buffer: &mut Vec<u8>, bytes: &[u8])
         return;
     }
     buffer.extend_from_slice(bytes).unwrap();
+}
+
+// A band that a call names is one that queues have: it is a byte. It does nothing.
+fn is_within(event: &Event<&[u8]>)
+    ensures { IsWithinCall (request event.now) }
+{
+    if let Event::Put {
+        prio: Prio::Band(band),
+        ..
+    } = event
+    {
+        let _low = band.0;
+    }
 }
 
 impl Journal {
@@ -101,9 +115,11 @@ impl Journal {
             (length (payload_of (request event.now)) + length content.now) ≡ true }
         ensures added { journal_of self.new
             ≡ journal_of self.old ++ Called caller (request event.now) (reply_in answer content.now) ∷ [] }
+        ensures within { IsWithinCall (request event.now) }
         ensures most_entries { self.new.most_entries ≡ self.old.most_entries }
         ensures most_bytes { self.new.most_bytes ≡ self.old.most_bytes }
     {
+        is_within(event);
         let entry = Entry::Called {
             caller,
             event: event.shape(),

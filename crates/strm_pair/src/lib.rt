@@ -3,6 +3,7 @@
 #![tactic(auto)]
 
 mod answers;
+mod base;
 mod calling;
 mod changing;
 mod closing;
