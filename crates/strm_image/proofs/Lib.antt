@@ -14,6 +14,7 @@ pub mod FitImages
 pub mod TextLengths
 pub mod BlockRows
 pub mod ShortRows
+pub mod BaseImages
 pub mod ImageRows
 pub mod LoadRows
 pub mod CountRows

@@ -3,8 +3,11 @@
 use Rattle.std.specs.Prelude.{◌≡◌, ◌<◌, ◌^◌, ◌+◌, ℕ, List, length, replicate, sum_by}
 use Rattle.std.specs.List.{AllByRecursion, sum}
 use Rattle.strm_types.specs.declared.books.Book.{Book}
+use Rattle.strm_types.specs.declared.both.Both.{Both}
 use Rattle.strm_types.specs.declared.limits.TheConstants.{BANDS}
 use Rattle.strm_types.specs.declared.names.Dir.{Dir}
+use Rattle.strm_types.specs.declared.names.Dir.TheVariants.{MasterToSlave, SlaveToMaster}
+use Rattle.strm_types.specs.declared.rules.Fates.{Fates}
 use Rattle.strm_types.specs.declared.rules.TheConstants.{RULES}
 use Rattle.strm_types.specs.declared.slots.Slot.TheVariants.{Free, Waiting, Answered}
 use Rattle.strm_types.specs.declared.termios.Termios.{Termios}
@@ -13,6 +16,7 @@ use Rattle.strm_types.specs.Both.{AllSides, get, twice}
 use Rattle.strm_types.specs.Message.{Message, part}
 use Rattle.strm_types.specs.Names.{side_from}
 use Rattle.strm_types.specs.Queue.{IsOrdered, Queue, bytes_of}
+use Rattle.strm_types.specs.Rules.{fates_of}
 use Rattle.strm_types.specs.Slots.{PlainSlot}
 use Rattle.strm_laws.specs.Ledgers.{inline, queued}
 use Rattle.strm_laws.specs.Restorable.{Restorable}
@@ -110,3 +114,15 @@ new_imaged = record { state = opening; fates = twice (replicate RULES 0) }
 -- how many bytes the messages of a pair have, all of them
 abbrev pub bytes_in : State ℕ → ℕ
 bytes_in s = sum_by (λ q. bytes_of q.messages) (queues_of s)
+
+-- how many bytes have gone by each rule in each direction, by the side that writes there
+abbrev pub counts_of : Fates → Both (List ℕ)
+counts_of fates = record { master = fates_of MasterToSlave fates; slave = fates_of SlaveToMaster fates }
+
+-- the state and the fates of a base, as an image has them
+abbrev pub imaged : State ℕ → Fates → Imaged
+imaged s fates = record { state = s; fates = counts_of fates }
+
+-- what has gone by each rule in each direction has 64 bits
+abbrev pub AreCounts : Fates → Type 0
+AreCounts fates = (dir : Dir) → AllByRecursion (λ n. n < 2 ^ 64) (fates_of dir fates)

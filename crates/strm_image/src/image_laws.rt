@@ -2,12 +2,14 @@
 
 ghost use Rattle.std.specs.Prelude.{◌≡◌, ◌≤◌, ◌<◌, ◌^◌, ◌+◌, ◌*◌, ℕ, true, List, length, Some};
 ghost use Rattle.strm_types.specs.declared.limits.TheConstants.{BLOCK_SIZE};
+ghost use Rattle.strm_types.specs.declared.rules.Fates.{Fates};
 ghost use Rattle.strm_types.specs.Message.{Message};
+ghost use Rattle.strm_laws.specs.Bases.{IsBase};
 ghost use Rattle.strm_laws.specs.State.{State, messages_in};
 ghost use Rattle.strm_image.specs.declared.lengths.TheConstants.{IMAGE_BLOCK, IMAGE_FIXED, MESSAGE_FIXED};
 ghost use Rattle.strm_image.specs.declared.versions.Version.TheVariants.{Second};
 ghost use Rattle.strm_image.specs.Format.{IsBytes, whole};
-ghost use Rattle.strm_image.specs.HasImage.{AreShort, HasImage, bytes_in, new_imaged};
+ghost use Rattle.strm_image.specs.HasImage.{AreBanded, AreCounts, AreNumbers, AreShort, HasImage, bytes_in, imaged, new_imaged};
 ghost use Rattle.strm_image.specs.Image.{Imaged, image};
 ghost use Rattle.strm_image.specs.InBlocks.{IsMessageInBlocks};
 ghost use Rattle.strm_image.specs.Loads.{blocks_of};
@@ -17,6 +19,11 @@ ghost use Rattle.strm_image.specs.Loads.{blocks_of};
 pub fn states_have_images()
     ensures each { (x : Imaged) → HasImage x → image.fits (Second, x) ≡ true }
     ensures new { image.fits (Second, new_imaged) ≡ true }
+{}
+
+/// The base of a journal has an image where its numbers have their widths.
+pub fn bases_have_images()
+    ensures { (s : State ℕ) (fates : Fates) → IsBase s fates → AreCounts fates → AreShort s → AreBanded s → AreNumbers s → HasImage (imaged s fates) }
 {}
 
 /// An image of version 2 is no longer than what the messages say: [`IMAGE_FIXED`] bytes, and for each message its own and [`MESSAGE_FIXED`];
