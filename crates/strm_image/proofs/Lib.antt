@@ -6,6 +6,15 @@ pub mod BandRows
 pub mod QueueRows
 pub mod ModuleRows
 pub mod StreamRows
+pub mod Fitting
+pub mod FitQueues
+pub mod EachOnce
+pub mod FitStreams
+pub mod FitImages
+pub mod TextLengths
+pub mod BlockRows
+pub mod ShortRows
+pub mod BaseImages
 pub mod ImageRows
 pub mod LoadRows
 pub mod CountRows

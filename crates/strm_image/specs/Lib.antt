@@ -7,6 +7,8 @@ pub mod Modules
 pub mod Streams
 pub mod Loads
 pub mod Image
+pub mod HasImage
+pub mod InBlocks
 pub mod Counts
 pub mod Texts
 pub mod FlowTexts
