@@ -34,3 +34,5 @@ mod Refusing
 mod Fresh
 mod Tried
 pub mod Balanced
+pub mod ChainTexts
+pub mod ListTexts

@@ -19,3 +19,4 @@ pub mod Pool
 pub mod Parts
 pub mod ModuleTurned
 pub mod ModuleServed
+pub mod Writings
