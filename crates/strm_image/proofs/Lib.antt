@@ -13,3 +13,4 @@ pub mod ReadRows
 pub mod LaterRows
 pub mod TextRows
 pub mod SinkRows
+pub mod WrittenRows

@@ -1,8 +1,11 @@
 -- What a sink was given in pieces it was given as one.
-use Rattle.std.proofs.Common.{◌≡◌, ◌∙◌, ℕ, zero, suc, ◌+◌, ◌-◌, ◌<◌, ◌≤◌, List, [], ◌∷◌, ◌++◌, length, take, drop, refl, sym, ap, arith, append_assoc, length-append}
+use Rattle.std.proofs.Common.{◌≡◌, ◌∙◌, ℕ, zero, suc, ◌+◌, ◌-◌, ◌<◌, ◌≤◌, List, [], ◌∷◌, ◌++◌, length, take, drop, get_or, refl, sym, ap, arith, append_assoc, length-append}
 use Rattle.std.specs.Prelude.{min}
+use Rattle.std.specs.List.{flat_map}
+use Rattle.std.proofs.lemmas.Grind.{flat_map-append}
+use Rattle.std.proofs.lemmas.List.Concat.{flat_map-cons}
 use Rattle.std.proofs.Math.Seq.{drop-append-add, take-append_seam}
-use Rattle.std.proofs.lemmas.List.{append-nil, length-take, take_all, take_min}
+use Rattle.std.proofs.lemmas.List.{append-nil, length-take, take_all, take_min, take_more}
 use Rattle.strm_image.specs.Sinks.{Given, most_counted, nothing_given, patch, put, replaced}
 
 abbrev of : ℕ → List ℕ → ℕ → Given
@@ -71,6 +74,15 @@ pub put_is : (room : ℕ) (kept bytes now : List ℕ) (count sum k : ℕ) → no
 unfolding put
 put_is room kept bytes now count sum k e few f most =
     given room (e ∙ (ap (λ n. kept ++ take n bytes) few ∙ ap (λ zs. kept ++ zs) (take_min (room - length kept) bytes))) (omega (arith, f, most))
+
+-- one of several values, behind those before it
+pub put_next : {A : Type 0} (text : A → List ℕ) (xs : List A) (i : ℕ) (d : A) (before now : Given) → i < length xs → now ≡ put (flat_map text (take i xs)) before
+    → put (text (get_or xs i d)) now ≡ put (flat_map text (take (i + 1) xs)) before
+put_next text xs i d before now lt e =
+    let front : List ℕ = flat_map text (take i xs) in
+    let last : flat_map text (take (i + 1) xs) ≡ front ++ text (get_or xs i d) =
+    ap (flat_map text) (take_more xs i d lt) ∙ (flat_map-append text (take i xs) (get_or xs i d ∷ []) ∙ ap (λ t. front ++ t) (flat_map-cons text (get_or xs i d) [] ∙ append-nil (text (get_or xs i d)))) in
+    ap (λ g. put (text (get_or xs i d)) g) e ∙ (put_both front (text (get_or xs i d)) before ∙ ap (λ t. put t before) (sym last))
 
 -- what was put into a sink with nothing in it
 unput : (text : List ℕ) (room : ℕ) (g : Given) → g ≡ put text (nothing_given room) → (g.room ≡ room) × ((g.kept ≡ take (room - 0) text) × (g.count ≡ 0 + min (length text) (most_counted - 0)))

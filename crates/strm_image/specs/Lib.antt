@@ -15,3 +15,4 @@ pub mod ModuleTexts
 pub mod StreamTexts
 pub mod AccountTexts
 pub mod ImageTexts
+pub mod Written

@@ -18,7 +18,7 @@ mod queues;
 mod sink;
 mod streams;
 mod versions;
-mod writes;
+pub mod writing;
 
 pub use accounts::AccountText;
 pub use enabled::NAMES;
