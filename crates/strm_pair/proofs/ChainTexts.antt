@@ -67,8 +67,8 @@ open_extended front body bytes g control w is few =
     let out : w.out ≡ put (spelled body) h = is.out ∙ sym (put_both front (spelled body) g) in
     let new = to_be_bytes w32 (length (body ++ bytes)) in
     let patched : patch w.at (to_be_bytes w32 (longer w.length bytes)) w.out ≡ put (new ++ body) h =
-        ap (λ k. patch w.at (to_be_bytes w32 k) w.out) n ∙ ap (λ a. patch a new w.out) is.at ∙ ap (patch (length h.kept) new) out
-        ∙ patch_put (to_be_bytes w32 (length body)) new body h (be_same (length body) (length (body ++ bytes))) in
+    ap (λ k. patch w.at (to_be_bytes w32 k) w.out) n ∙ ap (λ a. patch a new w.out) is.at ∙ ap (patch (length h.kept) new) out
+    ∙ patch_put (to_be_bytes w32 (length body)) new body h (be_same (length body) (length (body ++ bytes))) in
     record {
       out = ap (put bytes) patched ∙ put_both (new ++ body) bytes h ∙ put_both front ((new ++ body) ++ bytes) g
           ∙ ap (λ xs. put (front ++ xs) g) (append_assoc new body bytes);
@@ -90,7 +90,7 @@ pub open_blocks : (front body : List ℕ) (g : Given) (control : Bool) (w : Writ
 open_blocks front body g control w [] is on few = let e : body ++ [] ≡ body = append-nil body in rw e is
 open_blocks front body g control w (b ∷ chain) is on few =
     let here : IsOpen front (body ++ b.bytes) g control (extended b.bytes w) =
-        open_extended front body b.bytes g control w is (omega (arith, few, sum_by-cons (λ (x : Block). length x.bytes) b chain)) in
+    open_extended front body b.bytes g control w is (omega (arith, few, sum_by-cons (λ (x : Block). length x.bytes) b chain)) in
     let l = length-append body b.bytes in
     let rest = open_blocks front (body ++ b.bytes) g control (extended b.bytes w) chain here on.1 (omega (arith, l, few, sum_by-cons (λ (x : Block). length x.bytes) b chain)) in
     let e : (body ++ b.bytes) ++ bytes_of chain ≡ body ++ bytes_of (b ∷ chain) = append_assoc body b.bytes (bytes_of chain) in
@@ -190,8 +190,8 @@ parted_told b front behind w is all of_data few =
     let opened = front_open b front w true is (all_control b.kind front (control-body b.kind is) all) (omega (arith, few, s, t, u)) in
     let v = tells w (seen_in true (b ∷ front)) in
     let parts : tells w (seen_in true (b ∷ (front ++ behind))) ≡ tells v (seen_in false behind) =
-        ap (λ xs. tells (written w (record { first = true; kind = b.kind; band = b.band; bytes = b.bytes })) xs) (seen_both front behind)
-        ∙ tells_both (written w (record { first = true; kind = b.kind; band = b.band; bytes = b.bytes })) (seen_in false front) (seen_in false behind) in
+    ap (λ xs. tells (written w (record { first = true; kind = b.kind; band = b.band; bytes = b.bytes })) xs) (seen_both front behind)
+    ∙ tells_both (written w (record { first = true; kind = b.kind; band = b.band; bytes = b.bytes })) (seen_in false front) (seen_in false behind) in
     ap (λ x. (ended x).out) parts ∙ behind_told (heading true b) (bytes_of (b ∷ front)) (ended w).out v behind opened of_data (omega (arith, few, s, u))
 
 -- ---- the text of a message

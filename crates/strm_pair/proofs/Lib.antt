@@ -36,3 +36,5 @@ mod Tried
 pub mod Balanced
 pub mod ChainTexts
 pub mod ListTexts
+pub mod RestTexts
+pub mod PairTexts

@@ -1,20 +1,18 @@
 -- The texts of messages are written one behind the other, with their number in front.
-use Rattle.std.proofs.Common.{ℕ, ◌≡◌, ◌<◌, List, [], ◌∷◌, ◌++◌, length, map, refl, sym, ap, ◌∙◌, arith}
+use Rattle.std.proofs.Common.{ℕ, ◌≡◌, ◌<◌, List, [], ◌∷◌, ◌++◌, length, map, sym, ap, ◌∙◌, arith}
 use Rattle.std.specs.Prelude.{sum_by, min, true}
 use Rattle.std.specs.Int.{to_be_bytes, w32}
 use Rattle.std.specs.List.{AllByRecursion}
 use Rattle.std.proofs.lemmas.List.{length-map}
 use Rattle.std.proofs.lemmas.List.Sums.{sum_by-cons}
-use Rattle.strm_types.specs.Message.{Message}
 use Rattle.strm_blocks.specs.Blocks.{Block, StoreValue, IsStore, list_at}
 use Rattle.strm_blocks.specs.Outcomes.{seen_in, seen_on}
 use Rattle.strm_image.specs.declared.versions.QueueKind.{QueueKind}
 use Rattle.strm_image.specs.declared.versions.Version.TheVariants.{Second}
-use Rattle.strm_types.specs.declared.limits.TheConstants.{HIGH_PRIORITY_RANK}
-use Rattle.strm_image.specs.Format.{text_from}
-use Rattle.strm_image.specs.Messages.{message, message_behind, messages, next_rank}
+use Rattle.strm_image.specs.Messages.{message, messages}
 use Rattle.strm_image.specs.Sinks.{Given, put}
 use Rattle.strm_image.proofs.SinkRows.{put_both, put_nothing}
+use Rattle.strm_image.proofs.WrittenRows.{messages_told}
 use Rattle.strm_msg.specs.Messages.{message_of, IsChain}
 use Rattle.strm_queue.specs.Kept.{bytes_of}
 use Rattle.strm_queue.specs.Stored.{messages_on}
@@ -38,16 +36,6 @@ list_told w (chain ∷ q) all few =
 pub store_told : (s : StoreValue) (k : ℕ) (w : Writing) → IsStore s → AllByRecursion IsChain (list_at s k) → (ended (tells w (seen_on (list_at s k)))).out ≡ put (texts_of (messages_on s k)) (ended w).out
 store_told s k w is all = list_told w (list_at s k) all (omega (arith, few-bytes s is k 0))
 
--- the text of messages doesn't go by their ranks
-texts_flat : (at : QueueKind) (rank : ℕ) (ms : List (Message ℕ)) → text_from next_rank (message_behind Second at) rank ms ≡ texts_of ms
-unfolding message_behind
-texts_flat at rank [] = refl
-texts_flat at rank (m ∷ ms) = ap (λ xs. (message Second).text m ++ xs) (texts_flat at (next_rank m rank) ms)
-
-pub messages_text : (at : QueueKind) (ms : List (Message ℕ)) → (messages Second at).text ms ≡ to_be_bytes w32 (length ms) ++ texts_of ms
-unfolding messages
-messages_text at ms = ap (λ xs. to_be_bytes w32 (length ms) ++ xs) (texts_flat at HIGH_PRIORITY_RANK ms)
-
 -- with their number in front, which 32 bits hold
 pub counted_told : (s : StoreValue) (k n : ℕ) (g : Given) → IsStore s → n ≡ min (length (messages_on s k)) 4294967295
     → (at : QueueKind) → put (texts_of (messages_on s k)) (put (to_be_bytes w32 n) g) ≡ put ((messages Second at).text (messages_on s k)) g
@@ -55,4 +43,4 @@ counted_told s k n g is here at =
     let few : n ≡ length (messages_on s k) = let a = list-enough s k is in let l = length-map (list_at s k) message_of in omega (arith, here, a, l, is.enough, is.few_mblks) in
     put_both (to_be_bytes w32 n) (texts_of (messages_on s k)) g
     ∙ ap (λ m. put (to_be_bytes w32 m ++ texts_of (messages_on s k)) g) few
-    ∙ ap (λ xs. put xs g) (sym (messages_text at (messages_on s k)))
+    ∙ ap (λ xs. put xs g) (sym (messages_told at (messages_on s k)))

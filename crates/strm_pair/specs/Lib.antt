@@ -20,3 +20,4 @@ pub mod Parts
 pub mod ModuleTurned
 pub mod ModuleServed
 pub mod Writings
+pub mod Imaging

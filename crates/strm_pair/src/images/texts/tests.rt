@@ -36,10 +36,30 @@ const HEADER: &[u8] = b"\x00\x00\x54\x01\x00\x00\x00\x07\x00\x00\x00\x00\x00\x00
 // M_PROTO with both parts and with a control part alone, M_DATA, and M_IOCTL.
 fn stand_all<B: Blocks>(store: &mut B) -> Result<(), NoBlocks> {
     let band = Band(3);
-    stand(store, band, (MsgKind::Proto, b"ab"), (MsgKind::Data, b"xyz"))?;
-    stand(store, Band(2), (MsgKind::Proto, b"c"), (MsgKind::Proto, b"d"))?;
-    stand(store, Band(0), (MsgKind::Data, b"hel"), (MsgKind::Data, b"lo"))?;
-    stand(store, Band(0), (MsgKind::Ioctl, HEADER), (MsgKind::Data, b"\x00\x18"))
+    stand(
+        store,
+        band,
+        (MsgKind::Proto, b"ab"),
+        (MsgKind::Data, b"xyz"),
+    )?;
+    stand(
+        store,
+        Band(2),
+        (MsgKind::Proto, b"c"),
+        (MsgKind::Proto, b"d"),
+    )?;
+    stand(
+        store,
+        Band(0),
+        (MsgKind::Data, b"hel"),
+        (MsgKind::Data, b"lo"),
+    )?;
+    stand(
+        store,
+        Band(0),
+        (MsgKind::Ioctl, HEADER),
+        (MsgKind::Data, b"\x00\x18"),
+    )
 }
 
 #[test]
