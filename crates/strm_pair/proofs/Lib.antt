@@ -35,3 +35,7 @@ mod Refusing
 mod Fresh
 mod Tried
 pub mod Balanced
+pub mod ChainTexts
+pub mod ListTexts
+pub mod RestTexts
+pub mod PairTexts

@@ -21,3 +21,5 @@ pub mod Parts
 pub mod ModuleTurned
 pub mod ModuleServed
 pub mod Starts
+pub mod Writings
+pub mod Imaging
