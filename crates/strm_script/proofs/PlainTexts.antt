@@ -6,8 +6,6 @@ use Rattle.strm_types.specs.declared.events.Caller.{Caller}
 use Rattle.strm_types.specs.declared.names.QueueName.{QueueName}
 use Rattle.strm_types.specs.declared.refusals.Refusal.{Refusal}
 use Rattle.strm_types.specs.declared.refusals.Refusal.TheVariants.{Einval, Enosr}
-use Rattle.strm_types.specs.declared.names.Side.TheVariants.{Master}
-use Rattle.strm_types.specs.declared.names.Side.{Side}
 use Rattle.strm_types.specs.declared.events.FlushQueues.{FlushQueues}
 use Rattle.strm_types.specs.Names.{is_enabled}
 use Rattle.strm_types.specs.declared.events.Event.TheVariants as calls
@@ -20,7 +18,7 @@ use Rattle.strm_script.specs.ScriptAnswers.{printed_line, reply_line, turn_line,
 use Rattle.strm_script.specs.ScriptRun as script
 use Rattle.strm_types.specs.declared.both.Both.{Both}
 use Rattle.strm_types.specs.Both.{get}
-use Rattle.strm_script.specs.ScriptRun.{Supply, Enough, Within, TooFew, next_of, rest_of, PlainPair, Happened, call_refusal, turn_refusal, call_happens, turn_happens, told_of, call_of, turn_of, is_enosr, turns_of, by_call, by_flush, prio_of, wanted_of, by_named, by_put, by_get, by_show, by_ledger, by_turn, by_run, by_open, answered, Session, session_behind, told_from, told_after, first_of, line_if, Told, new_plain}
+use Rattle.strm_script.specs.ScriptRun.{Supply, Enough, Within, TooFew, next_of, rest_of, PlainPair, Happened, call_refusal, turn_refusal, call_happens, turn_happens, told_of, call_of, turn_of, is_enosr, turns_of, by_call, by_flush, prio_of, wanted_of, by_named, by_put, by_get, by_show, by_ledger, by_cut, by_turn, by_run, by_open, answered, Session, session_behind, told_from, told_after, first_of, line_if, Told, new_plain}
 use Rattle.strm_script.proofs.Supplies.{is_want, call_happens-short, turn_happens-short, answered-enough}
 use Rattle.strm_script.proofs.Events.{turns_none, turns_err, turns_ok, turns_zero}
 

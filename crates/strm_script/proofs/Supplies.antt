@@ -33,7 +33,7 @@ use Rattle.strm_laws.specs.Refusals.{at_end, refused_at_once, refused_by_state, 
 use Rattle.strm_script.specs.Script.{Command, Open, Call, Flush, Put, Get, Turn as TurnOf, Run, Show, Ledger, Cut, Group}
 use Rattle.strm_script.specs.ScriptReading.{Reading, Silent, Malformed, Spoken, reading}
 use Rattle.strm_script.specs.ScriptRun as script
-use Rattle.strm_script.specs.ScriptRun.{Supply, Enough, TooFew, PlainPair, Happened, call_refusal, turn_refusal, call_happens, turn_happens, call_of, turn_of, is_enosr, turns_of, no_turns, counted, by_call, by_flush, prio_of, wanted_of, by_named, by_put, by_get, by_show, by_ledger, by_turn, by_run, by_open, answered, Session, session_behind, told_from, new_plain}
+use Rattle.strm_script.specs.ScriptRun.{Supply, Enough, TooFew, PlainPair, Happened, call_refusal, turn_refusal, call_happens, turn_happens, call_of, turn_of, is_enosr, turns_of, no_turns, counted, by_call, by_flush, prio_of, wanted_of, by_named, by_put, by_get, by_show, by_ledger, by_cut, by_turn, by_run, by_open, answered, Session, session_behind, told_from, new_plain}
 use Rattle.strm_script.proofs.Events.{turns_none, turns_err, turns_ok, turns_zero}
 
 -- a refusal is for want of blocks

@@ -12,10 +12,10 @@ use Rattle.strm_script.specs.ScriptAnswers.{Sizes}
 use Rattle.strm_types.specs.declared.names.Side.{Side}
 use Rattle.strm_types.specs.declared.events.FlushQueues.{FlushQueues}
 use Rattle.strm_types.specs.Events.{Request}
-use Rattle.strm_script.specs.Script.{Call, Flush, Put, Get}
+use Rattle.strm_script.specs.Script.{Call, Flush, Put, Get, Cut}
 use Rattle.strm_script.specs.declared.commands.NamedPrio.{NamedPrio}
 use Rattle.strm_script.specs.declared.commands.NamedWanted.{NamedWanted}
-use Rattle.strm_script.specs.ScriptRun.{PlainPair, answered, by_call, by_flush, by_put, by_get, by_show, by_ledger, by_cut, by_group, queues_down, size_at}
+use Rattle.strm_script.specs.ScriptRun.{PlainPair, answered, by_call, by_flush, by_put, by_get, by_show, by_ledger, by_cut, queues_down, size_at}
 use Rattle.strm_types.specs.declared.refusals.Refusal.TheVariants.{Einval}
 use Rattle.strm_script.specs.Commands.{command_of}
 use Rattle.strm_script.specs.Plain.{plain}
@@ -111,7 +111,7 @@ cuts callers bytes found old new line pair =
     ∙ ap (λ p. record { line = line_of bytes found.line; pair = Some (plain p); account = account; is_short = found.short }) (sym pair))
 
 pub returns-in-Cut : goal.returns-in-Cut
-returns-in-Cut g c = known _ _ _ _ _ _ _ c.in-Cut.is (cuts _ _ _ _ _ c.cut.ensures.line c.cut.ensures.pair)
+returns-in-Cut g c = known _ _ _ _ _ _ _ c.in-Cut.is (cuts _ _ _ c.args.pair.now _ c.cut.ensures.line c.cut.ensures.pair)
 
 -- a put, whose parts are lent
 puts : (callers : Both Caller) (caller : Caller) (bytes : List ℕ) (side : Side) (prio : NamedPrio) (control body asked_control asked_body : Option (List ℕ)) (found : Answered) (old : PlainPair) (new : Option PlainPair)
