@@ -34,3 +34,8 @@ mod Refusing
 mod Fresh
 mod Tried
 pub mod Balanced
+mod MadeRuns
+mod TextMade
+mod PutBehind
+pub mod Refilled
+pub mod FlowsSet

@@ -19,3 +19,5 @@ pub mod Pool
 pub mod Parts
 pub mod ModuleTurned
 pub mod ModuleServed
+pub mod Runs
+pub mod Standing

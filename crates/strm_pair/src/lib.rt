@@ -9,6 +9,7 @@ mod closing;
 mod delivering;
 mod earlier;
 mod ends;
+mod images;
 mod ioctls;
 mod journal;
 mod ledgers;
