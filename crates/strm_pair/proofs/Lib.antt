@@ -39,3 +39,8 @@ pub mod ChainTexts
 pub mod ListTexts
 pub mod RestTexts
 pub mod PairTexts
+mod MadeRuns
+mod TextMade
+mod PutBehind
+pub mod Refilled
+pub mod FlowsSet

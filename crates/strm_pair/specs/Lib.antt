@@ -23,3 +23,5 @@ pub mod ModuleServed
 pub mod Starts
 pub mod Writings
 pub mod Imaging
+pub mod Runs
+pub mod Standing

@@ -1,6 +1,6 @@
 //! The pair: calls, turns, and the journal of what was carried out.
 
-ghost use Rattle.std.specs.Prelude.{◌≡◌, ◌≤◌, ◌<◌, ◌+◌, if◌then◌else◌, sum_by, [], length, replicate, MatchResult, MatchOption, IsOk, Err, IfOk, is_some, slice_get};
+ghost use Rattle.std.specs.Prelude.{◌≡◌, ◌≤◌, ◌<◌, ◌+◌, if◌then◌else◌, sum_by, [], length, replicate, MatchResult, MatchOption, IsOk, Err, IfOk, is_some, slice_get, vec_capacity};
 ghost use Rattle.strm_types.specs.Events.{request, map_answer};
 ghost use Rattle.strm_types.specs.Cells.{Origin, plain, tagged};
 ghost use Rattle.strm_types.specs.declared.entries.Entry.TheVariants.{Called, Turned};
@@ -19,10 +19,15 @@ ghost use Rattle.strm_laws.specs.State.{AreOrdered, messages_in, stream};
 ghost use Rattle.strm_pair.specs.Shows.{Shows, count_at, first_at, full_at, messages_at};
 ghost use Rattle.strm_pair.specs.Parts.{longest_part};
 ghost use Rattle.strm_pair.specs.Pool.{IsPoolOf};
+ghost use Rattle.strm_image.specs.HasImage.{imaged};
+ghost use Rattle.strm_image.specs.Image.{image};
+ghost use Rattle.strm_image.specs.Sinks.{nothing_given, put};
+ghost use Rattle.strm_image.specs.declared.versions.Version.TheVariants.{Second};
 ghost use Rattle.strm_pair.specs.PairViews.{sizes_over};
 
 use crate::answers::own;
 use crate::base::Base;
+use crate::images::whole::put_image;
 use crate::journal::Journal;
 use crate::ledgers::sum;
 use crate::refusals::or_else;
@@ -30,6 +35,7 @@ use crate::streams::{Streams, queue_tables};
 use std::alloc::Global;
 use std::marker::Model;
 use strm_blocks::Blocks;
+use strm_image::Sink;
 use strm_types::{
     Answer, Band, Caller, Config, Content, Dir, Entry, Event, Fates, LISTS, Ledger, NoMemory,
     Place, QueueName, READ_MAX, ReadBytes, Refusal, Side, StopSignal, Turn, Verdict, turn_blocks,
@@ -178,6 +184,25 @@ impl<B: Blocks + Drop> Pair<B> {
             inline,
             fates: *fates,
         }
+    }
+
+    // The image, as far as a vector has room for it.
+    fn text_in(&self, memory: Vec<u8>) -> Sink
+        ensures { result ≡ put (image.text (Second, imaged self.now.state self.now.fates)) (nothing_given (vec_capacity memory)) }
+    {
+        put_image(&self.store, &self.streams, &self.fates, Sink::new(memory))
+    }
+
+    /// The image of the pair in version 2 (docs/IMAGES.md): its plain state, and how many bytes have gone by each rule. It asks for the memory
+    /// of the image, once, and the pair stays as it is. The cost is in proportion to the bytes, and a step for each band of each queue.
+    pub fn image(&self, alloc: Global) -> Result<Vec<u8>, NoMemory>
+        ensures { IfOk result (λ text. text.items ≡ image.text (Second, imaged self.now.state self.now.fates)) }
+    {
+        let wanted = self.text_in(Vec::new(alloc)).count();
+        let Ok(memory) = Vec::with_capacity(alloc, wanted) else {
+            return Err(NoMemory);
+        };
+        self.text_in(memory).whole().ok_or(NoMemory)
     }
 
     /// The store, whose lists show the queues of the state, each chain read along its links from read place to write

@@ -4,7 +4,7 @@ ghost use Rattle.std.specs.Prelude.{◌≡◌};
 ghost use Rattle.strm_image.specs.Image.{image};
 ghost use Rattle.strm_image.specs.Sinks.{put};
 ghost use Rattle.strm_image.specs.declared.versions.Version.TheVariants.{Second};
-ghost use Rattle.strm_pair.specs.Imaging.{imaged};
+ghost use Rattle.strm_image.specs.HasImage.{imaged};
 ghost use Rattle.strm_pair.specs.Pairs.{AreHeld, state_in};
 
 use crate::images::streams::put_stream;

@@ -7,7 +7,7 @@ use Rattle.strm_image.specs.Sinks.{put}
 use Rattle.strm_image.specs.Streams.{laid}
 use Rattle.strm_image.specs.Written.{front_text}
 use Rattle.strm_image.proofs.WrittenRows.{image_told}
-use Rattle.strm_pair.specs.Imaging.{imaged}
+use Rattle.strm_image.specs.HasImage.{imaged}
 use Rattle.strm_pair.specs.Pairs.{state_in}
 use Rattle.strm_pair.specs.Streams.{stream_in}
 use Rattle.strm_pair.proofs.PairTexts.{put_six}

@@ -1,0 +1,33 @@
+-- Queues of a text in a store.
+use Rattle.std.specs.Prelude.{ℕ, ◌≡◌, ◌≢◌, ◌≤◌, Bool, false, List, slice_index_or}
+use Rattle.std.specs.List.{AllByRecursion}
+use Rattle.strm_types.specs.Queue as plain
+use Rattle.strm_blocks.specs.Blocks.{StoreValue, list_at}
+use Rattle.strm_queue.specs.declared.queue.Queue.{Queue}
+use Rattle.strm_queue.specs.Stored.{IsReady}
+use Rattle.strm_image.specs.declared.flows.Flow.{Flow}
+
+-- a high-water mark above 0, and a low-water mark that isn't above it
+pub record IsMarked (f : Flow) : Type 0 where
+  pub some : 1 ≤ f.high
+  pub order : f.low ≤ f.high
+
+abbrev pub AreMarked : List Flow → Type 0
+AreMarked fs = AllByRecursion IsMarked fs
+
+-- the flow control of a band that there isn't
+abbrev pub no_flow : plain.Flow
+no_flow = record { high = 0; low = 0; want_write = false }
+
+-- whether a writer waits for a band
+abbrev pub waits_at : ℕ → List plain.Flow → Bool
+waits_at band fs = (slice_index_or fs band no_flow).want_write
+
+-- A queue stands on a list of a store, and no other list changed, nor what is in hand.
+pub record Fills (old new : StoreValue) (list : ℕ) (q : Queue) : Type 0 where
+  pub ready : IsReady new q
+  pub list_is : q.list ≡ list
+  pub others : (k : ℕ) → k ≢ list → list_at new k ≡ list_at old k
+  pub hand : new.hand ≡ old.hand
+  pub mblks : new.mblks ≡ old.mblks
+  pub dblks : new.dblks ≡ old.dblks
