@@ -28,6 +28,3 @@ pub use passed::MessagesText;
 pub use queues::QueueText;
 pub use streams::{HeadBits, StreamText};
 pub use versions::{FIRST_BANDS, Load, QueueKind, SlotKind, Version};
-
-#[cfg(test)]
-mod tests;

@@ -4,12 +4,11 @@ ghost use Rattle.std.specs.Prelude.{ℕ, ◌≡◌, ◌≤◌, []};
 ghost use Rattle.strm_blocks.specs.Blocks.{list_at, times_in};
 ghost use Rattle.strm_frame.specs.Outboxes.{sent_of, times_sent};
 
-use crate::sending::{end_file, end_line, stop};
-use crate::{Ldterm, Tables};
 use std::process::Abort;
 use std::test::Fail;
 use strm_blocks::{Blocks, NoBlocks, TableStore};
 use strm_frame::Outbox;
+use strm_ldterm::{Ldterm, Tables, end_file, end_line, stop};
 use strm_msg::first_bytes;
 use strm_types::{Fates, MsgKind, Side, Spot, Way};
 

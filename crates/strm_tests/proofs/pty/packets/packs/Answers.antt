@@ -2,8 +2,8 @@
 use Rattle.std.proofs.Common.{◌∙◌, sym}
 use Rattle.strm_blocks.proofs.Laws.{chain-some}
 use Rattle.strm_msg.proofs.InHand.{made-here}
-use Rattle.strm_pty.proofs.Tested.{first-there, made-chain}
-use Rattle.strm_pty.proofs.packet_tests.packs.Goals as goal
+use Rattle.strm_tests.proofs.PtyPuts.{first-there, made-chain}
+use Rattle.strm_tests.proofs.pty.packets.packs.Goals as goal
 use Rattle.strm_blocks.specs.Blocks.{token}
 
 pub put-acts-requires-clause-chain : goal.put-acts-requires-clause-chain

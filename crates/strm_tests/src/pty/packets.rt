@@ -1,10 +1,10 @@
 //! Puts at pckt over a store of tables, with answers worked out by hand.
 
-use crate::pckt;
 use std::process::Abort;
 use std::test::Fail;
 use strm_blocks::{Blocks, NoBlocks, TableStore};
 use strm_msg::{data_len, first_bytes, from_bytes};
+use strm_pty::pckt;
 use strm_types::{Band, Fates, MsgKind, Side, Spot, Way};
 
 // A message of band 0 that is put at pckt on the master's side, and what comes of it.

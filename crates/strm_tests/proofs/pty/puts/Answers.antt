@@ -1,7 +1,7 @@
 -- The message is a chain.
 use Rattle.std.proofs.Common.{◌∙◌, sym}
-use Rattle.strm_pty.proofs.Tested.{made-chain}
-use Rattle.strm_pty.proofs.tests.puts.Goals as goal
+use Rattle.strm_tests.proofs.PtyPuts.{made-chain}
+use Rattle.strm_tests.proofs.pty.puts.Goals as goal
 use Rattle.strm_blocks.specs.Blocks.{token}
 
 pub put-acts-requires-clause-chain : goal.put-acts-requires-clause-chain

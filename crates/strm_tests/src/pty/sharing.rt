@@ -1,12 +1,10 @@
 //! An ioctl that sets the window at ptem, over a store of tables: which blocks its answer takes, and what tells of it.
 
-use crate::ptem;
-use crate::ptem::Ptem;
-use crate::sharing::send_behind;
 use std::process::Abort;
 use std::test::Fail;
 use strm_blocks::{Blocks, TableStore};
 use strm_msg::from_bytes;
+use strm_pty::{Ptem, ptem, send_behind};
 use strm_types::{Band, Ioc, MsgKind, Side, Spot, TIOCSWINSZ, Way};
 
 // Puts an M_IOCTL of two blocks, as heads send them, and tells how many blocks of each kind are free while all that is sent is in hand.

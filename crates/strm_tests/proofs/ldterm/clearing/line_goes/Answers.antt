@@ -1,6 +1,6 @@
 -- It fits whatever its line is.
 use Rattle.strm_ldterm.proofs.Sends.{held-line}
-use Rattle.strm_ldterm.proofs.tests.clearing.line_goes.Goals as goal
+use Rattle.strm_tests.proofs.ldterm.clearing.line_goes.Goals as goal
 use Rattle.strm_blocks.specs.Blocks.{token}
 
 pub clear-popped-requires-clause-held : goal.clear-popped-requires-clause-held

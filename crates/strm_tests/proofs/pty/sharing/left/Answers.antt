@@ -3,8 +3,8 @@ use Rattle.std.proofs.Common.{[], refl}
 use Rattle.strm_msg.proofs.InHand.{made-here}
 use Rattle.strm_frame.specs.Outboxes.{AreChains}
 use Rattle.strm_pty.proofs.Replied.{ioctl-plain}
-use Rattle.strm_pty.proofs.Tested.{first-there}
-use Rattle.strm_pty.proofs.sharing_tests.left.Goals as goal
+use Rattle.strm_tests.proofs.PtyPuts.{first-there}
+use Rattle.strm_tests.proofs.pty.sharing.left.Goals as goal
 use Rattle.strm_blocks.specs.Blocks.{token}
 
 pub send_behind-asked-requires-clause-kind : goal.send_behind-asked-requires-clause-kind

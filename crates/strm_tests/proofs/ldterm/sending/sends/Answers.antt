@@ -3,7 +3,7 @@ use Rattle.std.proofs.Common.{arith}
 use Rattle.strm_frame.specs.Hands.{AreIn, HasRoom}
 use Rattle.strm_ldterm.specs.Stands.{keeps}
 use Rattle.strm_ldterm.proofs.Sends.{held-line, proceeds-kept, proceeds-room, proceeds-sent}
-use Rattle.strm_ldterm.proofs.sent_tests.sends.Goals as goal
+use Rattle.strm_tests.proofs.ldterm.sending.sends.Goals as goal
 use Rattle.strm_blocks.specs.Blocks.{token}
 
 pub end_line-sent-requires-clause-held : goal.end_line-sent-requires-clause-held

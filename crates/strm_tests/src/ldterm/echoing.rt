@@ -5,11 +5,10 @@ ghost use Rattle.strm_blocks.specs.Blocks.{list_at};
 ghost use Rattle.strm_frame.specs.Hands.{AreIn};
 ghost use Rattle.strm_ldterm.specs.Stands.{keeps, IsHeld};
 
-use crate::echoing::echo;
-use crate::{ECHO_MAX, Echo, Ldterm, Line, Tables, echo_of, sizes};
 use std::process::Abort;
 use std::test::Fail;
 use strm_blocks::{Blocks, TableStore};
+use strm_ldterm::{ECHO_MAX, Echo, Ldterm, Line, Tables, echo, echo_of, sizes};
 use strm_types::{Fates, Key, Note, Rule, Side, Spot, Stroke, Termios, Way, chunk_count};
 
 const HERE: Spot = Spot {

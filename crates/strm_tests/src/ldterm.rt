@@ -2,11 +2,12 @@
 
 mod clearing;
 mod echoing;
+mod sending;
 
-use crate::{Line, RUN_MAX, echo_of, restarts, stroke_of};
 use arrayvec::ArrayVec;
 use std::process::Abort;
 use std::test::Fail;
+use strm_ldterm::{Line, RUN_MAX, echo_of, restarts, stroke_of};
 use strm_types::{InputModes, Key, Stroke, Termios};
 
 // A key is typed: its echo is added to what was echoed, and the line is edited.

@@ -3,11 +3,11 @@
 ghost use Rattle.std.specs.Prelude.{◌≡◌, []};
 ghost use Rattle.strm_blocks.specs.Blocks.{list_at};
 
-use crate::{Ldterm, Line, Tables, clear};
 use std::process::Abort;
 use std::test::Fail;
 use strm_blocks::{Blocks, TableStore};
 use strm_frame::Module;
+use strm_ldterm::{Ldterm, Line, Tables, clear};
 use strm_types::{Band, Fates, Rule, Side, Way};
 
 // A line of three bytes.

@@ -4,12 +4,15 @@ ghost use Rattle.std.specs.Prelude.{◌≡◌, []};
 ghost use Rattle.strm_blocks.specs.Blocks.{list_at};
 ghost use Rattle.strm_queue.specs.Stored.{IsReady};
 
-use crate::put;
+mod packets;
+mod sharing;
+
 use std::process::Abort;
 use std::test::Fail;
 use strm_blocks::{Blocks, NoBlocks, TableStore};
 use strm_frame::Acts;
 use strm_msg::from_bytes;
+use strm_pty::put;
 use strm_queue::{OTHER_HIGH, OTHER_LOW, Queue, Table};
 use strm_types::{Across, Band, Fates, MODULES, MsgKind, Note, Side, Spot, Way};
 
