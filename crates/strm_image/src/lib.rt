@@ -34,10 +34,3 @@ pub use queues::QueueText;
 pub use sink::Sink;
 pub use streams::{HeadBits, StreamText};
 pub use versions::{FIRST_BANDS, Load, QueueKind, SlotKind, Version};
-
-#[cfg(test)]
-mod rewriting;
-#[cfg(test)]
-mod tests;
-#[cfg(test)]
-mod writing_tests;
