@@ -4,7 +4,7 @@ use super::rewriting::{AllBands, put_state};
 use std::alloc::{AllocError, Global};
 use std::test::*;
 use strm_image::writing::*;
-use strm_image::{Flow, HeadBits, QueueKind, Sink, read};
+use strm_image::{HeadBits, QueueKind, Sink, read};
 use strm_types::{BANDS, Book, ControlMode, Openness, RULES, ReadMode, Slot};
 
 // A queue as it is made.
