@@ -1,6 +1,7 @@
 //! Calls and turns on a pair, with answers worked out by hand.
 
 mod filling;
+mod imaging;
 mod ioctls;
 mod ledgers;
 mod messages;
