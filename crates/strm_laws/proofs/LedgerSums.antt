@@ -31,7 +31,7 @@ use Rattle.strm_laws.specs.State.{State, book}
 use Rattle.strm_laws.specs.Step.{IsLegal, after, replay}
 use Rattle.strm_laws.proofs.Based.{all-counted, held-there, none-counted}
 use Rattle.strm_laws.proofs.JournalPlaces.{balanced, of_dir}
-use Rattle.strm_laws.proofs.StepsIdle.{step-idle}
+use Rattle.strm_laws.proofs.StepsIdle.{idle-behind}
 use Rattle.strm_types.proofs.Weights.{weight-take}
 
 -- what stands in a direction
@@ -199,10 +199,6 @@ module _ {C : Type 0} where
       let e = goes-on dir other rule xs f sized (omega (arith, low)) in
       omega (arith, e, sums-on dir told (told_more other rule (length xs) f) (sized-more dir other rule (length xs) f sized) (omega (arith, e, low)))
 
-idle-behind : (s : State ℕ) (entries : List PlainEntry) → AreIdle s → IsLegal plain s entries → AreIdle (replay plain s entries)
-idle-behind s [] idle legal = idle
-idle-behind s (entry ∷ entries) idle legal = idle-behind (after plain s entry) entries (step-idle plain s (after plain s entry) entry idle legal.0) legal.1
-
 -- The numbers of a ledger agree behind a journal where they do at its base, as long as no count goes round.
 pub agrees : (dir : Dir) (base : State ℕ) (fates : Fates) (entries : List PlainEntry) → NothingUnread base → AreIdle base → IsLegal plain base entries → Balanced dir base fates
     → let s = replay plain base entries in (book dir s).written + (book dir s).made < 2 ^ 64 → Balanced dir s (told_by plain base entries fates)
@@ -211,7 +207,7 @@ agrees dir base fates entries unread idle legal before low =
     let gone = all_gone plain base entries in
     let balance = balanced plain dir base unread idle entries legal in
     let first = stands-there dir base idle in
-    let last = stands-there dir s (idle-behind base entries idle legal) in
+    let last = stands-there dir s (idle-behind plain base entries idle legal) in
     let told = tells-all plain base entries fates in
     let sums = sums-on dir gone fates before.rules (omega (arith, balance, first, before.agree, low)) in
     record {

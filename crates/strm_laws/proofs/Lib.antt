@@ -94,6 +94,7 @@ pub mod PlainPuts
 pub mod Samples
 pub mod ReadRows
 pub mod GetRows
+pub mod BasedRows
 pub mod Rows
 pub mod NameRows
 pub mod RefusedRows

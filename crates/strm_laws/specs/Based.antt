@@ -32,8 +32,8 @@ module _ {C : Type 0} where
   held_in Up t = sum_by (held_by Up) t.modules + cells_in t.head.queue.messages
   held_in Down t = sum_by (held_by Down) t.modules + cells_in t.driver.queue.messages
 
--- Bytes of a direction, the first of them as the nth that stood there when the journal began; and messages of such bytes. In a message the
--- control part comes before the data part.
+-- Bytes of a direction, the first of them as the nth that stood there when the journal began; and messages of such bytes, the control part
+-- before the data part.
 module _ (dir : Dir) where
   abbrev pub number : ℕ → List ℕ → List Tagged
   number n [] = []
@@ -103,8 +103,8 @@ module _ (side : Side) where
     driver = record { queue = number_queue (direction_at Down side) (down + sum_by (held_by Down) t.modules) t.driver.queue };
   }
 
--- The master's stream comes first. What goes up on the slave's is of the direction of what goes down on the master's, and its numbers go on there;
--- so with what goes down.
+-- The master's stream comes first, and the numbers go on in the slave's: what goes up there is of the direction of what goes down on the
+-- master's, and what goes down of that of what goes up.
 abbrev pub based : State ℕ → State Tagged
 based s = record {
   ends = record {

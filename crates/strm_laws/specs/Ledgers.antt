@@ -60,7 +60,8 @@ ledger_of dir s fates = record {
   fates = fates_of dir fates;
 }
 
--- Its numbers agree: what was written and made is what stands on its queues and in its lines, and what has gone by each rule.
+-- There is a count for each rule, and the numbers agree: what was written and made is what stands on the queues and in the lines of the
+-- direction, and what has gone there by each rule.
 pub record Balanced (dir : Dir) (s : State ℕ) (fates : Fates) : Type 0 where
   pub rules : length (fates_of dir fates) ≡ RULES
   pub agree : let l = ledger_of dir s fates in l.written + l.made ≡ l.queued + (l.inline + sum_by (λ n. n) l.fates)
