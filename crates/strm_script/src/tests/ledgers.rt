@@ -159,9 +159,9 @@ write m ""
 read s 9
   err EAGAIN
 run 9
-  ran 1
+  ran 2
 cut
-  ok 3
+  ok 4
 
 title: A cut leaves queues, lines, signals and ledgers as they are
 setup: terminal
@@ -172,27 +172,27 @@ run 50
 write m "xyz"
   ok 3
 read m 2
-  data 2 "ab"
+  data 2 "^C"
 cut
-  ok 14
+  ok 12
 show m
-  show m
+  show m head.r 1 2 drv.w 1 3
 show s
-  show s
+  show s head.r 0 0 ldterm.r 0 0 ldterm.w 0 0 drv.w 0 0
 ledger ms
-  ledger ms
+  ledger ms written 9 made 0 queued 3 inline 2 signal-key 1 flushed 3
 ledger sm
-  ledger sm
+  ledger sm written 0 made 7 queued 2 inline 0 read 2 flushed 3
 read m 99
-  data
+  data 2 "cd"
 run 50
-  ran
+  ran 4
 write m "\r"
   ok 1
 run 50
-  ran
+  ran 4
 read s 99
-  data
+  data 6 "cdxyz\n"
 signals s
   signals INT
 "#;
