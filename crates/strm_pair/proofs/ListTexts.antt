@@ -37,10 +37,10 @@ pub store_told : (s : StoreValue) (k : ℕ) (w : Writing) → IsStore s → AllB
 store_told s k w is all = list_told w (list_at s k) all (omega (arith, few-bytes s is k 0))
 
 -- with their number in front, which 32 bits hold
-pub counted_told : (s : StoreValue) (k n : ℕ) (g : Given) → IsStore s → n ≡ min (length (messages_on s k)) 4294967295
-    → (at : QueueKind) → put (texts_of (messages_on s k)) (put (to_be_bytes w32 n) g) ≡ put ((messages Second at).text (messages_on s k)) g
-counted_told s k n g is here at =
+pub counted_told : (s : StoreValue) (k n : ℕ) (front : List ℕ) (g h r : Given) → IsStore s → n ≡ min (length (messages_on s k)) 4294967295
+    → front ≡ to_be_bytes w32 n → h ≡ put front g → r ≡ put (texts_of (messages_on s k)) h → (at : QueueKind) → r ≡ put ((messages Second at).text (messages_on s k)) g
+counted_told s k n front g h r is here number first each at =
     let few : n ≡ length (messages_on s k) = let a = list-enough s k is in let l = length-map (list_at s k) message_of in omega (arith, here, a, l, is.enough, is.few_mblks) in
-    put_both (to_be_bytes w32 n) (texts_of (messages_on s k)) g
-    ∙ ap (λ m. put (to_be_bytes w32 m ++ texts_of (messages_on s k)) g) few
+    each ∙ ap (put (texts_of (messages_on s k))) (first ∙ ap (λ xs. put xs g) (number ∙ ap (to_be_bytes w32) few))
+    ∙ put_both (to_be_bytes w32 (length (messages_on s k))) (texts_of (messages_on s k)) g
     ∙ ap (λ xs. put xs g) (sym (messages_told at (messages_on s k)))

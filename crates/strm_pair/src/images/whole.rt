@@ -15,7 +15,7 @@ use strm_image::writing::{put_account, put_enabled, put_front};
 use strm_types::Fates;
 
 /// Writes the image of a pair between two calls: of its streams over their store, and of what has gone by each rule. The cost is two steps
-/// for each block on the queues, and one for each band of each queue.
+/// for each block on the queues, and two for each band of each queue.
 pub(crate) fn put_image<B: Blocks>(store: &B, streams: &Streams, fates: &Fates, out: Sink) -> Sink
     requires { AreHeld (B.value store.now) streams.now }
     ensures { result ≡ put (image.text (Second, imaged (state_in (B.value store.now) streams.now) fates.now)) out }
@@ -36,3 +36,6 @@ pub(crate) fn put_image<B: Blocks>(store: &B, streams: &Streams, fates: &Fates, 
     put_account(&mut out, &streams.books.slave, &fates.from_slave);
     out
 }
+
+#[cfg(test)]
+mod tests;
