@@ -21,3 +21,4 @@ pub mod ModuleTurned
 pub mod ModuleServed
 pub mod Runs
 pub mod Standing
+pub mod Placing
