@@ -44,3 +44,4 @@ mod TextMade
 mod PutBehind
 pub mod Refilled
 pub mod FlowsSet
+pub mod LdtermsMade

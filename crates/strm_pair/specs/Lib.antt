@@ -25,3 +25,4 @@ pub mod Writings
 pub mod Imaging
 pub mod Runs
 pub mod Standing
+pub mod Placing

@@ -2,7 +2,9 @@
 //! first one found.
 
 pub(crate) mod filling;
+pub(crate) mod ldterms;
 pub(crate) mod modules;
+pub(crate) mod placing;
 pub(crate) mod queues;
 pub(crate) mod standing;
 pub(crate) mod streams;

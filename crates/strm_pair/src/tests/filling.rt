@@ -7,11 +7,13 @@ ghost use Rattle.strm_queue.specs.Stored.{IsReady, messages_on};
 ghost use Rattle.strm_pair.specs.Standing.{AreMarked};
 
 use crate::images::filling::fill;
+use crate::images::ldterms::ldterm_of;
 use crate::images::standing::queue_of;
 use std::alloc::{AllocError, Global};
 use std::test::*;
 use strm_blocks::{Blocks, TableStore};
-use strm_image::{Flow, read};
+use strm_image::{Flow, ModuleText, read};
+use strm_ldterm::Tables;
 use strm_queue::{OTHER_HIGH, OTHER_LOW, Queue, Table};
 use strm_types::{Band, MsgKind};
 
@@ -142,5 +144,57 @@ fn a_queue_is_as_a_text_has_it(rt: HostRuntime) -> Result<(), Fail> {
     assert!(rt; queue.back_enable() && !queue.back_enable());
     assert!(rt; comes(&mut store, MsgKind::Data, &[5]));
     assert_eq!(rt; store.free_blocks(), (7, 7));
+    Ok(())
+}
+
+// A stream up to what its one module is set to, an ldterm.
+const LDTERM: [u8; 7] = [0, 0, 0, 0, 0, 1, 1];
+
+// Output is stopped, the column is 9, and the line has 2 bytes.
+const LINE: [u8; 9] = [1, 0, 0, 0, 0, 9, 2, 108, 115];
+
+// The image of a pair whose slave has an ldterm with an unfinished line, of 2 bytes that the master wrote.
+fn image_with_line(alloc: Global) -> Result<Vec<u8>, AllocError> {
+    let parts: [&[u8]; 13] = [
+        &OPEN,
+        &STREAM,
+        &QUEUE,
+        &LDTERM,
+        &[0; 35],
+        &LINE,
+        &QUEUE,
+        &QUEUE,
+        &QUEUE,
+        &QUEUE,
+        &[0; 8],
+        &[2],
+        &[0; 360],
+    ];
+    let mut text = Vec::new(alloc);
+    for part in parts {
+        text.extend_from_slice(part)?;
+    }
+    Ok(text)
+}
+
+#[test]
+fn an_ldterm_is_as_a_text_has_it(rt: HostRuntime) -> Result<(), Fail> {
+    let alloc = rt.alloc();
+    let text = image_with_line(alloc)?;
+    let image = read(text.as_slice()).expect(&rt, "an image");
+    let Some(ModuleText::Ldterm(found)) = image.state.streams.slave.modules.as_slice().first()
+    else {
+        panic!(rt; "an ldterm");
+    };
+    let mut store = TableStore::new(alloc, 8, 8)?;
+    let (mblks, dblks) = store.free_blocks();
+    let blocks = found.read_queue.messages.blocks() + found.write_queue.messages.blocks();
+    assert!(rt; blocks <= mblks && blocks <= dblks);
+    assert!(rt; are_marked(&found.read_queue.flows) && are_marked(&found.write_queue.flows));
+    assert!(rt; found.column <= 65_535 && found.line.len() <= 255);
+    let ldterm = ldterm_of(&mut store, 2, Tables::new(alloc)?, found);
+    assert!(rt; ldterm.stopped && !ldterm.after_lnext);
+    assert_eq!(rt; ldterm.column, 9);
+    assert!(rt; ldterm.line.bytes() == b"ls".as_slice());
     Ok(())
 }
