@@ -1,4 +1,4 @@
-//! Tests of the crates below `strm_pair` but `strm_raw`, by what they export, with answers worked out by hand. The library is
+//! Tests of the crates below `strm_pair`, by what they export, with answers worked out by hand. The library is
 //! empty.
 #![tactic(auto)]
 
@@ -18,3 +18,5 @@ mod msg;
 mod pty;
 #[cfg(test)]
 mod queue;
+#[cfg(test)]
+mod raw;

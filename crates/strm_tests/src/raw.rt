@@ -4,9 +4,9 @@ ghost use Rattle.strm_blocks.specs.Blocks.{IsInHand, in_hand, token};
 
 mod walk;
 
-use crate::raw::RawStore;
 use std::test::Fail;
 use strm_blocks::{Blocks, FlushWhat, InHand, NoBlocks, Peek, Summary, TableStore, Visitor};
+use strm_raw::RawStore;
 use strm_types::{Band, MsgKind};
 
 // Whether a block more of the message's data block is refused, after so many were taken, each of which is given back.

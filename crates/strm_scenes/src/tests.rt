@@ -18,7 +18,6 @@ mod streams;
 mod terms;
 mod turns;
 
-use crate::script::{ScriptEnd, ScriptStatus, run_script};
 use crate::tests::scenes::plays_scenes;
 use std::alloc::{AllocError, Global};
 use std::io::{self, Error, ErrorKind, Read, Write};
@@ -26,6 +25,7 @@ use std::process::Abort;
 use std::test::Fail;
 use strm_blocks::{Reserve, TableStore};
 use strm_raw::RawStore;
+use strm_script::{ScriptEnd, ScriptStatus, run_script};
 
 const WELL: ScriptEnd = ScriptEnd {
     status: ScriptStatus::Whole,

@@ -3,10 +3,10 @@
 //! Commands stand at the margin, and the answer to each stands under it, indented by two spaces. Lines are counted with those of the setup.
 
 use super::{MALFORMED, WELL, plays};
-use crate::script::{ScriptEnd, ScriptStatus};
 use std::alloc::{AllocError, Global};
 use std::process::Abort;
 use std::test::Fail;
+use strm_script::{ScriptEnd, ScriptStatus};
 
 // What stands before a scene's own script, by name: commands, each of which is answered by `ok`.
 const SETUPS: [(&str, &str); 6] = [

@@ -2,9 +2,9 @@
 ghost use Rattle.std.specs.Prelude.{◌≡◌, ◌<◌, ◌≤◌, length};
 ghost use Rattle.strm_blocks.specs.Blocks.{IsInHand, in_hand, token};
 
-use crate::raw::RawStore;
 use std::test::Fail;
 use strm_blocks::{Blocks, FlushWhat, InHand, TableStore};
+use strm_raw::RawStore;
 use strm_types::{Band, MsgKind};
 
 // The list on which nothing stands between two moves.

@@ -1,12 +1,11 @@
 //! Scripts that are handed over line by line.
 
 use super::{FIRST_ANSWERS, FIRST_RUN};
-use crate::engine::Stop;
-use crate::session::Session;
 use std::alloc::Global;
 use std::process::Abort;
 use strm_blocks::{Reserve, TableStore};
 use strm_raw::RawStore;
+use strm_script::{Session, Stop};
 
 // The lines of a script, each with its LF, and the answer to each.
 const LINES: [(&[u8], &[u8]); 9] = [
