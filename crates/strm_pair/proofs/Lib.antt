@@ -35,6 +35,8 @@ mod Refusing
 mod Fresh
 mod Tried
 pub mod Balanced
+mod WideQueues
+mod PairImages
 pub mod ChainTexts
 pub mod ListTexts
 pub mod RestTexts

@@ -1,5 +1,5 @@
 -- The texts of messages are written one behind the other, with their number in front.
-use Rattle.std.proofs.Common.{ℕ, ◌≡◌, ◌<◌, List, [], ◌∷◌, ◌++◌, length, map, sym, ap, ◌∙◌, arith}
+use Rattle.std.proofs.Common.{ℕ, ◌≡◌, ◌<◌, List, [], ◌∷◌, length, map, sym, ap, ◌∙◌, arith}
 use Rattle.std.specs.Prelude.{sum_by, min, true}
 use Rattle.std.specs.Int.{to_be_bytes, w32}
 use Rattle.std.specs.List.{AllByRecursion}

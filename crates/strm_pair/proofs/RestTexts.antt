@@ -27,6 +27,10 @@ none_kept s (Some m) none is = absurd (let e : length (in_hand s (token m)) ≡ 
 last_none : (q : Queue ℕ) → with_last None q ≡ q
 last_none q = ap (λ ms. record q { messages = ms }) (append-nil q.messages)
 
+-- what stands on its write queue as it is kept is all that does
+pub write_rests : (s : StoreValue) (x : Ldterm) → s.hand ≡ [] → IsHeld s x → queue_in s x.write_queue ≡ (ldterm_in s x).write_queue
+write_rests s x none held = sym (ap (λ last. with_last last (queue_in s x.write_queue)) (none_kept s x.echo none held.echoes) ∙ last_none (queue_in s x.write_queue))
+
 ldterm_parts : (l : plain.Ldterm ℕ) → ldterm_text l ≡ settings_text l ++ ((queue Second queues.LdtermRead).text l.read_queue ++ (queue Second queues.LdtermWrite).text l.write_queue)
 ldterm_parts l = simp append_assoc refl
 
@@ -36,7 +40,7 @@ pub ldterm_written : (s : StoreValue) (x : Ldterm) (g : Given) → s.hand ≡ []
 ldterm_written s x g none held =
     let front = settings_text (ldterm_in s x) in
     let reads = (queue Second queues.LdtermRead).text (queue_in s x.read_queue) in
-    let kept : queue_in s x.write_queue ≡ (ldterm_in s x).write_queue = sym (ap (λ last. with_last last (queue_in s x.write_queue)) (none_kept s x.echo none held.echoes) ∙ last_none (queue_in s x.write_queue)) in
+    let kept = write_rests s x none held in
     let writes = (queue Second queues.LdtermWrite).text (ldterm_in s x).write_queue in
     ap (λ q. put ((queue Second queues.LdtermWrite).text q) (put reads (put front g))) kept
     ∙ put_both reads writes (put front g) ∙ put_both front (reads ++ writes) g

@@ -25,7 +25,7 @@ use Rattle.strm_pair.proofs.FreeBlocks.{IsBare, used-enough, bare-free_m, bare-f
 use Rattle.strm_pair.specs.Stacks.{modules_in, stack_owns}
 use Rattle.strm_pair.specs.ModuleStacks.{stack-shows}
 
-all-joined : {A : Type 0} (P : A → Type 0) (xs ys : List A) → AllByRecursion P xs → AllByRecursion P ys → AllByRecursion P (xs ++ ys)
+pub all-joined : {A : Type 0} (P : A → Type 0) (xs ys : List A) → AllByRecursion P xs → AllByRecursion P ys → AllByRecursion P (xs ++ ys)
 all-joined P [] ys all more = more
 all-joined P (x ∷ xs) ys all more = (all.0, all-joined P xs ys all.1 more)
 

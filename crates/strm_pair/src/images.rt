@@ -10,3 +10,4 @@ pub(crate) mod standing;
 pub(crate) mod streams;
 pub(crate) mod texts;
 pub(crate) mod whole;
+pub(crate) mod widths;

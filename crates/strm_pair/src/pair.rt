@@ -1,6 +1,6 @@
 //! The pair: calls, turns, and the journal of what was carried out.
 
-ghost use Rattle.std.specs.Prelude.{◌≡◌, ◌≤◌, ◌<◌, ◌+◌, if◌then◌else◌, sum_by, [], length, replicate, MatchResult, MatchOption, IsOk, Err, IfOk, is_some, slice_get, vec_capacity};
+ghost use Rattle.std.specs.Prelude.{◌≡◌, ◌≤◌, ◌<◌, ◌+◌, true, if◌then◌else◌, sum_by, [], length, replicate, MatchResult, MatchOption, IsOk, Err, IfOk, is_some, slice_get, vec_capacity};
 ghost use Rattle.strm_types.specs.Events.{request, map_answer};
 ghost use Rattle.strm_types.specs.Cells.{Origin, plain, tagged};
 ghost use Rattle.strm_types.specs.declared.entries.Entry.TheVariants.{Called, Turned};
@@ -28,6 +28,7 @@ ghost use Rattle.strm_pair.specs.PairViews.{sizes_over};
 use crate::answers::own;
 use crate::base::Base;
 use crate::images::whole::put_image;
+use crate::images::widths::{know_fates, know_streams};
 use crate::journal::Journal;
 use crate::ledgers::sum;
 use crate::refusals::or_else;
@@ -196,13 +197,20 @@ impl<B: Blocks + Drop> Pair<B> {
     /// The image of the pair in version 2 (docs/IMAGES.md): its plain state, and how many bytes have gone by each rule. It asks for the memory
     /// of the image, once, and the pair stays as it is. The cost is in proportion to the bytes, and a step for each band of each queue.
     pub fn image(&self, alloc: Global) -> Result<Vec<u8>, NoMemory>
-        ensures { IfOk result (λ text. text.items ≡ image.text (Second, imaged self.now.state self.now.fates)) }
+        ensures text { IfOk result (λ text. text.items ≡ image.text (Second, imaged self.now.state self.now.fates)) }
+        ensures fits { image.fits (Second, imaged self.now.state self.now.fates) ≡ true }
     {
+        self.store.audit();
+        know_streams(&self.streams);
+        know_fates(&self.fates);
         let wanted = self.text_in(Vec::new(alloc)).count();
         let Ok(memory) = Vec::with_capacity(alloc, wanted) else {
             return Err(NoMemory);
         };
-        self.text_in(memory).whole().ok_or(NoMemory)
+        match self.text_in(memory).whole() {
+            Some(text) => Ok(text),
+            None => unreachable!(),
+        }
     }
 
     /// The store, whose lists show the queues of the state, each chain read along its links from read place to write

@@ -1,8 +1,8 @@
 -- Turn by turn.
-use Rattle.std.proofs.Common.{◌≡◌, ap, sym, ◌∙◌, subst, arith}
+use Rattle.std.proofs.Common.{ap, sym, ◌∙◌, subst}
 use Rattle.strm_laws.specs.Pair.{PairState, RanTurns, next_refused, queue_refused}
 use Rattle.strm_laws.proofs.Replay.{refused-by}
-use Rattle.strm_pair.proofs.Runs.{full-refuses, next-is, none-first, one-more}
+use Rattle.strm_pair.proofs.Runs.{next-is, none-first, one-more}
 use Rattle.strm_pair.proofs.pair.Pair.runqueues.Goals as goal
 
 pub returns-in_default-clause-rest : goal.returns-in_default-clause-rest
