@@ -12,10 +12,11 @@ ghost use Rattle.strm_types.specs.Journal.{entries_in, reply_in, answer_len};
 ghost use Rattle.strm_laws.specs.Refusals.{enough, has_room};
 ghost use Rattle.strm_laws.specs.Step.{replay, IsLegal};
 ghost use Rattle.strm_laws.specs.Kept.{told_by};
-ghost use Rattle.strm_laws.specs.Ledgers.{is_booked, ledger_of, own_places_of, places_of};
+ghost use Rattle.strm_laws.specs.Ledgers.{Balanced, is_booked, ledger_of, own_places_of, places_of};
+ghost use Rattle.strm_types.specs.declared.names.Dir.{Dir};
 ghost use Rattle.strm_types.specs.Queue.{bytes_of};
 ghost use Rattle.strm_laws.specs.ModuleTurns.{place_named};
-ghost use Rattle.strm_laws.specs.State.{AreOrdered, messages_in, stream};
+ghost use Rattle.strm_laws.specs.State.{AreOrdered, book, messages_in, stream};
 ghost use Rattle.strm_pair.specs.Shows.{Shows, count_at, first_at, full_at, messages_at};
 ghost use Rattle.strm_pair.specs.Parts.{longest_part};
 ghost use Rattle.strm_pair.specs.Pool.{IsPoolOf};
@@ -156,6 +157,20 @@ impl<B: Blocks + Drop> Pair<B> {
         ensures { result.now ≡ self.now.fates }
     {
         &self.fates
+    }
+
+    /// How many bytes were written in a direction, since the pair was made.
+    pub fn written(&self, direction: Dir) -> u64
+        ensures { result ≡ (book direction self.now.state).written }
+    {
+        self.streams.book(direction).written
+    }
+
+    /// What holds of the ledgers of every pair, as [`Pair::ledger`] tells of one direction. It does nothing.
+    pub fn audit(&self)
+        ensures { (dir : Dir) → Balanced dir self.now.state self.now.fates }
+    {
+        let _ = &self.fates;
     }
 
     /// The ledger of a direction: how many bytes were written and made there, how many stand on its queues and in its unfinished

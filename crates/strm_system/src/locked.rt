@@ -34,7 +34,7 @@ fn first(counts: &[u64; RULES]) -> u64
 }
 
 impl<B: Blocks + Drop> Locked<B> {
-    // What is known of the pair's counts: the ledger of the direction that a side reads agrees. It does nothing.
+    // What is known of the pair's counts: the ledger of the direction that a side reads agrees. It does nothing but read two of them.
     fn know(&self, side: Side)
         ensures counts { AreCounts self.now.pair.fates }
         ensures agrees { Agrees (direction_of (head_of side)) self.now.pair }
@@ -43,7 +43,8 @@ impl<B: Blocks + Drop> Locked<B> {
         let slave = self.pair.fates().of(Dir::SlaveToMaster);
         let _ = first(master);
         let _ = first(slave);
-        let _ = self.pair.ledger(side.head().direction());
+        self.pair.audit();
+        let _ = side;
     }
 }
 
@@ -74,7 +75,7 @@ impl<B: Blocks + Drop> Object for Locked<B> {
     }
 
     fn written(&self, direction: Dir) -> u64 {
-        self.pair.ledger(direction).written
+        self.pair.written(direction)
     }
 
     fn read(&self, direction: Dir) -> u64 {
