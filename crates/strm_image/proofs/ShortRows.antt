@@ -13,7 +13,7 @@ message_short : (m : Message ℕ) → size_of m < 2 ^ 32 → IsShort m
 unfolding size_of cells_of
 message_short m few = let parts = length-append (part m.control) (part m.body) in record { control = omega (arith, few, parts); body = omega (arith, few, parts); plain = omega (arith, few) }
 
-pub messages_short : (ms : List (Message ℕ)) → bytes_of ms < 2 ^ 32 → AllByRecursion IsShort ms
+messages_short : (ms : List (Message ℕ)) → bytes_of ms < 2 ^ 32 → AllByRecursion IsShort ms
 messages_short [] few = tt
 messages_short (m ∷ ms) few = let sum = sum_by-cons size_of m ms in (message_short m (omega (arith, few, sum)), messages_short ms (omega (arith, few, sum)))
 

@@ -93,7 +93,7 @@ module _ (s : StoreValue) (p : Streams) (held : AreHeld s p) (idle : AreIdle (st
     stream-many s 4 p.ends.slave (held.beside Slave) (idle Slave),
   )
 
-  in-use : IsStore s → messages_in (state_in s p) ≤ used s
+  pub in-use : IsStore s → messages_in (state_in s p) ≤ used s
   in-use is = omega (arith, used-enough s is, many)
 
   bare : IsStore s → messages_in (state_in s p) ≡ 0 → IsBare s

@@ -1,21 +1,23 @@
--- What the queues of a pair have, as an image wants it: the flow control of each band, and few messages of few bytes.
-use Rattle.std.proofs.Common.{ℕ, ◌≡◌, List, [], ◌∷◌, length, map, subst, ◌∙◌, arith}
+-- What the queues of a pair have, as an image wants it: the flow control of each band, and few bytes.
+use Rattle.std.proofs.Common.{ℕ, ◌≡◌, List, [], ◌∷◌, ◌++◌, length, length-append, map, subst, ◌∙◌, arith}
+use Rattle.std.specs.Prelude.{◌≤◌, ◌*◌, sum_by}
 use Rattle.std.specs.List.{AllByRecursion}
 use Rattle.std.proofs.lemmas.List.{length-map}
+use Rattle.std.proofs.lemmas.List.Sums.{sum_by-cons}
 use Rattle.strm_types.specs.declared.limits.TheConstants.{BANDS}
+use Rattle.strm_types.specs.declared.names.Side.{Side}
 use Rattle.strm_types.specs.declared.names.Side.TheVariants.{Master, Slave}
-use Rattle.strm_types.specs.Queue.{Queue}
+use Rattle.strm_types.specs.Queue.{Queue, bytes_of}
 use Rattle.strm_blocks.specs.Blocks.{StoreValue, IsStore, list_at}
-use Rattle.strm_laws.specs.Stacked.{queues_of_modules}
-use Rattle.strm_laws.specs.State.{queues_of, stream_queues}
-use Rattle.strm_image.specs.HasImage.{AreBanded, AreShort, IsShortQueue}
-use Rattle.strm_image.proofs.ShortRows.{messages_short}
-use Rattle.strm_msg.specs.Messages.{message_of}
+use Rattle.strm_laws.specs.Restorable.{GoodStream, Restorable}
+use Rattle.strm_laws.specs.Stacked.{Module, OfLdterm, OfPtem, OfPckt, queues_of_modules}
+use Rattle.strm_laws.specs.State.{Stream, queues_of, stream_queues}
+use Rattle.strm_image.specs.HasImage.{AreBanded, bytes_in}
 use Rattle.strm_queue.specs.declared.queue.Queue as kept
 use Rattle.strm_queue.specs.Flows.{plain_flow}
 use Rattle.strm_queue.specs.Stored.{queue_in, IsReady}
 use Rattle.strm_queue.proofs.Bounds.{few-bytes}
-use Rattle.strm_queue.proofs.Sizes.{bytes-same, list-enough}
+use Rattle.strm_queue.proofs.Sizes.{bytes-same}
 use Rattle.strm_pair.specs.declared.ends.StreamEnd.{StreamEnd}
 use Rattle.strm_pair.specs.declared.modules.AnyModule.{AnyModule}
 use Rattle.strm_pair.specs.declared.modules.AnyModule.TheVariants as kinds
@@ -28,21 +30,33 @@ use Rattle.strm_pair.proofs.RestTexts.{write_rests}
 use Rattle.strm_pair.proofs.Shown.{all-joined}
 
 record IsWide (q : Queue ℕ) : Type 0 where
-  short : IsShortQueue q
   banded : length q.flows ≡ BANDS
+  bytes : bytes_of q.messages ≤ 16777216
 
-all-of : {A : Type 0} (P Q : A → Type 0) → ((x : A) → P x → Q x) → (xs : List A) → AllByRecursion P xs → AllByRecursion Q xs
-all-of P Q f [] all = tt
-all-of P Q f (x ∷ xs) all = (f x all.0, all-of P Q f xs all.1)
+-- what queues have together
+wide-bytes : (qs : List (Queue ℕ)) → AllByRecursion IsWide qs → sum_by (λ (q : Queue ℕ). bytes_of q.messages) qs ≤ 16777216 * length qs
+wide-bytes [] wide = omega arith
+wide-bytes (q ∷ qs) wide = omega (arith, wide-bytes qs wide.1, wide.0.bytes, sum_by-cons (λ (p : Queue ℕ). bytes_of p.messages) q qs)
+
+wide-banded : (qs : List (Queue ℕ)) → AllByRecursion IsWide qs → AllByRecursion (λ q. length q.flows ≡ BANDS) qs
+wide-banded [] wide = tt
+wide-banded (q ∷ qs) wide = (wide.0.banded, wide-banded qs wide.1)
+
+-- a module has two queues at most, and a stream eight
+two-each : (ps : List (Module ℕ)) → length (queues_of_modules ps) ≤ 2 * length ps
+two-each [] = omega arith
+two-each (OfLdterm l ∷ ps) = omega (arith, two-each ps)
+two-each (OfPtem p ∷ ps) = omega (arith, two-each ps)
+two-each (OfPckt p ∷ ps) = omega (arith, two-each ps)
+
+eight-queues : (side : Side) (t : Stream ℕ) → GoodStream side t → length (stream_queues t) ≤ 8
+eight-queues side t good = omega (arith, length-append (queues_of_modules t.modules) (t.driver.queue ∷ []), two-each t.modules, good.modules.few)
 
 module _ (s : StoreValue) (is : IsStore s) where
   ready-wide : (q : kept.Queue) → IsReady s q → IsWide (queue_in s q)
   ready-wide q ready = record {
-    short = record {
-      few = omega (arith, length-map (list_at s q.list) message_of, list-enough s q.list is, is.enough, is.few_mblks);
-      each = messages_short (map message_of (list_at s q.list)) (omega (arith, few-bytes s is q.list 0, bytes-same (list_at s q.list) ready.messages.chains));
-    };
     banded = length-map q.flows plain_flow ∙ ready.counted.eight;
+    bytes = omega (arith, few-bytes s is q.list 0, bytes-same (list_at s q.list) ready.messages.chains);
   }
 
   module _ (none : s.hand ≡ []) where
@@ -60,12 +74,23 @@ module _ (s : StoreValue) (is : IsStore s) where
           (ready-wide e.driver side.driver, tt),
     )
 
-  state-wide : (p : Streams) → AreHeld s p → AllByRecursion IsWide (queues_of (state_in s p))
-  state-wide p held = all-joined IsWide (stream_queues (stream_in s p.ends.master)) (stream_queues (stream_in s p.ends.slave))
-      (stream-wide held.hand 0 p.ends.master (held.beside Master)) (stream-wide held.hand 4 p.ends.slave (held.beside Slave))
+  module _ (p : Streams) (held : AreHeld s p) where
+    state-wide : AllByRecursion IsWide (queues_of (state_in s p))
+    state-wide = all-joined IsWide (stream_queues (stream_in s p.ends.master)) (stream_queues (stream_in s p.ends.slave))
+        (stream-wide held.hand 0 p.ends.master (held.beside Master)) (stream-wide held.hand 4 p.ends.slave (held.beside Slave))
 
-  pub state-short : (p : Streams) → AreHeld s p → AreShort (state_in s p)
-  state-short p held = all-of IsWide IsShortQueue (λ q wide. wide.short) (queues_of (state_in s p)) (state-wide p held)
+    pub state-banded : AreBanded (state_in s p)
+    state-banded = wide-banded (queues_of (state_in s p)) state-wide
 
-  pub state-banded : (p : Streams) → AreHeld s p → AreBanded (state_in s p)
-  state-banded p held = all-of IsWide (λ q. length q.flows ≡ BANDS) (λ q wide. wide.banded) (queues_of (state_in s p)) (state-wide p held)
+    -- sixteen queues have 256 MiB at most
+    pub state-small : Restorable (state_in s p) → bytes_in (state_in s p) ≤ 268435456
+    state-small good =
+        let m = stream_queues (stream_in s p.ends.master) in
+        let n = stream_queues (stream_in s p.ends.slave) in
+        omega (
+          arith,
+          wide-bytes (m ++ n) state-wide,
+          length-append m n,
+          eight-queues Master (stream_in s p.ends.master) (good.streams Master),
+          eight-queues Slave (stream_in s p.ends.slave) (good.streams Slave),
+        )
