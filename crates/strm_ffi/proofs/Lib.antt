@@ -1,0 +1,5 @@
+pub mod AsBox
+pub mod BothParts
+pub mod Decisions
+pub mod Fits
+pub mod Opens
