@@ -22,6 +22,7 @@ module _ {A : Type 0} where
   module _ (result : Result A Refusal) (n : ℕ) (same : Type 0) (stays done : Type 0) where
     -- it was refused
     pub stayed : (o : Option Refusal) (r : Refusal) → MatchOption o (IsOk result) (λ r. (result ≡ Err r) × same) → result ≡ Err r → n ≡ number_of r → (same → stays) → Decided o stays done n
+    unfolding refusal_in
     stayed None r is err number kept = absurd (no (subst IsOk err is))
     stayed (Some r') r is err number kept = (number ∙ ap (λ x. number_of (refusal_in x)) (sym err ∙ is.0), kept is.1)
 
