@@ -51,17 +51,9 @@ pub fn calls<B: Blocks + Drop>(
     pair.call(caller, event, out).is_ok()
 }
 
-/// The turns of queues that are enabled, 64 at most; whether all were made.
+/// The turns of queues that are enabled; whether none was refused.
 pub fn turns<B: Blocks + Drop>(pair: &mut Pair<B>) -> bool {
-    for _ in 0..64 {
-        let Some(queue) = pair.first_enabled() else {
-            break;
-        };
-        if pair.turn(queue).is_err() {
-            return false;
-        }
-    }
-    true
+    pair.runqueues().stopped.is_none()
 }
 
 /// Opens both sides of a new pair, and puts a stack on the slave; whether all was granted.

@@ -1,6 +1,6 @@
 //! The list of enabled queues.
 
-ghost use Rattle.std.specs.Prelude.{◌≡◌, [], length};
+ghost use Rattle.std.specs.Prelude.{◌≡◌, ◌≤◌, [], length};
 ghost use Rattle.std.specs.Bool.{OnTrue};
 ghost use Rattle.strm_types.specs.Names.{is_enabled, enable, enable_if, enable_found, without};
 ghost use Rattle.strm_types.specs.Modules.{without_module};
@@ -39,7 +39,8 @@ impl Enabled {
 
     /// The names, in order of enabling.
     pub fn as_slice(&self) -> &[QueueName]
-        ensures { result.now ≡ self.now }
+        ensures names { result.now ≡ self.now }
+        ensures few { length result.now ≤ 12 }
     {
         self.names.as_slice()
     }

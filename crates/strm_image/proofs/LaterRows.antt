@@ -85,7 +85,7 @@ messages_later at = counted_later u32 (chain next_rank (message_behind First at)
 -- ---- the flow control of bands
 
 -- each of these is that of a band
-AllFit : List Flow → Type 0
+unfoldable pub AllFit : List Flow → Type 0
 AllFit [] = Unit {0}
 AllFit (f ∷ fs) = (flow.fits f ≡ true) × AllFit fs
 
@@ -143,9 +143,19 @@ no_longer : {A : Type 0} (b : Bool) (x : A) (xs : List A) (n : ℕ) → length x
 no_longer true x xs n le = omega (arith, le)
 no_longer false x xs n le = omega (arith, le)
 
-listed_few : (first : Flow) (i : ℕ) (fs : List Flow) → length (listed first i fs) ≤ length fs
+pub listed_few : (first : Flow) (i : ℕ) (fs : List Flow) → length (listed first i fs) ≤ length fs
 listed_few first i [] = omega arith
 listed_few first i (f ∷ fs) = no_longer (same_flow f first) (i, f) (listed first (suc i) fs) (length fs) (listed_few first (suc i) fs)
+
+-- Version 2 has the flow control of all bands.
+pub flows_fit : (at : QueueKind) (fs : List Flow) → length fs ≡ BANDS → AllFit fs → (flows Second at).fits fs ≡ true
+unfolding flows
+flows_fit at fs whole fits_all =
+    let es = listed (first_flow at) 0 fs in
+    let short : length es ≤ length fs = listed_few (first_flow at) 0 fs in
+    and_from (eqb (length fs) BANDS) ((entries at).fits (list_out at fs)) (eq-eqb _ _ whole)
+    (and_from (ltb (length es) 65536) (eqb (length es) (length es) && fit_from next_band (listed_behind (first_flow at)) 0 es) (lt-ltb (length es) 65536 (omega (arith, short, whole)))
+    (and_from (eqb (length es) (length es)) (fit_from next_band (listed_behind (first_flow at)) 0 es) (eq-eqb (length es) (length es) refl) (listed_fits (first_flow at) 0 fs (omega (arith, whole)) fits_all 0 (omega arith))))
 
 flows_later : (at : QueueKind) → Later (flows First at) (flows Second at)
 unfolding Later flows few_flows
@@ -158,13 +168,7 @@ flows_later at fs fits =
     let behind = replicate (BANDS - FIRST_BANDS) (behind_last (first_ones fs)) in
     let fit : AllFit (widened (first_ones fs)) = fit_append (first_ones fs) behind each (fit_replicate (BANDS - FIRST_BANDS) (behind_last (first_ones fs)) (fit_last (first_ones fs) (FIRST_BANDS - 1) (omega (arith, eight)) each)) in
     let long : length (widened (first_ones fs)) ≡ BANDS = omega (arith, length-append (first_ones fs) behind, length-replicate (BANDS - FIRST_BANDS) (behind_last (first_ones fs)), eight) in
-    let whole : length fs ≡ BANDS = ap length all ∙ long in
-    let fits_all : AllFit fs = subst AllFit (sym all) fit in
-    let es = listed (first_flow at) 0 fs in
-    let short : length es ≤ length fs = listed_few (first_flow at) 0 fs in
-    and_from (eqb (length fs) BANDS) ((entries at).fits (list_out at fs)) (eq-eqb _ _ whole)
-    (and_from (ltb (length es) 65536) (eqb (length es) (length es) && fit_from next_band (listed_behind (first_flow at)) 0 es) (lt-ltb (length es) 65536 (omega (arith, short, whole)))
-    (and_from (eqb (length es) (length es)) (fit_from next_band (listed_behind (first_flow at)) 0 es) (eq-eqb (length es) (length es) refl) (listed_fits (first_flow at) 0 fs (omega (arith, whole)) fits_all 0 (omega arith))))
+    flows_fit at fs (ap length all ∙ long) (subst AllFit (sym all) fit)
 
 queue_later : (at : QueueKind) → Later (queue First at) (queue Second at)
 unfolding queue

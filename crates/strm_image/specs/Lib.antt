@@ -1,4 +1,5 @@
 pub mod Format
+pub mod Sinks
 pub mod Codes
 pub mod Messages
 pub mod Queues
@@ -6,6 +7,8 @@ pub mod Modules
 pub mod Streams
 pub mod Loads
 pub mod Image
+pub mod HasImage
+pub mod InBlocks
 pub mod Counts
 pub mod Texts
 pub mod FlowTexts
@@ -14,3 +17,4 @@ pub mod ModuleTexts
 pub mod StreamTexts
 pub mod AccountTexts
 pub mod ImageTexts
+pub mod Written

@@ -3,6 +3,7 @@ use Rattle.std.specs.Prelude.{ℕ, Bool, true, false, not, ◌&&◌, ◌||◌, �
 use Rattle.strm_types.specs.declared.kinds.MsgKind.{MsgKind}
 use Rattle.strm_types.specs.declared.kinds.MsgKind.TheVariants.{Ioctl, Iocack, Iocnak}
 use Rattle.strm_types.specs.declared.limits.TheConstants.{BANDS, HIGH_PRIORITY_RANK}
+use Rattle.strm_types.specs.Commands.{is_ioctl}
 use Rattle.strm_types.specs.Drivers.{crosses}
 use Rattle.strm_types.specs.Flush.{is_data_kind}
 use Rattle.strm_types.specs.Kinds.{is_control_kind}
@@ -106,16 +107,12 @@ message v = made is_message message_of message_parts (only (parts_fit v) (kind t
 
 -- ---- the messages of a queue
 
-abbrev pub is_m_ioctl : MsgKind → Bool
-is_m_ioctl Ioctl = true
-is_m_ioctl _ = false
-
 -- the kinds that stand on a queue
 abbrev pub stands_at : QueueKind → MsgKind → Bool
 stands_at queues.Head k = is_data_kind k
 stands_at queues.LdtermRead k = waits_there k
-stands_at queues.LdtermWrite k = waits_there k || is_m_ioctl k
-stands_at queues.Driver k = crosses k || is_m_ioctl k
+stands_at queues.LdtermWrite k = waits_there k || is_ioctl k
+stands_at queues.Driver k = crosses k || is_ioctl k
 
 -- of a kind that stands on the queue, and of at most a rank
 abbrev pub may_follow : QueueKind → ℕ → Message ℕ → Bool

@@ -80,8 +80,8 @@ impl QueueKind {
 }
 
 impl Flow {
-    // Whether two are one.
-    fn is(&self, other: &Flow) -> bool
+    /// Whether two are one.
+    pub fn is(&self, other: &Flow) -> bool
         ensures { result ≡ same_flow (flow_now self.now) (flow_now other.now) }
     {
         self.high == other.high && self.low == other.low && self.want_write == other.want_write

@@ -1,5 +1,5 @@
 //! The image of a pair: its plain state, and what has gone by each rule, as bytes. `specs/` says which states have an image, and
-//! which one; the readers here say what stands in bytes, without taking memory.
+//! which one; the readers here say what stands in bytes, without taking memory, and the writers put it into a sink.
 #![tactic(auto)]
 
 mod accounts;
@@ -9,25 +9,28 @@ mod enabled;
 mod fields;
 mod flows;
 mod image;
+pub mod image_laws;
 pub mod laws;
+mod lengths;
 mod loads;
 mod messages;
 mod modules;
 mod passed;
 mod queues;
+mod sink;
 mod streams;
 mod versions;
+pub mod writing;
 
 pub use accounts::AccountText;
 pub use enabled::NAMES;
 pub use flows::Flow;
 pub use image::{ImageText, StateText, read};
+pub use lengths::{IMAGE_BLOCK, IMAGE_FIXED, MESSAGE_FIXED, QUEUE_FIXED, STREAM_FIXED};
 pub use messages::{MessageText, message_behind};
 pub use modules::{LdtermText, ModuleText, PtemText};
 pub use passed::MessagesText;
 pub use queues::QueueText;
+pub use sink::Sink;
 pub use streams::{HeadBits, StreamText};
 pub use versions::{FIRST_BANDS, Load, QueueKind, SlotKind, Version};
-
-#[cfg(test)]
-mod tests;

@@ -359,20 +359,26 @@ module _ {C : Type 0} where
 
   -- a turn books nothing as written, and where it makes few bytes
   pub turn-few : (cells : Cells C) (s t : State C) (told : List (Fate C)) → in_range s ≡ true → BooksMade cells s told t → ((dir : Dir) → (book dir t).made < 2 ^ 63) → FewBooked t
-  turn-few cells s t told room books made dir = let low = range-low dir s room in let less = made dir in omega (arith, low.0, books.written dir, less)
+  turn-few cells s t told room books made = record { written = λ dir. let low = range-low dir s room in omega (arith, low.0, books.written dir); made = made }
 
   -- where no more is made than a book may hold
   abbrev MadeFew : State C → Type 0
   MadeFew t = (dir : Dir) → (book dir t).made < 2 ^ 63
 
   same-few : (s t : State C) → SameBooks s t → FewBooked s → FewBooked t
-  same-few s t same few dir = subst (λ b. b.written + b.made < 2 ^ 64) (sym (books-are s t same dir)) (few dir)
+  same-few s t same few = record {
+    written = λ dir. subst (λ b. b.written < 2 ^ 63) (sym (books-are s t same dir)) (few.written dir);
+    made = λ dir. subst (λ b. b.made < 2 ^ 63) (sym (books-are s t same dir)) (few.made dir);
+  }
 
   written-few : (cells : Cells C) (dir : Dir) (n : ℕ) (s t : State C) (told : List (Fate C)) → in_range s ≡ true → n < 2 ^ 62 → BooksMade cells s told t → (let u = with_book dir (with_written n (book dir t)) t in MadeFew u → FewBooked u)
-  written-few cells MasterToSlave n s t told room less books made MasterToSlave = let low = range-low MasterToSlave s room in let same = books.written MasterToSlave in let most = made MasterToSlave in omega (arith, low.0, same, most, less)
-  written-few cells MasterToSlave n s t told room less books made SlaveToMaster = let low = range-low SlaveToMaster s room in let same = books.written SlaveToMaster in let most = made SlaveToMaster in omega (arith, low.0, same, most)
-  written-few cells SlaveToMaster n s t told room less books made MasterToSlave = let low = range-low MasterToSlave s room in let same = books.written MasterToSlave in let most = made MasterToSlave in omega (arith, low.0, same, most)
-  written-few cells SlaveToMaster n s t told room less books made SlaveToMaster = let low = range-low SlaveToMaster s room in let same = books.written SlaveToMaster in let most = made SlaveToMaster in omega (arith, low.0, same, most, less)
+  written-few cells dir n s t told room less books made = record { written = λ other. at dir other; made = made }
+    where
+      at : (dir other : Dir) → (book other (with_book dir (with_written n (book dir t)) t)).written < 2 ^ 63
+      at MasterToSlave MasterToSlave = let low = range-low MasterToSlave s room in omega (arith, low.0, books.written MasterToSlave, less)
+      at MasterToSlave SlaveToMaster = let low = range-low SlaveToMaster s room in omega (arith, low.0, books.written SlaveToMaster)
+      at SlaveToMaster MasterToSlave = let low = range-low MasterToSlave s room in omega (arith, low.0, books.written MasterToSlave)
+      at SlaveToMaster SlaveToMaster = let low = range-low SlaveToMaster s room in omega (arith, low.0, books.written SlaveToMaster, less)
 
   performed-few : (cells : Cells C) (caller : Caller) (asked : Request) (s : State C) → or_else (refused_at_once s caller asked) (unfit s caller asked) ≡ None → WritesFew asked → FewBooked s
       → (in_range s ≡ true → MadeFew (performed cells caller asked s).state) → FewBooked (performed cells caller asked s).state

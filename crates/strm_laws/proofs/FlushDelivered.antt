@@ -23,7 +23,7 @@ use Rattle.strm_laws.specs.Closes.{and_then, driver_behind, driver_emptied, head
 use Rattle.strm_laws.specs.Earlier.{NoModules, driver_place, modules_on}
 use Rattle.strm_types.specs.Emptied.{Choice, of_data, queue_behind, writer_goes}
 use Rattle.strm_laws.specs.FlushEffect.{none_gone, reached, write_flushed, read_flushed, flush_effect}
-use Rattle.strm_types.specs.Flushing.{asked_by, asked_of, flush_bytes, flush_message, nothing_asked, read_flush}
+use Rattle.strm_types.specs.Flushing.{asked_by, asked_of, flush_bytes, flush_message, read_flush}
 use Rattle.strm_types.specs.Heads.{flush_up}
 use Rattle.strm_types.specs.Message.{cells_of}
 use Rattle.strm_types.specs.Names.{direction_at, enable_some, is_open, other}

@@ -3,7 +3,7 @@ use Rattle.std.proofs.Common.{ℕ, ◌≡◌, Bool, true, false, cond, List, [],
 use Rattle.std.specs.Prelude.{min, not, Option, None, Some, option_map}
 use Rattle.std.proofs.lemmas.List.{length-map, take-map}
 use Rattle.strm_types.specs.declared.limits.TheConstants.{READ_MAX}
-use Rattle.strm_types.specs.declared.answers.Answer.TheVariants.{Done, Count, Msg, Sizes}
+use Rattle.strm_types.specs.declared.answers.Answer.TheVariants.{Count, Msg, Sizes}
 use Rattle.strm_types.specs.declared.answers.Turn.{Turn}
 use Rattle.strm_types.specs.declared.entries.Entry.TheVariants.{Called, Turned}
 use Rattle.strm_types.specs.declared.events.Caller.{Caller}

@@ -1,5 +1,5 @@
 -- A call of ldterm's service procedures leaves it good, and what it sends is good (ldterm(7M); termio(7I)).
-use Rattle.std.proofs.Common.{ℕ, zero, suc, ◌≡◌, ◌≤◌, ◌+◌, ◌-◌, ◌*◌, Bool, true, false, cond, List, [], ◌∷◌, ◌++◌, length, take, drop, map, refl, sym, ap, subst, ◌∙◌, arith}
+use Rattle.std.proofs.Common.{ℕ, zero, suc, ◌≡◌, ◌≤◌, ◌+◌, ◌-◌, ◌*◌, Bool, true, false, cond, List, [], ◌∷◌, ◌++◌, length, take, drop, map, refl, sym, ap, ◌∙◌, arith}
 use Rattle.std.proofs.lemmas.Bool.Decides.{nat_tests}
 use Rattle.std.proofs.lemmas.Bool.{false≢true}
 use Rattle.std.proofs.lemmas.List.{length-append, length-take}
@@ -26,18 +26,20 @@ use Rattle.strm_types.specs.Kinds.{is_body_kind, is_control_kind}
 use Rattle.strm_types.specs.LdtermServes.{ldterm_serves}
 use Rattle.strm_types.specs.Ldterms.{Ldterm, Stage, Between, Begun, Answered, onward, queue_at, sends, waits_there}
 use Rattle.strm_types.specs.Lines.{ErasesByte, ErasesWord, Types, edited, has_room, without_end, without_last, without_word}
-use Rattle.strm_types.specs.Message.{Message, cells_of, data_message}
+use Rattle.strm_types.specs.Message.{Message, cells_of, data_message, rank_of}
 use Rattle.strm_types.specs.Output.{posts}
 use Rattle.strm_types.specs.OutputTurns.{Outgoing, outgoing, output_dir, output_serves, posted, unchanged, with_given}
-use Rattle.strm_types.specs.Queue.{Queue, is_full, is_none_left, left_with, put_back}
+use Rattle.strm_types.specs.Queue.{IsOrdered, Queue, is_full, is_none_left, left_with, put_back}
 use Rattle.strm_types.specs.Termios.{icanon, imaxbel, noflsh, opost}
 use Rattle.strm_types.specs.Typing.{added, bare, begins, both_ways, dropped, echo_dir, echo_grows, echo_lost, echo_stands, echoed, gathered_up, grown, is_blank_cell, is_lnext, lost, sigint, signals, sigquit, sigtstp, strikes, stroke_at, struck, up_alone}
 use Rattle.strm_types.proofs.Outputs.{posts-low}
+use Rattle.strm_types.proofs.Ranked.{Ordered-put_back}
 use Rattle.strm_laws.specs.Restorable.{GoodLdterm, GoodMessage, GoodQueue, IsWork, StandsOn, goes_out, is_part_kind}
 use Rattle.strm_laws.proofs.GoodDeliveries.{AreGood, all-join}
 use Rattle.strm_laws.proofs.GoodHeads.{data-good, flush-good, signal-good, start-good, stop-good}
 use Rattle.strm_laws.proofs.GoodLdterms.{GoodAtLdterm, either-ldterm, quiet-good, stands_at, queue-good, with-queue-good}
 use Rattle.strm_laws.proofs.GoodQueues.{all-put_back, put-good}
+use Rattle.strm_laws.proofs.QueueOrder.{grown-order}
 
 -- an edit that takes bytes leaves a line no longer
 module _ {C : Type 0} where
@@ -106,7 +108,7 @@ module _ {C : Type 0} where
     where
       at : (none : Bool) → GoodQueue stands (cond none q (record q { messages = put_back m q.messages }))
       at true = good
-      at false = record { messages = all-put_back (λ m. StandsOn stands m) m q.messages fits good.messages; marks = good.marks }
+      at false = record { messages = all-put_back (λ m. StandsOn stands m) m q.messages fits good.messages; order = Ordered-put_back rank_of m q.messages good.order; marks = good.marks }
 
 module _ {C : Type 0} (cells : Cells C) (here : Spot) where
   -- what typing changes of ldterm
@@ -213,7 +215,7 @@ module _ {C : Type 0} (cells : Cells C) (here : Spot) where
       either-ldterm (is_full 0 l.write_queue) (echo_lost cells here new l) _ (record { state = good; sent = tt })
       (either-ldterm l.echoing (echo_grows cells here new l) (echo_stands cells here new l)
       (record {
-        state = record { termios = good.termios; column = good.column; line = good.line; read_queue = good.read_queue; write_queue = record { messages = grown-good new l.write_queue.messages good.write_queue.messages; marks = good.write_queue.marks }; work = good.work };
+        state = record { termios = good.termios; column = good.column; line = good.line; read_queue = good.read_queue; write_queue = record { messages = grown-good new l.write_queue.messages good.write_queue.messages; order = grown-order cells here new l.write_queue.messages good.write_queue.order; marks = good.write_queue.marks }; work = good.work };
         sent = tt;
       })
       (record {
@@ -262,22 +264,22 @@ module _ {C : Type 0} (cells : Cells C) (here : Spot) where
       then-good made t (stages cells here more) first (stages-good more (made + made_of t.gone) t.state first.state)
 
   -- a message that passes whole
-  passes-good : (way : Way) (m : Message C) (rest : List (Message C)) (l : Ldterm C) → GoodMessage m → AllByRecursion (λ m. StandsOn (stands_at way) m) rest → GoodLdterm l → GoodAtLdterm (passes cells here way m rest l).acted
-  passes-good way m rest l fits all good = record {
-    state = with-queue-good way (left_with rest (queue_at way l)) l (record { messages = all; marks = (queue-good way l good).marks }) good;
+  passes-good : (way : Way) (m : Message C) (rest : List (Message C)) (l : Ldterm C) → GoodMessage m → AllByRecursion (λ m. StandsOn (stands_at way) m) rest → IsOrdered rest → GoodLdterm l → GoodAtLdterm (passes cells here way m rest l).acted
+  passes-good way m rest l fits all order good = record {
+    state = with-queue-good way (left_with rest (queue_at way l)) l (record { messages = all; order = order; marks = (queue-good way l good).marks }) good;
     sent = (fits, tt);
   }
 
-  input-good : (stop : Option ℕ) (made : ℕ) (ms : List (Message C)) (l : Ldterm C) → AllByRecursion (λ m. StandsOn waits_there m) ms → GoodLdterm l → GoodAtLdterm (input_begins cells here stop made ms l).acted
-  input-good stop made [] l all good = quiet-good l good
-  input-good stop made (m ∷ rest) l all good = at (is_data m.kind) refl
+  input-good : (stop : Option ℕ) (made : ℕ) (ms : List (Message C)) (l : Ldterm C) → AllByRecursion (λ m. StandsOn waits_there m) ms → IsOrdered ms → GoodLdterm l → GoodAtLdterm (input_begins cells here stop made ms l).acted
+  input-good stop made [] l all order good = quiet-good l good
+  input-good stop made (m ∷ rest) l all order good = at (is_data m.kind) refl
     where
       at : (treated : Bool) → is_data m.kind ≡ treated → GoodAtLdterm (cond treated (treats cells here (unwrap_or stop (length (cells_of m))) made (record l { read_queue = left_with rest l.read_queue; in_work = Some m })) (passes cells here Up m rest l)).acted
       at true is =
           let begun : Ldterm C = record l { read_queue = left_with rest l.read_queue; in_work = Some m } in
           stages-good (3 * unwrap_or stop (length (cells_of m)) - stages_done begun.stage) made begun
-          (record { termios = good.termios; column = good.column; line = good.line; read_queue = record { messages = all.1; marks = good.read_queue.marks }; write_queue = good.write_queue; work = record { good = all.0.good; kind = is } })
-      at false is = passes-good Up m rest l all.0.good all.1 good
+          (record { termios = good.termios; column = good.column; line = good.line; read_queue = record { messages = all.1; order = order.1; marks = good.read_queue.marks }; write_queue = good.write_queue; work = record { good = all.0.good; kind = is } })
+      at false is = passes-good Up m rest l all.0.good all.1 order.1 good
 
   -- output: what goes down of a message, what is left of it, and the column
   record GoodOutgoing (t : Outgoing C) : Type 0 where
@@ -314,20 +316,20 @@ module _ {C : Type 0} (cells : Cells C) (here : Spot) where
   down-good [] all = tt
   down-good (m ∷ ms) all = (all.0, down-good ms all.1)
 
-  output-good : (stop : Option ℕ) (made : ℕ) (ms : List (Message C)) (l : Ldterm C) → AllByRecursion (λ m. StandsOn goes_out m) ms → GoodLdterm l → GoodAtLdterm (output_serves cells here stop made ms l).acted
-  output-good stop made [] l all good = quiet-good l good
-  output-good stop made (m ∷ rest) l all good =
+  output-good : (stop : Option ℕ) (made : ℕ) (ms : List (Message C)) (l : Ldterm C) → AllByRecursion (λ m. StandsOn goes_out m) ms → IsOrdered ms → GoodLdterm l → GoodAtLdterm (output_serves cells here stop made ms l).acted
+  output-good stop made [] l all order good = quiet-good l good
+  output-good stop made (m ∷ rest) l all order good =
       let t = outgoing cells here stop made m l in
       let out = outgoing-good stop made m l all.0 good in
       record {
-        state = record { termios = good.termios; column = out.column; line = good.line; read_queue = good.read_queue; write_queue = out.left (left_with rest l.write_queue) (record { messages = all.1; marks = good.write_queue.marks }); work = good.work };
+        state = record { termios = good.termios; column = out.column; line = good.line; read_queue = good.read_queue; write_queue = out.left (left_with rest l.write_queue) (record { messages = all.1; order = order.1; marks = good.write_queue.marks }); work = good.work };
         sent = down-good t.messages out.messages;
       }
 
 module _ {C : Type 0} (cells : Cells C) where
   serves-at : (way : Way) (here : Spot) (again : Bool) (made : ℕ) (stop : Option ℕ) (l : Ldterm C) → GoodLdterm l → GoodAtLdterm (ldterm_serves cells (record here { way = way }) made again stop l).acted
-  serves-at Down here again made stop l good = output-good cells (record here { way = Down }) stop made l.write_queue.messages l good.write_queue.messages good
-  serves-at Up here false made stop l good = input-good cells (record here { way = Up }) stop made l.read_queue.messages l good.read_queue.messages good
+  serves-at Down here again made stop l good = output-good cells (record here { way = Down }) stop made l.write_queue.messages l good.write_queue.messages good.write_queue.order good
+  serves-at Up here false made stop l good = input-good cells (record here { way = Up }) stop made l.read_queue.messages l good.read_queue.messages good.read_queue.order good
   serves-at Up here true made stop l good = stages-good cells (record here { way = Up }) (3 * unwrap_or stop (to_treat l) - stages_done l.stage) made l good
 
   pub serves-good : (here : Spot) (made : ℕ) (again : Bool) (stop : Option ℕ) (l : Ldterm C) → GoodLdterm l → GoodAtLdterm (ldterm_serves cells here made again stop l).acted

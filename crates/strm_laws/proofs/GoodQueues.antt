@@ -1,15 +1,17 @@
 -- A queue of good messages with marks in order stays one as puts, flushes, takes and waiting writers change it.
 use Rattle.std.proofs.Common.{ℕ, zero, suc, ◌≤◌, ◌<◌, Bool, true, false, cond, List, [], ◌∷◌}
-use Rattle.std.specs.Prelude.{◌&&◌, ◌^◌, not, nat_le, nat_lt, replicate}
+use Rattle.std.specs.Prelude.{◌&&◌, ◌^◌, nat_le, nat_lt, replicate}
 use Rattle.std.specs.List.{AllByRecursion}
 use Rattle.strm_types.specs.declared.kinds.MsgKind.{MsgKind}
 use Rattle.strm_types.specs.declared.limits.TheConstants.{BANDS}
-use Rattle.strm_types.specs.Emptied.{Choice, emptied, none_goes, queue_behind, stayed}
+use Rattle.strm_types.specs.Emptied.{Choice, emptied, none_goes, queue_behind}
 use Rattle.strm_types.specs.Message.{Message, rank_of}
 use Rattle.strm_types.specs.ModuleQueues.{with_waiting}
 use Rattle.strm_types.specs.Queue.{Flow, Queue, count_of, new_queue, put, put_back, put_on, relieved, relieved_from, with_writer_at}
 use Rattle.strm_types.specs.Service.{turn_ended}
+use Rattle.strm_types.proofs.Ranked.{Ordered-put}
 use Rattle.strm_laws.specs.Restorable.{AreMarks, GoodQueue, StandsOn}
+use Rattle.strm_laws.proofs.QueueOrder.{all-stayed, stayed-order}
 
 module _ {C : Type 0} (P : Message C → Type 0) where
   -- what holds of all messages of a queue, and of one that is put there
@@ -28,14 +30,6 @@ module _ {C : Type 0} (P : Message C → Type 0) where
       at : (behind : Bool) → AllByRecursion P (put_back m rest) → AllByRecursion P (cond behind (first ∷ put_back m rest) (m ∷ first ∷ rest))
       at true more = (all.0, more)
       at false more = (one, all)
-
-  pub all-stayed : (chosen : Choice) (ms : List (Message C)) → AllByRecursion P ms → AllByRecursion P (stayed chosen ms)
-  all-stayed chosen [] all = tt
-  all-stayed chosen (m ∷ ms) all = at (not (chosen m.kind m.band)) (all-stayed chosen ms all.1)
-    where
-      at : (stays : Bool) → AllByRecursion P (stayed chosen ms) → AllByRecursion P (cond stays (m ∷ stayed chosen ms) (stayed chosen ms))
-      at true more = (all.0, more)
-      at false more = more
 
 -- the marks of bands where writers wait, or are let go
 module _ {C : Type 0} where
@@ -58,23 +52,23 @@ marks-new (suc n) high low some order bits = (record { some = some; order = orde
 
 module _ {C : Type 0} (stands : MsgKind → Bool) where
   pub new-good : (high low : ℕ) → 1 ≤ high → low ≤ high → high < 2 ^ 32 → GoodQueue {C = C} stands (new_queue high low)
-  new-good high low some order bits = record { messages = tt; marks = marks-new BANDS high low some order bits }
+  new-good high low some order bits = record { messages = tt; order = tt; marks = marks-new BANDS high low some order bits }
 
   pub relieved-good : (q : Queue C) → GoodQueue stands q → GoodQueue stands (relieved q)
-  relieved-good q good = record { messages = good.messages; marks = marks-relieved 0 q.messages q.flows good.marks }
+  relieved-good q good = record { messages = good.messages; order = good.order; marks = marks-relieved 0 q.messages q.flows good.marks }
 
   pub waiting-good : (band : ℕ) (q : Queue C) → GoodQueue stands q → GoodQueue stands (with_waiting band q)
-  waiting-good band q good = record { messages = good.messages; marks = marks-waiting band q.flows good.marks }
+  waiting-good band q good = record { messages = good.messages; order = good.order; marks = marks-waiting band q.flows good.marks }
 
   pub put-good : (m : Message C) (q : Queue C) → StandsOn stands m → GoodQueue stands q → GoodQueue stands (put_on m q)
-  put-good m q one good = record { messages = all-put (λ m. StandsOn stands m) m q.messages one good.messages; marks = good.marks }
+  put-good m q one good = record { messages = all-put (λ m. StandsOn stands m) m q.messages one good.messages; order = Ordered-put rank_of m q.messages good.order; marks = good.marks }
 
   either-good : (b : Bool) (one another : Queue C) → GoodQueue stands one → GoodQueue stands another → GoodQueue stands (cond b one another)
   either-good true one another first second = first
   either-good false one another first second = second
 
   emptied-good : (chosen : Choice) (q : Queue C) → GoodQueue stands q → GoodQueue stands (emptied chosen q)
-  emptied-good chosen q good = record { messages = all-stayed (λ m. StandsOn stands m) chosen q.messages good.messages; marks = good.marks }
+  emptied-good chosen q good = record { messages = all-stayed (λ m. StandsOn stands m) chosen q.messages good.messages; order = stayed-order chosen q.messages good.order; marks = good.marks }
 
   pub behind-good : (chosen : Choice) (q : Queue C) → GoodQueue stands q → GoodQueue stands (queue_behind chosen q)
   behind-good chosen q good =
@@ -82,5 +76,5 @@ module _ {C : Type 0} (stands : MsgKind → Bool) where
       either-good (none_goes chosen q) (emptied chosen q) (relieved (emptied chosen q)) rest (relieved-good (emptied chosen q) rest)
 
   pub ended-good : (took : Bool) (q : Queue C) → GoodQueue stands q → GoodQueue stands (turn_ended took q)
-  ended-good true q good = record { messages = good.messages; marks = marks-relieved 0 q.messages q.flows good.marks }
-  ended-good false q good = record { messages = good.messages; marks = good.marks }
+  ended-good true q good = record { messages = good.messages; order = good.order; marks = marks-relieved 0 q.messages q.flows good.marks }
+  ended-good false q good = record { messages = good.messages; order = good.order; marks = good.marks }

@@ -16,12 +16,13 @@ use Rattle.strm_types.specs.GetQueues.{get_queue, gets_none, none_got, queue_got
 use Rattle.strm_types.specs.Gets.{got_none, head_get, is_wanted, left_behind, parts_of}
 use Rattle.strm_types.specs.Kinds.{is_body_kind, is_control_kind}
 use Rattle.strm_types.specs.Message.{Message, band_of, is_high_priority, is_part, part}
-use Rattle.strm_types.specs.Queue.{Queue, is_none_left, left_with, relieved}
+use Rattle.strm_types.specs.Queue.{IsOrdered, Queue, is_none_left, left_with, relieved}
 use Rattle.strm_types.specs.Reads.{Drawn, all_cells, and_more, control_gone, drawn, emptied_of, front_of, head_draw, is_passed, is_refused, no_cells, none_went, offered, queue_drawn, read_queue, rest_after, rest_with, shown, stopped, takes_none, wanted_after}
 use Rattle.strm_types.proofs.Drawing.{of-each}
 use Rattle.strm_laws.specs.Restorable.{GoodMessage, GoodQueue, StandsOn, is_part_kind}
 use Rattle.strm_laws.proofs.GoodDeliveries.{all-join}
 use Rattle.strm_laws.proofs.GoodQueues.{all-put_back, relieved-good}
+use Rattle.strm_laws.proofs.QueueOrder.{drawn-order, got-order}
 
 -- a kind with a control part
 controls-only : (kind : MsgKind) → is_control_kind kind ≡ true → is_body_kind kind ≡ false
@@ -132,13 +133,13 @@ module _ {C : Type 0} where
   either-queue true one another first second = first
   either-queue false one another first second = second
 
-  left-good : (ms : List (Message C)) (q : Queue C) → AllRead ms → GoodQueue is_part_kind q → GoodQueue is_part_kind (left_with ms q)
-  left-good ms q all good = record { messages = all; marks = good.marks }
+  left-good : (ms : List (Message C)) (q : Queue C) → AllRead ms → IsOrdered ms → GoodQueue is_part_kind q → GoodQueue is_part_kind (left_with ms q)
+  left-good ms q all order good = record { messages = all; order = order; marks = good.marks }
 
   pub read-good : (read : ReadMode) (control : ControlMode) (n : ℕ) (q : Queue C) → GoodQueue is_part_kind q → GoodQueue is_part_kind (read_queue read control n q)
   read-good read control n q good =
       let d = head_draw read control n q.messages in
-      let left = left-good d.left q (drawn-read read control false n [] q.messages tt good.messages) good in
+      let left = left-good d.left q (drawn-read read control false n [] q.messages tt good.messages) (drawn-order read control false n [] q.messages good.order) good in
       either-queue (takes_none control n q.messages) q (queue_drawn d q) good
       (either-queue (none_went d) (left_with d.left q) (relieved (left_with d.left q)) left (relieved-good is_part_kind (left_with d.left q) left))
 
@@ -158,6 +159,6 @@ module _ {C : Type 0} where
   pub get-good : (wanted : Wanted) (cmax dmax : ℕ) (q : Queue C) → GoodQueue is_part_kind q → GoodQueue is_part_kind (get_queue wanted cmax dmax q)
   get-good wanted cmax dmax q good =
       let g = head_get wanted cmax dmax q.messages in
-      let left = left-good g.left q (got-read wanted cmax dmax q.messages good.messages) good in
+      let left = left-good g.left q (got-read wanted cmax dmax q.messages good.messages) (got-order wanted cmax dmax q.messages good.order) good in
       either-queue (gets_none wanted q.messages) q (queue_got g q) good
       (either-queue (none_got g) (left_with g.left q) (relieved (left_with g.left q)) left (relieved-good is_part_kind (left_with g.left q) left))

@@ -20,7 +20,7 @@ use Rattle.strm_types.specs.Message.{Message, band_of, size_of}
 use Rattle.strm_types.specs.ModuleQueues.{at_place, place_past, queue_changed, with_waiting}
 use Rattle.strm_types.specs.Modules.{change_among}
 use Rattle.strm_types.specs.Names.{is_open, other, without}
-use Rattle.strm_types.specs.Queue.{Queue, left_with, relieved}
+use Rattle.strm_types.specs.Queue.{IsOrdered, Queue, left_with, relieved}
 use Rattle.strm_types.specs.Service.{turn_ended}
 use Rattle.strm_laws.specs.Earlier.{driver_place}
 use Rattle.strm_laws.specs.ModuleTurns.{Calls, again_at, asked_turn, bytes_at, call_at, calls, made_below, module_called, moved_on, moved_within, place_named, queue_ended, turned_named, turned_there, waits_there}
@@ -140,31 +140,31 @@ module _ {C : Type 0} (cells : Cells C) where
   driver-ended : (side : Side) (size : ℕ) (s : State C) → AreStreams s → AreStreams (driver_turn_ended side size s)
   driver-ended side size s all =
       let q = turned_queue (stream side s).driver.queue in
-      let fits : GoodQueue stands_below q = record { messages = (all.0 side).driver.messages; marks = (all.0 side).driver.marks } in
+      let fits : GoodQueue stands_below q = record { messages = (all.0 side).driver.messages; order = (all.0 side).driver.order; marks = (all.0 side).driver.marks } in
       driver-streams side _ s (at (not (size == 0)) q fits) all
     where
       at : (went : Bool) (q : Queue C) → GoodQueue stands_below q → GoodQueue stands_below (cond went (relieved q) q)
       at true q fits = relieved-good stands_below q fits
       at false q fits = fits
 
-  moved-driver : (side : Side) (m : Message C) (rest : List (Message C)) (s : State C) → StandsOn stands_below m → AllByRecursion (λ m. StandsOn stands_below m) rest → AreStreams s → AreStreams (moved_across cells side m rest s).state
-  moved-driver side m rest s fits behind all =
+  moved-driver : (side : Side) (m : Message C) (rest : List (Message C)) (s : State C) → StandsOn stands_below m → AllByRecursion (λ m. StandsOn stands_below m) rest → IsOrdered rest → AreStreams s → AreStreams (moved_across cells side m rest s).state
+  moved-driver side m rest s fits behind order all =
       let from = with_driver side (left_with rest (stream side s).driver.queue) s in
-      let left = driver-streams side (left_with rest (stream side s).driver.queue) s (record { messages = behind; marks = (all.0 side).driver.marks }) all in
+      let left = driver-streams side (left_with rest (stream side s).driver.queue) s (record { messages = behind; order = order; marks = (all.0 side).driver.marks }) all in
       driver-ended side (size_of m) (delivered cells (up_across side from) m from).state (delivered-streams (up_across side from) m from fits.good left)
 
-  serves-driver : (side : Side) (ms : List (Message C)) (s : State C) → AllByRecursion (λ m. StandsOn stands_below m) ms → AreStreams s → AreStreams (driver_serves cells side ms s).state
-  serves-driver side [] s each all = driver-streams side (record (stream side s).driver.queue { want_read = true }) s (record { messages = (all.0 side).driver.messages; marks = (all.0 side).driver.marks }) all
-  serves-driver side (m ∷ rest) s each all =
+  serves-driver : (side : Side) (ms : List (Message C)) (s : State C) → AllByRecursion (λ m. StandsOn stands_below m) ms → IsOrdered ms → AreStreams s → AreStreams (driver_serves cells side ms s).state
+  serves-driver side [] s each order all = driver-streams side (record (stream side s).driver.queue { want_read = true }) s (record { messages = (all.0 side).driver.messages; order = (all.0 side).driver.order; marks = (all.0 side).driver.marks }) all
+  serves-driver side (m ∷ rest) s each order all =
       let kept = with_driver side (held_back (stream side s).driver.queue) s in
-      let waits = driver-streams side (held_back (stream side s).driver.queue) s (record { messages = (all.0 side).driver.messages; marks = (all.0 side).driver.marks }) all in
+      let waits = driver-streams side (held_back (stream side s).driver.queue) s (record { messages = (all.0 side).driver.messages; order = (all.0 side).driver.order; marks = (all.0 side).driver.marks }) all in
       any-holds (λ t. AreStreams t.state) (is_open (stream (other side) s).opened) (is_stopped_across side m s) _ _ _
-      waits (waits-good (other side) Up (driver_place (other side) kept) (band_of m) kept waits) (moved-driver side m rest s each.0 each.1 all)
+      waits (waits-good (other side) Up (driver_place (other side) kept) (band_of m) kept waits) (moved-driver side m rest s each.0 each.1 order.1 all)
 
   pub turn-good : (name : QueueName) (turn : Turn) (s : State C) → AreStreams s → AreStreams (turned cells name turn s).state
   turn-good name turn s all = at name.place (record s { enabled = without name s.enabled }) all
     where
       at : (place : Place) (s : State C) → AreStreams s → AreStreams (turned_at cells place name turn s).state
-      at Driver s all = serves-driver name.side (stream name.side s).driver.queue.messages s (all.0 name.side).driver.messages all
+      at Driver s all = serves-driver name.side (stream name.side s).driver.queue.messages s (all.0 name.side).driver.messages (all.0 name.side).driver.order all
       at Head s all = all
       at Ldterm s all = named-good name turn s (place_named name.place (stream name.side s).modules) all

@@ -22,7 +22,7 @@ use Rattle.strm_types.specs.declared.names.QueueName.{QueueName}
 use Rattle.strm_types.specs.declared.names.Side.{Side}
 use Rattle.strm_types.specs.declared.names.Side.TheVariants.{Master, Slave}
 use Rattle.strm_types.specs.declared.refusals.Refusal.{Refusal}
-use Rattle.strm_types.specs.declared.refusals.Refusal.TheVariants.{Einval, Eagain, Enxio}
+use Rattle.strm_types.specs.declared.refusals.Refusal.TheVariants.{Eagain, Enxio}
 use Rattle.strm_types.specs.declared.rules.Rule.TheVariants as rules
 use Rattle.strm_types.specs.Books.{new_book}
 use Rattle.strm_types.specs.Events.{Request, content_of}

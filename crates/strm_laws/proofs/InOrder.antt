@@ -96,5 +96,3 @@ pub record Numbered {C : Type 0} (cells : Cells C) (p : Dir → C → Bool) : Ty
   pub upto_made : Dir → ℕ → ℕ
   pub written : (dir : Dir) (n : ℕ) (bytes : List ℕ) → count_by (p dir) (cells_written cells dir n bytes) + upto_written dir n ≡ upto_written dir (n + length bytes)
   pub made : (dir : Dir) (n : ℕ) (bytes : List ℕ) → count_by (p dir) (cells_made cells dir n bytes) + upto_made dir n ≡ upto_made dir (n + length bytes)
-  pub none_written : (dir : Dir) → upto_written dir 0 ≡ 0
-  pub none_made : (dir : Dir) → upto_made dir 0 ≡ 0

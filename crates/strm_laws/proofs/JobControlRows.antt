@@ -1,7 +1,7 @@
 -- Job control at a slave whose foreground group is 5 (POSIX, General Terminal Interface, "Terminal Access Control"): who is in the background,
 -- and what becomes of reads, gets, writes and puts from there.
 use Rattle.std.proofs.Common.{ℕ, ◌≡◌, Bool, true, false, List, [], ◌∷◌, map, replicate, refl}
-use Rattle.std.specs.Prelude.{Option, None, Some}
+use Rattle.std.specs.Prelude.{None, Some}
 use Rattle.strm_types.specs.declared.answers.Answer.TheVariants.{Done, Bytes, Nak, Stop}
 use Rattle.strm_types.specs.declared.events.Caller.{Caller}
 use Rattle.strm_types.specs.declared.events.Event.TheVariants.{Shut, Look, Flush, Write, Read, Put, Get, Nread, Ioctl, Pop}
@@ -12,9 +12,7 @@ use Rattle.strm_types.specs.declared.job_control.Verdict.TheVariants.{Refused, S
 use Rattle.strm_types.specs.declared.modes.Prio.TheVariants as prios
 use Rattle.strm_types.specs.declared.modes.Wanted.TheVariants.{Any}
 use Rattle.strm_types.specs.declared.names.Openness.TheVariants.{Open}
-use Rattle.strm_types.specs.declared.names.Side.{Side}
 use Rattle.strm_types.specs.declared.names.Side.TheVariants.{Master, Slave}
-use Rattle.strm_types.specs.declared.refusals.Refusal.{Refusal}
 use Rattle.strm_types.specs.declared.refusals.Refusal.TheVariants.{Einval, Eagain, Eio, Enosr, JournalFull}
 use Rattle.strm_types.specs.declared.signals.StopSignal.TheVariants.{Ttin, Ttou}
 use Rattle.strm_types.specs.Cells.{plain}
@@ -23,7 +21,7 @@ use Rattle.strm_types.specs.Heads.{Head, new_head}
 use Rattle.strm_types.specs.JobControl.{caller_of, judged}
 use Rattle.strm_laws.specs.Calls.{called, tells}
 use Rattle.strm_laws.specs.Refusals.{hold, refused, refused_by_state, stop_of}
-use Rattle.strm_laws.specs.State.{State, Stream, new_stream, opening, stream, with_stream}
+use Rattle.strm_laws.specs.State.{State, new_stream, opening, stream, with_stream}
 use Rattle.strm_types.specs.declared.limits.Config.{Config}
 
 -- a caller on the slave in this group

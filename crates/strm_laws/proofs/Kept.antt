@@ -22,8 +22,8 @@ use Rattle.strm_types.specs.Message.{Message}
 use Rattle.strm_types.specs.Queue.{Queue, weight, left_with, relieved}
 use Rattle.strm_laws.specs.State.{State, stream, book, with_head_queue}
 use Rattle.strm_types.specs.Reads.{Drawn, head_draw, none_went, queue_drawn, read_fates, read_gone, read_queue, takes_none}
-use Rattle.strm_types.specs.Events.{Request, Reply}
-use Rattle.strm_laws.specs.Calls.{Outcome, called, get_at, group_at, ioctl_at, mode_set, performed, read_at, write_sent, wrote}
+use Rattle.strm_types.specs.Events.{Request}
+use Rattle.strm_laws.specs.Calls.{Outcome, get_at, group_at, ioctl_at, mode_set, performed, read_at, write_sent, wrote}
 use Rattle.strm_types.specs.GetQueues.{get_queue, get_gone}
 use Rattle.strm_types.specs.JobControl.{asks_group, group_behind}
 use Rattle.strm_types.specs.Journal.{PlainEntry}

@@ -3,6 +3,7 @@ pub mod JournalEntries
 pub mod StoredCalls
 pub mod Replay
 pub mod GoodDeliveries
+pub mod QueueOrder
 pub mod GoodQueues
 pub mod GoodHeads
 pub mod GoodDrivers
@@ -17,6 +18,7 @@ pub mod EnabledExist
 pub mod EnabledPuts
 pub mod EnabledCalls
 pub mod RestorableSteps
+pub mod BaseSteps
 pub mod Lanes
 pub mod Forgetting
 pub mod PushForgets
@@ -92,6 +94,7 @@ pub mod PlainPuts
 pub mod Samples
 pub mod ReadRows
 pub mod GetRows
+pub mod BasedRows
 pub mod Rows
 pub mod NameRows
 pub mod RefusedRows
@@ -140,6 +143,7 @@ pub mod PutsBook
 pub mod ChangesMake
 pub mod StepBooks
 pub mod Balances
+pub mod Based
 pub mod JournalPlaces
 pub mod LedgerSums
 pub mod RefusedForgets

@@ -1,6 +1,6 @@
 -- What a put in a pair sends on has less before it than what was put, so that deliveries end.
 use Rattle.std.proofs.Common.{ℕ, suc, ◌≡◌, ◌<◌, ◌≤◌, ◌+◌, ◌-◌, Bool, true, false, cond, List, [], ◌∷◌, ◌++◌, length, refl, sym, ap, subst, ◌∙◌, arith}
-use Rattle.std.specs.Prelude.{◌==◌, ◌&&◌, ◌||◌, min, nat_le, nat_lt, Option, None, Some}
+use Rattle.std.specs.Prelude.{◌==◌, ◌&&◌, ◌||◌, min, nat_le, Option, None, Some}
 use Rattle.std.proofs.lemmas.Bool.Decides.{nat_tests}
 use Rattle.strm_types.specs.declared.flushing.FlushAsked.{FlushAsked}
 use Rattle.strm_types.specs.declared.ioctls.Ioc.{Ioc}
@@ -17,7 +17,7 @@ use Rattle.strm_types.specs.Cells.{Cells}
 use Rattle.strm_types.specs.Deliver.{Acted, AreLower, Falls, Parcel, Took, toward}
 use Rattle.strm_types.specs.Drivers.{answered, bottom_across, crosses, driver_across, driver_put, freed, ioctl_put, own_flushed, put_across, put_down, reader_flush, taken_in}
 use Rattle.strm_laws.specs.Earlier.{driver_place, modules_on}
-use Rattle.strm_types.specs.Flushing.{asked_by, flush_bytes, flush_message, nothing_asked, read_flush, is_bare_flush}
+use Rattle.strm_types.specs.Flushing.{asked_by, flush_bytes, flush_message, read_flush, is_bare_flush}
 use Rattle.strm_types.specs.Ioctls.{nak_message, read_ioc}
 use Rattle.strm_types.specs.Heads.{head_put, is_doubled, nak_down, obeyed, turned_round, waits_for_readers, Head}
 use Rattle.strm_types.specs.Message.{Message, has_parts}

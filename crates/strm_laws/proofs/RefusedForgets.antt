@@ -17,7 +17,7 @@ use Rattle.strm_types.specs.declared.needs.Reach.{Reach}
 use Rattle.strm_types.specs.declared.needs.Reach.TheVariants as reaches
 use Rattle.strm_types.specs.declared.refusals.Refusal.TheVariants.{Eagain, Einval, Enxio, Erange}
 use Rattle.strm_types.specs.Events.{Request}
-use Rattle.strm_types.specs.Cells.{AreCells, Cells, plain}
+use Rattle.strm_types.specs.Cells.{AreCells, Cells, plain, tagged}
 use Rattle.strm_types.specs.Message.{is_held}
 use Rattle.strm_types.specs.Gets.{get_refusal}
 use Rattle.strm_types.specs.JobControl.{refusal_behind}
@@ -27,6 +27,8 @@ use Rattle.strm_types.specs.ModuleQueues.{messages_at}
 use Rattle.strm_types.specs.Modules.{may_push, stands}
 use Rattle.strm_types.specs.Names.{is_closed, is_master, is_open, same_module}
 use Rattle.strm_types.specs.PutMsg.{no_parts, put_waits}
+use Rattle.strm_laws.specs.Based.{based}
+use Rattle.strm_laws.specs.Kept.{AreIdle}
 use Rattle.strm_laws.specs.Pushes.{may_stand, named_by}
 use Rattle.strm_types.specs.Queue.{map_messages}
 use Rattle.strm_types.specs.Reads.{read_refusal}
@@ -35,9 +37,11 @@ use Rattle.strm_laws.specs.Refusals.{at_end, goes_down, in_range, is_numbered, i
 use Rattle.strm_types.specs.Refused.{has_no_data, or_else, unless}
 use Rattle.strm_types.specs.Slots.{is_free, result_refusal}
 use Rattle.strm_laws.specs.Stacked.{Module, OfLdterm, OfPtem, OfPckt, map_module, module_name, module_queue}
-use Rattle.strm_laws.specs.State.{State, map_state, opening, stream}
+use Rattle.strm_laws.specs.State.{State, map_state, stream}
 use Rattle.strm_laws.specs.Step.{IsLegal, Step, after}
 use Rattle.strm_laws.specs.Writes.{is_full_below}
+use Rattle.strm_types.proofs.PlainCells.{tagged-cells}
+use Rattle.strm_laws.proofs.Based.{based-forgets}
 use Rattle.strm_laws.proofs.Forgetting.{kind-forgets}
 use Rattle.strm_laws.proofs.ForgettingSteps.{after-forgets, call-forgets, turn-forgets}
 use Rattle.strm_laws.proofs.GetKeeps.{wanted-forgets}
@@ -155,7 +159,7 @@ module _ {C D : Type 0} (f : C → D) where
   pub refusals-forget : (s : State C) (caller : Caller) (asked : Request) → or_else (refused_at_once (map_state f s) caller asked) (refused_by_state (map_state f s) caller asked) ≡ or_else (refused_at_once s caller asked) (refused_by_state s caller asked)
   refusals-forget s caller asked = ap (λ r. or_else r (refused_by_state (map_state f s) caller asked)) (at-once s caller asked) ∙ ap (λ r. or_else (refused_at_once s caller asked) r) (by-state s caller asked)
 
--- a legal journal of bytes is one of bytes with their origin
+-- a journal is legal of bytes exactly where it is of bytes with their origin
 module _ {C : Type 0} (cells : Cells C) (are : AreCells cells) where
   abbrev forgotten : State C → State ℕ
   forgotten s = map_state cells.byte s
@@ -173,10 +177,29 @@ module _ {C : Type 0} (cells : Cells C) (are : AreCells cells) where
     leads = refl;
   }
 
-  legal-same : (s : State C) (entries : List PlainEntry) → IsLegal plain (forgotten s) entries → IsLegal cells s entries
-  legal-same s [] legal = tt
-  legal-same s (entry ∷ entries) legal =
-      (step-same s entry legal.0, legal-same (after cells s entry) entries (subst (λ t. IsLegal plain t entries) (after-forgets cells are s entry) legal.1))
+  step-back : (s : State C) (entry : PlainEntry) → Step cells s entry (after cells s entry) → Step plain (forgotten s) entry (after plain (forgotten s) entry)
+  step-back s (Called caller asked answer) step = record {
+    allowed = refusals-forget cells.byte s caller asked ∙ step.allowed;
+    answered = ap (λ t. t.answer) (call-forgets cells are caller asked s) ∙ step.answered;
+    leads = refl;
+  }
+  step-back s (Turned name turn) step = record {
+    enabled = step.enabled;
+    in_range = step.in_range;
+    answered = ap (λ t. t.turn) (turn-forgets cells are name turn s) ∙ step.answered;
+    leads = refl;
+  }
 
-  pub legal-with-origins : (entries : List PlainEntry) → IsLegal plain opening entries → IsLegal cells opening entries
-  legal-with-origins entries legal = legal-same opening entries legal
+  pub legal-with-origins : (s : State C) (entries : List PlainEntry) → IsLegal plain (forgotten s) entries → IsLegal cells s entries
+  legal-with-origins s [] legal = tt
+  legal-with-origins s (entry ∷ entries) legal =
+      (step-same s entry legal.0, legal-with-origins (after cells s entry) entries (subst (λ t. IsLegal plain t entries) (after-forgets cells are s entry) legal.1))
+
+  pub legal-without : (s : State C) (entries : List PlainEntry) → IsLegal cells s entries → IsLegal plain (forgotten s) entries
+  legal-without s [] legal = tt
+  legal-without s (entry ∷ entries) legal =
+      (step-back s entry legal.0, subst (λ t. IsLegal plain t entries) (sym (after-forgets cells are s entry)) (legal-without (after cells s entry) entries legal.1))
+
+-- so a journal that is legal from a base is so with the origins of the base
+pub legal-from : (base : State ℕ) (entries : List PlainEntry) → AreIdle base → IsLegal plain base entries → IsLegal tagged (based base) entries
+legal-from base entries idle legal = legal-with-origins tagged tagged-cells (based base) entries (subst (λ s. IsLegal plain s entries) (sym (based-forgets base idle)) legal)

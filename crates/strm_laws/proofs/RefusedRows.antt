@@ -210,11 +210,11 @@ turning = refl
 
 -- pairs: as they are made, and what they refuse by the blocks that are free
 
-pub new-pair-is-empty : new_pair (sizes 40 3 9) ≡ record { state = opening; base = opening; journal = []; limits = sizes 40 3 9; free = free 40 40; fates = no_fates }
+pub new-pair-is-empty : new_pair (sizes 40 3 9) ≡ record { state = opening; base = opening; journal = []; limits = sizes 40 3 9; free = free 40 40; fates = no_fates; base_fates = no_fates; past = [] }
 new-pair-is-empty = refl
 
 abbrev pair : ℕ → ℕ → PairState
-pair mblks dblks = record { state = state Open Open false; base = opening; journal = []; limits = sizes 40 3 9; free = free mblks dblks; fates = no_fates }
+pair mblks dblks = record { state = state Open Open false; base = opening; journal = []; limits = sizes 40 3 9; free = free mblks dblks; fates = no_fates; base_fates = no_fates; past = [] }
 
 pub pair-turns-with-eight-blocks : map (λ p. queue_refused p (driver_of Master)) (pair 8 8 ∷ pair 7 8 ∷ pair 8 7 ∷ []) ≡ None ∷ Some Enosr ∷ Some Enosr ∷ []
 pair-turns-with-eight-blocks = refl

@@ -1,6 +1,6 @@
 -- Replaying longer journals, and what a call or a turn that isn't refused is.
 use Rattle.std.proofs.Common.{◌≡◌, Bool, true, false, List, [], ◌∷◌, ◌++◌, length, refl, sym, ap, subst, ◌∙◌}
-use Rattle.std.specs.Prelude.{Option, None, Some, ◌+◌, not, ◌||◌}
+use Rattle.std.specs.Prelude.{Option, None, Some, Result, Err, IsOk, MatchOption, ◌+◌, not, ◌||◌}
 use Rattle.strm_types.specs.declared.events.Caller.{Caller}
 use Rattle.strm_types.specs.declared.limits.Config.{Config}
 use Rattle.strm_types.specs.declared.names.QueueName.{QueueName}
@@ -43,6 +43,14 @@ module _ {C : Type 0} (cells : Cells C) where
   pub kept-legal : (base s t : State C) (es : List PlainEntry) (e : PlainEntry) → s ≡ replay cells base es → Step cells s e t → IsLegal cells base es → IsLegal cells base (es ++ e ∷ [])
   kept-legal base s t es e is step legal =
       legal-push base es e legal (subst (λ q. Step cells q e (after cells q e)) is (subst (λ u. Step cells s e u) (sym (after-step s t e step)) step))
+
+-- where a call was refused it was for the reason that there is, and all is as it was
+pub refused-by : {A K : Type 0} (o : Option Refusal) (x : Result A Refusal) → MatchOption o (IsOk x) (λ r. (x ≡ Err r) × K) → (r : Refusal) → x ≡ Err r → (o ≡ Some r) × K
+refused-by {A} None x is r err = let e : Result A Refusal = Err r in let wrong : IsOk e = subst (λ y. IsOk y) err is in absurd (cc)
+refused-by (Some z) x is r err = (ap (λ y. Some y) (same-reason z r (sym is.0 ∙ err)), is.1)
+  where
+    same-reason : {A : Type 0} (z r : Refusal) → (let e : Result A Refusal = Err z in e) ≡ Err r → z ≡ r
+    same-reason z r e = cc
 
 -- a refusal that doesn't come
 pub unless-none : (b : Bool) (r : Refusal) → unless b r ≡ None → b ≡ true

@@ -16,7 +16,7 @@ nothing-there name zero = refl
 nothing-there name (suc at) = let rest = nothing-there name at in omega (arith, rest)
 
 -- with one more on top
-top-times : (name n : ModuleName) (ns : List ModuleName) (at : ℕ) → times_there name (n ∷ ns) (suc at) ≡ cond (same_module n name) 1 0 + times_there name ns at
+pub top-times : (name n : ModuleName) (ns : List ModuleName) (at : ℕ) → times_there name (n ∷ ns) (suc at) ≡ cond (same_module n name) 1 0 + times_there name ns at
 top-times name n ns zero = refl
 top-times name n ns (suc at) = let rest = top-times name n ns at in omega (arith, rest)
 

@@ -1,5 +1,5 @@
--- Behind each step of a pair nothing of a turn is under way at any module, and so it is in a new one.
-use Rattle.std.proofs.Common.{List, ◌∷◌, refl}
+-- Behind each step of a pair, and each legal journal, nothing of a turn is under way at any module, and so it is in a new one.
+use Rattle.std.proofs.Common.{List, [], ◌∷◌, refl}
 use Rattle.strm_types.specs.declared.names.ModuleName.{ModuleName}
 use Rattle.strm_types.specs.declared.names.ModuleName.TheVariants as names
 use Rattle.strm_types.specs.declared.names.Side.{Side}
@@ -8,7 +8,7 @@ use Rattle.strm_types.specs.Journal.{PlainEntry}
 use Rattle.strm_laws.specs.Kept.{AreIdle}
 use Rattle.strm_laws.specs.Stacked.{Module}
 use Rattle.strm_laws.specs.State.{State, Stream, opening}
-use Rattle.strm_laws.specs.Step.{Step}
+use Rattle.strm_laws.specs.Step.{IsLegal, Step, after, replay}
 use Rattle.strm_laws.proofs.TurnHolds.{Turns, turn-holds}
 use Rattle.strm_laws.proofs.ModuleTurnKeeps.{module_turned-rests}
 use Rattle.strm_laws.proofs.ModulesIdle.{AllIdle, delivered-idle}
@@ -47,6 +47,10 @@ module _ {C : Type 0} where
 
   pub step-idle : (cells : Cells C) (old new : State C) (entry : PlainEntry) → AreIdle old → Step cells old entry new → AreIdle new
   step-idle cells old new entry idle step = step-each Idle AllIdle changes cells (delivered-idle cells) (turn-holds AreIdle turns cells) old new entry idle step
+
+  pub idle-behind : (cells : Cells C) (s : State C) (entries : List PlainEntry) → AreIdle s → IsLegal cells s entries → AreIdle (replay cells s entries)
+  idle-behind cells s [] idle legal = idle
+  idle-behind cells s (entry ∷ entries) idle legal = let next = after cells s entry in idle-behind cells next entries (step-idle cells s next entry idle legal.0) legal.1
 
 pub opening-idle : (C : Type 0) → AreIdle {C = C} opening
 opening-idle C = each-side (Idle {C = C}) opening.ends tt tt

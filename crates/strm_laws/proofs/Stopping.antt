@@ -1,5 +1,5 @@
 -- A call that isn't refused stops its caller, and then changes nothing, or it is carried out: what holds of both holds of it.
-use Rattle.std.proofs.Common.{◌≡◌, refl, sym, ap, subst, ◌∙◌}
+use Rattle.std.proofs.Common.{◌≡◌, refl}
 use Rattle.std.specs.Prelude.{Option, None, Some}
 use Rattle.strm_types.specs.declared.answers.Answer.TheVariants.{Stop}
 use Rattle.strm_types.specs.declared.events.Caller.{Caller}

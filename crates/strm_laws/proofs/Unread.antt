@@ -1,5 +1,5 @@
 -- A side that isn't open has nothing for its readers, from the opening on.
-use Rattle.std.proofs.Common.{◌≡◌, false, List, [], refl}
+use Rattle.std.proofs.Common.{◌≡◌, false, List, [], ◌∷◌, refl}
 use Rattle.strm_types.specs.declared.answers.Turn.{Turn}
 use Rattle.strm_types.specs.declared.names.QueueName.{QueueName}
 use Rattle.strm_types.specs.declared.names.Side.{Side}
@@ -12,7 +12,7 @@ use Rattle.strm_laws.specs.Kept.{NothingUnread}
 use Rattle.strm_laws.specs.Puts.{delivered}
 use Rattle.strm_laws.specs.Stacked.{Module}
 use Rattle.strm_laws.specs.State.{State, Stream, opening}
-use Rattle.strm_laws.specs.Step.{Step}
+use Rattle.strm_laws.specs.Step.{IsLegal, Step, after, replay}
 use Rattle.strm_laws.specs.Turns.{turned}
 use Rattle.strm_types.proofs.BySide.{each-side}
 use Rattle.strm_laws.proofs.EachStream.{Changes, each-stays, each-turns, step-each}
@@ -53,3 +53,7 @@ module _ {C : Type 0} where
 
   pub step-unread : (cells : Cells C) (old new : State C) (entry : PlainEntry) → NothingUnread old → Step cells old entry new → NothingUnread new
   step-unread cells old new entry unread step = step-each Unread Any changes cells (delivered-unread cells) (turn-unread cells) old new entry unread step
+
+  pub unread-behind : (cells : Cells C) (s : State C) (entries : List PlainEntry) → NothingUnread s → IsLegal cells s entries → NothingUnread (replay cells s entries)
+  unread-behind cells s [] unread legal = unread
+  unread-behind cells s (entry ∷ entries) unread legal = let next = after cells s entry in unread-behind cells next entries (step-unread cells s next entry unread legal.0) legal.1

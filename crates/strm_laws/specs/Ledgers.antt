@@ -1,6 +1,6 @@
 -- The ledger of a direction: how many bytes were written and made there, how many stand on its queues and in its unfinished lines, and how
 -- many have gone by each rule; and in how many places a single byte is (STREAMS Programming Guide, "Message Queues"; termio(7I)).
-use Rattle.std.specs.Prelude.{ℕ, ◌+◌, ◌<◌, ◌^◌, ◌==◌, nat_lt, Bool, true, false, ◌&&◌, List, [], ◌∷◌, ◌++◌, length, sum_by}
+use Rattle.std.specs.Prelude.{ℕ, ◌≡◌, ◌+◌, ◌<◌, ◌^◌, ◌==◌, nat_le, nat_lt, Bool, true, false, ◌&&◌, List, [], ◌∷◌, ◌++◌, length, sum_by}
 use Rattle.strm_types.specs.declared.ledger.Ledger.{Ledger}
 use Rattle.strm_types.specs.declared.names.Dir.{Dir}
 use Rattle.strm_types.specs.declared.names.Dir.TheVariants.{MasterToSlave, SlaveToMaster}
@@ -8,6 +8,8 @@ use Rattle.strm_types.specs.declared.names.Place.TheVariants as places
 use Rattle.strm_types.specs.declared.names.QueueName.{QueueName}
 use Rattle.strm_types.specs.declared.names.Way.TheVariants.{Up, Down}
 use Rattle.strm_types.specs.declared.rules.Fates.{Fates}
+use Rattle.strm_types.specs.declared.rules.TheConstants.{RULES}
+use Rattle.strm_laws.specs.Based.{based, cells_in}
 use Rattle.strm_types.specs.Cells.{Cells, Origin, Written, Made, Base, Tagged, tagged}
 use Rattle.strm_types.specs.Deliver.{Fate}
 use Rattle.strm_types.specs.Journal.{PlainEntry}
@@ -15,10 +17,9 @@ use Rattle.strm_laws.specs.Kept.{gone, state_weight}
 use Rattle.strm_types.specs.Names.{other, side_from}
 use Rattle.strm_laws.specs.Places.{weight_gone}
 use Rattle.strm_laws.specs.Pushes.{messages_on}
-use Rattle.strm_types.specs.Queue.{weight}
 use Rattle.strm_types.specs.Rules.{fates_of}
 use Rattle.strm_laws.specs.Stacked.{module_line}
-use Rattle.strm_laws.specs.State.{State, book, opening, stream}
+use Rattle.strm_laws.specs.State.{State, book, stream}
 use Rattle.strm_laws.specs.Step.{after, replay}
 
 abbrev pub same_dir : Dir → Dir → Bool
@@ -36,7 +37,7 @@ queues_in dir =
 module _ {C : Type 0} where
   -- how many cells stand on a queue, and on all queues of a direction
   abbrev pub cells_on : QueueName → State C → ℕ
-  cells_on name s = weight (λ c. true) (messages_on name s)
+  cells_on name s = cells_in (messages_on name s)
 
   abbrev pub queued : Dir → State C → ℕ
   queued dir s = sum_by (λ name. cells_on name s) (queues_in dir)
@@ -44,6 +45,10 @@ module _ {C : Type 0} where
   -- how many stand in the unfinished lines of a direction, which are its reader's
   abbrev pub inline : Dir → State C → ℕ
   inline dir s = sum_by (λ p. length (module_line p)) (stream (other (side_from dir)) s).modules
+
+-- how many bytes of a direction stood there when a journal began that has this state as its base
+abbrev pub base_count : Dir → State ℕ → ℕ
+base_count dir base = queued dir base + inline dir base
 
 -- the ledger of a direction, of a pair in a state of which so much has gone
 abbrev pub ledger_of : Dir → State ℕ → Fates → Ledger
@@ -54,6 +59,12 @@ ledger_of dir s fates = record {
   inline = inline dir s;
   fates = fates_of dir fates;
 }
+
+-- There is a count for each rule, and the numbers agree: what was written and made is what stands on the queues and in the lines of the
+-- direction, and what has gone there by each rule.
+pub record Balanced (dir : Dir) (s : State ℕ) (fates : Fates) : Type 0 where
+  pub rules : length (fates_of dir fates) ≡ RULES
+  pub agree : let l = ledger_of dir s fates in l.written + l.made ≡ l.queued + (l.inline + sum_by (λ n. n) l.fates)
 
 -- what entries let go from a state on, one after the other, and make
 abbrev pub all_gone : {C : Type 0} → Cells C → State C → List PlainEntry → List (Fate C)
@@ -72,25 +83,27 @@ direction_in (Written dir n) = dir
 direction_in (Made dir n) = dir
 direction_in (Base dir n) = dir
 
--- whether a byte of this origin was booked so far
-abbrev pub is_booked : {C : Type 0} → Origin → State C → Bool
-is_booked (Written dir n) s = nat_lt n (book dir s).written
-is_booked (Made dir n) s = nat_lt n (book dir s).made
-is_booked (Base dir n) s = false
+-- Whether a byte of this origin was booked in a journal from a base, so far as a state's books say. The numbers of what is written and made go on
+-- as the ledger counts them, from the base's books on; what stood there at the base has the numbers below its count.
+abbrev pub is_booked : {C : Type 0} → Origin → State ℕ → State C → Bool
+is_booked (Written dir n) base s = nat_le (book dir base).written n && nat_lt n (book dir s).written
+is_booked (Made dir n) base s = nat_le (book dir base).made n && nat_lt n (book dir s).made
+is_booked (Base dir n) base s = nat_lt n (base_count dir base)
 
--- in how many places the byte of an origin is behind a journal: on queues, in lines, and among what has gone
-abbrev pub places_of : Origin → List PlainEntry → ℕ
-places_of origin entries =
+-- in how many places the byte of an origin is behind a journal from a base: on queues, in lines, and among what has gone
+abbrev pub places_of : Origin → State ℕ → List PlainEntry → ℕ
+places_of origin base entries =
     let test = λ (direction : Dir) (c : Tagged). same_origin c.origin origin in
-    state_weight test (replay tagged opening entries) + weight_gone test (all_gone tagged opening entries)
+    state_weight test (replay tagged (based base) entries) + weight_gone test (all_gone tagged (based base) entries)
 
 -- in how many of the direction in which it was booked
-abbrev pub own_places_of : Origin → List PlainEntry → ℕ
-own_places_of origin entries =
+abbrev pub own_places_of : Origin → State ℕ → List PlainEntry → ℕ
+own_places_of origin base entries =
     let test = λ (direction : Dir) (c : Tagged). same_dir direction (direction_in origin) && same_origin c.origin origin in
-    state_weight test (replay tagged opening entries) + weight_gone test (all_gone tagged opening entries)
+    state_weight test (replay tagged (based base) entries) + weight_gone test (all_gone tagged (based base) entries)
 
--- No more than 2^64 bytes were written and made in a direction, so that no count of a ledger goes round: what may add to a book wants that it
--- isn't full.
-abbrev pub FewBooked : {C : Type 0} → State C → Type 0
-FewBooked s = (dir : Dir) → (book dir s).written + (book dir s).made < 2 ^ 64
+-- Fewer than 2^63 bytes were written in each direction, and fewer than 2^63 made, so that no count of a ledger goes round: what may add to a
+-- book wants that it isn't full.
+pub record FewBooked {C : Type 0} (s : State C) : Type 0 where
+  pub written : (dir : Dir) → (book dir s).written < 2 ^ 63
+  pub made : (dir : Dir) → (book dir s).made < 2 ^ 63

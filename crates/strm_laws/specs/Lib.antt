@@ -26,4 +26,6 @@ pub mod TurnCalls
 pub mod Earlier
 pub mod Pushes
 pub mod Past
+pub mod Based
 pub mod Ledgers
+pub mod Bases

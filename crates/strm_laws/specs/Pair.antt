@@ -1,6 +1,8 @@
 -- A pair as its callers see it, and what a call or a turn adds to it.
-use Rattle.std.specs.Prelude.{◌≡◌, ℕ, List, [], ◌∷◌, ◌++◌, Option}
+use Rattle.std.specs.Prelude.{◌≡◌, ℕ, zero, suc, List, [], ◌∷◌, ◌++◌, Option, None, Some, slice_get}
 use Rattle.strm_types.specs.declared.limits.Config.{Config}
+use Rattle.strm_types.specs.declared.answers.Turn.{Turn}
+use Rattle.strm_types.specs.declared.entries.Entry.TheVariants.{Turned}
 use Rattle.strm_types.specs.declared.events.Caller.{Caller}
 use Rattle.strm_types.specs.declared.job_control.Verdict.{Verdict}
 use Rattle.strm_types.specs.declared.names.QueueName.{QueueName}
@@ -18,11 +20,13 @@ use Rattle.strm_types.specs.Deliver.{tallied}
 use Rattle.strm_types.specs.Rules.{no_fates}
 use Rattle.strm_types.specs.declared.rules.Fates.{Fates}
 
--- A pair: its plain state, the state that its journal began at, the journal, the sizes that it was made with, how many
--- blocks are free, and how many bytes have gone by each rule since the journal began.
+-- A pair: its plain state, the base at which its journal begins, that is a state and how many bytes had gone by each rule there, the journal,
+-- the sizes that it was made with, how many blocks are free, and how many bytes have gone by each rule since it was made.
 pub record PairState : Type 0 where
   pub state : State ℕ
   pub base : State ℕ
+  pub base_fates : Fates
+  pub past : List PlainEntry
   pub journal : List PlainEntry
   pub limits : Config
   pub free : Free
@@ -33,11 +37,17 @@ abbrev pub new_pair : Config → PairState
 new_pair limits = record {
   state = opening;
   base = opening;
+  base_fates = no_fates;
+  past = [];
   journal = [];
   limits = limits;
   free = record { mblks = limits.mblks; dblks = limits.dblks };
   fates = no_fates;
 }
+
+-- a pair whose journal begins anew at the state that it has; all else stays
+abbrev pub restarted : PairState → PairState
+restarted p = record p { base = p.state; base_fates = p.fates; past = p.past ++ p.journal; journal = [] }
 
 -- the refusal of a call on a pair, if any
 abbrev pub call_refused : PairState → Caller → Request → Option Refusal
@@ -58,4 +68,26 @@ pub record AddsEntry (old new : PairState) (entry : PlainEntry) : Type 0 where
   pub step : Step plain old.state entry new.state
   pub fates : new.fates ≡ tallied (gone plain old.state entry) old.fates
   pub base : new.base ≡ old.base
+  pub base_fates : new.base_fates ≡ old.base_fates
+  pub past : new.past ≡ old.past
   pub limits : new.limits ≡ old.limits
+
+-- the refusal of the next turn, that of the queue that was enabled first, if there is one
+abbrev pub refused_of : PairState → Option QueueName → Option Refusal
+refused_of p None = None
+refused_of p (Some name) = queue_refused p name
+
+abbrev pub next_refused : PairState → Option Refusal
+next_refused p = refused_of p (slice_get p.state.enabled 0)
+
+-- So many turns were made, each of the queue that was enabled first, and nothing else (STREAMS Programming Guide, "Service Procedures": the
+-- scheduler calls those of enabled queues in the order in which they were enabled).
+pub record TurnOfFirst (old new : PairState) : Type 0 where
+  pub name : QueueName
+  pub turn : Turn
+  pub first : slice_get old.state.enabled 0 ≡ Some name
+  pub adds : AddsEntry old new (Turned name turn)
+
+abbrev pub RanTurns : ℕ → PairState → PairState → Type 0
+RanTurns zero old new = new ≡ old
+RanTurns (suc n) old new = (mid : PairState) × (RanTurns n old mid × TurnOfFirst mid new)

@@ -33,7 +33,7 @@ use Rattle.strm_types.specs.Ldterms.{Ldterm as TheLdterm, waits_there}
 use Rattle.strm_types.specs.Message.{Message, is_part, is_high_priority}
 use Rattle.strm_types.specs.Names.{IsOnce, is_master, is_open}
 use Rattle.strm_types.specs.Options.{options_in}
-use Rattle.strm_types.specs.Queue.{Flow, Queue}
+use Rattle.strm_types.specs.Queue.{Flow, IsOrdered, Queue}
 use Rattle.strm_laws.specs.Kept.{AreIdle}
 use Rattle.strm_laws.specs.StackCosts.{EachOnce, Stands, stands_of, stands_on}
 use Rattle.strm_laws.specs.Within.{AreWithin}
@@ -87,9 +87,10 @@ pub record AreMarks (flow : Flow) : Type 0 where
   pub order : flow.low ≤ flow.high
   pub bits : flow.high < 2 ^ 32
 
--- a queue, by the kinds that stand there
+-- a queue, by the kinds that stand there; its messages are in order of rank (putq(9F))
 pub record GoodQueue {C : Type 0} (stands : MsgKind → Bool) (q : Queue C) : Type 0 where
   pub messages : AllByRecursion (λ m. StandsOn stands m) q.messages
+  pub order : IsOrdered q.messages
   pub marks : AllByRecursion AreMarks q.flows
 
 abbrev pub is_ldterm : ModuleName → Bool

@@ -1,9 +1,14 @@
 //! What an image of a pair may hold, every pair has: each reason for which an image would be refused is impossible of the states of a legal
 //! journal. Each law is the contract of a function that does nothing, and holds of bytes and of bytes with their origin alike.
 
-ghost use Rattle.std.specs.Prelude.{◌≡◌, List};
-ghost use Rattle.strm_types.specs.Cells.{Cells};
+ghost use Rattle.std.specs.Prelude.{◌≡◌, ℕ, List};
+ghost use Rattle.strm_types.specs.declared.rules.Fates.{Fates};
+ghost use Rattle.strm_types.specs.Cells.{Cells, plain};
 ghost use Rattle.strm_types.specs.Journal.{PlainEntry};
+ghost use Rattle.strm_types.specs.Rules.{no_fates};
+ghost use Rattle.strm_laws.specs.Bases.{IsBase};
+ghost use Rattle.strm_laws.specs.Kept.{told_by};
+ghost use Rattle.strm_laws.specs.Ledgers.{FewBooked};
 ghost use Rattle.strm_laws.specs.Restorable.{AreWithinEntries, IsWithinEntry, Restorable};
 ghost use Rattle.strm_laws.specs.State.{State, opening};
 ghost use Rattle.strm_laws.specs.Step.{IsLegal, Step, replay};
@@ -13,4 +18,12 @@ pub fn restorable_stays<C>()
     ensures opening { (s : State C) → s ≡ opening → Restorable s }
     ensures step { (cells : Cells C) (old new : State C) (entry : PlainEntry) → IsWithinEntry entry → Restorable old → Step cells old entry new → Restorable new }
     ensures journal { (cells : Cells C) (s : State C) (entries : List PlainEntry) → AreWithinEntries entries → Restorable s → IsLegal cells s entries → Restorable (replay cells s entries) }
+{}
+
+/// A pair as it is made is a base, and so is each state of a legal journal that begins at one, whose calls name bands that queues have, as
+/// long as no book is past its end. So a journal can begin anew at any of them.
+pub fn bases_stay()
+    ensures opening { IsBase opening no_fates }
+    ensures journal { (s : State ℕ) (fates : Fates) (es : List PlainEntry) → IsBase s fates → AreWithinEntries es → IsLegal plain s es →
+        FewBooked (replay plain s es) → IsBase (replay plain s es) (told_by plain s es fates) }
 {}

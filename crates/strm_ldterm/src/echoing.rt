@@ -165,7 +165,7 @@ pub(crate) fn stand_run<B: Blocks>(
 /// and that enables the queue as `putq(9F)` says. Where band 0 is full before, none of the echo stands, and all of it is told as gone
 /// (EchoFull). It takes one block of each kind at most for each begun 256 bytes. The cost is a step for each byte of the echo, and for
 /// each block of the turn's echo.
-pub(crate) fn echo<B: Blocks>(
+pub fn echo<B: Blocks>(
     ldterm: &mut Ldterm,
     store: &mut B,
     here: Spot,

@@ -35,16 +35,13 @@ mod wholes;
 
 pub use clearing::clear;
 pub use echoes::{ECHO_MAX, Echo, RUN_MAX, echo_of};
+pub use echoing::echo;
 pub use ending::end_turn;
 pub use ldterm::{Ldterm, Stage, Tables, name};
 pub use lines::Line;
 pub use posts::post;
 pub use putting::put;
 pub use queues::{asks, first_size, is_full, sizes};
+pub use sending::{end_file, end_line, stop};
 pub use serving::serve;
 pub use strokes::{restarts, stroke_of};
-
-#[cfg(test)]
-mod sent_tests;
-#[cfg(test)]
-mod tests;

@@ -49,7 +49,7 @@ pub(crate) fn make_line<B: Blocks>(store: &mut B, line: &[u8], ending: &[u8]) ->
 }
 
 /// STOP: output is stopped, and an M_STOP goes down, unless it was stopped already. It takes a block at most.
-pub(crate) fn stop<B: Blocks>(
+pub fn stop<B: Blocks>(
     ldterm: &mut Ldterm,
     store: &mut B,
     here: Spot,
@@ -99,7 +99,7 @@ fn send_line<B: Blocks>(ldterm: &mut Ldterm, store: &mut B, here: Spot, ending: 
 }
 
 /// EOF: the line goes up as M_DATA, also an empty one, and the key itself goes by a rule of its own. It takes a block.
-pub(crate) fn end_file<B: Blocks>(
+pub fn end_file<B: Blocks>(
     ldterm: &mut Ldterm,
     store: &mut B,
     here: Spot,
@@ -121,12 +121,7 @@ pub(crate) fn end_file<B: Blocks>(
 }
 
 /// A delimiter: the line goes up with it as M_DATA, at most 256 bytes in one block.
-pub(crate) fn end_line<B: Blocks>(
-    ldterm: &mut Ldterm,
-    store: &mut B,
-    here: Spot,
-    byte: u8,
-) -> Outbox
+pub fn end_line<B: Blocks>(ldterm: &mut Ldterm, store: &mut B, here: Spot, byte: u8) -> Outbox
     requires held { IsHeld (B.value store.old) ldterm.old }
     requires kept { AreIn (B.value store.old) (λ _. 0) (keeps ldterm.old) }
     requires inside { 0 < here.at }

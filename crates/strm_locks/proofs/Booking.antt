@@ -1,5 +1,5 @@
 -- What an entry adds to the book of its pair, and what closing the book tells.
-use Rattle.std.proofs.Common.{◌≡◌, ℕ, zero, suc, ◌+◌, ◌<◌, min, List, [], ◌∷◌, ◌++◌, length, sym, refl, ap, ◌∙◌, subst, arith, length-append}
+use Rattle.std.proofs.Common.{◌≡◌, ℕ, zero, suc, ◌+◌, ◌<◌, min, List, [], ◌∷◌, ◌++◌, length, sym, refl, ap, ◌∙◌, subst, arith, append_assoc, length-append}
 use Rattle.std.specs.Prelude.{Result, Ok, Err, MatchOption, IsOk, IfOk, Option, None, Some, slice_index_or}
 use Rattle.strm_types.specs.declared.answers.Turn.{Turn}
 use Rattle.strm_types.specs.declared.entries.Entry.TheVariants.{Called, Turned}
@@ -10,12 +10,13 @@ use Rattle.strm_types.specs.declared.refusals.Refusal.{Refusal}
 use Rattle.strm_types.specs.Events.{Request, Reply}
 use Rattle.strm_types.specs.Journal.{PlainEntry}
 use Rattle.strm_laws.specs.Pair.{PairState, AddsEntry, call_refused}
+use Rattle.strm_laws.proofs.Replay.{refused-by}
 use Rattle.strm_locks.specs.declared.end.TheConstants.{ALL_PARTS}
 use Rattle.strm_locks.specs.declared.held.Settled.{Settled}
 use Rattle.strm_locks.specs.declared.told.Told.{Told}
 use Rattle.strm_locks.specs.declared.view.View.{View}
 use Rattle.strm_locks.specs.Tallies.{Tallies, calls_in}
-use Rattle.strm_locks.specs.Books.{pick, each, weigh, IsBelow, IsCounted, Kept, book_of, book_with, told_of, tally_of, Adds}
+use Rattle.strm_locks.specs.Books.{pick, each, weigh, IsBelow, IsCounted, Kept, book_of, book_with, history_of, told_of, tally_of, Adds}
 use Rattle.strm_locks.specs.Rules.{Knows}
 use Rattle.strm_locks.specs.Settles.{IsClosed, IsSettled}
 use Rattle.strm_locks.specs.Shares.{Did, Outcome, entry_of}
@@ -32,14 +33,19 @@ calls-turned [] name turn = refl
 calls-turned (Called c a r ∷ es) name turn = ap (λ xs. Called c a r ∷ xs) (calls-turned es name turn)
 calls-turned (Turned n t ∷ es) name turn = calls-turned es name turn
 
+-- all entries of a pair that gains one
+entered : (p q : PairState) (e : PlainEntry) → AddsEntry p q e → q.past ++ q.journal ≡ (p.past ++ p.journal) ++ e ∷ []
+entered p q e adds = ap (λ es. es ++ q.journal) adds.past ∙ ap (λ es. p.past ++ es) adds.journal ∙ sym (append_assoc p.past p.journal (e ∷ []))
+
 module _ (p q : PairState) where
   module _ (caller : Caller) (asked : Request) (answer : Reply) (adds : AddsEntry p q (Called caller asked answer)) where
-    longer : calls_in q.journal ≡ calls_in p.journal ++ Called caller asked answer ∷ []
-    longer = ap calls_in adds.journal ∙ calls-called p.journal caller asked answer
+    longer : history_of q ≡ history_of p ++ Called caller asked answer ∷ []
+    longer =
+        ap (λ es. calls_in es) (entered p q (Called caller asked answer) adds) ∙ calls-called (p.past ++ p.journal) caller asked answer
 
-    pub counts-on : (calls : ℕ) → IsCounted calls (calls_in p.journal) → IsCounted (min (calls + 1) 18446744073709551615) (calls_in q.journal)
+    pub counts-on : (calls : ℕ) → IsCounted calls (history_of p) → IsCounted (min (calls + 1) 18446744073709551615) (history_of q)
     counts-on calls is =
-        let long : length (calls_in q.journal) ≡ length (calls_in p.journal) + 1 = ap (λ (xs : List PlainEntry). length xs) longer ∙ length-append (calls_in p.journal) (Called caller asked answer ∷ []) in
+        let long : length (history_of q) ≡ length (history_of p) + 1 = ap (λ (xs : List PlainEntry). length xs) longer ∙ length-append (history_of p) (Called caller asked answer ∷ []) in
         omega (arith, is, long)
 
     pub adds-call : (calls left : ℕ) → Tallies p q (Called caller asked answer) → Adds (book_of calls p left) (Called caller asked answer) (book_of (min (calls + 1) 18446744073709551615) q left)
@@ -52,10 +58,10 @@ module _ (p q : PairState) where
         bytes (suc (suc (suc i))) = tally.read SlaveToMaster
 
   module _ (name : QueueName) (turn : Turn) (adds : AddsEntry p q (Turned name turn)) where
-    as_long : calls_in q.journal ≡ calls_in p.journal
-    as_long = ap calls_in adds.journal ∙ calls-turned p.journal name turn
+    as_long : history_of q ≡ history_of p
+    as_long = ap (λ es. calls_in es) (entered p q (Turned name turn) adds) ∙ calls-turned (p.past ++ p.journal) name turn
 
-    counts-still : (calls : ℕ) → IsCounted calls (calls_in p.journal) → IsCounted calls (calls_in q.journal)
+    counts-still : (calls : ℕ) → IsCounted calls (history_of p) → IsCounted calls (history_of q)
     counts-still calls is = subst (IsCounted calls) (sym as_long) is
 
     book-still : (calls left : ℕ) → Tallies p q (Turned name turn) → book_of calls q left ≡ book_of calls p left
@@ -67,14 +73,6 @@ module _ (p q : PairState) where
         at (suc (suc zero)) = omega (arith, tally.written SlaveToMaster)
         at (suc (suc (suc zero))) = omega (arith, tally.read MasterToSlave)
         at (suc (suc (suc (suc i)))) = omega (arith, tally.read SlaveToMaster)
-
--- where a call was refused it was for the reason that there is, and all is as it was
-pub refused-by : {A K : Type 0} (o : Option Refusal) (x : Result A Refusal) → MatchOption o (IsOk x) (λ r. (x ≡ Err r) × K) → (r : Refusal) → x ≡ Err r → (o ≡ Some r) × K
-refused-by {A} None x is r err = let e : Result A Refusal = Err r in let wrong : IsOk e = subst (λ y. IsOk y) err is in absurd (cc)
-refused-by (Some z) x is r err = (ap (λ y. Some y) (same-reason z r (sym is.0 ∙ err)), is.1)
-  where
-    same-reason : {A : Type 0} (z r : Refusal) → (let e : Result A Refusal = Err z in e) ≡ Err r → z ≡ r
-    same-reason z r e = cc
 
 -- the same, said of what follows from that
 pub refused-map : (A K L : Type 0) (B : Refusal → Type 0) (o p : Option Refusal) → o ≡ p → (K → L) → MatchOption o A (λ r. B r × K) → MatchOption p A (λ r. B r × L)
@@ -99,14 +97,14 @@ answered A K L o p x y is same m = let e : Result A Refusal = Ok y in subst (λ 
 -- a turn, refused or not, leaves the number of calls and the book
 module _ (p q : PairState) (name : QueueName) (x : Result Turn Refusal) (calls left : ℕ) where
   abbrev Stays : Type 0
-  Stays = (IsCounted calls (calls_in p.journal) → IsCounted calls (calls_in q.journal)) × (book_of calls q left ≡ book_of calls p left)
+  Stays = (IsCounted calls (history_of p) → IsCounted calls (history_of q)) × (book_of calls q left ≡ book_of calls p left)
 
   pub turn-still : (o : Option Refusal) → MatchOption o (IsOk x) (λ r. (x ≡ Err r) × (q ≡ p)) → IfOk x (λ t. AddsEntry p q (Turned name t)) → IfOk x (λ t. Tallies p q (Turned name t)) → Stays
   turn-still o refused adds tally = at x refl adds tally
     where
       at : (y : Result Turn Refusal) → x ≡ y → IfOk y (λ t. AddsEntry p q (Turned name t)) → IfOk y (λ t. Tallies p q (Turned name t)) → Stays
       at (Ok t) is adds tally = (counts-still p q name t adds calls, book-still p q name t adds calls left tally)
-      at (Err r) is adds tally = let same : q ≡ p = (refused-by o x refused r is).1 in (subst (λ z. IsCounted calls (calls_in z.journal)) (sym same), ap (λ z. book_of calls z left) same)
+      at (Err r) is adds tally = let same : q ≡ p = (refused-by o x refused r is).1 in (subst (λ z. IsCounted calls (history_of z)) (sym same), ap (λ z. book_of calls z left) same)
 
 -- what a call did, by what it ensures
 module _ (a b : Kept) (caller : Caller) (asked : Request) (before bytes : List ℕ) where
@@ -134,7 +132,7 @@ settled-all v k s knows all closed =
       shows = closed.pair;
       told_all = closed.told ∙ sym is;
       calls = λ h. whole.1 h ∙ ap (weigh h) closed.history;
-      counted = subst (λ (n : ℕ). IsCounted n (calls_in k.pair.journal)) (ap (λ (t : Told). t.calls) (sym is)) (subst (IsCounted k.book.totals.calls) closed.history closed.counted);
+      counted = subst (λ (n : ℕ). IsCounted n (history_of k.pair)) (ap (λ (t : Told). t.calls) (sym is)) (subst (IsCounted k.book.totals.calls) closed.history closed.counted);
       numbers = is ∙ closed.numbers ∙ ap (λ (t : Told). told_of t.calls k.pair) (sym is);
       written = ap (λ (t : Told). t.written) numbers ∙ (λ j. each (sym closed.pair.ms j).written (sym closed.pair.sm j).written);
       read = ap (λ (t : Told). t.read) numbers ∙ (λ j. each (slice_index_or (sym closed.pair.ms j).fates 0 0) (slice_index_or (sym closed.pair.sm j).fates 0 0));

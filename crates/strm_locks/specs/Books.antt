@@ -75,9 +75,13 @@ book_with totals history left = record { totals = totals; history = history; lef
 abbrev pub closed_book : Book
 closed_book = book_with nothing [] ALL_PARTS
 
--- a pair's book: the history is the calls of its journal
+-- the calls of a pair since it was opened: of the entries that its journal no longer has, and of those that it has
+abbrev pub history_of : PairState → List PlainEntry
+history_of p = calls_in (p.past ++ p.journal)
+
+-- a pair's book
 abbrev pub book_of : ℕ → PairState → ℕ → Book
-book_of calls p left = book_with (told_of calls p) (calls_in p.journal) left
+book_of calls p left = book_with (told_of calls p) (history_of p) left
 
 -- what lies under a lock: a pair and its book
 pub record Kept : Type 0 where

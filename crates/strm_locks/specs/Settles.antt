@@ -10,9 +10,8 @@ use Rattle.strm_locks.specs.declared.end.StillShared.{StillShared}
 use Rattle.strm_locks.specs.declared.end.TheConstants.{ALL_PARTS}
 use Rattle.strm_locks.specs.declared.held.Settled.{Settled}
 use Rattle.strm_locks.specs.declared.told.Told.{Told}
-use Rattle.strm_locks.specs.Books.{Kept, IsCounted, IsReordered, each, told_of}
+use Rattle.strm_locks.specs.Books.{Kept, IsCounted, IsReordered, each, history_of, told_of}
 use Rattle.strm_locks.specs.Ends.{Share}
-use Rattle.strm_locks.specs.Tallies.{calls_in}
 
 -- the ledgers of this pair, to whose state its journal leads
 pub record ShowsPair (p : PairState) (s : Settled) : Type 0 where
@@ -25,17 +24,18 @@ pub record ShowsPair (p : PairState) (s : Settled) : Type 0 where
 pub record IsClosed (k : Kept) (s : Settled) : Type 0 where
   pub told : s.told ≡ k.book.totals
   pub pair : ShowsPair k.pair s
-  pub history : k.book.history ≡ calls_in k.pair.journal
+  pub history : k.book.history ≡ history_of k.pair
   pub numbers : k.book.totals ≡ told_of k.book.totals.calls k.pair
   pub counted : IsCounted k.book.totals.calls k.book.history
 
 -- What one end was told was all: the pair, which is gone, had just these calls, in some order, and just these numbers; and the ledgers are its own.
+-- Its calls are those of the entries that its journal had, and before them those of entries that it had no longer.
 pub record IsSettled (told : Told) (made : List PlainEntry) (s : Settled) : Type 0 where
   pub pair : PairState
   pub shows : ShowsPair pair s
   pub told_all : s.told ≡ told
-  pub calls : IsReordered made (calls_in pair.journal)
-  pub counted : IsCounted told.calls (calls_in pair.journal)
+  pub calls : IsReordered made (history_of pair)
+  pub counted : IsCounted told.calls (history_of pair)
   pub numbers : told ≡ told_of told.calls pair
   pub written : s.told.written ≡ each s.ms.written s.sm.written
   pub read : s.told.read ≡ each (slice_index_or s.ms.fates 0 0) (slice_index_or s.sm.fates 0 0)

@@ -2,7 +2,7 @@
 use Rattle.std.specs.Prelude.{◌≡◌, List, [], ◌∷◌, Option, None, Some, Err, IsOk, IfOk, MatchOption, slice_get}
 use Rattle.atomic_table.specs.Seated.{TableId}
 use Rattle.strm_types.specs.declared.entries.Entry.TheVariants.{Turned}
-use Rattle.strm_laws.specs.Pair.{PairState, AddsEntry, queue_refused}
+use Rattle.strm_laws.specs.Pair.{PairState, AddsEntry, queue_refused, restarted}
 use Rattle.strm_locks.specs.declared.held.Made.{Made}
 
 -- The pair p makes this turn and becomes q: of the queue that was enabled first, with the pair's own answer. The turn is an entry of the journal then; a refused one leaves the pair
@@ -24,3 +24,7 @@ pub record Visited : Type 0 where
 -- the visit was made under this lock: it found a pair and left another, and what lies between is its turn
 abbrev pub IsVisit : TableId → Visited → Type 0
 IsVisit lock v = (v.table ≡ lock) × (p : PairState) × (q : PairState) × (v.met ≡ p ∷ q ∷ []) × Visits p v.made q
+
+-- the visit was made under this lock, and the pair that it found begins its journal anew; it made no turn
+abbrev pub IsRestart : TableId → Visited → Type 0
+IsRestart lock v = (v.table ≡ lock) × (p : PairState) × (v.met ≡ p ∷ restarted p ∷ []) × (v.made ≡ None)

@@ -7,7 +7,8 @@ ghost use Rattle.strm_locks.specs.Ends.{IsOf, IsOpened, Calls, CallsSlave, Opene
 ghost use Rattle.strm_locks.specs.Rules.{fresh};
 ghost use Rattle.strm_locks.specs.Settles.{IsClosed, IsSettled, Settles};
 ghost use Rattle.strm_locks.specs.Shares.{IsSame, IsSeated, HasPair, Became, Applied, Opened};
-ghost use Rattle.strm_locks.specs.Turns.{IsVisit, Visits};
+ghost use Rattle.strm_laws.specs.Pair.{restarted};
+ghost use Rattle.strm_locks.specs.Turns.{IsRestart, IsVisit, Visits};
 
 use crate::end::{ALL_PARTS, End, StillShared};
 use crate::gate::{Gate, NoGate};
@@ -61,6 +62,16 @@ impl<P: Object> Lock<P> {
     {
         let held = seat.slot_mut(&self.table.shared, 0);
         held.turn_first()
+    }
+
+    fn restart_held(&self, seat: &mut Place<P>)
+        requires own { seat.old.table_id ≡ self.now }
+        requires lock { HasPair seat.old }
+        ensures same { IsSame seat.old seat.new × (seat.new.me.0 ≡ seat.old.me.0) }
+        ensures did { Became (λ k k'. (k'.book ≡ k.book) × (k'.pair ≡ restarted k.pair)) seat.old.me.1 seat.new.me.1 }
+    {
+        let held = seat.slot_mut(&self.table.shared, 0);
+        held.restart();
     }
 
     fn close_held(&self, seat: &mut Place<P>) -> Settled
@@ -236,6 +247,18 @@ impl<P: Object> Lock<P> {
         let settled = self.close_held(seat);
         self.give_closed(seat);
         settled
+    }
+
+    /// Begins the pair's journal anew, at the state that it has: so no session ends for a full journal. No end is told of it, and the book keeps
+    /// the calls of the entries that go. No memory is taken.
+    pub fn restart<R: Wait>(&self, rt: &R) -> Visit<P>
+        ensures { IsRestart self.now result }
+    {
+        let mut seat = self.sit();
+        self.take(rt, &mut seat);
+        self.restart_held(&mut seat);
+        self.pass(&mut seat);
+        Visit { seat, made: None }
     }
 
     /// Makes one turn of the queue that was enabled first, if any. The visit tells which queue it was and what the pair answered: so the pair

@@ -4,7 +4,7 @@ ghost use Rattle.std.specs.Prelude.{◌≡◌, MatchResult, MatchOption, IsOk, E
 ghost use Rattle.strm_types.specs.declared.entries.Entry.TheVariants.{Called, Turned};
 ghost use Rattle.strm_types.specs.Events.{request};
 ghost use Rattle.strm_types.specs.Journal.{reply_in};
-ghost use Rattle.strm_laws.specs.Pair.{AddsEntry, call_refused, queue_refused};
+ghost use Rattle.strm_laws.specs.Pair.{AddsEntry, call_refused, queue_refused, restarted};
 
 use crate::end::ALL_PARTS;
 use crate::object::Object;
@@ -13,7 +13,7 @@ use std::marker::Model;
 use strm_types::{Answer, Caller, Content, Dir, Event, Ledger, QueueName, Refusal, Side, Turn};
 
 /// A pair with its book, which a thread has while it holds the lock. Contracts see the pair, and the book: what all ends were told since the
-/// pair was opened, the calls of its journal as the history, and the parts that no end has.
+/// pair was opened, as the history the calls since, of which those of the journal are the last, and the parts that no end has.
 ///
 /// The book can't differ from what the pair did: its numbers of bytes and its history are the pair's own.
 #[derive(Drop)]
@@ -40,14 +40,13 @@ pub struct Made {
 }
 
 impl<P: Object> Model for Held<P> {
-    ghost use Rattle.strm_locks.specs.Books.{IsCounted, Kept, kept};
-    ghost use Rattle.strm_locks.specs.Tallies.{calls_in};
+    ghost use Rattle.strm_locks.specs.Books.{IsCounted, Kept, history_of, kept};
 
     ghost Value = { Kept };
 
     ghost view = { λ h. kept h.calls (P.pair_of h.pair) h.left };
 
-    ghost invariant = { λ h. IsCounted h.calls (calls_in (P.pair_of h.pair).journal) };
+    ghost invariant = { λ h. IsCounted h.calls (history_of (P.pair_of h.pair)) };
 }
 
 impl<P: Object> Held<P> {
@@ -100,6 +99,15 @@ impl<P: Object> Held<P> {
         ensures book { self.new.book ≡ self.old.book }
     {
         self.pair.turn(name)
+    }
+
+    /// Begins the pair's journal anew, at the state that it has, in place: no memory is taken, and nothing is refused. The book stays: its
+    /// history has the calls of the entries that go.
+    pub fn restart(&mut self)
+        ensures pair { self.new.pair ≡ restarted self.old.pair }
+        ensures book { self.new.book ≡ self.old.book }
+    {
+        self.pair.restart();
     }
 
     /// What all ends were told together.

@@ -6,7 +6,7 @@ ghost use Rattle.strm_types.specs.Cells.{plain};
 ghost use Rattle.strm_types.specs.Events.{request};
 ghost use Rattle.strm_types.specs.Journal.{answer_len, reply_in};
 ghost use Rattle.strm_laws.specs.Ledgers.{ledger_of};
-ghost use Rattle.strm_laws.specs.Pair.{PairState, AddsEntry, call_refused, new_pair, queue_refused};
+ghost use Rattle.strm_laws.specs.Pair.{PairState, AddsEntry, call_refused, new_pair, queue_refused, restarted};
 ghost use Rattle.strm_laws.specs.State.{book};
 ghost use Rattle.strm_laws.specs.Step.{IsLegal, replay};
 ghost use Rattle.strm_locks.specs.Tallies.{Tallies, bytes_read};
@@ -61,6 +61,10 @@ pub trait Object: Drop {
     fn audit(&self)
         ensures legal { IsLegal plain (pair_of self.now).base (pair_of self.now).journal }
         ensures replayed { (pair_of self.now).state ≡ replay plain (pair_of self.now).base (pair_of self.now).journal };
+
+    /// Begins the journal anew, at the state that the pair has, in place. It takes no memory.
+    fn restart(&mut self)
+        ensures { pair_of self.new ≡ restarted (pair_of self.old) };
 
     /// Makes the pair as new, in place: nobody opened it. It takes no memory.
     fn reset(&mut self)

@@ -7,7 +7,7 @@ ghost use Rattle.strm_locks.specs.Books.{IsNew};
 ghost use Rattle.strm_locks.specs.Ends.{Calls, CallsSlave, IsOpened, OpensNoMaster, Splits, grouped_end, joined_end};
 ghost use Rattle.strm_locks.specs.Settles.{Settles};
 ghost use Rattle.strm_locks.specs.Systems.{IsOne, numbered};
-ghost use Rattle.strm_locks.specs.Turns.{IsVisit};
+ghost use Rattle.strm_locks.specs.Turns.{IsRestart, IsVisit};
 
 use crate::end::{ALL_PARTS, End, StillShared};
 use crate::gate::Gate;
@@ -223,6 +223,15 @@ impl<P: Object> System<P> {
             Ok(settled) => Ok(settled),
             Err((shared, end)) => Err((shared, PairEnd { pair, end })),
         }
+    }
+
+    /// Begins the journal of an end's pair anew, as [`Lock::restart`] does.
+    pub fn restart<R: Wait>(&self, rt: &R, end: &PairEnd<P>) -> Visit<P>
+        requires { IsOne self.now end.now }
+        ensures pair { slice_get self.now.locks end.now.pair ≡ Some result.table }
+        ensures made { IsRestart result.table result }
+    {
+        self.lock(end.pair).restart(rt)
     }
 
     /// Makes a turn of the queue of a pair that was enabled first, as [`Lock::turn`] does.

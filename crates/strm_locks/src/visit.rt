@@ -1,4 +1,4 @@
-//! A visit to a pair, which makes a turn under its lock.
+//! A visit to a pair, which makes a turn under its lock or begins its journal anew.
 
 ghost use Rattle.std.specs.Prelude.{◌≡◌};
 
@@ -7,8 +7,8 @@ use crate::object::Object;
 use crate::rule::Place;
 use std::marker::Model;
 
-/// What a visit to a pair was: the seat that had the lock, and the turn that it made there. No end was told of it: a turn writes and reads
-/// nothing.
+/// What a visit to a pair was: the seat that had the lock, and the turn that it made there, if it made one. No end was told of it: a turn writes
+/// and reads nothing, and nor does who begins the journal anew.
 ///
 /// Contracts see which lock it had, the pair as it found it and as it left it, and the turn. No program reads the two pairs.
 #[derive(Drop)]

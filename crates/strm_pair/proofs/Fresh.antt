@@ -1,5 +1,5 @@
 -- A pair over a store with nothing in it, with an empty journal, is as new.
-use Rattle.std.proofs.Common.{ℕ, ◌≡◌, List, [], ap, sym, subst, refl, ◌∙◌, arith}
+use Rattle.std.proofs.Common.{ℕ, ◌≡◌, List, [], ap, sym, subst, refl, ◌∙◌}
 use Rattle.std.specs.Prelude.{replicate}
 use Rattle.strm_types.specs.declared.limits.Config.{Config}
 use Rattle.strm_laws.specs.State.{opening}
@@ -13,9 +13,12 @@ use Rattle.strm_blocks.specs.Blocks.{Block, Held, StoreValue, empty_store}
 use Rattle.strm_pair.specs.declared.streams.Streams.{Streams}
 use Rattle.strm_pair.specs.declared.journal.Journal.{Journal}
 use Rattle.strm_pair.specs.Pairs.{state_in, AreHeld, free_in, journal_of}
-use Rattle.strm_types.specs.declared.names.Dir.TheVariants.{MasterToSlave, SlaveToMaster}
+use Rattle.strm_laws.specs.Bases.{IsBase}
 use Rattle.strm_laws.specs.Ledgers.{FewBooked}
+use Rattle.strm_laws.specs.Restorable.{AreWithinEntries}
+use Rattle.strm_laws.proofs.BaseSteps.{opening-base}
 use Rattle.strm_pair.specs.PairViews.{pair_of, IsKept}
+use Rattle.strm_pair.specs.Starts.{Start, new_start}
 use Rattle.strm_pair.proofs.Shown.{free-empty}
 use Rattle.strm_pair.proofs.Steps.{led-nowhere}
 
@@ -24,18 +27,15 @@ pub record AreFresh (mblks dblks : ℕ) (p : Streams) : Type 0 where
   pub state : state_in (empty_store mblks dblks) p ≡ opening
   pub held : AreHeld (empty_store mblks dblks) p
 
--- nothing is booked at the opening
-opening-few : FewBooked {C = ℕ} opening
-opening-few MasterToSlave = omega arith
-opening-few SlaveToMaster = omega arith
-
-pub fresh-kept : (s : StoreValue) (p : Streams) (j : Journal) (limits : Config) (fates : Fates) → s ≡ empty_store limits.mblks limits.dblks → AreFresh limits.mblks limits.dblks p
-    → journal_of j ≡ [] → j.most_entries ≡ limits.journal_events → j.most_bytes ≡ limits.journal_bytes → fates ≡ no_fates → IsKept s p j limits fates
-fresh-kept s p j limits fates blank fresh empty events bytes none = record {
-  replayed = ap (λ v. state_in v p) blank ∙ fresh.state ∙ sym (led-nowhere j empty);
-  legal = subst (λ js. IsLegal plain opening js) (sym empty) tt;
-  few = subst FewBooked (sym (ap (λ v. state_in v p) blank ∙ fresh.state)) opening-few;
-  told = none ∙ ap (λ js. told_by plain opening js no_fates) (sym empty);
+pub fresh-kept : (s : StoreValue) (p : Streams) (j : Journal) (b : Start) (limits : Config) (fates : Fates) → b ≡ new_start → s ≡ empty_store limits.mblks limits.dblks → AreFresh limits.mblks limits.dblks p
+    → journal_of j ≡ [] → j.most_entries ≡ limits.journal_events → j.most_bytes ≡ limits.journal_bytes → fates ≡ no_fates → IsKept s p j b limits fates
+fresh-kept s p j b limits fates is blank fresh empty events bytes none = record {
+  based = subst (λ (t : Start). IsBase t.state t.fates) (sym is) opening-base;
+  replayed = ap (λ v. state_in v p) blank ∙ fresh.state ∙ sym (ap (λ (t : Start). t.state) is) ∙ sym (led-nowhere b j empty);
+  legal = subst (λ js. IsLegal plain b.state js) (sym empty) tt;
+  within = subst AreWithinEntries (sym empty) tt;
+  few = subst FewBooked (sym (ap (λ v. state_in v p) blank ∙ fresh.state)) opening-base.few;
+  told = none ∙ sym (ap (λ (t : Start). t.fates) is) ∙ ap (λ js. told_by plain b.state js b.fates) (sym empty);
   held = subst (λ v. AreHeld v p) (sym blank) fresh.held;
   mblks = ap (λ (v : StoreValue). v.mblks) blank;
   dblks = ap (λ (v : StoreValue). v.dblks) blank;
@@ -43,10 +43,10 @@ fresh-kept s p j limits fates blank fresh empty events bytes none = record {
   bytes = bytes;
 }
 
-pub fresh-shown : (s : StoreValue) (p : Streams) (j : Journal) (limits : Config) (fates : Fates) → s ≡ empty_store limits.mblks limits.dblks → AreFresh limits.mblks limits.dblks p → journal_of j ≡ [] → fates ≡ no_fates → pair_of s p j limits fates ≡ new_pair limits
-fresh-shown s p j limits fates blank fresh empty none =
-    ap (λ v. pair_of v p j limits fates) blank
-    ∙ rw (none, fresh.state, empty, free-empty limits.mblks limits.dblks) refl
+pub fresh-shown : (s : StoreValue) (p : Streams) (j : Journal) (b : Start) (limits : Config) (fates : Fates) → b ≡ new_start → s ≡ empty_store limits.mblks limits.dblks → AreFresh limits.mblks limits.dblks p → journal_of j ≡ [] → fates ≡ no_fates → pair_of s p j b limits fates ≡ new_pair limits
+fresh-shown s p j b limits fates is blank fresh empty none =
+    ap (λ v. pair_of v p j b limits fates) blank
+    ∙ rw (none, fresh.state, empty, is, free-empty limits.mblks limits.dblks) refl
 
 -- a store that holds nothing, as it stands with its numbers of blocks, all of which are free
 pub vacant : (s : StoreValue) → s.lists ≡ replicate 8 [] → s.hand ≡ [] → s ≡ empty_store s.mblks s.dblks

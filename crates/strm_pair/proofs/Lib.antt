@@ -29,8 +29,19 @@ pub mod DataLemmas
 pub mod Sends
 pub mod JournalLemmas
 pub mod FewBytes
+pub mod Runs
 pub mod ChunkSteps
 mod Refusing
 mod Fresh
 mod Tried
 pub mod Balanced
+pub mod ChainTexts
+pub mod ListTexts
+pub mod RestTexts
+pub mod PairTexts
+mod MadeRuns
+mod TextMade
+mod PutBehind
+pub mod Refilled
+pub mod FlowsSet
+pub mod LdtermsMade

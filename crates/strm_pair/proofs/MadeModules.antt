@@ -25,6 +25,18 @@ once-two a b k apart = by (a == k) (b == k) refl refl
     by false true one two = omega arith
     by false false one two = omega arith
 
+-- two lists from a number on are its own, and no other one
+module _ (first : ℕ) (x : Ldterm) (own : (k : ℕ) → owns x k ≡ once first k + once (first + 1) k) where
+  pub own-within : (k : ℕ) → 0 < owns x k → (first ≤ k) × (k < first + 2)
+  own-within k some = by (once first k) refl
+    where
+      by : (n : ℕ) → once first k ≡ n → (first ≤ k) × (k < first + 2)
+      by zero none = let at = once-is (first + 1) k (omega (arith, some, none, own k)) in (omega (arith, at), omega (arith, at))
+      by (suc n) one = let at = once-is first k (omega (arith, one)) in (omega (arith, at), omega (arith, at))
+
+  pub own-apart : (k : ℕ) → owns x k ≤ 1
+  own-apart k = omega (arith, own k, once-two first (first + 1) k (λ e. absurd (omega (arith, e))))
+
 module _ (first : ℕ) (x : Ldterm)
     (made : (s : StoreValue) → list_at s first ≡ [] → list_at s (first + 1) ≡ [] → ldterm_in s x ≡ new_ldterm)
     (held : (s : StoreValue) → list_at s first ≡ [] → list_at s (first + 1) ≡ [] → IsHeld s x)
@@ -37,19 +49,12 @@ module _ (first : ℕ) (x : Ldterm)
   writes : (s : StoreValue) → ((k : ℕ) → 0 < owns x k → list_at s k ≡ []) → list_at s (first + 1) ≡ []
   writes s empty = empty (first + 1) (omega (arith, own (first + 1), once-self (first + 1)))
 
-  own-within : (k : ℕ) → 0 < owns x k → (first ≤ k) × (k < first + 2)
-  own-within k some = by (once first k) refl
-    where
-      by : (n : ℕ) → once first k ≡ n → (first ≤ k) × (k < first + 2)
-      by zero none = let at = once-is (first + 1) k (omega (arith, some, none, own k)) in (omega (arith, at), omega (arith, at))
-      by (suc n) one = let at = once-is first k (omega (arith, one)) in (omega (arith, at), omega (arith, at))
-
   pub ldterm-made : IsMade first names.Ldterm (kinds.Ldterm x)
   ldterm-made = record {
     named = λ s. refl;
     state = λ s empty. ap (λ l. Some (OfLdterm l)) (sym (made s (reads s empty) (writes s empty)));
     held = λ s empty. held s (reads s empty) (writes s empty);
-    within = own-within;
-    apart = λ k. omega (arith, own k, once-two first (first + 1) k (λ e. absurd (omega (arith, e))));
+    within = own-within first x own;
+    apart = own-apart first x own;
     rests = rests;
   }

@@ -15,7 +15,7 @@ use Rattle.strm_pair.specs.declared.streams.Streams.{Streams}
 use Rattle.strm_pair.specs.Framing.{stream_with}
 use Rattle.strm_pair.specs.Lists.{first_list}
 use Rattle.strm_pair.specs.Pairs.{state_in, end_at, with_end, AreHeld}
-use Rattle.strm_pair.specs.Streams.{stream_in, IsSide, AreApart}
+use Rattle.strm_pair.specs.Streams.{IsSide, AreApart}
 use Rattle.strm_pair.proofs.Sides.{set-state, stream-is}
 use Rattle.strm_pair.specs.Stacks.{modules_in, IsStackHeld, stack_owns, Stack}
 

@@ -1,5 +1,5 @@
 -- A refusal is the first one whose condition holds.
-use Rattle.std.proofs.Common.{ℕ, ◌≡◌, ◌<◌, ◌≤◌, ◌+◌, Bool, true, false, cond, List, length, refl, sym, ap, ◌∙◌, arith}
+use Rattle.std.proofs.Common.{ℕ, ◌≡◌, ◌<◌, ◌≤◌, ◌+◌, Bool, true, false, List, length, refl, sym, ap, ◌∙◌, arith}
 use Rattle.std.proofs.lemmas.Bool.Decides.{nat_tests}
 use Rattle.std.specs.Prelude.{nat_le, nat_lt, Option, None, Some, Result, Ok, Err, MatchOption}
 use Rattle.strm_types.specs.declared.events.Caller.{Caller}
@@ -10,8 +10,7 @@ use Rattle.strm_types.specs.declared.job_control.Verdict.TheVariants.{Allowed, R
 use Rattle.strm_types.specs.declared.refusals.Refusal.{Refusal}
 use Rattle.strm_types.specs.declared.signals.StopSignal.{StopSignal}
 use Rattle.strm_types.specs.declared.modes.Prio.{Prio}
-use Rattle.strm_types.specs.declared.modes.Prio.TheVariants.{High, Band}
-use Rattle.strm_types.specs.declared.refusals.Refusal.TheVariants.{Einval, Enosr, Erange, JournalFull}
+use Rattle.strm_types.specs.declared.refusals.Refusal.TheVariants.{Enosr, Erange, JournalFull}
 use Rattle.strm_types.specs.declared.limits.TheConstants.{IOCTL_END, IOCTL_MAX}
 use Rattle.strm_types.specs.Cells.{plain}
 use Rattle.strm_types.specs.Events.{Request}
@@ -22,7 +21,6 @@ use Rattle.strm_types.specs.Needs.{needs}
 use Rattle.strm_laws.specs.Refusals.{enough, has_room, in_range, refused_at_once, refused_by_state, stop_of}
 use Rattle.strm_types.specs.Refused.{or_else, unless}
 use Rattle.strm_laws.specs.State.{State}
-use Rattle.strm_types.specs.PutMsg.{is_too_long, put_refusal}
 use Rattle.strm_laws.proofs.Replay.{met, unless-none}
 use Rattle.strm_laws.proofs.Balances.{both-true}
 use Rattle.strm_blocks.specs.Blocks.{StoreValue, free_d, free_m}

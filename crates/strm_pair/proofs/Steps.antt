@@ -1,31 +1,34 @@
--- A pair keeps what holds of it where it takes a step and its journal gains the entry.
+-- A pair keeps what holds of it where it takes a step and its journal gains the entry, and where its journal begins anew.
 use Rattle.std.proofs.Common.{ℕ, List, refl, ◌≡◌, ◌∙◌, ◌++◌, ◌∷◌, [], ap, sym, subst}
 use Rattle.strm_types.specs.declared.limits.Config.{Config}
 use Rattle.strm_types.specs.Cells.{plain}
-use Rattle.strm_laws.specs.State.{State, opening}
 use Rattle.strm_types.specs.declared.rules.Fates.{Fates}
 use Rattle.strm_types.specs.Deliver.{tallied}
+use Rattle.strm_types.specs.Journal.{PlainEntry}
+use Rattle.strm_laws.specs.Bases.{IsBase}
 use Rattle.strm_laws.specs.Kept.{AreIdle, gone, told_by}
 use Rattle.strm_laws.specs.Ledgers.{FewBooked}
-use Rattle.strm_types.specs.Rules.{no_fates}
-use Rattle.strm_types.specs.Journal.{PlainEntry}
+use Rattle.strm_laws.specs.Pair.{restarted}
+use Rattle.strm_laws.specs.Restorable.{AreWithinEntries, IsWithinEntry}
+use Rattle.strm_laws.specs.State.{State}
 use Rattle.strm_laws.specs.Step.{Step, after, replay, IsLegal}
+use Rattle.strm_laws.proofs.BaseSteps.{base-on}
 use Rattle.strm_laws.proofs.Replay.{kept-legal, replay-append}
-use Rattle.strm_laws.proofs.StepsIdle.{opening-idle, step-idle}
 use Rattle.strm_blocks.specs.Blocks.{StoreValue}
 use Rattle.strm_pair.specs.declared.streams.Streams.{Streams}
 use Rattle.strm_pair.specs.declared.journal.Journal.{Journal}
 use Rattle.strm_pair.specs.Pairs.{state_in, journal_of, AreHeld, SamePool}
-use Rattle.strm_pair.specs.PairViews.{IsKept, led_to}
+use Rattle.strm_pair.specs.PairViews.{IsKept, led_to, pair_of}
+use Rattle.strm_pair.specs.Starts.{Start, led_on}
 
 -- an empty journal leads nowhere
-pub led-nowhere : (j : Journal) → journal_of j ≡ [] → led_to j ≡ opening
-led-nowhere j empty = ap (λ js. replay plain opening js) empty
+pub led-nowhere : (b : Start) (j : Journal) → journal_of j ≡ [] → led_to b j ≡ b.state
+led-nowhere b j empty = ap (λ js. replay plain b.state js) empty
 
 -- where the journal has gained an entry, it leads to the state behind the entry
-pub led-on : (s : StoreValue) (p : Streams) (j k : Journal) (limits : Config) (fates : Fates) (entry : PlainEntry) → IsKept s p j limits fates → journal_of k ≡ journal_of j ++ entry ∷ [] → led_to k ≡ after plain (state_in s p) entry
-led-on s p j k limits fates entry kept added =
-    ap (λ js. replay plain opening js) added ∙ replay-append plain opening (journal_of j) (entry ∷ []) ∙ ap (λ t. after plain t entry) (sym kept.replayed)
+pub led-on : (s : StoreValue) (p : Streams) (j k : Journal) (b : Start) (limits : Config) (fates : Fates) (entry : PlainEntry) → IsKept s p j b limits fates → journal_of k ≡ journal_of j ++ entry ∷ [] → led_to b k ≡ after plain (state_in s p) entry
+led-on s p j k b limits fates entry kept added =
+    ap (λ js. replay plain b.state js) added ∙ replay-append plain b.state (journal_of j) (entry ∷ []) ∙ ap (λ t. after plain t entry) (sym kept.replayed)
 
 -- a step to the state behind an entry is one to what the blocks stand for
 pub step-shown : (s new : StoreValue) (p q : Streams) (entry : PlainEntry) → state_in new q ≡ after plain (state_in s p) entry
@@ -37,19 +40,26 @@ told-on : (base : State ℕ) (es : List PlainEntry) (e : PlainEntry) (fates : Fa
 told-on base [] e fates = refl
 told-on base (x ∷ es) e fates = told-on (after plain base x) es e (tallied (gone plain base x) fates)
 
-pub kept-step : (s new : StoreValue) (p q : Streams) (j k : Journal) (limits : Config) (fates fates' : Fates) (entry : PlainEntry) → IsKept s p j limits fates
-    → Step plain (state_in s p) entry (after plain (state_in s p) entry)
+-- one more entry that names a band that queues have
+within-on : (es : List PlainEntry) (e : PlainEntry) → AreWithinEntries es → IsWithinEntry e → AreWithinEntries (es ++ e ∷ [])
+within-on [] e all one = (one, tt)
+within-on (x ∷ es) e all one = (all.0, within-on es e all.1 one)
+
+pub kept-step : (s new : StoreValue) (p q : Streams) (j k : Journal) (b : Start) (limits : Config) (fates fates' : Fates) (entry : PlainEntry) → IsKept s p j b limits fates
+    → Step plain (state_in s p) entry (after plain (state_in s p) entry) → IsWithinEntry entry
     → state_in new q ≡ after plain (state_in s p) entry → AreHeld new q → SamePool s new → FewBooked (state_in new q) → fates' ≡ tallied (gone plain (state_in s p) entry) fates
-    → journal_of k ≡ journal_of j ++ entry ∷ [] → k.most_entries ≡ j.most_entries → k.most_bytes ≡ j.most_bytes → IsKept new q k limits fates'
-kept-step s new p q j k limits fates fates' entry kept step stands held pool few told added events bytes = record {
-  replayed = stands ∙ sym (led-on s p j k limits fates entry kept added);
-  legal = subst (λ js. IsLegal plain opening js) (sym added) (kept-legal plain opening (state_in s p) (after plain (state_in s p) entry) (journal_of j) entry kept.replayed step kept.legal);
+    → journal_of k ≡ journal_of j ++ entry ∷ [] → k.most_entries ≡ j.most_entries → k.most_bytes ≡ j.most_bytes → IsKept new q k b limits fates'
+kept-step s new p q j k b limits fates fates' entry kept step within stands held pool few told added events bytes = record {
+  based = kept.based;
+  replayed = stands ∙ sym (led-on s p j k b limits fates entry kept added);
+  legal = subst (λ js. IsLegal plain b.state js) (sym added) (kept-legal plain b.state (state_in s p) (after plain (state_in s p) entry) (journal_of j) entry kept.replayed step kept.legal);
+  within = subst AreWithinEntries (sym added) (within-on (journal_of j) entry kept.within within);
   few = few;
   told = told
       ∙ ap (λ f. tallied (gone plain (state_in s p) entry) f) kept.told
-      ∙ ap (λ t. tallied (gone plain t entry) (told_by plain opening (journal_of j) no_fates)) kept.replayed
-      ∙ sym (told-on opening (journal_of j) entry no_fates)
-      ∙ ap (λ js. told_by plain opening js no_fates) (sym added);
+      ∙ ap (λ t. tallied (gone plain t entry) (told_by plain b.state (journal_of j) b.fates)) kept.replayed
+      ∙ sym (told-on b.state (journal_of j) entry b.fates)
+      ∙ ap (λ js. told_by plain b.state js b.fates) (sym added);
   held = held;
   mblks = pool.mblks ∙ kept.mblks;
   dblks = pool.dblks ∙ kept.dblks;
@@ -57,10 +67,39 @@ kept-step s new p q j k limits fates fates' entry kept step stands held pool few
   bytes = bytes ∙ kept.bytes;
 }
 
--- nothing of a turn is under way at any module behind the steps of a journal, and so between calls
-journal-idle : (s : State ℕ) (es : List PlainEntry) → AreIdle s → IsLegal plain s es → AreIdle (replay plain s es)
-journal-idle s [] idle legal = idle
-journal-idle s (e ∷ es) idle legal = journal-idle (after plain s e) es (step-idle plain s (after plain s e) e idle legal.0) legal.1
+-- what the blocks stand for is a base, with what has gone
+pub kept-base : (s : StoreValue) (p : Streams) (j : Journal) (b : Start) (limits : Config) (fates : Fates) → IsKept s p j b limits fates → IsBase (state_in s p) fates
+kept-base s p j b limits fates kept =
+    let there = base-on b.state b.fates (journal_of j) kept.based kept.within kept.legal (subst FewBooked kept.replayed kept.few) in
+    subst (λ f. IsBase (state_in s p) f) (sym kept.told) (subst (λ t. IsBase t (told_by plain b.state (journal_of j) b.fates)) (sym kept.replayed) there)
 
-pub led-idle : (s : StoreValue) (p : Streams) (j : Journal) (limits : Config) (fates : Fates) → IsKept s p j limits fates → AreIdle (state_in s p)
-led-idle s p j limits fates kept = subst AreIdle (sym kept.replayed) (journal-idle opening (journal_of j) (opening-idle ℕ) kept.legal)
+-- nothing of a turn is under way at any module between calls
+pub led-idle : (s : StoreValue) (p : Streams) (j : Journal) (b : Start) (limits : Config) (fates : Fates) → IsKept s p j b limits fates → AreIdle (state_in s p)
+led-idle s p j b limits fates kept = (kept-base s p j b limits fates kept).restorable.idle
+
+-- a base that has gone on to where the journal led, and an empty journal
+module _ (s : StoreValue) (p : Streams) (j k : Journal) (b c : Start) (limits : Config) (fates : Fates) (kept : IsKept s p j b limits fates)
+    (on : c ≡ led_on (journal_of j) b) (empty : journal_of k ≡ []) where
+  here : c.state ≡ state_in s p
+  here = ap (λ (t : Start). t.state) on ∙ sym kept.replayed
+
+  went : c.fates ≡ fates
+  went = ap (λ (t : Start). t.fates) on ∙ sym kept.told
+
+  pub kept-restarted : k.most_entries ≡ j.most_entries → k.most_bytes ≡ j.most_bytes → IsKept s p k c limits fates
+  kept-restarted events bytes = record {
+    based = subst (λ f. IsBase c.state f) (sym went) (subst (λ t. IsBase t fates) (sym here) (kept-base s p j b limits fates kept));
+    replayed = sym here ∙ sym (led-nowhere c k empty);
+    legal = subst (λ js. IsLegal plain c.state js) (sym empty) tt;
+    within = subst AreWithinEntries (sym empty) tt;
+    few = kept.few;
+    told = sym went ∙ ap (λ js. told_by plain c.state js c.fates) (sym empty);
+    held = kept.held;
+    mblks = kept.mblks;
+    dblks = kept.dblks;
+    events = events ∙ kept.events;
+    bytes = bytes ∙ kept.bytes;
+  }
+
+  pub restarted-shown : pair_of s p k c limits fates ≡ restarted (pair_of s p j b limits fates)
+  restarted-shown = rw (empty, here, went, ap (λ (t : Start). t.past) on) refl

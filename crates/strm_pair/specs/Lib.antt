@@ -14,8 +14,15 @@ pub mod Named
 pub mod Nearest
 pub mod Pairs
 pub mod PairViews
+pub mod Running
 pub mod Shows
 pub mod Pool
 pub mod Parts
 pub mod ModuleTurned
 pub mod ModuleServed
+pub mod Starts
+pub mod Writings
+pub mod Imaging
+pub mod Runs
+pub mod Standing
+pub mod Placing

@@ -1,5 +1,5 @@
 -- How long the parts of an answer are, and what holds a message of a priority back.
-use Rattle.std.specs.Prelude.{ℕ, ◌<◌, Bool, false, max}
+use Rattle.std.specs.Prelude.{ℕ, Bool, false, max}
 use Rattle.strm_types.specs.declared.answers.Answer.{Answer}
 use Rattle.strm_types.specs.declared.answers.Answer.TheVariants.{Bytes, Msg, Signals}
 use Rattle.strm_types.specs.declared.modes.Prio.{Prio}

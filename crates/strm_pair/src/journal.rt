@@ -4,10 +4,12 @@ ghost use Rattle.std.specs.Prelude.{◌≡◌, ◌+◌, ◌≤◌, ◌<◌, ◌^
 ghost use Rattle.strm_types.specs.declared.entries.Entry.TheVariants.{Called, Turned};
 ghost use Rattle.strm_types.specs.Events.{request, payload_of};
 ghost use Rattle.strm_types.specs.Journal.{entry_in, entry_len, answer_len, reply_in};
+ghost use Rattle.strm_laws.specs.Restorable.{IsWithinCall};
+ghost use Rattle.strm_types.specs.declared.limits.TheConstants.{BANDS};
 ghost use Rattle.strm_pair.specs.Journals.{IsStored, has_room_for};
 
 use std::alloc::{AllocError, Global};
-use strm_types::{Answer, Caller, Entry, Event, QueueName, Turn};
+use strm_types::{Answer, Caller, Entry, Event, Prio, QueueName, Turn};
 
 /// All that was carried out on a pair, in order: the entries, and their bytes in a buffer. Both have their room from
 /// the beginning.
@@ -31,6 +33,24 @@ fn append(buffer: &mut Vec<u8>, bytes: &[u8])
         return;
     }
     buffer.extend_from_slice(bytes).unwrap();
+}
+
+// The number of a band is that of one that queues have: it is a byte. It does nothing.
+fn is_low(number: u8)
+    ensures { number < BANDS }
+{}
+
+// So is each band that a call names. It does nothing.
+fn is_within(event: &Event<&[u8]>)
+    ensures { IsWithinCall (request event.now) }
+{
+    if let Event::Put {
+        prio: Prio::Band(band),
+        ..
+    } = event
+    {
+        is_low(band.0);
+    }
 }
 
 impl Journal {
@@ -67,6 +87,13 @@ impl Journal {
         self.entries.len() < self.most_entries && bytes <= self.most_bytes - self.bytes.len()
     }
 
+    /// How many more entries fit.
+    pub fn left(&self) -> usize
+        ensures { result + length (journal_of self.now) ≡ self.now.most_entries }
+    {
+        self.most_entries - self.entries.len()
+    }
+
     // Adds an entry with its bytes: those of its call, in two parts, and those of its answer. Inlined, so that an entry is
     // written once, where it stays.
     #[inline(always)]
@@ -101,9 +128,11 @@ impl Journal {
             (length (payload_of (request event.now)) + length content.now) ≡ true }
         ensures added { journal_of self.new
             ≡ journal_of self.old ++ Called caller (request event.now) (reply_in answer content.now) ∷ [] }
+        ensures within { IsWithinCall (request event.now) }
         ensures most_entries { self.new.most_entries ≡ self.old.most_entries }
         ensures most_bytes { self.new.most_bytes ≡ self.old.most_bytes }
     {
+        is_within(event);
         let entry = Entry::Called {
             caller,
             event: event.shape(),

@@ -3,12 +3,14 @@
 #![tactic(auto)]
 
 mod answers;
+mod base;
 mod calling;
 mod changing;
 mod closing;
 mod delivering;
 mod earlier;
 mod ends;
+mod images;
 mod ioctls;
 mod journal;
 mod ledgers;
@@ -20,6 +22,7 @@ mod pair;
 mod putting;
 mod refusals;
 mod room;
+mod running;
 mod serving;
 mod stacks;
 mod streams;
@@ -27,6 +30,7 @@ mod turning;
 mod writing;
 
 pub use pair::{Pair, Recorded};
+pub use running::Ran;
 
 #[cfg(test)]
 mod tests;

@@ -1,27 +1,33 @@
 //! The pair: calls, turns, and the journal of what was carried out.
 
-ghost use Rattle.std.specs.Prelude.{◌≡◌, ◌≤◌, ◌<◌, ◌+◌, if◌then◌else◌, sum_by, [], length, replicate, MatchResult, MatchOption, IsOk, Err, IfOk, is_some, slice_get};
+ghost use Rattle.std.specs.Prelude.{◌≡◌, ◌≤◌, ◌<◌, ◌+◌, if◌then◌else◌, sum_by, [], length, replicate, MatchResult, MatchOption, IsOk, Err, IfOk, is_some, slice_get, vec_capacity};
 ghost use Rattle.strm_types.specs.Events.{request, map_answer};
 ghost use Rattle.strm_types.specs.Cells.{Origin, plain, tagged};
 ghost use Rattle.strm_types.specs.declared.entries.Entry.TheVariants.{Called, Turned};
 ghost use Rattle.strm_laws.specs.Earlier.{modules_on};
 ghost use Rattle.strm_types.specs.declared.job_control.Verdict.TheVariants.{Allowed, Stopped};
-ghost use Rattle.strm_laws.specs.Pair.{new_pair, call_refused, call_verdict, queue_refused, AddsEntry};
+ghost use Rattle.strm_laws.specs.Based.{based};
+ghost use Rattle.strm_laws.specs.Pair.{new_pair, restarted, call_refused, call_verdict, queue_refused, AddsEntry};
 ghost use Rattle.strm_types.specs.Journal.{entries_in, reply_in, answer_len};
 ghost use Rattle.strm_laws.specs.Refusals.{enough, has_room};
 ghost use Rattle.strm_laws.specs.Step.{replay, IsLegal};
 ghost use Rattle.strm_laws.specs.Kept.{told_by};
 ghost use Rattle.strm_laws.specs.Ledgers.{is_booked, ledger_of, own_places_of, places_of};
-ghost use Rattle.strm_types.specs.Rules.{no_fates};
 ghost use Rattle.strm_types.specs.Queue.{bytes_of};
 ghost use Rattle.strm_laws.specs.ModuleTurns.{place_named};
-ghost use Rattle.strm_laws.specs.State.{AreOrdered, messages_in, opening, stream};
+ghost use Rattle.strm_laws.specs.State.{AreOrdered, messages_in, stream};
 ghost use Rattle.strm_pair.specs.Shows.{Shows, count_at, first_at, full_at, messages_at};
 ghost use Rattle.strm_pair.specs.Parts.{longest_part};
 ghost use Rattle.strm_pair.specs.Pool.{IsPoolOf};
+ghost use Rattle.strm_image.specs.HasImage.{imaged};
+ghost use Rattle.strm_image.specs.Image.{image};
+ghost use Rattle.strm_image.specs.Sinks.{nothing_given, put};
+ghost use Rattle.strm_image.specs.declared.versions.Version.TheVariants.{Second};
 ghost use Rattle.strm_pair.specs.PairViews.{sizes_over};
 
 use crate::answers::own;
+use crate::base::Base;
+use crate::images::whole::put_image;
 use crate::journal::Journal;
 use crate::ledgers::sum;
 use crate::refusals::or_else;
@@ -29,6 +35,7 @@ use crate::streams::{Streams, queue_tables};
 use std::alloc::Global;
 use std::marker::Model;
 use strm_blocks::Blocks;
+use strm_image::Sink;
 use strm_types::{
     Answer, Band, Caller, Config, Content, Dir, Entry, Event, Fates, LISTS, Ledger, NoMemory,
     Place, QueueName, READ_MAX, ReadBytes, Refusal, Side, StopSignal, Turn, Verdict, turn_blocks,
@@ -42,6 +49,7 @@ pub struct Pair<B: Blocks + Drop> {
     store: B,
     streams: Streams,
     journal: Journal,
+    base: Base,
     limits: Config,
     fates: Fates,
 }
@@ -60,9 +68,9 @@ impl<B: Blocks + Drop> Model for Pair<B> {
 
     ghost use Rattle.strm_pair.specs.PairViews.{pair_of, IsKept};
 
-    ghost view = { λ p. pair_of (B.value p.store) p.streams p.journal p.limits p.fates };
+    ghost view = { λ p. pair_of (B.value p.store) p.streams p.journal p.base.start p.limits p.fates };
 
-    ghost invariant = { λ p. IsKept (B.value p.store) p.streams p.journal p.limits p.fates };
+    ghost invariant = { λ p. IsKept (B.value p.store) p.streams p.journal p.base.start p.limits p.fates };
 }
 
 impl<B: Blocks + Drop> Pair<B> {
@@ -92,6 +100,7 @@ impl<B: Blocks + Drop> Pair<B> {
             store,
             streams: Streams::new(tables),
             journal,
+            base: Base::new(),
             limits,
             fates: Fates::none(),
         })
@@ -105,7 +114,17 @@ impl<B: Blocks + Drop> Pair<B> {
         self.store.reset();
         self.streams.renew();
         self.journal.clear();
+        self.base = Base::new();
         self.fates = Fates::none();
+    }
+
+    /// Begins the journal anew, in place: it is empty, and the state and the fates that the pair has are those at which it begins. All
+    /// else stays, so a pair whose journal is full goes on. It takes no memory.
+    pub fn restart(&mut self)
+        ensures { self.new ≡ restarted self.old }
+    {
+        self.base.go_on(&self.journal);
+        self.journal.clear();
     }
 
     /// The queues that are enabled, in order of enabling.
@@ -130,7 +149,7 @@ impl<B: Blocks + Drop> Pair<B> {
         self.store.free_blocks()
     }
 
-    /// How many bytes have gone in each direction by each rule since the journal began: what reads gave, and what flushes and
+    /// How many bytes have gone in each direction by each rule since the pair was made: what reads gave, and what flushes and
     /// closes took.
     pub fn fates(&self) -> &Fates
         ensures { result.now ≡ self.now.fates }
@@ -139,17 +158,20 @@ impl<B: Blocks + Drop> Pair<B> {
     }
 
     /// The ledger of a direction: how many bytes were written and made there, how many stand on its queues and in its unfinished
-    /// lines, and how many have gone by each rule since the journal began. Every byte that was booked has exactly one place, in its direction: on a
-    /// queue, in a line, or among what has gone by one rule; and no other byte has any. So written and made add up to all others.
+    /// lines, and how many have gone by each rule since the pair was made; so written and made add up to all others. Every byte that stood
+    /// there where the journal begins, or was booked since, has exactly one place, in its direction: on a queue, in a line, or among what
+    /// has gone by one rule; and no other byte has any.
     ///
     /// The cost is a step for each module and each rule: what stands on the queues is told by the balance.
     pub fn ledger(&self, direction: Dir) -> Ledger
         ensures ledger { result ≡ ledger_of direction self.now.state self.now.fates }
         ensures balance { result.written + result.made ≡ result.queued + (result.inline + sum_by (λ n. n) result.fates) }
-        ensures replayed { self.now.state ≡ replay plain opening self.now.journal }
-        ensures told { self.now.fates ≡ told_by plain opening self.now.journal no_fates }
-        ensures once { (o : Origin) → places_of o self.now.journal ≡ (if is_booked o (replay tagged opening self.now.journal) then 1 else 0) }
-        ensures own { (o : Origin) → own_places_of o self.now.journal ≡ (if is_booked o (replay tagged opening self.now.journal) then 1 else 0) }
+        ensures replayed { self.now.state ≡ replay plain self.now.base self.now.journal }
+        ensures told { self.now.fates ≡ told_by plain self.now.base self.now.journal self.now.base_fates }
+        ensures once { (o : Origin) → places_of o self.now.base self.now.journal
+            ≡ (if is_booked o self.now.base (replay tagged (based self.now.base) self.now.journal) then 1 else 0) }
+        ensures own { (o : Origin) → own_places_of o self.now.base self.now.journal
+            ≡ (if is_booked o self.now.base (replay tagged (based self.now.base) self.now.journal) then 1 else 0) }
     {
         let book = self.streams.book(direction);
         let inline = self.streams.line_lens(direction) as u64;
@@ -162,6 +184,25 @@ impl<B: Blocks + Drop> Pair<B> {
             inline,
             fates: *fates,
         }
+    }
+
+    // The image, as far as a vector has room for it.
+    fn text_in(&self, memory: Vec<u8>) -> Sink
+        ensures { result ≡ put (image.text (Second, imaged self.now.state self.now.fates)) (nothing_given (vec_capacity memory)) }
+    {
+        put_image(&self.store, &self.streams, &self.fates, Sink::new(memory))
+    }
+
+    /// The image of the pair in version 2 (docs/IMAGES.md): its plain state, and how many bytes have gone by each rule. It asks for the memory
+    /// of the image, once, and the pair stays as it is. The cost is in proportion to the bytes, and a step for each band of each queue.
+    pub fn image(&self, alloc: Global) -> Result<Vec<u8>, NoMemory>
+        ensures { IfOk result (λ text. text.items ≡ image.text (Second, imaged self.now.state self.now.fates)) }
+    {
+        let wanted = self.text_in(Vec::new(alloc)).count();
+        let Ok(memory) = Vec::with_capacity(alloc, wanted) else {
+            return Err(NoMemory);
+        };
+        self.text_in(memory).whole().ok_or(NoMemory)
     }
 
     /// The store, whose lists show the queues of the state, each chain read along its links from read place to write
@@ -234,6 +275,13 @@ impl<B: Blocks + Drop> Pair<B> {
         self.journal.has_room(bytes)
     }
 
+    // How many more entries the journal takes.
+    pub(crate) fn entries_left(&self) -> usize
+        ensures { result + length self.now.journal ≡ self.now.limits.journal_events }
+    {
+        self.journal.left()
+    }
+
     // The verdict on a call.
     #[inline(always)]
     fn verdict(&self, caller: Caller, event: &Event<&[u8]>) -> Verdict
@@ -254,7 +302,7 @@ impl<B: Blocks + Drop> Pair<B> {
     }
 
     // The refusal of a turn, if any.
-    fn turn_refusal(&self, name: QueueName) -> Option<Refusal>
+    pub(crate) fn turn_refusal(&self, name: QueueName) -> Option<Refusal>
         ensures { result ≡ queue_refused self.now name }
     {
         or_else(
@@ -393,14 +441,14 @@ impl<B: Blocks + Drop> Pair<B> {
         Ok(turn)
     }
 
-    /// All that was carried out, in order. The message blocks stand for the state to which it leads from the state that
+    /// All that was carried out since the journal began, in order. The message blocks stand for the state to which it leads from the state that
     /// it began at, each entry is a legal step with the answer that it stores, each queue is in order of rank, each
     /// message has a message block at least, and all blocks are free where there is no message.
     pub fn journal(&self) -> Recorded<'_>
         ensures entries { entries_in result.entries.now result.bytes.now ≡ self.now.journal }
         ensures replayed { self.now.state ≡ replay plain self.now.base self.now.journal }
         ensures legal { IsLegal plain self.now.base self.now.journal }
-        ensures told { self.now.fates ≡ told_by plain self.now.base self.now.journal no_fates }
+        ensures told { self.now.fates ≡ told_by plain self.now.base self.now.journal self.now.base_fates }
         ensures ordered { AreOrdered self.now.state }
         ensures blocks { IsPoolOf (messages_in self.now.state) self.now.limits self.now.free }
     {

@@ -1,9 +1,13 @@
 //! Calls and turns on a pair, with answers worked out by hand.
 
+mod filling;
+mod imaging;
 mod ioctls;
 mod ledgers;
 mod messages;
 mod recount;
+mod restarts;
+mod running;
 mod walk;
 
 use crate::Pair;

@@ -17,10 +17,4 @@ pub use drivers::put;
 pub use making::make;
 pub use pckt::Pckt;
 pub use ptem::Ptem;
-
-#[cfg(test)]
-mod packet_tests;
-#[cfg(test)]
-mod sharing_tests;
-#[cfg(test)]
-mod tests;
+pub use sharing::send_behind;

@@ -43,7 +43,7 @@ pub(crate) fn part<B: Blocks>(store: &mut B, message: InHand) -> Result<(InHand,
 }
 
 /// Sends a message in hand on, behind a block of a kind without parts, whose kind it has then.
-pub(crate) fn send_behind<B: Blocks>(
+pub fn send_behind<B: Blocks>(
     store: &mut B,
     here: Spot,
     way: Way,

@@ -17,8 +17,6 @@ mod raw;
 mod sending;
 mod store;
 mod tails;
-#[cfg(test)]
-mod tests;
 mod threading;
 mod visiting;
 

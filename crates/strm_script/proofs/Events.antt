@@ -9,6 +9,8 @@ use Rattle.strm_types.specs.declared.events.FlushQueues.{FlushQueues}
 use Rattle.strm_types.specs.declared.entries.Entry.TheVariants.{Called, Turned}
 use Rattle.strm_types.specs.Cells as cells
 use Rattle.strm_types.specs.Names.{is_enabled}
+use Rattle.strm_types.specs.Deliver.{tallied}
+use Rattle.strm_laws.specs.Calls.{called}
 use Rattle.strm_laws.specs.State.{State}
 use Rattle.strm_pair.specs.Shows.{first_at}
 use Rattle.strm_laws.specs.TurnOutcomes.{TurnOutcome}
@@ -79,12 +81,13 @@ call_as P None old new caller asked bytes (Ok answer) h adds =
         state = adds.step.leads i;
         journal = old.journal ++ Called caller asked (adds.step.answered i) ∷ [];
         limits = old.limits;
+        fates = tallied (called cells.plain caller asked old.state).gone old.fates;
       };
       is_short = false;
     })
     ∙ (λ i. record {
       answer = Ok (reply_in answer bytes);
-      pair = record { state = new.state; journal = sym adds.journal i; limits = sym adds.limits i };
+      pair = record { state = new.state; journal = sym adds.journal i; limits = sym adds.limits i; fates = sym adds.fates i };
       is_short = false;
     })
 
@@ -123,7 +126,7 @@ turn_taken : (old new : PairState) (name : QueueName) (turn : Turn) → AddsEntr
 turn_taken old new name turn adds goes =
     ap (λ (o : TurnOutcome ℕ). record {
       answer = Ok o.turn;
-      pair = record { state = o.state; journal = old.journal ++ Turned name o.turn ∷ []; limits = old.limits };
+      pair = record { state = o.state; journal = old.journal ++ Turned name o.turn ∷ []; limits = old.limits; fates = tallied o.gone old.fates };
       is_short = short_turn name old.state (Ok turn);
     }) goes
     ∙ (λ i. record {
@@ -132,12 +135,13 @@ turn_taken old new name turn adds goes =
         state = adds.step.leads i;
         journal = old.journal ++ Turned name (adds.step.answered i) ∷ [];
         limits = old.limits;
+        fates = tallied (turned cells.plain name turn old.state).gone old.fates;
       };
       is_short = short_turn name old.state (Ok turn);
     })
     ∙ (λ i. record {
       answer = Ok turn;
-      pair = record { state = new.state; journal = sym adds.journal i; limits = sym adds.limits i };
+      pair = record { state = new.state; journal = sym adds.journal i; limits = sym adds.limits i; fates = sym adds.fates i };
       is_short = short_turn name old.state (Ok turn);
     })
 

@@ -1,5 +1,5 @@
 -- A caller: what is read is spelled so, and what is spelled so is read.
-use Rattle.std.proofs.Common.{◌≡◌, ℕ, Bool, true, false, List, ◌∷◌, ◌++◌, Option, None, Some, option_map, refl, sym, ap, ◌∙◌, inl, inr, codes, subst}
+use Rattle.std.proofs.Common.{◌≡◌, ℕ, Bool, true, false, List, ◌++◌, Some, option_map, refl, sym, ap, ◌∙◌, inl, inr, codes, subst}
 use Rattle.strm_types.specs.declared.events.Caller.{Caller}
 use Rattle.strm_types.specs.declared.names.Side.{Side}
 use Rattle.strm_script.specs.Script.{Command, Group, flags_name, IsGroup, IsSpelled, with_side}

@@ -6,21 +6,19 @@ use Rattle.strm_types.specs.declared.events.Caller.{Caller}
 use Rattle.strm_types.specs.declared.names.QueueName.{QueueName}
 use Rattle.strm_types.specs.declared.refusals.Refusal.{Refusal}
 use Rattle.strm_types.specs.declared.refusals.Refusal.TheVariants.{Einval, Enosr}
-use Rattle.strm_types.specs.declared.names.Side.TheVariants.{Master}
-use Rattle.strm_types.specs.declared.names.Side.{Side}
 use Rattle.strm_types.specs.declared.events.FlushQueues.{FlushQueues}
 use Rattle.strm_types.specs.Names.{is_enabled}
 use Rattle.strm_types.specs.declared.events.Event.TheVariants as calls
 use Rattle.strm_types.specs.Events.{Request, Reply}
 use Rattle.strm_types.specs.Refused.{or_else, unless}
 use Rattle.strm_laws.specs.Refusals.{refused, refused_at_once, refused_by_state, blocks_asked}
-use Rattle.strm_script.specs.Script.{Command, Open, Call, Flush, Put, Get, Turn as TurnOf, Run, Show, Ledger, Group}
+use Rattle.strm_script.specs.Script.{Command, Open, Call, Flush, Put, Get, Turn as TurnOf, Run, Show, Ledger, Cut, Group}
 use Rattle.strm_script.specs.ScriptReading.{Reading, Silent, Malformed, Spoken, reading}
 use Rattle.strm_script.specs.ScriptAnswers.{printed_line, reply_line, turn_line, Ran, Wrong}
 use Rattle.strm_script.specs.ScriptRun as script
 use Rattle.strm_types.specs.declared.both.Both.{Both}
 use Rattle.strm_types.specs.Both.{get}
-use Rattle.strm_script.specs.ScriptRun.{Supply, Enough, Within, TooFew, next_of, rest_of, PlainPair, Happened, call_refusal, turn_refusal, call_happens, turn_happens, told_of, call_of, turn_of, is_enosr, turns_of, by_call, by_flush, prio_of, wanted_of, by_named, by_put, by_get, by_show, by_ledger, by_turn, by_run, by_open, answered, Session, session_behind, told_from, told_after, first_of, line_if, Told, new_plain}
+use Rattle.strm_script.specs.ScriptRun.{Supply, Enough, Within, TooFew, next_of, rest_of, PlainPair, Happened, call_refusal, turn_refusal, call_happens, turn_happens, told_of, call_of, turn_of, is_enosr, turns_of, by_call, by_flush, prio_of, wanted_of, by_named, by_put, by_get, by_show, by_ledger, by_cut, by_turn, by_run, by_open, answered, Session, session_behind, told_from, told_after, first_of, line_if, Told, new_plain}
 use Rattle.strm_script.proofs.Supplies.{is_want, call_happens-short, turn_happens-short, answered-enough}
 use Rattle.strm_script.proofs.Events.{turns_none, turns_err, turns_ok, turns_zero}
 
@@ -152,7 +150,7 @@ named-same caller asked (Some x) account p h = call_answer Enough p caller (aske
 
 answered-same : (callers : Both Caller) (command : Command) (account : List Supply) (pair : Option PlainPair) → (answered callers command account pair).is_short ≡ false
     → SameAnswer (answered callers command account pair) (answered callers command [] pair)
-unfolding answered by_call by_flush by_put by_get by_show by_ledger by_turn by_run
+unfolding answered by_call by_flush by_put by_get by_show by_ledger by_cut by_turn by_run
 answered-same callers (Open blocks) account None h = open-same callers.master (unwrap_or blocks 256) account h
 answered-same callers (Open blocks) account (Some p) h = record { line = refl; pair = refl }
 answered-same callers (Call side asked) account None h = record { line = refl; pair = refl }
@@ -176,6 +174,8 @@ answered-same callers (Show side) account None h = record { line = refl; pair = 
 answered-same callers (Show side) account (Some p) h = record { line = refl; pair = refl }
 answered-same callers (Ledger direction) account None h = record { line = refl; pair = refl }
 answered-same callers (Ledger direction) account (Some p) h = record { line = refl; pair = refl }
+answered-same callers Cut account None h = record { line = refl; pair = refl }
+answered-same callers Cut account (Some p) h = record { line = refl; pair = refl }
 answered-same callers (Group caller) account pair h = record { line = refl; pair = refl }
 
 -- a line with a command, and the same line where the events get their blocks

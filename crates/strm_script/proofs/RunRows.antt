@@ -9,7 +9,7 @@ use Rattle.strm_types.specs.Drivers.{crosses}
 use Rattle.strm_types.specs.Flush.{is_data_kind}
 use Rattle.strm_types.specs.Write.{chunk_count}
 use Rattle.strm_script.specs.Script.{Open, digit_of, escaped, hex_of}
-use Rattle.strm_script.specs.ScriptReading.{number_from, number_in, text_from, text_in, side_in, place_in, way_in, queue_in, side_alone, module_in, is_name, flush_queues_in, band_in, number_at, quoted_len, inside_at, text_at, part_at, prio_at, wanted_at, mode_in, number_to, number_to_at, bare_in, window_in, signal_in, foreground_in, sender_at, sending_in, asked_in, open_in, named_in, write_in, read_in, turn_in, run_in, sided_call_in, push_in, flush_in, show_in, stream_in, put_in, get_in, set_mode_in, message_in, ioctl_in, poll_in, control_in, direction_in, ledger_in, caller_in, group_in, command_in, reading}
+use Rattle.strm_script.specs.ScriptReading.{number_from, number_in, text_from, text_in, side_in, place_in, way_in, queue_in, side_alone, module_in, is_name, flush_queues_in, band_in, number_at, quoted_len, inside_at, text_at, part_at, prio_at, wanted_at, mode_in, number_to, number_to_at, bare_in, window_in, signal_in, foreground_in, sender_at, sending_in, asked_in, open_in, named_in, write_in, read_in, turn_in, run_in, sided_call_in, push_in, flush_in, show_in, stream_in, put_in, get_in, set_mode_in, message_in, ioctl_in, poll_in, control_in, direction_in, ledger_in, group_in, command_in, reading}
 use Rattle.strm_script.specs.ScriptAnswers.{line_text}
 use Rattle.strm_script.specs.ScriptRun.{Enough, TooFew, Told, script_limits, call_of, turn_of, by_call, by_flush, band_of as named_band, by_put, by_get, by_show, by_ledger, by_turn, turns_of, by_run, by_open, answered, new_callers, new_session, told_from}
 

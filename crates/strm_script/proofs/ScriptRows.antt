@@ -14,7 +14,6 @@ use Rattle.strm_types.specs.declared.names.Place.TheVariants.{Head, Ldterm, Driv
 use Rattle.strm_types.specs.declared.refusals.Refusal.TheVariants.{Einval, Eagain, Enxio, Ebadmsg, Enosr, Erange, JournalFull, NoMinor, NoMemory, StillShared, Eio}
 use Rattle.strm_types.specs.declared.names.ModuleName.TheVariants as modules
 use Rattle.strm_types.specs.declared.signals.StopSignal.TheVariants.{Ttin, Ttou}
-use Rattle.strm_types.specs.declared.events.Caller.{Caller}
 use Rattle.strm_types.specs.declared.names.Side.{Side}
 use Rattle.strm_types.specs.declared.events.FlushQueues.TheVariants as queues
 use Rattle.strm_types.specs.declared.modes.Prio.TheVariants as sent

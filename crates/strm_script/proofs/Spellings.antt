@@ -14,7 +14,7 @@ use Rattle.strm_types.specs.declared.events.Event.TheVariants as calls
 use Rattle.strm_types.specs.declared.modes.Mode.{Mode}
 use Rattle.strm_script.specs.declared.commands.NamedPrio.{NamedPrio}
 use Rattle.strm_script.specs.declared.commands.NamedWanted.{NamedWanted}
-use Rattle.strm_script.specs.Script.{Command, Open, Call, Flush, Put, Get, Turn, Run, Show, Ledger, Group, mode_name, IsPut, IsGetOf, IsUsualGet, side_name, direction_name, module_name, flush_name, is_silent, with_side, IsWithNumber, IsIoctl, IsSpelled}
+use Rattle.strm_script.specs.Script.{Command, Open, Call, Flush, Put, Get, Turn, Run, Show, Ledger, Cut, Group, mode_name, IsPut, IsGetOf, IsUsualGet, side_name, direction_name, module_name, flush_name, is_silent, with_side, IsWithNumber, IsIoctl, IsSpelled}
 use Rattle.strm_script.specs.ScriptReading.{Silent, Malformed, Spoken, spoken, reading, and_then, after, number_in, text_in, side_in, queue_in, behind_side, side_alone, module_in, is_name, flush_queues_in, band_in, flushed_in, open_in, named_in, write_in, read_in, turn_in, run_in, sided_call_in, push_in, flush_in, show_in, stream_in, put_in, get_in, set_mode_in, message_in, ioctl_in, poll_in, control_in, group_of, direction_in, ledger_in, group_in, command_in}
 use Rattle.strm_script.proofs.Grammar.{and_then-found, option_map-found, after-found, number-found, number-only, text-found, text-only}
 use Rattle.strm_script.proofs.Fronts.{either-found, whole-found}
@@ -40,7 +40,10 @@ named-found : (line : List ℕ) (command : Command) → named_in line ≡ Some c
 unfolding named_in
 named-found line command h = elim (either-found _ _ command h) [
   | inl a ↦ let w = whole-found (codes "unlock") (Call Master Unlock) command line a in subst (λ c. IsSpelled c line) w.0 (refl, w.1)
-  | inr b ↦ let w = whole-found (codes "slave") (Call Slave OpenSlave) command line b in subst (λ c. IsSpelled c line) w.0 (refl, w.1)
+  | inr b ↦ elim (either-found _ _ command b) [
+    | inl c ↦ let w = whole-found (codes "slave") (Call Slave OpenSlave) command line c in subst (λ c. IsSpelled c line) w.0 (refl, w.1)
+    | inr d ↦ let w = whole-found (codes "cut") Cut command line d in subst (λ c. IsSpelled c line) w.0 w.1
+  ]
 ]
 
 write-found : (line : List ℕ) (command : Command) → write_in line ≡ Some command → IsSpelled command line
@@ -266,6 +269,7 @@ command-only (Run n) line (digits, number, e) = rw (e, number-only digits n numb
 command-only (Show Master) line h = rw (h) (refl, refl)
 command-only (Show Slave) line h = rw (h) (refl, refl)
 command-only (Ledger direction) line h = ledger-only direction line h
+command-only Cut line h = rw (h) (refl, refl)
 command-only (Group caller) line h = group-on caller.side caller line _ h.line_is (group_of-only caller line h)
 
 -- the whole line

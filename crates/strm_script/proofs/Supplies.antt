@@ -30,10 +30,10 @@ use Rattle.strm_types.specs.Events.{Request}
 use Rattle.strm_types.specs.Needs.{needs}
 use Rattle.strm_types.specs.Refused.{or_else, unless}
 use Rattle.strm_laws.specs.Refusals.{at_end, refused_at_once, refused_by_state, unfit}
-use Rattle.strm_script.specs.Script.{Command, Open, Call, Flush, Put, Get, Turn as TurnOf, Run, Show, Ledger, Group}
+use Rattle.strm_script.specs.Script.{Command, Open, Call, Flush, Put, Get, Turn as TurnOf, Run, Show, Ledger, Cut, Group}
 use Rattle.strm_script.specs.ScriptReading.{Reading, Silent, Malformed, Spoken, reading}
 use Rattle.strm_script.specs.ScriptRun as script
-use Rattle.strm_script.specs.ScriptRun.{Supply, Enough, TooFew, PlainPair, Happened, call_refusal, turn_refusal, call_happens, turn_happens, call_of, turn_of, is_enosr, turns_of, no_turns, counted, by_call, by_flush, prio_of, wanted_of, by_named, by_put, by_get, by_show, by_ledger, by_turn, by_run, by_open, answered, Session, session_behind, told_from, new_plain}
+use Rattle.strm_script.specs.ScriptRun.{Supply, Enough, TooFew, PlainPair, Happened, call_refusal, turn_refusal, call_happens, turn_happens, call_of, turn_of, is_enosr, turns_of, no_turns, counted, by_call, by_flush, prio_of, wanted_of, by_named, by_put, by_get, by_show, by_ledger, by_cut, by_turn, by_run, by_open, answered, Session, session_behind, told_from, new_plain}
 use Rattle.strm_script.proofs.Events.{turns_none, turns_err, turns_ok, turns_zero}
 
 -- a refusal is for want of blocks
@@ -245,7 +245,7 @@ named-enough caller asked (Some x) p = record { not_short = call-enough p caller
 
 -- a command whose events get their blocks
 pub answered-enough : (callers : Both Caller) (command : Command) (pair : Option PlainPair) → AllEnough (answered callers command [] pair).is_short (answered callers command [] pair).account
-unfolding answered by_call by_flush by_put by_get by_show by_ledger by_turn by_run by_open
+unfolding answered by_call by_flush by_put by_get by_show by_ledger by_cut by_turn by_run by_open
 answered-enough callers (Open blocks) None = open-enough callers.master (unwrap_or blocks 256)
 answered-enough callers (Open blocks) (Some p) = record { not_short = refl; none_left = refl }
 answered-enough callers (Call side asked) None = record { not_short = refl; none_left = refl }
@@ -265,6 +265,8 @@ answered-enough callers (Show side) None = record { not_short = refl; none_left 
 answered-enough callers (Show side) (Some p) = record { not_short = refl; none_left = refl }
 answered-enough callers (Ledger direction) None = record { not_short = refl; none_left = refl }
 answered-enough callers (Ledger direction) (Some p) = record { not_short = refl; none_left = refl }
+answered-enough callers Cut None = record { not_short = refl; none_left = refl }
+answered-enough callers Cut (Some p) = record { not_short = refl; none_left = refl }
 answered-enough callers (Group caller) pair = record { not_short = refl; none_left = refl }
 
 -- a script whose events get their blocks has no short line

@@ -17,6 +17,7 @@ use Rattle.strm_types.specs.Message.{Message, band_of, cells_of, data_message, i
 use Rattle.strm_types.specs.Names.{driver_of}
 use Rattle.strm_types.specs.Queue.{Queue}
 use Rattle.strm_laws.specs.Stacked.{OfLdterm}
+use Rattle.strm_types.specs.Rules.{no_fates}
 use Rattle.strm_laws.specs.State.{Stream, new_stream, opening}
 use Rattle.strm_laws.proofs.Samples.{ordinary}
 use Rattle.strm_script.specs.Script.{queue_in_stream}
@@ -46,6 +47,7 @@ typed = record {
   state = record opening { ends = record { master = written_on; slave = typed_on }; enabled = reading ∷ driver_of Master ∷ [] };
   journal = [];
   limits = script_limits 64;
+  fates = no_fates;
 }
 
 -- what a turn of a queue is answered by an account, and whether its line is short

@@ -6,7 +6,7 @@ use Rattle.strm_types.specs.Events.{Request, map_event}
 use Rattle.strm_script.specs.Script as script
 use Rattle.strm_script.specs.ScriptReading as readings
 use Rattle.strm_script.specs.declared.commands.Command.{Command}
-use Rattle.strm_script.specs.declared.commands.Command.TheVariants.{Open, Call, Flush, Put, Get, Turn, Run, Show, Ledger, Group}
+use Rattle.strm_script.specs.declared.commands.Command.TheVariants.{Open, Call, Flush, Put, Get, Turn, Run, Show, Ledger, Cut, Group}
 use Rattle.strm_script.specs.declared.commands.Reading.{Reading}
 use Rattle.strm_script.specs.declared.commands.Reading.TheVariants.{Silent, Malformed, Spoken}
 
@@ -28,6 +28,7 @@ command_of (Turn name) = script.Turn name
 command_of (Run turns) = script.Run turns
 command_of (Show side) = script.Show side
 command_of (Ledger direction) = script.Ledger direction
+command_of Cut = script.Cut
 command_of (Group caller) = script.Group caller
 
 abbrev pub commands_of : Option Command → Option script.Command

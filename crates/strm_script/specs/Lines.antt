@@ -11,7 +11,7 @@ use Rattle.strm_script.specs.ScriptRun.{size_at}
 use Rattle.strm_script.specs.declared.answers.Line.{Line}
 use Rattle.strm_script.specs.declared.answers.ModuleSizes.{ModuleSizes}
 use Rattle.strm_script.specs.declared.answers.QueueSize.{QueueSize}
-use Rattle.strm_script.specs.declared.answers.Line.TheVariants.{Done, Turned, Ran, Sizes, Booked, Refused, Wrong}
+use Rattle.strm_script.specs.declared.answers.Line.TheVariants.{Done, Turned, Ran, Entries, Sizes, Booked, Refused, Wrong}
 
 -- how much stands on the queues of the module on a side's stream that has queues
 abbrev pub module_sizes : Side → State ℕ → Option ModuleSizes
@@ -33,6 +33,7 @@ abbrev pub line_of : List ℕ → Line → script.Line
 line_of bytes (Done answer) = script.reply_line (Ok (reply_in answer bytes))
 line_of bytes (Turned turn) = script.turn_line (Ok turn)
 line_of bytes (Ran n) = script.Ran n
+line_of bytes (Entries n) = script.Number n
 line_of bytes (Sizes side head stacked driver) = script.Sizes side (head ∷ (sizes_of stacked ++ driver ∷ []))
 line_of bytes (Booked booked) = script.Booked booked.direction booked.ledger
 line_of bytes (Refused refusal) = script.Refused refusal

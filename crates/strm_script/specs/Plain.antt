@@ -4,4 +4,4 @@ use Rattle.strm_script.specs.ScriptRun.{PlainPair}
 
 -- a pair whose blocks nobody counts
 abbrev pub plain : PairState → PlainPair
-plain p = record { state = p.state; journal = p.journal; limits = p.limits }
+plain p = record { state = p.state; journal = p.journal; limits = p.limits; fates = p.fates }

@@ -41,6 +41,7 @@ pub data Command : Type 0 where
   Run : ℕ → Command  -- so many turns at most
   Show : Side → Command  -- what stands on the queues of a side's stream
   Ledger : Dir → Command  -- where the bytes of a direction are
+  Cut : Command  -- the journal begins anew
   Group : Caller → Command  -- who makes the later calls on the caller's side
 
 -- the most bytes of a line, without its LF
@@ -324,6 +325,7 @@ IsSpelled (Turn name) line = line ≡ codes "turn " ++ queue_name name
 IsSpelled (Run n) line = IsWithNumber (codes "run ") n line
 IsSpelled (Show side) line = line ≡ codes "show " ++ side_name side
 IsSpelled (Ledger direction) line = line ≡ codes "ledger " ++ direction_name direction
+IsSpelled Cut line = line ≡ codes "cut"
 IsSpelled (Group caller) line = IsGroup caller line
 
 -- a line that asks for nothing: an empty one, and a comment

@@ -29,7 +29,7 @@ use Rattle.strm_script.specs.declared.commands.NamedWanted.TheVariants as wanted
 use Rattle.strm_types.specs.declared.ioctls.TheConstants.{TCGETS, TCSETS, TCSETSW, TCSETSF, TIOCGPGRP, TIOCSPGRP, TIOCGWINSZ, TIOCSWINSZ, TIOCSIGNAL}
 use Rattle.strm_types.specs.Events.{Request}
 use Rattle.strm_script.specs.declared.commands.WindowSize.{WindowSize}
-use Rattle.strm_script.specs.Script.{Command, Open, Call, Flush, Put, Get, Turn, Run, Show, Ledger, Group, usual_size, byte_max, short_max, window_bytes, group_bytes, line_max, number_max, digit_of, is_letter, hex_of, escaped, is_silent}
+use Rattle.strm_script.specs.Script.{Command, Open, Call, Flush, Put, Get, Turn, Run, Show, Ledger, Cut, Group, usual_size, byte_max, short_max, window_bytes, group_bytes, line_max, number_max, digit_of, is_letter, hex_of, escaped, is_silent}
 
 -- what a line says
 pub data Reading : Type 0 where
@@ -264,11 +264,12 @@ open_in line =
     either_of (whole (codes "open") (Open None) line)
     (and_then (λ digits. option_map (λ n. Open (Some n)) (number_in digits)) (after (codes "open ") line))
 
--- a call that is spelled by its name alone
+-- a command that is spelled by its name alone
 unfoldable pub named_in : List ℕ → Option Command
 named_in line =
     either_of (whole (codes "unlock") (Call Master Unlock) line)
-    (whole (codes "slave") (Call Slave OpenSlave) line)
+    (either_of (whole (codes "slave") (Call Slave OpenSlave) line)
+    (whole (codes "cut") Cut line))
 
 -- what stands behind a value and a space, and so behind a side
 abbrev pub behind : {A B : Type 0} → (A → List ℕ → Option B) → Option (Front A) → Option B

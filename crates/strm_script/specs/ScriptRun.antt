@@ -14,7 +14,6 @@ use Rattle.strm_types.specs.declared.names.Way.TheVariants.{Up, Down}
 use Rattle.strm_types.specs.declared.refusals.Refusal.{Refusal}
 use Rattle.strm_types.specs.declared.refusals.Refusal.TheVariants.{Einval, Enxio, Enosr}
 use Rattle.strm_laws.specs.ModuleTurns.{place_named}
-use Rattle.strm_laws.specs.Kept.{told_by}
 use Rattle.strm_laws.specs.Ledgers.{ledger_of}
 use Rattle.strm_types.specs.Both.{get, set}
 use Rattle.strm_types.specs.JobControl.{caller_of}
@@ -33,14 +32,16 @@ use Rattle.strm_types.specs.declared.modes.Prio.TheVariants as sent
 use Rattle.strm_types.specs.declared.modes.Wanted.{Wanted}
 use Rattle.strm_types.specs.declared.modes.Wanted.TheVariants as wanted
 use Rattle.strm_types.specs.Cells.{plain}
+use Rattle.strm_types.specs.Deliver.{Fate, tallied}
+use Rattle.strm_types.specs.declared.rules.Fates.{Fates}
 use Rattle.strm_laws.specs.Turns.{turned, whole_turn}
 use Rattle.strm_types.specs.Events.{Request, Reply}
 use Rattle.strm_laws.specs.Calls.{called}
 use Rattle.strm_types.specs.Journal.{PlainEntry}
 use Rattle.strm_laws.specs.Refusals.{refused, turn_refused, blocks_asked}
-use Rattle.strm_script.specs.Script.{Command, Open, Call, Flush, Put, Get, Turn as TurnOf, Run, Show, Ledger, Group, lines_of}
+use Rattle.strm_script.specs.Script.{Command, Open, Call, Flush, Put, Get, Turn as TurnOf, Run, Show, Ledger, Cut, Group, lines_of}
 use Rattle.strm_script.specs.ScriptReading.{Silent, Malformed, Spoken, reading}
-use Rattle.strm_script.specs.ScriptAnswers.{Line, Plain, Sizes, Booked, Refused, Wrong, Ran, printed_line, reply_line, turn_line}
+use Rattle.strm_script.specs.ScriptAnswers.{Line, Plain, Number, Sizes, Booked, Refused, Wrong, Ran, printed_line, reply_line, turn_line}
 use Rattle.strm_script.specs.declared.answers.QueueSize.{QueueSize}
 use Rattle.strm_script.specs.declared.commands.NamedPrio.{NamedPrio}
 use Rattle.strm_script.specs.declared.commands.NamedPrio.TheVariants as prios
@@ -68,11 +69,12 @@ abbrev pub rest_of : List Supply → List Supply
 rest_of [] = []
 rest_of (_ ∷ account) = account
 
--- a pair whose blocks nobody counts: its plain state, its journal and its sizes
+-- a pair whose blocks nobody counts: its plain state, its journal, its sizes, and how many bytes have gone by each rule
 pub record PlainPair : Type 0 where
   pub state : State ℕ
   pub journal : List PlainEntry
   pub limits : Config
+  pub fates : Fates
 
 -- the blocks of each kind that a pair gets where a script names no number
 abbrev pub usual_blocks : ℕ
@@ -83,7 +85,7 @@ abbrev pub script_limits : ℕ → Config
 script_limits blocks = record { mblks = blocks; dblks = blocks; journal_events = 8192; journal_bytes = 262144 }
 
 abbrev pub new_plain : ℕ → PlainPair
-new_plain blocks = record { state = opening; journal = []; limits = script_limits blocks }
+new_plain blocks = record { state = opening; journal = []; limits = script_limits blocks; fates = no_fates }
 
 -- What an event was answered, and the pair behind it, and whether the pool was short of blocks for it: it got ENOSR, or it is a turn
 -- that stopped within its message.
@@ -105,16 +107,16 @@ call_refusal supply p caller asked =
 abbrev pub turn_refusal : Supply → PlainPair → QueueName → Option Refusal
 turn_refusal supply p name = turn_refused p.state p.journal p.limits (is_enough supply) name
 
--- the pair with one more entry, in another state
-abbrev pub stepped : PlainPair → PlainEntry → State ℕ → PlainPair
-stepped p entry state = record p { state = state; journal = p.journal ++ entry ∷ [] }
+-- the pair with one more entry, in another state, and what went on the way
+abbrev pub stepped : PlainPair → PlainEntry → State ℕ → List (Fate ℕ) → PlainPair
+stepped p entry state gone = record p { state = state; journal = p.journal ++ entry ∷ []; fates = tallied gone p.fates }
 
 -- a call that is refused, if it is, or carried out
 abbrev pub call_happens : Option Refusal → PlainPair → Caller → Request → Happened (Reply)
 call_happens (Some refusal) p caller asked = record { answer = Err refusal; pair = p; is_short = is_enosr refusal }
 call_happens None p caller asked =
     let outcome = called plain caller asked p.state in
-    record { answer = Ok outcome.answer; pair = stepped p (Called caller asked outcome.answer) outcome.state; is_short = false }
+    record { answer = Ok outcome.answer; pair = stepped p (Called caller asked outcome.answer) outcome.state outcome.gone; is_short = false }
 
 -- a call
 unfoldable pub call_of : Supply → PlainPair → Caller → Request → Happened (Reply)
@@ -151,7 +153,7 @@ abbrev pub turn_happens : Option Refusal → Option ℕ → PlainPair → QueueN
 turn_happens (Some refusal) told p name = record { answer = Err refusal; pair = p; is_short = is_enosr refusal }
 turn_happens None told p name =
     let outcome = turned plain name (turn_to told name p.state) p.state in
-    record { answer = Ok outcome.turn; pair = stepped p (Turned name outcome.turn) outcome.state; is_short = is_some told }
+    record { answer = Ok outcome.turn; pair = stepped p (Turned name outcome.turn) outcome.state outcome.gone; is_short = is_some told }
 
 -- a turn of a queue
 unfoldable pub turn_of : Supply → PlainPair → QueueName → Happened Turn
@@ -237,14 +239,18 @@ by_show side account p = record {
   is_short = false;
 }
 
--- a look at the ledger of a direction, which is no event: what has gone is told by the journal
+-- a look at the ledger of a direction, which is no event
 unfoldable pub by_ledger : Dir → List Supply → PlainPair → Answered
 by_ledger direction account p = record {
-  line = Booked direction (ledger_of direction p.state (told_by plain opening p.journal no_fates));
+  line = Booked direction (ledger_of direction p.state p.fates);
   pair = Some p;
   account = account;
   is_short = false;
 }
+
+-- The journal begins anew, which is no event: the line says how many entries it held. All else stays.
+unfoldable pub by_cut : List Supply → PlainPair → Answered
+by_cut account p = record { line = Number (length p.journal); pair = Some (record p { journal = [] }); account = account; is_short = false }
 
 -- a turn by a command
 unfoldable pub by_turn : QueueName → List Supply → PlainPair → Answered
@@ -319,6 +325,7 @@ answered callers (TurnOf name) account pair = with_pair (by_turn name) account p
 answered callers (Run n) account pair = with_pair (by_run n) account pair
 answered callers (Show side) account pair = with_pair (by_show side) account pair
 answered callers (Ledger direction) account pair = with_pair (by_ledger direction) account pair
+answered callers Cut account pair = with_pair by_cut account pair
 answered callers (Group caller) account pair = by_group pair account
 
 -- who makes the calls behind a command

@@ -36,6 +36,8 @@ pub enum Line {
     Turned(Turn),
     /// So many turns were taken.
     Ran(u32),
+    /// The journal held so many entries, and begins anew.
+    Entries(usize),
     /// So much stands on the queues of a side's stream: of its head, of its module that has queues, if there is one, and of its driver.
     Sizes {
         side: Side,
@@ -445,6 +447,7 @@ impl fmt::Display for Shown<'_> {
             Line::Turned(Turn::Blocked) => write!(f, "blocked"),
             Line::Turned(Turn::Idle) => write!(f, "idle"),
             Line::Ran(turns) => write!(f, "ran {turns}"),
+            Line::Entries(entries) => write!(f, "ok {entries}"),
             Line::Sizes {
                 side,
                 head,

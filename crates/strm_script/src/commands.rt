@@ -75,6 +75,8 @@ pub enum Command {
     Ledger {
         direction: Dir,
     },
+    /// Begins the journal anew.
+    Cut,
     /// Has the later calls on the caller's side made by it.
     Group {
         caller: Caller,

@@ -23,6 +23,3 @@ mod words;
 pub use engine::Stop;
 pub use script::{ScriptEnd, ScriptStatus, run_script};
 pub use session::Session;
-
-#[cfg(test)]
-mod tests;

@@ -43,7 +43,7 @@ fn open(line: &[u8]) -> Option<Command>
     }
 }
 
-/// A call that is spelled by its name alone: `unlock`, `slave`.
+/// A command that is spelled by its name alone: `unlock`, `slave`, `cut`.
 #[tactic(auto, unfolding(crate::specs::ScriptReading::named_in))]
 fn named(line: &[u8]) -> Option<Command>
     ensures { commands_of result ≡ named_in line.now }
@@ -51,6 +51,7 @@ fn named(line: &[u8]) -> Option<Command>
     let (side, event) = match line {
         b"unlock" => (Side::Master, Event::Unlock),
         b"slave" => (Side::Slave, Event::OpenSlave),
+        b"cut" => return Some(Command::Cut),
         _ => return None,
     };
     Some(Command::Call { side, event })

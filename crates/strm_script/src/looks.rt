@@ -1,12 +1,9 @@
-//! Commands that look at the pair of a script, and make no call.
+//! Commands that look at the pair of a script or begin its journal anew, and make no call.
 
-ghost use Rattle.std.specs.Prelude.{◌≡◌, false};
-ghost use Rattle.strm_types.specs.Cells as cells;
+ghost use Rattle.std.specs.Prelude.{◌≡◌, false, length};
 ghost use Rattle.strm_types.specs.Names.{head_of, driver_of};
-ghost use Rattle.strm_types.specs.Rules.{no_fates};
-ghost use Rattle.strm_laws.specs.Kept.{told_by};
 ghost use Rattle.strm_laws.specs.Ledgers.{ledger_of};
-ghost use Rattle.strm_laws.specs.State.{opening};
+ghost use Rattle.strm_laws.specs.Pair.{restarted};
 ghost use Rattle.strm_script.specs.ScriptRun.{size_at};
 ghost use Rattle.strm_script.specs.Lines.{module_sizes};
 
@@ -79,7 +76,7 @@ pub fn ledger<B: Blocks + Drop>(pair: &Pair<B>, direction: Dir) -> Answered
     ensures { result ≡ record {
       line = Line.Booked (record {
         direction = direction;
-        ledger = ledger_of direction pair.now.state (told_by cells.plain opening pair.now.journal no_fates);
+        ledger = ledger_of direction pair.now.state pair.now.fates;
       });
       short = false;
     } }
@@ -87,6 +84,19 @@ pub fn ledger<B: Blocks + Drop>(pair: &Pair<B>, direction: Dir) -> Answered
     let ledger = pair.ledger(direction);
     Answered {
         line: Line::Booked(LedgerOf { direction, ledger }),
+        short: false,
+    }
+}
+
+/// Begins the journal of a pair anew, and tells how many entries it held.
+pub fn cut<B: Blocks + Drop>(pair: &mut Pair<B>) -> Answered
+    ensures line { result ≡ record { line = Line.Entries (length pair.old.journal); short = false } }
+    ensures pair { pair.new ≡ restarted pair.old }
+{
+    let held = pair.journal().entries.len();
+    pair.restart();
+    Answered {
+        line: Line::Entries(held),
         short: false,
     }
 }

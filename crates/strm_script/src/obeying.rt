@@ -8,7 +8,7 @@ ghost use Rattle.strm_script.specs.Outcomes.{LeadsTo};
 
 use crate::calls::{call, flush, get, lend, put};
 use crate::commands::Command;
-use crate::looks::{ledger, show};
+use crate::looks::{cut, ledger, show};
 use crate::outcomes::{Answered, done, refused};
 use crate::turns::{run, turn};
 use std::alloc::{AllocError, Global};
@@ -65,6 +65,7 @@ fn on_pair<B: Blocks + Drop>(
         Command::Run { turns } => run(pair, *turns),
         Command::Show { side } => show(pair, *side),
         Command::Ledger { direction } => ledger(pair, *direction),
+        Command::Cut => cut(pair),
         Command::Group { caller: _ } => done(),
     }
 }

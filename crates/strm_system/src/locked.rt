@@ -89,6 +89,10 @@ impl<B: Blocks + Drop> Object for Locked<B> {
         let _ = self.pair.journal();
     }
 
+    fn restart(&mut self) {
+        self.pair.restart();
+    }
+
     fn reset(&mut self) {
         self.pair.reset();
     }

@@ -1,5 +1,6 @@
 //! Tests. What one does is said for any system, by steps of which it has to know little; it makes a system of real pairs.
 
+mod journals;
 mod server;
 mod steps;
 mod systems;

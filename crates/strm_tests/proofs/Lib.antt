@@ -1,2 +1,3 @@
 pub mod ToySteps
 pub mod RigSteps
+pub mod PtyPuts

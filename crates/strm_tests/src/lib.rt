@@ -1,4 +1,4 @@
-//! Tests of the crates from `strm_blocks` to `strm_frame`, by what they export, with answers worked out by hand. The library is
+//! Tests of the crates below `strm_pair`, by what they export, with answers worked out by hand. The library is
 //! empty.
 #![tactic(auto)]
 
@@ -9,6 +9,14 @@ mod frame;
 #[cfg(test)]
 mod head;
 #[cfg(test)]
+mod image;
+#[cfg(test)]
+mod ldterm;
+#[cfg(test)]
 mod msg;
 #[cfg(test)]
+mod pty;
+#[cfg(test)]
 mod queue;
+#[cfg(test)]
+mod raw;

@@ -137,3 +137,10 @@ pub(crate) fn settled<P: Object, R: Wait + Abort>(
     };
     settled
 }
+
+// Begins the journal of the end's pair anew.
+pub(crate) fn restart<P: Object, R: Wait>(rt: &R, system: &System<P>, end: &PairEnd<P>)
+    requires { IsOne system.now end.now }
+{
+    let _ = system.restart(rt, end);
+}

@@ -4,7 +4,7 @@ ghost use Rattle.std.specs.Prelude.{◌≤◌, IfSome};
 ghost use Rattle.strm_minors.specs.Openers.{IsOf};
 ghost use Rattle.strm_locks.specs.Systems.{IsOne};
 
-use super::steps::{call, joined, opened, opened_master, settled, split, writes};
+use super::steps::{call, joined, opened, opened_master, restart, settled, split, writes};
 use super::systems::{SIZES, system};
 use std::process::Abort;
 use std::sync::Wait;
@@ -110,7 +110,8 @@ fn threads_read_what_they_write(rt: HostRuntime) -> Result<(), Fail> {
     Ok(())
 }
 
-// A thousand calls of an end: writes, reads and a flush in turn. It gives back how many were answered.
+// A thousand calls of an end: writes, reads and a flush in turn, and the journal begun anew behind each hundred. It gives back how many were
+// answered.
 fn work<P: Object, R: Wait>(rt: &R, system: &System<P>, end: PairEnd<P>) -> (PairEnd<P>, u64)
     requires { IsOne system.now end }
     ensures { IsOne system.now result.0 }
@@ -131,6 +132,9 @@ fn work<P: Object, R: Wait>(rt: &R, system: &System<P>, end: PairEnd<P>) -> (Pai
         };
         if call(rt, system, &mut end, &event, &mut out).is_ok() {
             done = done.saturating_add(1);
+        }
+        if at % 100 == 99 {
+            restart(rt, system, &end);
         }
     }
     (end, done)

@@ -66,6 +66,8 @@ impl Object for Shut {
 
     fn audit(&self) {}
 
+    fn restart(&mut self) {}
+
     fn reset(&mut self) {}
 }
 

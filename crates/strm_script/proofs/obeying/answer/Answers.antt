@@ -13,7 +13,7 @@ use Rattle.strm_types.specs.declared.answers.Answer.TheVariants.{Done as Nothing
 use Rattle.strm_script.specs.Outcomes.{LeadsTo}
 use Rattle.strm_script.specs.declared.outcomes.Answered.{Answered}
 use Rattle.strm_script.specs.declared.commands.Command.{Command}
-use Rattle.strm_script.specs.declared.commands.Command.TheVariants.{Open, Call, Flush, Put, Get, Turn, Run, Show, Ledger, Group}
+use Rattle.strm_script.specs.declared.commands.Command.TheVariants.{Open, Call, Flush, Put, Get, Turn, Run, Show, Ledger, Cut, Group}
 use Rattle.strm_script.proofs.Events.{leads_unanswered, leads_looked, leads_same}
 use Rattle.strm_script.proofs.obeying.answer.Goals as goal
 
@@ -30,6 +30,7 @@ closed callers (Turn name) h other account = refl
 closed callers (Run turns) h other account = refl
 closed callers (Show side) h other account = refl
 closed callers (Ledger direction) h other account = refl
+closed callers Cut h other account = refl
 closed callers (Group caller) h other account = absurd (other caller refl)
 
 pub returns-in_default-command : goal.returns-in_default-command

@@ -1,4 +1,4 @@
-use Rattle.std.proofs.Common.{◌≡◌, ℕ, Bool, true, false, cond, List, [], ◌∷◌, ◌++◌, map, Option, None, Some, is_some, ap, sym, refl, ◌∙◌}
+use Rattle.std.proofs.Common.{◌≡◌, ℕ, Bool, true, false, cond, List, [], ◌∷◌, ◌++◌, length, map, Option, None, Some, is_some, ap, sym, refl, ◌∙◌}
 use Rattle.strm_types.specs.declared.both.Both.{Both}
 use Rattle.strm_types.specs.declared.events.Caller.{Caller}
 use Rattle.strm_types.specs.declared.names.Place.TheVariants.{Ldterm}
@@ -12,10 +12,10 @@ use Rattle.strm_script.specs.ScriptAnswers.{Sizes}
 use Rattle.strm_types.specs.declared.names.Side.{Side}
 use Rattle.strm_types.specs.declared.events.FlushQueues.{FlushQueues}
 use Rattle.strm_types.specs.Events.{Request}
-use Rattle.strm_script.specs.Script.{Call, Flush, Put, Get}
+use Rattle.strm_script.specs.Script.{Call, Flush, Put, Get, Cut}
 use Rattle.strm_script.specs.declared.commands.NamedPrio.{NamedPrio}
 use Rattle.strm_script.specs.declared.commands.NamedWanted.{NamedWanted}
-use Rattle.strm_script.specs.ScriptRun.{PlainPair, answered, by_call, by_flush, by_put, by_get, by_show, by_ledger, by_group, queues_down, size_at}
+use Rattle.strm_script.specs.ScriptRun.{PlainPair, answered, by_call, by_flush, by_put, by_get, by_show, by_ledger, by_cut, queues_down, size_at}
 use Rattle.strm_types.specs.declared.refusals.Refusal.TheVariants.{Einval}
 use Rattle.strm_script.specs.Commands.{command_of}
 use Rattle.strm_script.specs.Plain.{plain}
@@ -24,6 +24,8 @@ use Rattle.strm_script.specs.Outcomes.{LeadsTo}
 use Rattle.strm_script.specs.declared.outcomes.Answered.{Answered}
 use Rattle.strm_script.specs.declared.commands.Command.{Command}
 use Rattle.strm_script.proofs.Events.{leads_unanswered, leads_looked, leads_same}
+use Rattle.strm_laws.specs.Pair.{PairState, restarted}
+use Rattle.strm_script.specs.declared.answers.Line.TheVariants.{Entries}
 use Rattle.strm_script.proofs.obeying.on_pair.Goals as goal
 
 -- a command that is known
@@ -98,6 +100,18 @@ unfolding answered by_ledger
 returns-in-Ledger g c = known _ _ _ _ _ _ _ c.in-Ledger.is
     (leads_looked _ _ _ _ (λ account.
     ap (λ (x : Answered). record { line = line_of c.args.out.now.items x.line; pair = Some (plain c.args.pair.now); account = account; is_short = x.short }) (sym c.ledger.ensures)))
+
+-- a journal that begins anew
+cuts : (callers : Both Caller) (bytes : List ℕ) (found : Answered) (old new : PairState) → found ≡ record { line = Entries (length old.journal); short = false } → new ≡ restarted old
+    → LeadsTo (λ account. answered callers Cut account (Some (plain old))) found bytes (Some (plain new))
+unfolding answered by_cut
+cuts callers bytes found old new line pair =
+    leads_looked _ _ _ _ (λ account.
+    ap (λ (x : Answered). record { line = line_of bytes x.line; pair = Some (plain (restarted old)); account = account; is_short = x.short }) (sym line)
+    ∙ ap (λ p. record { line = line_of bytes found.line; pair = Some (plain p); account = account; is_short = found.short }) (sym pair))
+
+pub returns-in-Cut : goal.returns-in-Cut
+returns-in-Cut g c = known _ _ _ _ _ _ _ c.in-Cut.is (cuts _ _ _ c.args.pair.now _ c.cut.ensures.line c.cut.ensures.pair)
 
 -- a put, whose parts are lent
 puts : (callers : Both Caller) (caller : Caller) (bytes : List ℕ) (side : Side) (prio : NamedPrio) (control body asked_control asked_body : Option (List ℕ)) (found : Answered) (old : PlainPair) (new : Option PlainPair)

@@ -1,5 +1,5 @@
 -- Nothing stands on its queues, and no module on its stack.
-use Rattle.std.proofs.Common.{◌+◌, ◌≡◌, [], map, ap, arith, refl, sym, subst, ◌∙◌}
+use Rattle.std.proofs.Common.{◌+◌, map, ap, arith, refl, sym, subst, ◌∙◌}
 use Rattle.strm_laws.proofs.StackOnce.{none-once}
 use Rattle.strm_blocks.specs.Blocks.{list_at}
 use Rattle.strm_frame.specs.Stacks.{all_of, AreHeld}

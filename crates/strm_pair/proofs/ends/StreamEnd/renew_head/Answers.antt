@@ -1,5 +1,5 @@
 -- The list is emptied, and a head as new stands on it.
-use Rattle.std.proofs.Common.{◌<◌, [], length, ap, ◌∙◌, arith}
+use Rattle.std.proofs.Common.{◌<◌, length, ap, ◌∙◌, arith}
 use Rattle.strm_blocks.specs.Blocks.{list_at}
 use Rattle.strm_queue.proofs.Renewed.{cleared, renewed-keeps}
 use Rattle.strm_pair.proofs.ends.StreamEnd.renew_head.Goals as goal

@@ -5,8 +5,8 @@ use Rattle.strm_pair.specs.Pool.{IsPoolOf}
 use Rattle.strm_types.specs.Journal.{entries_in}
 use Rattle.strm_laws.specs.Pair.{PairState}
 use Rattle.strm_pair.specs.Pairs.{journal_of}
-use Rattle.strm_pair.proofs.Steps.{led-idle}
-use Rattle.strm_pair.proofs.Shown.{ordered, free-shown}
+use Rattle.strm_pair.proofs.Steps.{kept-base, led-idle}
+use Rattle.strm_pair.proofs.Shown.{free-shown}
 use Rattle.strm_pair.proofs.pair.Pair.journal.Goals as goal
 
 pub returns-clause-entries : goal.returns-clause-entries
@@ -19,14 +19,13 @@ pub returns-clause-ordered : goal.returns-clause-ordered
 returns-clause-ordered g c =
     let p = c.self.inside in
     let s = g.B.Blocks.value p.store in
-    let idle = led-idle s p.streams p.journal p.limits p.fates c.self.invariant in
-    subst (λ (v : PairState). AreOrdered v.state) c.self.view_is (ordered s p.streams c.self.invariant.held idle)
+    subst (λ (v : PairState). AreOrdered v.state) c.self.view_is (kept-base s p.streams p.journal p.base.start p.limits p.fates c.self.invariant).ordered
 
 pub returns-clause-blocks : goal.returns-clause-blocks
 returns-clause-blocks g c =
     let p = c.self.inside in
     let s = g.B.Blocks.value p.store in
-    let idle = led-idle s p.streams p.journal p.limits p.fates c.self.invariant in
+    let idle = led-idle s p.streams p.journal p.base.start p.limits p.fates c.self.invariant in
     subst (λ (v : PairState). IsPoolOf (messages_in v.state) v.limits v.free) c.self.view_is
     (free-shown s p.streams c.self.invariant.held idle p.limits c.audit.ensures c.self.invariant.mblks c.self.invariant.dblks)
 

@@ -1,5 +1,5 @@
 -- The verdict decides.
-use Rattle.std.proofs.Common.{◌≡◌, sym, ◌∙◌, refl}
+use Rattle.std.proofs.Common.{sym, ◌∙◌, refl}
 use Rattle.strm_types.specs.Events.{request}
 use Rattle.strm_laws.specs.Pair.{call_refused}
 use Rattle.strm_laws.specs.Refusals.{stop_of}

@@ -15,8 +15,8 @@ invariant_of-result g c =
     let blank : s ≡ empty_store c.free_blocks-mblks.result.0 c.free_blocks-mblks.result.1 =
     vacant s c.requires.lists c.requires.hand ∙ ap (λ n. empty_store n s.dblks) m ∙ ap (λ n. empty_store c.free_blocks-mblks.result.0 n) d in
     let j = c.in-Ok-new.ensures in
-    fresh-kept s _ _ (record { mblks = c.free_blocks-mblks.result.0; dblks = c.free_blocks-mblks.result.1; journal_events = c.args.sizes.journal_events; journal_bytes = c.args.sizes.journal_bytes })
-    _ blank (record { state = c.new-2.ensures.state c.free_blocks-mblks.result.0 c.free_blocks-mblks.result.1; held = c.new-2.ensures.held c.free_blocks-mblks.result.0 c.free_blocks-mblks.result.1 }) j.empty j.most_entries j.most_bytes c.none.ensures
+    fresh-kept s _ _ _ (record { mblks = c.free_blocks-mblks.result.0; dblks = c.free_blocks-mblks.result.1; journal_events = c.args.sizes.journal_events; journal_bytes = c.args.sizes.journal_bytes })
+    _ c.new-3.ensures blank (record { state = c.new-2.ensures.state c.free_blocks-mblks.result.0 c.free_blocks-mblks.result.1; held = c.new-2.ensures.held c.free_blocks-mblks.result.0 c.free_blocks-mblks.result.1 }) j.empty j.most_entries j.most_bytes c.none.ensures
 
 pub returns : goal.returns
 returns g c =
@@ -25,7 +25,7 @@ returns g c =
     let free = all-free s c.requires.lists c.requires.hand in
     let m : c.free_blocks-mblks.result.0 ≡ s.mblks = c.free_blocks-mblks.ensures.message_blocks ∙ ap (λ (f : Free). f.mblks) free in
     let d : c.free_blocks-mblks.result.1 ≡ s.dblks = c.free_blocks-mblks.ensures.data_blocks ∙ ap (λ (f : Free). f.dblks) free in
-    rw (m, d) (fresh-shown s _ _ sizes _ (vacant s c.requires.lists c.requires.hand) (record { state = c.new-2.ensures.state s.mblks s.dblks; held = c.new-2.ensures.held s.mblks s.dblks }) c.in-Ok-new.ensures.empty c.none.ensures)
+    rw (m, d) (fresh-shown s _ _ _ sizes _ c.new-3.ensures (vacant s c.requires.lists c.requires.hand) (record { state = c.new-2.ensures.state s.mblks s.dblks; held = c.new-2.ensures.held s.mblks s.dblks }) c.in-Ok-new.ensures.empty c.none.ensures)
 
 pub returns-in_default : goal.returns-in_default
 returns-in_default g c = search rules steps 30000

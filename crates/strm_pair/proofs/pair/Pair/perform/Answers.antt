@@ -1,8 +1,7 @@
 -- A call that isn't refused is a step, and the journal gains it with its answer.
-use Rattle.std.proofs.Common.{ℕ, true, ◌≡◌, ◌≤◌, ◌+◌, ◌∙◌, ◌++◌, ◌∷◌, [], length, ap, sym, refl, subst, rules, arith}
+use Rattle.std.proofs.Common.{ℕ, ◌≡◌, ◌≤◌, ◌+◌, ◌∙◌, ◌++◌, ◌∷◌, [], length, ap, sym, refl, subst, rules, arith}
 use Rattle.std.specs.Bool.{OnTrue}
-use Rattle.std.specs.Prelude.{nat_le, None}
-use Rattle.std.proofs.lemmas.Bool.Decides.{nat_tests}
+use Rattle.std.specs.Prelude.{None}
 use Rattle.strm_types.specs.declared.entries.Entry.TheVariants.{Called}
 use Rattle.strm_types.specs.Cells.{plain}
 use Rattle.strm_laws.specs.Calls.{Outcome, delivers}
@@ -14,10 +13,10 @@ use Rattle.strm_laws.specs.Ledgers.{FewBooked}
 use Rattle.strm_laws.specs.Step.{IsCall, after}
 use Rattle.strm_laws.specs.Refusals.{enough, blocks_asked, hold, refused_at_once, refused_by_state, stop_of, unfit}
 use Rattle.strm_laws.specs.Pair.{PairState, AddsEntry, call_refused}
-use Rattle.strm_laws.proofs.Balances.{both-true, call-few, written-by-blocks}
+use Rattle.strm_laws.proofs.Balances.{call-few, written-by-blocks}
 use Rattle.strm_laws.proofs.StackSpares.{call-low}
 use Rattle.strm_laws.proofs.Replay.{call-allowed, or_else-none}
-use Rattle.strm_blocks.specs.Blocks.{StoreValue, free_d, free_m}
+use Rattle.strm_blocks.specs.Blocks.{free_m}
 use Rattle.strm_blocks.proofs.Laws.{free_m-is}
 use Rattle.strm_pair.specs.Pairs.{state_in, journal_of, free_in}
 use Rattle.strm_pair.specs.PairViews.{pair_of}
@@ -36,7 +35,7 @@ invariant_of-self g c =
     let out = c.carry_out-answer.new.out.items in
     let old = state_in s p.streams in
     let entry : PlainEntry = Called c.args.caller asked (reply_in c.carry_out-answer.result out) in
-    let allowed : call_refused (pair_of s p.streams p.journal p.limits p.fates) c.args.caller asked ≡ None = ap (λ (v : PairState). call_refused v c.args.caller asked) c.self.view_is ∙ (judged-allowed _ (stop_of c.args.self.now.state c.args.caller asked) c.requires).0 in
+    let allowed : call_refused (pair_of s p.streams p.journal p.base.start p.limits p.fates) c.args.caller asked ≡ None = ap (λ (v : PairState). call_refused v c.args.caller asked) c.self.view_is ∙ (judged-allowed _ (stop_of c.args.self.now.state c.args.caller asked) c.requires).0 in
     let free : stop_of old c.args.caller asked ≡ None = ap (λ (v : PairState). stop_of v.state c.args.caller asked) c.self.view_is ∙ (judged-allowed (call_refused c.args.self.now c.args.caller asked) _ c.requires).1 in
     let same = as-performed c.args.caller asked old free in
     let stands = c.carry_out-answer.ensures.state ∙ ap (λ (o : Outcome ℕ). o.state) same in
@@ -48,13 +47,13 @@ invariant_of-self g c =
     let less : blocks_asked asked ≤ 65536 = omega (arith, blocks, store.few_mblks, free_m-is s) in
     let left = subst (λ v. OnTrue (delivers asked) (spare old ≤ spare v + 30)) stands c.carry_out-answer.ensures.left in
     let few = call-few plain c.args.caller asked old may (written-by-blocks asked 65536 (omega arith) less) c.self.invariant.few (λ room. call-low plain c.args.caller asked old room left) in
-    kept-step s new p.streams c.carry_out-answer.new.self p.journal c.add_call.new.self p.limits p.fates c.carry_out-answer.new.told entry c.self.invariant
+    kept-step s new p.streams c.carry_out-answer.new.self p.journal c.add_call.new.self p.base.start p.limits p.fates c.carry_out-answer.new.told entry c.self.invariant
     (record {
       allowed = (call-allowed old (journal_of p.journal) p.limits (enough (blocks_asked asked) (free_in s)) c.args.caller asked allowed).0;
       answered = sym (c.carry_out-answer.ensures.answer ∙ ap (λ (o : Outcome ℕ). o.answer) same);
       leads = refl;
     })
-    stands c.carry_out-answer.ensures.held c.carry_out-answer.ensures.pool (subst FewBooked (sym stands) few) told added c.add_call.ensures.most_entries c.add_call.ensures.most_bytes
+    c.add_call.ensures.within stands c.carry_out-answer.ensures.held c.carry_out-answer.ensures.pool (subst FewBooked (sym stands) few) told added c.add_call.ensures.most_entries c.add_call.ensures.most_bytes
 
 pub returns-clause-adds : goal.returns-clause-adds
 returns-clause-adds g c =
@@ -67,7 +66,7 @@ returns-clause-adds g c =
     let out = c.carry_out-answer.new.out.items in
     let old = state_in s p.streams in
     let entry : PlainEntry = Called c.args.caller asked (reply_in c.carry_out-answer.result out) in
-    let allowed : call_refused (pair_of s p.streams p.journal p.limits p.fates) c.args.caller asked ≡ None = ap (λ (v : PairState). call_refused v c.args.caller asked) c.self.view_is ∙ (judged-allowed _ (stop_of c.args.self.now.state c.args.caller asked) c.requires).0 in
+    let allowed : call_refused (pair_of s p.streams p.journal p.base.start p.limits p.fates) c.args.caller asked ≡ None = ap (λ (v : PairState). call_refused v c.args.caller asked) c.self.view_is ∙ (judged-allowed _ (stop_of c.args.self.now.state c.args.caller asked) c.requires).0 in
     let free : stop_of old c.args.caller asked ≡ None = ap (λ (v : PairState). stop_of v.state c.args.caller asked) c.self.view_is ∙ (judged-allowed (call_refused c.args.self.now c.args.caller asked) _ c.requires).1 in
     let same = as-performed c.args.caller asked old free in
     let stands = c.carry_out-answer.ensures.state ∙ ap (λ (o : Outcome ℕ). o.state) same in
@@ -77,12 +76,14 @@ returns-clause-adds g c =
       answered = sym (c.carry_out-answer.ensures.answer ∙ ap (λ (o : Outcome ℕ). o.answer) same);
       leads = refl;
     } in
-    subst (λ (v : PairState). AddsEntry v (pair_of new q k p.limits c.carry_out-answer.new.told) entry) c.self.view_is
+    subst (λ (v : PairState). AddsEntry v (pair_of new q k p.base.start p.limits c.carry_out-answer.new.told) entry) c.self.view_is
     (record {
       journal = added;
       step = step-shown s new p.streams q entry stands taken;
       fates = c.carry_out-answer.ensures.told ∙ ap (λ (o : Outcome ℕ). tallied o.gone p.fates) same;
       base = refl;
+      base_fates = refl;
+      past = refl;
       limits = refl;
     })
 
@@ -95,7 +96,7 @@ carry_out-answer-requires-clause-allowed g c =
     let s = g.B.Blocks.value p.store in
     let asked = request c.args.event.now in
     let old = state_in s p.streams in
-    let allowed : call_refused (pair_of s p.streams p.journal p.limits p.fates) c.args.caller asked ≡ None = ap (λ (v : PairState). call_refused v c.args.caller asked) c.self.view_is ∙ (judged-allowed _ (stop_of c.args.self.now.state c.args.caller asked) c.requires).0 in
+    let allowed : call_refused (pair_of s p.streams p.journal p.base.start p.limits p.fates) c.args.caller asked ≡ None = ap (λ (v : PairState). call_refused v c.args.caller asked) c.self.view_is ∙ (judged-allowed _ (stop_of c.args.self.now.state c.args.caller asked) c.requires).0 in
     (or_else-none (refused_at_once old c.args.caller asked) (refused_by_state old c.args.caller asked) (call-allowed old (journal_of p.journal) p.limits (enough (blocks_asked asked) (free_in s)) c.args.caller asked allowed).0).0
 
 pub carry_out-answer-requires-clause-fits : goal.carry_out-answer-requires-clause-fits
@@ -104,12 +105,12 @@ carry_out-answer-requires-clause-fits g c =
     let s = g.B.Blocks.value p.store in
     let asked = request c.args.event.now in
     let old = state_in s p.streams in
-    let allowed : call_refused (pair_of s p.streams p.journal p.limits p.fates) c.args.caller asked ≡ None = ap (λ (v : PairState). call_refused v c.args.caller asked) c.self.view_is ∙ (judged-allowed _ (stop_of c.args.self.now.state c.args.caller asked) c.requires).0 in
+    let allowed : call_refused (pair_of s p.streams p.journal p.base.start p.limits p.fates) c.args.caller asked ≡ None = ap (λ (v : PairState). call_refused v c.args.caller asked) c.self.view_is ∙ (judged-allowed _ (stop_of c.args.self.now.state c.args.caller asked) c.requires).0 in
     let free : stop_of old c.args.caller asked ≡ None = ap (λ (v : PairState). stop_of v.state c.args.caller asked) c.self.view_is ∙ (judged-allowed (call_refused c.args.self.now c.args.caller asked) _ c.requires).1 in
     free-fits (hold old c.args.caller asked) (unfit old c.args.caller asked) (or_else-none (refused_at_once old c.args.caller asked) (refused_by_state old c.args.caller asked) (call-allowed old (journal_of p.journal) p.limits (enough (blocks_asked asked) (free_in s)) c.args.caller asked allowed).0).1 free
 
 pub carry_out-answer-requires-clause-idle : goal.carry_out-answer-requires-clause-idle
-carry_out-answer-requires-clause-idle g c = led-idle (g.B.Blocks.value c.self.inside.store) c.self.inside.streams c.self.inside.journal c.self.inside.limits c.self.inside.fates c.self.invariant
+carry_out-answer-requires-clause-idle g c = led-idle (g.B.Blocks.value c.self.inside.store) c.self.inside.streams c.self.inside.journal c.self.inside.base.start c.self.inside.limits c.self.inside.fates c.self.invariant
 
 pub carry_out-answer-requires-clause-room_m : goal.carry_out-answer-requires-clause-room_m
 carry_out-answer-requires-clause-room_m g c =
@@ -117,7 +118,7 @@ carry_out-answer-requires-clause-room_m g c =
     let s = g.B.Blocks.value p.store in
     let asked = request c.args.event.now in
     let old = state_in s p.streams in
-    let allowed : call_refused (pair_of s p.streams p.journal p.limits p.fates) c.args.caller asked ≡ None = ap (λ (v : PairState). call_refused v c.args.caller asked) c.self.view_is ∙ (judged-allowed _ (stop_of c.args.self.now.state c.args.caller asked) c.requires).0 in
+    let allowed : call_refused (pair_of s p.streams p.journal p.base.start p.limits p.fates) c.args.caller asked ≡ None = ap (λ (v : PairState). call_refused v c.args.caller asked) c.self.view_is ∙ (judged-allowed _ (stop_of c.args.self.now.state c.args.caller asked) c.requires).0 in
     (asked-free (blocks_asked asked) s (call-allowed old (journal_of p.journal) p.limits (enough (blocks_asked asked) (free_in s)) c.args.caller asked allowed).2).0
 
 pub carry_out-answer-requires-clause-room_d : goal.carry_out-answer-requires-clause-room_d
@@ -126,7 +127,7 @@ carry_out-answer-requires-clause-room_d g c =
     let s = g.B.Blocks.value p.store in
     let asked = request c.args.event.now in
     let old = state_in s p.streams in
-    let allowed : call_refused (pair_of s p.streams p.journal p.limits p.fates) c.args.caller asked ≡ None = ap (λ (v : PairState). call_refused v c.args.caller asked) c.self.view_is ∙ (judged-allowed _ (stop_of c.args.self.now.state c.args.caller asked) c.requires).0 in
+    let allowed : call_refused (pair_of s p.streams p.journal p.base.start p.limits p.fates) c.args.caller asked ≡ None = ap (λ (v : PairState). call_refused v c.args.caller asked) c.self.view_is ∙ (judged-allowed _ (stop_of c.args.self.now.state c.args.caller asked) c.requires).0 in
     (asked-free (blocks_asked asked) s (call-allowed old (journal_of p.journal) p.limits (enough (blocks_asked asked) (free_in s)) c.args.caller asked allowed).2).1
 
 pub as_slice-requires : goal.as_slice-requires
@@ -141,7 +142,7 @@ add_call-requires-clause-small g c =
     let s = g.B.Blocks.value p.store in
     let asked = request c.args.event.now in
     let old = state_in s p.streams in
-    let allowed : call_refused (pair_of s p.streams p.journal p.limits p.fates) c.args.caller asked ≡ None = ap (λ (v : PairState). call_refused v c.args.caller asked) c.self.view_is ∙ (judged-allowed _ (stop_of c.args.self.now.state c.args.caller asked) c.requires).0 in
+    let allowed : call_refused (pair_of s p.streams p.journal p.base.start p.limits p.fates) c.args.caller asked ≡ None = ap (λ (v : PairState). call_refused v c.args.caller asked) c.self.view_is ∙ (judged-allowed _ (stop_of c.args.self.now.state c.args.caller asked) c.requires).0 in
     let parts = call-allowed old (journal_of p.journal) p.limits (enough (blocks_asked asked) (free_in s)) c.args.caller asked allowed in
     let at_once = (or_else-none (refused_at_once old c.args.caller asked) (refused_by_state old c.args.caller asked) parts.0).0 in
     let blocks : blocks_asked asked ≤ free_m s = (asked-free (blocks_asked asked) s parts.2).0 in
@@ -153,7 +154,7 @@ add_call-requires-clause-room g c =
     let s = g.B.Blocks.value p.store in
     let asked = request c.args.event.now in
     let old = state_in s p.streams in
-    let allowed : call_refused (pair_of s p.streams p.journal p.limits p.fates) c.args.caller asked ≡ None = ap (λ (v : PairState). call_refused v c.args.caller asked) c.self.view_is ∙ (judged-allowed _ (stop_of c.args.self.now.state c.args.caller asked) c.requires).0 in
+    let allowed : call_refused (pair_of s p.streams p.journal p.base.start p.limits p.fates) c.args.caller asked ≡ None = ap (λ (v : PairState). call_refused v c.args.caller asked) c.self.view_is ∙ (judged-allowed _ (stop_of c.args.self.now.state c.args.caller asked) c.requires).0 in
     let room = (call-allowed old (journal_of p.journal) p.limits (enough (blocks_asked asked) (free_in s)) c.args.caller asked allowed).1 in
     room-less (journal_of p.journal) p.limits p.journal.most_entries p.journal.most_bytes (length (payload_of asked) + content_max asked) (length (payload_of asked) + length c.as_slice.result.now)
     c.self.invariant.events c.self.invariant.bytes (omega (arith, c.carry_out-answer.ensures.content, ap length c.as_slice.ensures.value)) room

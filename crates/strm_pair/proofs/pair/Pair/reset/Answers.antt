@@ -12,7 +12,7 @@ invariant_of-self g c =
     let kept = c.self.invariant in
     let old = g.B.Blocks.value c.self.inside.store in
     let blank : g.B.Blocks.value c.reset.new.self ≡ empty_store l.mblks l.dblks = c.reset.ensures ∙ ap (λ m. empty_store m (g.B.Blocks.value c.self.inside.store).dblks) kept.mblks ∙ ap (λ d. empty_store l.mblks d) kept.dblks in
-    fresh-kept _ _ _ l _ blank (record { state = fresh.state old l.mblks l.dblks kept.held.beside; held = fresh.held old l.mblks l.dblks kept.held.beside }) c.clear.ensures.empty (c.clear.ensures.most_entries ∙ kept.events) (c.clear.ensures.most_bytes ∙ kept.bytes) c.none-self-inside.ensures
+    fresh-kept _ _ _ _ l _ c.new-self-inside.ensures blank (record { state = fresh.state old l.mblks l.dblks kept.held.beside; held = fresh.held old l.mblks l.dblks kept.held.beside }) c.clear.ensures.empty (c.clear.ensures.most_entries ∙ kept.events) (c.clear.ensures.most_bytes ∙ kept.bytes) c.none-self-inside.ensures
 
 pub returns : goal.returns
 returns g c =
@@ -21,4 +21,4 @@ returns g c =
     let kept = c.self.invariant in
     let old = g.B.Blocks.value c.self.inside.store in
     let blank : g.B.Blocks.value c.reset.new.self ≡ empty_store l.mblks l.dblks = c.reset.ensures ∙ ap (λ m. empty_store m (g.B.Blocks.value c.self.inside.store).dblks) kept.mblks ∙ ap (λ d. empty_store l.mblks d) kept.dblks in
-    fresh-shown _ _ _ l _ blank (record { state = fresh.state old l.mblks l.dblks kept.held.beside; held = fresh.held old l.mblks l.dblks kept.held.beside }) c.clear.ensures.empty c.none-self-inside.ensures ∙ ap (λ (v : PairState). new_pair v.limits) c.self.view_is
+    fresh-shown _ _ _ _ l _ c.new-self-inside.ensures blank (record { state = fresh.state old l.mblks l.dblks kept.held.beside; held = fresh.held old l.mblks l.dblks kept.held.beside }) c.clear.ensures.empty c.none-self-inside.ensures ∙ ap (λ (v : PairState). new_pair v.limits) c.self.view_is

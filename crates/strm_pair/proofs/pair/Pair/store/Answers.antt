@@ -15,7 +15,7 @@ returns g c =
     let p = c.self.inside in
     let s = g.B.Blocks.value p.store in
     let kept = c.self.invariant.held in
-    let idle = led-idle s p.streams p.journal p.limits p.fates c.self.invariant in
+    let idle = led-idle s p.streams p.journal p.base.start p.limits p.fates c.self.invariant in
     subst (λ (v : PairState). Shows s v.state) c.self.view_is (record {
       hand = kept.hand;
       streams = each-side (λ side t. ShowsStream s (first_list side) t) (state_in s p.streams).ends

@@ -22,15 +22,15 @@ invariant_of-self g c =
     let new = g.B.Blocks.value c.turn-turn.new.store in
     let old = state_in s p.streams in
     let entry : PlainEntry = Turned c.args.name c.turn-turn.result in
-    let allowed : queue_refused (pair_of s p.streams p.journal p.limits p.fates) c.args.name ≡ None = ap (λ (v : PairState). queue_refused v c.args.name) c.self.view_is ∙ sym c.turn_refusal.ensures ∙ c.in_default.is in
-    kept-step s new p.streams c.turn-turn.new.self p.journal c.add_turn.new.self p.limits p.fates c.turn-turn.new.told entry c.self.invariant
+    let allowed : queue_refused (pair_of s p.streams p.journal p.base.start p.limits p.fates) c.args.name ≡ None = ap (λ (v : PairState). queue_refused v c.args.name) c.self.view_is ∙ sym c.turn_refusal.ensures ∙ c.in_default.is in
+    kept-step s new p.streams c.turn-turn.new.self p.journal c.add_turn.new.self p.base.start p.limits p.fates c.turn-turn.new.told entry c.self.invariant
     (record {
       enabled = (turn-allowed old (journal_of p.journal) p.limits (enough (turn_blocks c.args.name.place) (free_in s)) c.args.name allowed).0;
       in_range = (turn-allowed old (journal_of p.journal) p.limits (enough (turn_blocks c.args.name.place) (free_in s)) c.args.name allowed).1;
       answered = sym c.turn-turn.ensures.turn;
       leads = refl;
     })
-    c.turn-turn.ensures.state c.turn-turn.ensures.held c.turn-turn.ensures.pool c.turn-turn.ensures.few c.turn-turn.ensures.told c.add_turn.ensures.added c.add_turn.ensures.most_entries c.add_turn.ensures.most_bytes
+    tt c.turn-turn.ensures.state c.turn-turn.ensures.held c.turn-turn.ensures.pool c.turn-turn.ensures.few c.turn-turn.ensures.told c.add_turn.ensures.added c.add_turn.ensures.most_entries c.add_turn.ensures.most_bytes
 
 pub returns-clause-adds : goal.returns-clause-adds
 returns-clause-adds g c =
@@ -41,19 +41,21 @@ returns-clause-adds g c =
     let k = c.add_turn.new.self in
     let old = state_in s p.streams in
     let entry : PlainEntry = Turned c.args.name c.turn-turn.result in
-    let allowed : queue_refused (pair_of s p.streams p.journal p.limits p.fates) c.args.name ≡ None = ap (λ (v : PairState). queue_refused v c.args.name) c.self.view_is ∙ sym c.turn_refusal.ensures ∙ c.in_default.is in
+    let allowed : queue_refused (pair_of s p.streams p.journal p.base.start p.limits p.fates) c.args.name ≡ None = ap (λ (v : PairState). queue_refused v c.args.name) c.self.view_is ∙ sym c.turn_refusal.ensures ∙ c.in_default.is in
     let taken : IsTurn plain old c.args.name c.turn-turn.result (after plain old entry) = record {
       enabled = (turn-allowed old (journal_of p.journal) p.limits (enough (turn_blocks c.args.name.place) (free_in s)) c.args.name allowed).0;
       in_range = (turn-allowed old (journal_of p.journal) p.limits (enough (turn_blocks c.args.name.place) (free_in s)) c.args.name allowed).1;
       answered = sym c.turn-turn.ensures.turn;
       leads = refl;
     } in
-    subst (λ (v : PairState). AddsEntry v (pair_of new q k p.limits c.turn-turn.new.told) entry) c.self.view_is
+    subst (λ (v : PairState). AddsEntry v (pair_of new q k p.base.start p.limits c.turn-turn.new.told) entry) c.self.view_is
     (record {
       journal = c.add_turn.ensures.added;
       step = step-shown s new p.streams q entry c.turn-turn.ensures.state taken;
       fates = c.turn-turn.ensures.told;
       base = refl;
+      base_fates = refl;
+      past = refl;
       limits = refl;
     })
 
@@ -68,7 +70,7 @@ add_turn-requires g c =
     let p = c.self.inside in
     let s = g.B.Blocks.value p.store in
     let old = state_in s p.streams in
-    let allowed : queue_refused (pair_of s p.streams p.journal p.limits p.fates) c.args.name ≡ None = ap (λ (v : PairState). queue_refused v c.args.name) c.self.view_is ∙ sym c.turn_refusal.ensures ∙ c.in_default.is in
+    let allowed : queue_refused (pair_of s p.streams p.journal p.base.start p.limits p.fates) c.args.name ≡ None = ap (λ (v : PairState). queue_refused v c.args.name) c.self.view_is ∙ sym c.turn_refusal.ensures ∙ c.in_default.is in
     let room = (turn-allowed old (journal_of p.journal) p.limits (enough (turn_blocks c.args.name.place) (free_in s)) c.args.name allowed).2 in
     record { room = room-less (journal_of p.journal) p.limits p.journal.most_entries p.journal.most_bytes 0 0 c.self.invariant.events c.self.invariant.bytes (omega arith) room }
 
@@ -76,12 +78,12 @@ pub returns-clause-refused : goal.returns-clause-refused
 returns-clause-refused g c = search rules steps 1000000
 
 pub turn-turn-requires-clause-idle : goal.turn-turn-requires-clause-idle
-turn-turn-requires-clause-idle g c = led-idle (g.B.Blocks.value c.self.inside.store) c.self.inside.streams c.self.inside.journal c.self.inside.limits c.self.inside.fates c.self.invariant
+turn-turn-requires-clause-idle g c = led-idle (g.B.Blocks.value c.self.inside.store) c.self.inside.streams c.self.inside.journal c.self.inside.base.start c.self.inside.limits c.self.inside.fates c.self.invariant
 
 pub turn-turn-requires-clause-range : goal.turn-turn-requires-clause-range
 turn-turn-requires-clause-range g c =
     let p = c.self.inside in
     let s = g.B.Blocks.value p.store in
     let old = state_in s p.streams in
-    let allowed : queue_refused (pair_of s p.streams p.journal p.limits p.fates) c.args.name ≡ None = ap (λ (v : PairState). queue_refused v c.args.name) c.self.view_is ∙ sym c.turn_refusal.ensures ∙ c.in_default.is in
+    let allowed : queue_refused (pair_of s p.streams p.journal p.base.start p.limits p.fates) c.args.name ≡ None = ap (λ (v : PairState). queue_refused v c.args.name) c.self.view_is ∙ sym c.turn_refusal.ensures ∙ c.in_default.is in
     (turn-allowed old (journal_of p.journal) p.limits (enough (turn_blocks c.args.name.place) (free_in s)) c.args.name allowed).1

@@ -1,5 +1,5 @@
 -- Streams over a store with nothing in it.
-use Rattle.std.proofs.Common.{refl, subst}
+use Rattle.std.proofs.Common.{refl}
 use Rattle.strm_blocks.specs.Blocks.{empty_store}
 use Rattle.strm_types.specs.declared.names.Side.TheVariants.{Master, Slave}
 use Rattle.strm_types.specs.declared.both.Both.{Both}

@@ -1,11 +1,5 @@
 -- A putmsg that isn't refused at once names a band that queues have.
-use Rattle.std.proofs.Common.{List, rules, sym, ap, ◌∙◌}
-use denote.Ref.{Bor}
-use Rattle.std.specs.Prelude.{ℕ, option_map}
-use Rattle.strm_types.specs.declared.events.Event.{Event}
-use Rattle.strm_types.specs.Events.{request}
-use Rattle.strm_laws.specs.Refusals.{refused_at_once}
-use Rattle.strm_pair.specs.Pairs.{state_in}
+use Rattle.std.proofs.Common.{rules}
 use Rattle.strm_pair.proofs.streams.Streams.unfit.Goals as goal
 
 pub returns-in-Unlock : goal.returns-in-Unlock

@@ -1,0 +1,46 @@
+-- Values of which each stands once among others: none of them stands among those before it.
+use Rattle.std.proofs.Common.{◌≡◌, ℕ, ◌≤◌, ◌+◌, Bool, true, false, cond, List, [], ◌∷◌, ◌++◌, refl, arith}
+use Rattle.std.specs.Prelude.{◌||◌}
+use Rattle.std.specs.List.{list_any}
+
+-- None stands among those before it.
+unfoldable pub AreNew : {A : Type 0} → (A → A → Bool) → List A → List A → Type 0
+AreNew same before [] = Unit {0}
+AreNew same before (x ∷ xs) = (list_any (λ y. same y x) before ≡ false) × AreNew same (before ++ x ∷ []) xs
+
+-- how often a value stands in a list
+pub record IsCount {A : Type 0} (same : A → A → Bool) (count : A → List A → ℕ) : Type 0 where
+  pub none : (x : A) → count x [] ≡ 0
+  pub more : (x y : A) (xs : List A) → count x (y ∷ xs) ≡ cond (same y x) 1 0 + count x xs
+
+module _ {A : Type 0} (same : A → A → Bool) (reflexive : (x : A) → same x x ≡ true) (count : A → List A → ℕ) (is : IsCount same count) where
+  absent : (x : A) (xs : List A) → count x xs ≡ 0 → list_any (λ y. same y x) xs ≡ false
+  absent x [] none = refl
+  absent x (y ∷ xs) none = at (same y x) (is.more x y xs) (absent x xs)
+    where
+      at : (b : Bool) → count x (y ∷ xs) ≡ cond b 1 0 + count x xs → (count x xs ≡ 0 → list_any (λ z. same z x) xs ≡ false) → (b || list_any (λ z. same z x) xs) ≡ false
+      at true e rest = absurd (omega (arith, e, none))
+      at false e rest = rest (omega (arith, e, none))
+
+  behind : (x y : A) (xs : List A) → count x (xs ++ y ∷ []) ≡ count x xs + cond (same y x) 1 0
+  behind x y [] = omega (arith, is.more x y [], is.none x)
+  behind x y (z ∷ xs) = omega (arith, is.more x z xs, is.more x z (xs ++ y ∷ []), behind x y xs)
+
+  new_from : (before xs : List A) → ((x : A) → count x before + count x xs ≤ 1) → AreNew same before xs
+  unfolding AreNew
+  new_from before [] once = tt
+  new_from before (x ∷ xs) once =
+      let one : count x (x ∷ xs) ≡ 1 + count x xs = rw (is.more x x xs, reflexive x) refl in
+      (absent x before (omega (arith, once x, one)), new_from (before ++ x ∷ []) xs (λ y. omega (arith, once y, is.more y x xs, behind y x before)))
+
+  pub all_new : (xs : List A) → ((x : A) → count x xs ≤ 1) → AreNew same [] xs
+  all_new xs once = new_from [] xs (λ x. omega (arith, once x, is.none x))
+
+  -- the first one doesn't stand among the others, nor does one of these twice
+  pub first_absent : (x : A) (xs : List A) → ((y : A) → count y (x ∷ xs) ≤ 1) → list_any (λ y. same y x) xs ≡ false
+  first_absent x xs once =
+      let one : count x (x ∷ xs) ≡ 1 + count x xs = rw (is.more x x xs, reflexive x) refl in
+      absent x xs (omega (arith, once x, one))
+
+  pub others_once : (x : A) (xs : List A) → ((y : A) → count y (x ∷ xs) ≤ 1) → (y : A) → count y xs ≤ 1
+  others_once x xs once y = omega (arith, once y, is.more y x xs)

@@ -1,0 +1,210 @@
+-- A state that has what an image asks has one.
+use Rattle.std.proofs.Common.{◌≡◌, ℕ, ◌<◌, ◌≤◌, true, not, List, [], ◌∷◌, length, map, refl, sym, ap, ◌∙◌, arith}
+use Rattle.std.specs.Prelude.{◌^◌}
+use Rattle.std.specs.List.{AllByRecursion, list_all, list_any}
+use Rattle.std.proofs.lemmas.Bool.{and_from, eq-eqb, lt-ltb}
+use Rattle.strm_types.specs.declared.books.Book.{Book}
+use Rattle.strm_types.specs.declared.limits.TheConstants.{BANDS}
+use Rattle.strm_types.specs.declared.names.Dir.{Dir}
+use Rattle.strm_types.specs.declared.names.Dir.TheVariants.{MasterToSlave, SlaveToMaster}
+use Rattle.strm_types.specs.declared.names.ModuleName.TheVariants as modules
+use Rattle.strm_types.specs.declared.names.Openness.{Openness}
+use Rattle.strm_types.specs.declared.names.Openness.TheVariants.{Never, Open, Closed}
+use Rattle.strm_types.specs.declared.names.Place.{Place}
+use Rattle.strm_types.specs.declared.names.Place.TheVariants as places
+use Rattle.strm_types.specs.declared.names.QueueName.{QueueName}
+use Rattle.strm_types.specs.declared.names.Side.{Side}
+use Rattle.strm_types.specs.declared.names.Side.TheVariants.{Master, Slave}
+use Rattle.strm_types.specs.declared.names.Way.{Way}
+use Rattle.strm_types.specs.declared.names.Way.TheVariants.{Up, Down}
+use Rattle.strm_types.specs.declared.rules.TheConstants.{RULES}
+use Rattle.strm_types.specs.Both.{get}
+use Rattle.strm_types.specs.Modules.{stands}
+use Rattle.strm_types.specs.Names.{IsOnce, has_service, has_service_at, same_place, same_queue, same_side, same_way, times}
+use Rattle.strm_types.specs.Queue.{IsOrdered, Queue}
+use Rattle.strm_laws.specs.Restorable.{IsThere, is_ldterm, is_there_among}
+use Rattle.strm_laws.specs.StackCosts.{stands_of}
+use Rattle.strm_laws.specs.Stacked.{Module, OfLdterm, OfPtem, OfPckt, module_name}
+use Rattle.strm_laws.specs.State.{State, queues_of, stream, stream_queues}
+use Rattle.strm_types.proofs.EnabledNames.{once-room}
+use Rattle.strm_laws.proofs.RestorableSteps.{opening-restorable}
+use Rattle.strm_image.specs.declared.versions.Version.TheVariants.{Second}
+use Rattle.strm_image.specs.Codes.{openness, place, side, version, way}
+use Rattle.strm_image.specs.Format.{always, byte, keep, u64}
+use Rattle.strm_image.specs.HasImage.{AreFates, Balances, HasImage, HasNumbers, IsBooked, IsLaid, IsShortQueue, new_imaged}
+use Rattle.strm_image.specs.Image.{Imaged, account, body, enabled, enabled_behind, has_queue_at, image, is_there, next_enabled, queue_name, rule_counts}
+use Rattle.strm_image.proofs.EachOnce.{AreNew, IsCount, all_new, first_absent, others_once}
+use Rattle.strm_image.proofs.FitQueues.{flag_fits}
+use Rattle.strm_image.proofs.FitStreams.{shut_quiet, stream_fits}
+use Rattle.strm_image.proofs.Fitting.{all_alike, all_back, all_front, chain_fits, counted_fits, u32_fits, u64_fits}
+
+-- ---- enabled queues
+
+side_fits : (s : Side) → side.fits s ≡ true
+unfolding side
+side_fits Master = refl
+side_fits Slave = refl
+
+place_fits : (p : Place) → place.fits p ≡ true
+unfolding place
+place_fits places.Head = refl
+place_fits places.Ldterm = refl
+place_fits places.Driver = refl
+
+way_fits : (w : Way) → way.fits w ≡ true
+unfolding way
+way_fits Up = refl
+way_fits Down = refl
+
+name_fits : (n : QueueName) → queue_name.fits n ≡ true
+unfolding queue_name
+name_fits n = and_from _ _ (side_fits n.side) (and_from _ _ (place_fits n.place) (way_fits n.way))
+
+same_sides : (s : Side) → same_side s s ≡ true
+same_sides Master = refl
+same_sides Slave = refl
+
+same_places : (p : Place) → same_place p p ≡ true
+same_places places.Head = refl
+same_places places.Ldterm = refl
+same_places places.Driver = refl
+
+same_ways : (w : Way) → same_way w w ≡ true
+same_ways Up = refl
+same_ways Down = refl
+
+same_queues : (n : QueueName) → same_queue n n ≡ true
+same_queues n = rw (same_sides n.side, same_places n.place, same_ways n.way) refl
+
+is_times : IsCount same_queue times
+is_times = record { none = λ n. refl; more = λ n m ns. refl }
+
+-- there are twelve names
+pub few_names : (ns : List QueueName) → IsOnce ns → length ns ≤ 12
+few_names [] once = omega arith
+few_names (n ∷ ns) once =
+    let room : length ns < 12 = once-room ns n (others_once same_queue same_queues times is_times n ns once) (first_absent same_queue same_queues times is_times n ns once) in
+    omega (arith, room)
+
+-- a queue that is there has service
+served : (p : Place) (w : Way) (ps : List (Module ℕ)) → is_there_among p w (map module_name ps) ≡ true → has_service_at p ≡ true
+served places.Head w ps there = absurd cc
+served places.Ldterm w ps there = refl
+served places.Driver w ps there = refl
+
+ldterm_stands : (ps : List (Module ℕ)) → list_any is_ldterm (map module_name ps) ≡ stands module_name modules.Ldterm ps
+ldterm_stands [] = refl
+ldterm_stands (OfLdterm l ∷ ps) = refl
+ldterm_stands (OfPtem p ∷ ps) = ldterm_stands ps
+ldterm_stands (OfPckt p ∷ ps) = ldterm_stands ps
+
+stands_there : (p : Place) (w : Way) (ps : List (Module ℕ)) → is_there_among p w (map module_name ps) ≡ true → has_queue_at p w ps ≡ true
+stands_there places.Head w ps there = absurd cc
+stands_there places.Ldterm w ps there = sym (ldterm_stands ps) ∙ there
+stands_there places.Driver Up ps there = absurd cc
+stands_there places.Driver Down ps there = refl
+
+-- what is said of an enabled queue: it is one of a stream's
+IsStanding : State ℕ → QueueName → Type 0
+IsStanding s n = (has_service n ≡ true) × (is_there s n ≡ true)
+
+standing : (s : State ℕ) (n : QueueName) → IsThere (stands_of s) n → IsStanding s n
+unfolding IsStanding
+standing s n there = at n.side there
+  where
+    at : (side : Side) → IsThere (stands_of s) (record n { side = side }) → (has_service n ≡ true) × (has_queue_at n.place n.way (stream side s).modules ≡ true)
+    at Master there = (served n.place n.way (stream Master s).modules there, stands_there n.place n.way (stream Master s).modules there)
+    at Slave there = (served n.place n.way (stream Slave s).modules there, stands_there n.place n.way (stream Slave s).modules there)
+
+all_there : (s : State ℕ) (ns : List QueueName) → AllByRecursion (λ n. IsThere (stands_of s) n) ns → list_all (is_there s) ns ≡ true
+unfolding IsStanding
+all_there s [] all = refl
+all_there s (n ∷ ns) all = and_from _ _ (standing s n all.0).1 (all_there s ns all.1)
+
+-- names that have service, none of which stands before
+record Behind (s : State ℕ) (before ns : List QueueName) : Type 0 where
+  new : AreNew same_queue before ns
+  there : AllByRecursion (λ n. IsThere (stands_of s) n) ns
+
+behind_fits : (s : State ℕ) (before : List QueueName) (n : QueueName) (ns : List QueueName) → Behind s before (n ∷ ns) → ((enabled_behind before).fits n ≡ true) × Behind s (next_enabled n before) ns
+unfolding enabled_behind AreNew IsStanding
+behind_fits s before n ns b = (and_from _ _ (name_fits n) (and_from _ _ (standing s n b.there.0).0 (ap not b.new.0)), record { new = b.new.1; there = b.there.1 })
+
+enabled_fits : (s : State ℕ) (ns : List QueueName) → IsOnce ns → AllByRecursion (λ n. IsThere (stands_of s) n) ns → enabled.fits ns ≡ true
+unfolding enabled
+enabled_fits s ns once there =
+    counted_fits next_enabled enabled_behind byte [] ns (lt-ltb (length ns) 256 (omega (arith, few_names ns once)))
+    (chain_fits next_enabled enabled_behind (Behind s) (behind_fits s) [] ns (record { new = all_new same_queue same_queues times is_times ns once; there = there }))
+
+-- ---- ledgers
+
+account_fits : (b : Book) (counts : List ℕ) → IsBooked b → AreFates counts → account.fits (record { book = b; fates = counts }) ≡ true
+unfolding account rule_counts
+account_fits b counts booked fates =
+    let each = chain_fits keep (always u64) (λ s ns. AllByRecursion (λ n. n < 2 ^ 64) ns) (λ s n ns all. (u64_fits n all.0, all.1)) tt counts fates.each in
+    and_from _ _ (and_from _ _ (u64_fits b.written (omega (arith, booked.written))) (lt-ltb b.written 9223372036854775808 (omega (arith, booked.written))))
+    (and_from _ _ (and_from _ _ (u64_fits b.made (omega (arith, booked.made))) (lt-ltb b.made 9223372036854775808 (omega (arith, booked.made)))) (and_from _ _ (eq-eqb _ _ fates.all) each))
+
+-- ---- images
+
+openness_fits : (o : Openness) → openness.fits o ≡ true
+unfolding openness
+openness_fits Never = refl
+openness_fits Open = refl
+openness_fits Closed = refl
+
+laid_queues : (qs : List (Queue ℕ)) → AllByRecursion (λ q. IsOrdered q.messages) qs → AllByRecursion IsShortQueue qs → AllByRecursion (λ (q : Queue ℕ). length q.flows ≡ BANDS) qs → AllByRecursion IsLaid qs
+laid_queues [] ordered short banded = tt
+laid_queues (q ∷ qs) ordered short banded = (record { ordered = ordered.0; short = short.0; banded = banded.0 }, laid_queues qs ordered.1 short.1 banded.1)
+
+body_fits : (x : Imaged) → HasImage x → (body Second).fits x ≡ true
+unfolding body
+body_fits x h =
+    let s = x.state in
+    let r = h.restorable in
+    let all = laid_queues (queues_of s) h.ordered h.short h.banded in
+    let above = all_front IsLaid (stream_queues (stream Master s)) (stream_queues (stream Slave s)) all in
+    let below = all_back IsLaid (stream_queues (stream Master s)) (stream_queues (stream Slave s)) all in
+    let fields =
+    and_from _ _ (openness_fits s.ends.master.opened) (and_from _ _ (openness_fits s.ends.slave.opened) (and_from _ _ (flag_fits s.locked)
+    (and_from _ _ (and_from _ _ (u32_fits s.next_ioctl (omega (arith, r.last))) (lt-ltb 0 s.next_ioctl (omega (arith, r.numbered))))
+    (and_from _ _ (stream_fits Master s.ends.master (r.streams Master) (r.heads Master) (r.idle Master) (h.numbers Master) above)
+    (and_from _ _ (stream_fits Slave s.ends.slave (r.streams Slave) (r.heads Slave) (r.idle Slave) (h.numbers Slave) below)
+    (and_from _ _ (enabled_fits s s.enabled r.enabled.once r.enabled.there)
+    (and_from _ _ (account_fits s.books.master x.fates.master (h.booked Master) (h.gone Master)) (account_fits s.books.slave x.fates.slave (h.booked Slave) (h.gone Slave))))))))) in
+    and_from _ _ (and_from _ _ (and_from _ _ fields (and_from _ _ (shut_quiet Master s.ends.master (r.streams Master)) (shut_quiet Slave s.ends.slave (r.streams Slave))))
+    (all_there s s.enabled r.enabled.there)) (and_from _ _ (eq-eqb _ _ (h.balanced MasterToSlave)) (eq-eqb _ _ (h.balanced SlaveToMaster)))
+
+pub image_fits : (x : Imaged) → HasImage x → image.fits (Second, x) ≡ true
+unfolding image version
+image_fits x h = body_fits x h
+
+-- ---- a pair as it is made
+
+new_numbers : (side : Side) → HasNumbers (stream side (new_imaged.state))
+new_numbers Master = record { group = omega arith; ioctl = tt; modules = tt }
+new_numbers Slave = record { group = omega arith; ioctl = tt; modules = tt }
+
+new_booked : (side : Side) → IsBooked (get side new_imaged.state.books)
+new_booked Master = record { written = omega arith; made = omega arith }
+new_booked Slave = record { written = omega arith; made = omega arith }
+
+none_gone : (side : Side) → AreFates (get side new_imaged.fates)
+none_gone Master = record { each = all_alike (λ n. n < 2 ^ 64) RULES 0 (omega arith); all = refl }
+none_gone Slave = record { each = all_alike (λ n. n < 2 ^ 64) RULES 0 (omega arith); all = refl }
+
+new_balances : (dir : Dir) → Balances dir new_imaged
+new_balances MasterToSlave = refl
+new_balances SlaveToMaster = refl
+
+pub new_has_image : HasImage new_imaged
+new_has_image = record {
+  restorable = opening-restorable;
+  ordered = (tt, (tt, (tt, (tt, tt))));
+  short = (record { few = omega arith; each = tt }, (record { few = omega arith; each = tt }, (record { few = omega arith; each = tt }, (record { few = omega arith; each = tt }, tt))));
+  banded = (refl, (refl, (refl, (refl, tt))));
+  numbers = new_numbers;
+  booked = new_booked;
+  gone = none_gone;
+  balanced = new_balances;
+}

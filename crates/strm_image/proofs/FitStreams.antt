@@ -1,0 +1,188 @@
+-- The modules and the streams of a restorable state fit their formats.
+use Rattle.std.proofs.Common.{◌≡◌, ℕ, ◌<◌, ◌≤◌, Bool, true, false, not, ◌&&◌, ◌||◌, eqb, List, [], ◌∷◌, ◌++◌, length, map, refl, ap, arith}
+use Rattle.std.specs.Prelude.{◌^◌, nat_lt}
+use Rattle.std.specs.List.{AllByRecursion}
+use Rattle.std.proofs.lemmas.Bool.{and_from, eq-eqb, le-leb, lt-ltb, ltb-false}
+use Rattle.strm_types.specs.declared.limits.TheConstants.{IOCTL_MAX, MODULES, SIGNAL_LAST}
+use Rattle.strm_types.specs.declared.modes.ControlMode.{ControlMode}
+use Rattle.strm_types.specs.declared.modes.ControlMode.TheVariants as controls
+use Rattle.strm_types.specs.declared.modes.ReadMode.{ReadMode}
+use Rattle.strm_types.specs.declared.modes.ReadMode.TheVariants as reads
+use Rattle.strm_types.specs.declared.names.ModuleName.{ModuleName}
+use Rattle.strm_types.specs.declared.names.ModuleName.TheVariants as names
+use Rattle.strm_types.specs.declared.names.Side.{Side}
+use Rattle.strm_types.specs.declared.output.TheConstants.{COLUMN_MAX}
+use Rattle.strm_types.specs.declared.slots.Slot.TheVariants.{Free, Waiting, Answered}
+use Rattle.strm_types.specs.declared.termios.Termios.{Termios}
+use Rattle.strm_types.specs.declared.winsize.Winsize.{Winsize}
+use Rattle.strm_types.specs.Ldterms.{Ldterm, IsIdle, waits_there}
+use Rattle.strm_types.specs.Names.{is_master, is_open, same_module}
+use Rattle.strm_types.specs.Queue.{is_none_left}
+use Rattle.strm_types.specs.Signals.{AreSignals, is_signal}
+use Rattle.strm_types.specs.Slots.{PlainSlot, answer_bytes, is_free}
+use Rattle.strm_laws.specs.LdtermTurns.{ldterm_rests}
+use Rattle.strm_laws.specs.Restorable.{GoodLdterm, GoodModule, GoodModules, GoodStream, IsShut, IsWhole, goes_out, is_part_kind, stands_below}
+use Rattle.strm_laws.specs.StackCosts.{EachOnce, times_there}
+use Rattle.strm_laws.specs.Stacked.{IsAtRest, Module, OfLdterm, OfPtem, OfPckt, module_name, module_queues, queues_of_modules}
+use Rattle.strm_laws.specs.State.{Stream, stream_queues}
+use Rattle.strm_laws.specs.Within.{IsWithin}
+use Rattle.strm_types.proofs.SignalRoom.{signals-fit, times, times-cons}
+use Rattle.strm_laws.proofs.StackOnce.{top-times}
+use Rattle.strm_image.specs.declared.versions.QueueKind.TheVariants as queues
+use Rattle.strm_image.specs.declared.versions.Version.TheVariants.{Second}
+use Rattle.strm_image.specs.Codes.{control_mode, module_kind, read_mode}
+use Rattle.strm_image.specs.Format.{byte, only, u32}
+use Rattle.strm_image.specs.HasImage.{HasHalves, HasModuleNumbers, HasNumbers, HasSlotNumbers, HasWords, IsLaid}
+use Rattle.strm_image.specs.Image.{is_quiet, laid_on}
+use Rattle.strm_image.specs.Modules.{are_few, ldterm, module_below, module_format, modules, next_names, ptem, termios, winsize}
+use Rattle.strm_image.specs.Streams.{Bits, HeadBits, bits, bits_code, group_if, head_bits, is_answer, laid, signals, signals_behind, slot, slot_kind}
+use Rattle.strm_image.proofs.EachOnce.{AreNew, IsCount, all_new}
+use Rattle.strm_image.proofs.FitQueues.{flag_fits, queue_fits, with_parts}
+use Rattle.strm_image.proofs.Fitting.{all_back, all_flat, all_front, bytes_fit, chain_fits, counted_fits, u16_fits, u32_fits}
+use Rattle.strm_image.proofs.FlowRows.{same_bool_refl}
+
+-- ---- modules
+
+termios_fits : (t : Termios) → IsWhole t → HasWords t → termios.fits t ≡ true
+unfolding termios
+termios_fits t whole words = and_from _ _ (u32_fits t.iflag.0 words.input) (and_from _ _ (u32_fits t.oflag.0 words.output) (and_from _ _ (u32_fits t.cflag words.line) (and_from _ _ (u32_fits t.lflag.0 words.local) (eq-eqb _ _ whole))))
+
+winsize_fits : (w : Winsize) → HasHalves w → winsize.fits w ≡ true
+unfolding winsize
+winsize_fits w halves = and_from _ _ (u16_fits w.rows halves.rows) (and_from _ _ (u16_fits w.columns halves.columns) (and_from _ _ (u16_fits w.x_pixels halves.x_pixels) (u16_fits w.y_pixels halves.y_pixels)))
+
+rests : (l : Ldterm ℕ) → IsIdle l → ldterm_rests l ≡ true
+rests l idle = rw (idle.0, idle.1, idle.2, idle.3) refl
+
+ldterm_fits : (l : Ldterm ℕ) → GoodLdterm l → IsIdle l → HasWords l.termios → IsLaid l.read_queue → IsLaid l.write_queue → (ldterm Second).fits l ≡ true
+unfolding ldterm
+ldterm_fits l good idle words reads writes =
+    and_from _ _ (rests l idle) (and_from _ _ (termios_fits l.termios good.termios words) (and_from _ _ (flag_fits l.stopped) (and_from _ _ (flag_fits l.after_lnext)
+    (and_from _ _ (and_from _ _ (u32_fits l.column (omega (arith, good.column))) (le-leb l.column COLUMN_MAX good.column)) (and_from _ _ (bytes_fit byte l.line (lt-ltb (length l.line) 256 (omega (arith, good.line))))
+    (and_from _ _ (queue_fits queues.LdtermRead waits_there (λ k. refl) l.read_queue good.read_queue reads) (queue_fits queues.LdtermWrite goes_out (λ k. refl) l.write_queue good.write_queue writes)))))))
+
+module_fits : (p : Module ℕ) → GoodModule p → IsAtRest p → HasModuleNumbers p → AllByRecursion IsLaid (module_queues p) → (module_format Second).fits p ≡ true
+unfolding module_format module_kind ptem
+module_fits (OfLdterm l) good idle words queues = ldterm_fits l good idle words queues.0 queues.1.0
+module_fits (OfPtem p) good idle words queues = and_from _ _ (termios_fits p.termios good words.0) (winsize_fits p.window words.1)
+module_fits (OfPckt p) good idle words queues = refl
+
+each_fits : (ps : List (Module ℕ)) → AllByRecursion GoodModule ps → AllByRecursion (λ p. IsAtRest p) ps → AllByRecursion HasModuleNumbers ps → AllByRecursion (λ p. AllByRecursion IsLaid (module_queues p)) ps
+    → AllByRecursion (λ p. (module_format Second).fits p ≡ true) ps
+each_fits [] good idle words queues = tt
+each_fits (p ∷ ps) good idle words queues = (module_fits p good.0 idle.0 words.0 queues.0, each_fits ps good.1 idle.1 words.1 queues.1)
+
+same_name : (n : ModuleName) → same_module n n ≡ true
+same_name names.Ldterm = refl
+same_name names.Ptem = refl
+same_name names.Pckt = refl
+
+-- how often a name stands among others
+pub names_count : ModuleName → List ModuleName → ℕ
+names_count name ns = times_there name ns (length ns)
+
+pub is_names_count : IsCount same_module names_count
+unfolding names_count
+is_names_count = record { none = λ name. refl; more = λ name n ns. top-times name n ns (length ns) }
+
+pub names_once : (ns : List ModuleName) → EachOnce ns → (name : ModuleName) → names_count name ns ≤ 1
+unfolding names_count
+names_once ns each name = each.once name (length ns)
+
+-- modules that fit, none of which has a name above
+record Below (above : List ModuleName) (ps : List (Module ℕ)) : Type 0 where
+  new : AreNew same_module above (map module_name ps)
+  each : AllByRecursion (λ p. (module_format Second).fits p ≡ true) ps
+
+below_fits : (above : List ModuleName) (p : Module ℕ) (ps : List (Module ℕ)) → Below above (p ∷ ps) → ((module_below Second above).fits p ≡ true) × Below (next_names p above) ps
+unfolding module_below AreNew
+below_fits above p ps b = (and_from _ _ b.each.0 (ap not b.new.0), record { new = b.new.1; each = b.each.1 })
+
+modules_fit : (ps : List (Module ℕ)) → GoodModules ps → AllByRecursion (λ p. (module_format Second).fits p ≡ true) ps → (modules Second).fits ps ≡ true
+unfolding modules
+modules_fit ps good each =
+    let new = all_new same_module same_name names_count is_names_count (map module_name ps) (names_once (map module_name ps) good.once) in
+    counted_fits next_names (module_below Second) (only are_few byte) [] ps (and_from _ _ (lt-ltb (length ps) 256 (omega (arith, good.few))) (le-leb (length ps) MODULES good.few))
+    (chain_fits next_names (module_below Second) Below below_fits [] ps (record { new = new; each = each }))
+
+-- ---- heads
+
+signals_new : (before ns : List ℕ) → AreNew eqb before ns → AllByRecursion (λ n. is_signal n ≡ true) ns → signals_behind before ns ≡ true
+unfolding AreNew
+signals_new before [] new known = refl
+signals_new before (n ∷ ns) new known = and_from _ _ (and_from _ _ known.0 (ap not new.0)) (signals_new (before ++ n ∷ []) ns new.1 known.1)
+
+signals_fit : (ns : List ℕ) → AreSignals ns → signals.fits ns ≡ true
+unfolding signals
+signals_fit ns are =
+    let few : length ns ≤ SIGNAL_LAST = signals-fit ns are in
+    let new = all_new eqb (λ n. eq-eqb n n refl) times (record { none = λ n. refl; more = λ n k ks. times-cons n k ks }) ns are.once in
+    and_from _ _ (bytes_fit byte ns (lt-ltb (length ns) 256 (omega (arith, few)))) (signals_new [] ns new are.known)
+
+slot_fits : (s : PlainSlot) → HasSlotNumbers s → length (answer_bytes s) ≤ IOCTL_MAX → slot.fits s ≡ true
+unfolding slot slot_kind
+slot_fits Free numbers few = refl
+slot_fits (Waiting number command) numbers few = and_from _ _ (u32_fits number numbers.0) (u32_fits command numbers.1)
+slot_fits (Answered number command acked error body) numbers few =
+    and_from _ _ (u32_fits number numbers.0) (and_from _ _ (u32_fits command numbers.1.0) (and_from _ _ (flag_fits acked) (and_from _ _ (u32_fits error numbers.1.1)
+    (bytes_fit (only is_answer u32) body (and_from _ _ (u32_fits (length body) (omega (arith, few))) (le-leb (length body) IOCTL_MAX few))))))
+
+bits_fit : (b : Bits) → bits.fits b ≡ true
+unfolding bits bits_code
+bits_fit (false, (false, false)) = refl
+bits_fit (true, (false, false)) = refl
+bits_fit (false, (true, false)) = refl
+bits_fit (true, (true, false)) = refl
+bits_fit (false, (false, true)) = refl
+bits_fit (true, (false, true)) = refl
+bits_fit (false, (true, true)) = refl
+bits_fit (true, (true, true)) = refl
+
+group_fits : (b : Bool) (group : ℕ) → nat_lt 0 group ≡ b → group < 2 ^ 32 → (group_if b).fits group ≡ true
+group_fits true group is bits = and_from _ _ (u32_fits group bits) is
+group_fits false group is bits = let low : group ≤ 0 = ltb-false 0 group is in and_from _ _ (eq-eqb group 0 (omega (arith, low))) refl
+
+head_fits : (side : Side) (x : HeadBits) → (is_master side ≡ true → x.1.1 ≡ 0) → x.1.1 < 2 ^ 32 → (head_bits (not (is_master side))).fits x ≡ true
+unfolding head_bits
+head_fits side x none low =
+    let b = nat_lt 0 x.1.1 in
+    and_from _ _ (and_from _ _ (bits_fit (x.0, (x.1.0, b))) (at (is_master side) none))
+    (and_from _ _ (and_from _ _ (same_bool_refl x.0) (and_from _ _ (same_bool_refl x.1.0) (same_bool_refl b))) (group_fits b x.1.1 refl low))
+  where
+    at : (master : Bool) → (master ≡ true → x.1.1 ≡ 0) → (not master || not (nat_lt 0 x.1.1)) ≡ true
+    at true zero_group = let zero_is : x.1.1 ≡ 0 = zero_group refl in rw zero_is refl
+    at false zero_group = refl
+
+read_fits : (m : ReadMode) → read_mode.fits m ≡ true
+unfolding read_mode
+read_fits reads.ByteStream = refl
+read_fits reads.MessageDiscard = refl
+read_fits reads.MessageKeep = refl
+
+control_fits : (m : ControlMode) → control_mode.fits m ≡ true
+unfolding control_mode
+control_fits controls.Refuse = refl
+control_fits controls.Data = refl
+control_fits controls.Discard = refl
+
+-- ---- streams
+
+pub stream_fits : (side : Side) (t : Stream ℕ) → GoodStream side t → IsWithin t.head → AllByRecursion (λ p. IsAtRest p) t.modules → HasNumbers t → AllByRecursion IsLaid (stream_queues t)
+    → (laid Second (not (is_master side))).fits (laid_on t) ≡ true
+unfolding laid
+stream_fits side t good within idle numbers laid_queues =
+    let inner = queues_of_modules t.modules in
+    let of_modules = all_flat IsLaid module_queues t.modules (all_front IsLaid inner (t.driver.queue ∷ []) laid_queues.1) in
+    let below = all_back IsLaid inner (t.driver.queue ∷ []) laid_queues.1 in
+    and_from _ _ (read_fits t.head.read_mode) (and_from _ _ (control_fits t.head.control_mode) (and_from _ _ (head_fits side (t.head.hung_up, (t.head.tostop, t.head.group)) good.head.group numbers.group)
+    (and_from _ _ (signals_fit t.head.signals within.signals) (and_from _ _ (slot_fits t.head.ioctl numbers.ioctl within.answer)
+    (and_from _ _ (modules_fit t.modules good.modules (each_fits t.modules good.modules.each idle numbers.modules of_modules))
+    (and_from _ _ (queue_fits queues.Head is_part_kind (λ k. (with_parts k).0) t.head.queue good.head.queue laid_queues.0) (queue_fits queues.Driver stands_below (λ k. refl) t.driver.queue good.driver below.0)))))))
+
+-- a side that isn't open has none of what its users see
+pub shut_quiet : (side : Side) (t : Stream ℕ) → GoodStream side t → is_quiet t ≡ true
+shut_quiet side t good = at (is_open t.opened) good.shut
+  where
+    at : (opened : Bool) → (opened ≡ false → IsShut t) → (opened || (is_none_left t.modules && (is_none_left t.head.signals && (is_free t.head.ioctl && is_none_left t.head.queue.messages)))) ≡ true
+    at true shut = refl
+    at false shut = let none = shut refl in rw (none.modules, none.signals, none.ioctl, none.unread) refl

@@ -1,0 +1,100 @@
+-- The texts of the formats in pieces, as writers put them.
+use Rattle.std.proofs.Common.{◌≡◌, ◌∙◌, ℕ, suc, ◌+◌, ◌<◌, ◌≤◌, Bool, true, false, cond, List, [], ◌∷◌, ◌++◌, length, drop, get_or, refl, sym, ap, arith, append_assoc}
+use Rattle.std.specs.List.{flat_map}
+use Rattle.std.proofs.Math.Seq.{drop-cons}
+use Rattle.std.proofs.lemmas.List.{append-nil, drop_all}
+use Rattle.std.proofs.lemmas.List.Concat.{flat_map-cons}
+use Rattle.strm_types.specs.declared.names.ModuleName.TheVariants as names
+use Rattle.strm_types.specs.declared.names.QueueName.{QueueName}
+use Rattle.strm_types.specs.Ldterms.{Ldterm}
+use Rattle.strm_types.specs.Message.{Message}
+use Rattle.strm_types.specs.Pckts.{Pckt}
+use Rattle.strm_types.specs.Ptems.{Ptem}
+use Rattle.strm_types.specs.Queue.{Flow, Queue}
+use Rattle.strm_laws.specs.Stacked.{Module, OfLdterm, OfPtem, OfPckt}
+use Rattle.strm_image.specs.declared.versions.QueueKind.{QueueKind}
+use Rattle.strm_image.specs.declared.versions.Version.TheVariants.{Second}
+use Rattle.strm_image.specs.Codes.{module_kind, version}
+use Rattle.strm_image.specs.Format.{always, byte, keep, u32, u64, ◌then◌}
+use Rattle.strm_image.specs.Image.{Imaged, body, enabled, enabled_behind, image, next_enabled, queue_name, rule_counts}
+use Rattle.strm_image.specs.Messages.{message, message_behind, messages, next_rank}
+use Rattle.strm_image.specs.Modules.{ldterm, module_below, module_format, modules, next_names, ptem}
+use Rattle.strm_image.specs.Queues.{flow, listed, no_flow, queue, same_flow}
+use Rattle.strm_image.specs.Sinks.{Given, put}
+use Rattle.strm_image.specs.Streams.{Laid, laid}
+use Rattle.strm_image.specs.Written.{image_text, laid_text, ldterm_text, queue_text}
+use Rattle.strm_image.proofs.Formats.{text_flat}
+use Rattle.strm_image.proofs.SinkRows.{put_both, put_nothing}
+
+-- the bands that are listed from one up
+pub listed_step : (first : Flow) (i : ℕ) (fs : List Flow) (d : Flow) → i < length fs
+    → listed first i (drop i fs) ≡ cond (same_flow (get_or fs i d) first) (listed first (i + 1) (drop (i + 1) fs)) ((i, get_or fs i d) ∷ listed first (i + 1) (drop (i + 1) fs))
+listed_step first i fs d lt = let e : i + 1 ≡ suc i = omega arith in rw (e, drop-cons fs i d lt) refl
+
+-- the text of those from one up
+abbrev pub rest_text : Flow → ℕ → List Flow → List ℕ
+rest_text first i fs = flat_map (byte then flow).text (listed first i (drop i fs))
+
+pub listed_put : (first own : Flow) (i : ℕ) (fs : List Flow) (now : Given) → i < length fs → own ≡ get_or fs i no_flow → same_flow own first ≡ false
+    → put (rest_text first (i + 1) fs) (put (flow.text own) (put (byte.text i) now)) ≡ put (rest_text first i fs) now
+listed_put first own i fs now lt is other =
+    let here : same_flow (get_or fs i no_flow) first ≡ false = ap (λ f. same_flow f first) (sym is) ∙ other in
+    let step : listed first i (drop i fs) ≡ (i, get_or fs i no_flow) ∷ listed first (i + 1) (drop (i + 1) fs) = listed_step first i fs no_flow lt ∙ rw here refl in
+    let text : rest_text first i fs ≡ (byte.text i ++ flow.text own) ++ rest_text first (i + 1) fs =
+    ap (flat_map (byte then flow).text) (step ∙ ap (λ f. (i, f) ∷ listed first (i + 1) (drop (i + 1) fs)) (sym is)) ∙ flat_map-cons (byte then flow).text (i, own) (listed first (i + 1) (drop (i + 1) fs)) in
+    ap (λ g. put (rest_text first (i + 1) fs) g) (put_both (byte.text i) (flow.text own) now)
+    ∙ (put_both (byte.text i ++ flow.text own) (rest_text first (i + 1) fs) now ∙ ap (λ t. put t now) (sym text))
+
+pub listed_skip : (first own : Flow) (i : ℕ) (fs : List Flow) (now : Given) → i < length fs → own ≡ get_or fs i no_flow → same_flow own first ≡ true
+    → put (rest_text first (i + 1) fs) now ≡ put (rest_text first i fs) now
+listed_skip first own i fs now lt is same =
+    let here : same_flow (get_or fs i no_flow) first ≡ true = ap (λ f. same_flow f first) (sym is) ∙ same in
+    let step : listed first i (drop i fs) ≡ listed first (i + 1) (drop (i + 1) fs) = listed_step first i fs no_flow lt ∙ rw here refl in
+    ap (λ es. put (flat_map (byte then flow).text es) now) (sym step)
+
+pub listed_all : (first : Flow) (i : ℕ) (fs : List Flow) (now : Given) → length fs ≤ i → now ≡ put (rest_text first i fs) now
+listed_all first i fs now le = rw (drop_all i fs le) (sym (put_nothing now))
+
+-- ---- lists
+
+pub enabled_told : (ns : List QueueName) → enabled.text ns ≡ byte.text (length ns) ++ flat_map queue_name.text ns
+unfolding enabled enabled_behind
+enabled_told ns = ap (λ t. byte.text (length ns) ++ t) (text_flat next_enabled enabled_behind queue_name.text (λ s x. refl) [] ns)
+
+pub rule_counts_told : (ns : List ℕ) → rule_counts.text ns ≡ flat_map u64.text ns
+unfolding rule_counts
+rule_counts_told ns = text_flat keep (always u64) u64.text (λ s x. refl) tt ns
+
+pub messages_told : (at : QueueKind) (ms : List (Message ℕ)) → (messages Second at).text ms ≡ u32.text (length ms) ++ flat_map (message Second).text ms
+unfolding messages message_behind
+messages_told at ms = ap (λ t. u32.text (length ms) ++ t) (text_flat next_rank (message_behind Second at) (message Second).text (λ s x. refl) _ ms)
+
+pub modules_told : (ms : List (Module ℕ)) → (modules Second).text ms ≡ byte.text (length ms) ++ flat_map (module_format Second).text ms
+unfolding modules module_below
+modules_told ms = ap (λ t. byte.text (length ms) ++ t) (text_flat next_names (module_below Second) (module_format Second).text (λ s x. refl) [] ms)
+
+-- ---- what stands where
+
+pub queue_told : (at : QueueKind) (q : Queue ℕ) → (queue Second at).text q ≡ queue_text at q
+unfolding queue
+queue_told at q = refl
+
+pub ldterm_told : (l : Ldterm ℕ) → (module_format Second).text (OfLdterm l) ≡ ldterm_text l
+unfolding module_format ldterm
+ldterm_told l = refl
+
+pub ptem_told : (p : Ptem) → (module_format Second).text (OfPtem p) ≡ module_kind.text names.Ptem ++ ptem.text p
+unfolding module_format
+ptem_told p = refl
+
+pub pckt_told : (p : Pckt) → (module_format Second).text (OfPckt p) ≡ module_kind.text names.Pckt
+unfolding module_format
+pckt_told p = append-nil (module_kind.text names.Pckt)
+
+pub laid_told : (is_slave : Bool) (t : Laid) → (laid Second is_slave).text t ≡ laid_text is_slave t
+unfolding laid
+laid_told is_slave t = simp append_assoc refl
+
+pub image_told : (x : Imaged) → image.text (Second, x) ≡ image_text x
+unfolding image body version
+image_told x = simp append_assoc refl

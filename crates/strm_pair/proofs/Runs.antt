@@ -1,0 +1,37 @@
+-- Turns one after the other.
+use Rattle.std.proofs.Common.{ℕ, suc, ◌≡◌, ◌≤◌, ◌+◌, List, [], ◌∷◌, ◌++◌, length, length-append, true, refl, sym, ap, ◌∙◌, subst, arith}
+use Rattle.std.specs.Prelude.{None, Some, nat_lt, nat_le, slice_get}
+use Rattle.std.proofs.lemmas.Bool.Decides.{nat_tests}
+use Rattle.strm_types.specs.declared.answers.Turn.{Turn}
+use Rattle.strm_types.specs.declared.entries.Entry.TheVariants.{Turned}
+use Rattle.strm_types.specs.declared.names.QueueName.{QueueName}
+use Rattle.strm_types.specs.Journal.{PlainEntry, room_used}
+use Rattle.strm_types.specs.Refused.{turn_blocks}
+use Rattle.strm_laws.specs.Pair.{PairState, AddsEntry, RanTurns, next_refused, queue_refused, refused_of}
+use Rattle.strm_laws.specs.Refusals.{enough}
+use Rattle.strm_laws.proofs.Balances.{both-true}
+use Rattle.strm_laws.proofs.Replay.{turn-allowed}
+use Rattle.strm_pair.specs.Running.{IsRunning}
+
+pub none-first : {A : Type 0} (xs : List A) → slice_get xs 0 ≡ None → xs ≡ []
+none-first [] none = refl
+none-first (x ∷ xs) none = absurd (cc)
+
+pub next-is : (p : PairState) (name : QueueName) → slice_get p.state.enabled 0 ≡ Some name → next_refused p ≡ queue_refused p name
+next-is p name first = ap (λ o. refused_of p o) first
+
+-- the queue that was enabled first, of a full journal
+pub full-refuses : (p : PairState) (name : QueueName) → p.limits.journal_events ≤ length p.journal → queue_refused p name ≡ None → ⊥
+full-refuses p name full none =
+    let room = both-true (nat_lt (length p.journal) p.limits.journal_events) (nat_le (room_used p.journal + 0) p.limits.journal_bytes)
+    (turn-allowed p.state p.journal p.limits (enough (turn_blocks name.place) p.free) name none).2 in
+    (let less = room.0 in grind (arith, nat_tests, full))
+
+pub one-more : (turns left : ℕ) (old mid new : PairState) (name : QueueName) (turn : Turn) → IsRunning turns left old mid → slice_get mid.state.enabled 0 ≡ Some name
+    → AddsEntry mid new (Turned name turn) → IsRunning (turns + 1) left old new
+one-more turns left old mid new name turn run first adds = record {
+  ran = subst (λ n. RanTurns n old new) (let e : suc turns ≡ turns + 1 = omega arith in e) (mid, (run.ran, record { name = name; turn = turn; first = first; adds = adds }));
+  entries = ap (λ (es : List PlainEntry). length es) adds.journal ∙ length-append mid.journal (Turned name turn ∷ []) ∙ (let same = run.entries in omega arith);
+  limits = adds.limits ∙ run.limits;
+  room = run.room;
+}

@@ -1,0 +1,14 @@
+-- No module has no text.
+use Rattle.std.proofs.Common.{sym, ap, ◌∙◌, map}
+use Rattle.std.specs.List.{flat_map}
+use Rattle.std.proofs.lemmas.List.{nil_from_length}
+use Rattle.strm_image.specs.declared.versions.Version.TheVariants.{Second}
+use Rattle.strm_image.specs.Modules.{module_format}
+use Rattle.strm_image.specs.Sinks.{put}
+use Rattle.strm_image.proofs.SinkRows.{put_nothing}
+use Rattle.strm_pair.specs.AnyModules.{module_in}
+use Rattle.strm_pair.proofs.images.modules.+put_each.Goals as goal
+
+pub returns-in_default : goal.returns-in_default
+returns-in_default g t c =
+    sym (ap (λ xs. put (flat_map (module_format Second).text (map (module_in (g.B.Blocks.value c.args.store.now)) xs)) c.args.out) (nil_from_length c.args.modules.now c.in_default.ensures.cases) ∙ put_nothing c.args.out)

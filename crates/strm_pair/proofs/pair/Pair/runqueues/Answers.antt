@@ -1,0 +1,36 @@
+-- Turn by turn.
+use Rattle.std.proofs.Common.{◌≡◌, ap, sym, ◌∙◌, subst, arith}
+use Rattle.strm_laws.specs.Pair.{PairState, RanTurns, next_refused, queue_refused}
+use Rattle.strm_laws.proofs.Replay.{refused-by}
+use Rattle.strm_pair.proofs.Runs.{full-refuses, next-is, none-first, one-more}
+use Rattle.strm_pair.proofs.pair.Pair.runqueues.Goals as goal
+
+pub returns-in_default-clause-rest : goal.returns-in_default-clause-rest
+returns-in_default-clause-rest g c = none-first _ (sym c.first_enabled.ensures ∙ c.in_default.is)
+
+pub returns-in-Err-clause-ran : goal.returns-in-Err-clause-ran
+returns-in-Err-clause-ran g c =
+    let l = c.loop-turns in
+    let stays = refused-by (queue_refused l.self c.in-Some.queue) c.turn.result c.turn.ensures.refused c.in-Err.refusal c.in-Err.is in
+    subst (λ (p : PairState). RanTurns l.turns c.args.self.now p) (sym stays.1) l.invariant.ran
+
+pub returns-in-Err-clause-entries : goal.returns-in-Err-clause-entries
+returns-in-Err-clause-entries g c =
+    let l = c.loop-turns in
+    let stays = refused-by (queue_refused l.self c.in-Some.queue) c.turn.result c.turn.ensures.refused c.in-Err.refusal c.in-Err.is in
+    rw (stays.1) l.invariant.entries
+
+pub returns-in-Err-clause-stopped : goal.returns-in-Err-clause-stopped
+returns-in-Err-clause-stopped g c =
+    let l = c.loop-turns in
+    let stays = refused-by (queue_refused l.self c.in-Some.queue) c.turn.result c.turn.ensures.refused c.in-Err.refusal c.in-Err.is in
+    sym (ap (λ (p : PairState). next_refused p) stays.1 ∙ next-is l.self c.in-Some.queue (sym c.first_enabled.ensures ∙ c.in-Some.is) ∙ stays.0)
+
+pub loop-turns-preserved : goal.loop-turns-preserved
+loop-turns-preserved g c =
+    let l = c.loop-turns in
+    one-more l.turns c.entries_left-left.result c.args.self.now l.self c.turn.new.self c.in-Some.queue c.in_default-turn.field-0 l.invariant
+    (sym c.first_enabled.ensures ∙ c.in-Some.is) c.in_default-turn.ensures.adds
+
+pub returns-in-None-clause-rest : goal.returns-in-None-clause-rest
+returns-in-None-clause-rest g c = none-first _ (sym c.first_enabled-2.ensures ∙ c.in-None.is)

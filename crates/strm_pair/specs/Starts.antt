@@ -1,0 +1,26 @@
+-- Where a pair's journal begins: a state, how many bytes had gone by each rule there, and the entries that led there from where the pair began.
+use Rattle.std.specs.Prelude.{ℕ, List, [], ◌++◌}
+use Rattle.strm_types.specs.declared.rules.Fates.{Fates}
+use Rattle.strm_types.specs.Cells.{plain}
+use Rattle.strm_types.specs.Journal.{PlainEntry}
+use Rattle.strm_types.specs.Rules.{no_fates}
+use Rattle.strm_laws.specs.Kept.{told_by}
+use Rattle.strm_laws.specs.State.{State, opening}
+use Rattle.strm_laws.specs.Step.{replay}
+
+pub record Start : Type 0 where
+  pub state : State ℕ
+  pub fates : Fates
+  pub past : List PlainEntry
+
+-- that of a pair as it is made
+abbrev pub new_start : Start
+new_start = record { state = opening; fates = no_fates; past = [] }
+
+-- where a journal leads that begins there, with what has gone till then
+abbrev pub led_on : List PlainEntry → Start → Start
+led_on entries start = record {
+  state = replay plain start.state entries;
+  fates = told_by plain start.state entries start.fates;
+  past = start.past ++ entries;
+}

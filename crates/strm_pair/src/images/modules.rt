@@ -1,0 +1,95 @@
+//! The text of the modules of a stream, from the top.
+
+ghost use Rattle.std.specs.Prelude.{◌≡◌, [], map};
+ghost use Rattle.std.specs.List.{AllByRecursion, flat_map};
+ghost use Rattle.strm_blocks.specs.Blocks.{StoreValue};
+ghost use Rattle.strm_image.specs.Modules.{module_format, modules};
+ghost use Rattle.strm_image.specs.Sinks.{put};
+ghost use Rattle.strm_image.specs.declared.versions.Version.TheVariants.{Second};
+ghost use Rattle.strm_laws.specs.Stacked.{OfLdterm};
+ghost use Rattle.strm_ldterm.specs.Stands as stands;
+ghost use Rattle.strm_ldterm.specs.Stands.{ldterm_in};
+ghost use Rattle.strm_pair.specs.AnyModules.{IsHeld, module_in};
+ghost use Rattle.strm_pair.specs.Imaging.{settings_text};
+ghost use Rattle.strm_pair.specs.Stacks.{IsStackHeld, modules_in};
+
+use crate::images::queues::put_queue;
+use crate::modules::AnyModule;
+use crate::stacks::Stack;
+use strm_blocks::Blocks;
+use strm_image::writing::{
+    put_flag, put_line, put_module_name, put_ptem, put_termios, put_u8, put_u32,
+};
+use strm_image::{QueueKind, Sink};
+use strm_ldterm::Ldterm;
+use strm_types::ModuleName;
+
+// What an ldterm has in front of its queues, behind its name.
+#[tactic(auto, using(strm_image::proofs::SinkRows::put_both))]
+fn put_settings(out: &mut Sink, ldterm: &Ldterm)
+    ensures { (s : StoreValue) → out.new ≡ put (settings_text (ldterm_in s ldterm.now)) out.old }
+{
+    put_module_name(out, ModuleName::Ldterm);
+    put_termios(out, &ldterm.termios);
+    put_flag(out, ldterm.stopped);
+    put_flag(out, ldterm.after_lnext);
+    put_u32(out, u32::from(ldterm.column));
+    put_line(out, ldterm.line.bytes());
+}
+
+// An ldterm between two calls: it has nothing in hand.
+fn put_ldterm<B: Blocks>(store: &B, ldterm: &Ldterm, out: Sink) -> Sink
+    requires hand { (B.value store.now).hand ≡ [] }
+    requires held { stands.IsHeld (B.value store.now) ldterm.now }
+    ensures { result ≡ put ((module_format Second).text (OfLdterm (ldterm_in (B.value store.now) ldterm.now))) out }
+{
+    let mut out = out;
+    put_settings(&mut out, ldterm);
+    let out = put_queue(store, &ldterm.read_queue, QueueKind::LdtermRead, out);
+    put_queue(store, &ldterm.write_queue, QueueKind::LdtermWrite, out)
+}
+
+// A module, behind its name.
+#[tactic(auto, using(strm_image::proofs::SinkRows::put_both, strm_image::proofs::WrittenRows::ptem_told, strm_image::proofs::WrittenRows::pckt_told))]
+fn put_module<B: Blocks>(store: &B, any: &AnyModule, out: Sink) -> Sink
+    requires hand { (B.value store.now).hand ≡ [] }
+    requires held { IsHeld (B.value store.now) any.now }
+    ensures { result ≡ put ((module_format Second).text (module_in (B.value store.now) any.now)) out }
+{
+    let mut out = out;
+    match any {
+        AnyModule::Ldterm(ldterm) => return put_ldterm(store, ldterm, out),
+        AnyModule::Ptem(ptem) => {
+            put_module_name(&mut out, ModuleName::Ptem);
+            put_ptem(&mut out, &ptem.termios, ptem.window);
+        }
+        AnyModule::Pckt(_) => put_module_name(&mut out, ModuleName::Pckt),
+    }
+    out
+}
+
+// Modules, one behind the other.
+#[tactic(auto, using(strm_image::proofs::SinkRows::put_both, strm_image::proofs::SinkRows::put_nothing))]
+fn put_each<B: Blocks>(store: &B, modules: &[AnyModule], out: Sink) -> Sink
+    requires hand { (B.value store.now).hand ≡ [] }
+    requires held { AllByRecursion (IsHeld (B.value store.now)) modules.now }
+    ensures { result ≡ put (flat_map (module_format Second).text (map (module_in (B.value store.now)) modules.now)) out }
+{
+    let Some((first, rest)) = modules.split_first() else {
+        return out;
+    };
+    let out = put_module(store, first, out);
+    put_each(store, rest, out)
+}
+
+/// Writes the modules of a stream between two calls, with their number in front.
+#[tactic(auto, using(strm_image::proofs::SinkRows::put_both, strm_image::proofs::WrittenRows::modules_told))]
+pub(crate) fn put_modules<B: Blocks>(store: &B, stack: &Stack, out: Sink) -> Sink
+    requires hand { (B.value store.now).hand ≡ [] }
+    requires held { IsStackHeld (B.value store.now) stack.now }
+    ensures { result ≡ put ((modules Second).text (modules_in (B.value store.now) stack.now)) out }
+{
+    let mut out = out;
+    put_u8(&mut out, stack.modules.len() as u8);
+    put_each(store, stack.modules.as_slice(), out)
+}

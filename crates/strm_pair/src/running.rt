@@ -1,0 +1,51 @@
+//! Turns one after the other, as the scheduler makes them (STREAMS Programming Guide, "Service Procedures").
+
+ghost use Rattle.std.specs.Prelude.{◌≡◌, ◌+◌, [], length, IfNone};
+ghost use Rattle.strm_laws.specs.Pair.{RanTurns, next_refused};
+
+use crate::pair::Pair;
+use strm_blocks::Blocks;
+use strm_types::Refusal;
+
+/// How many turns were made, and for what the next one is refused, if a queue is enabled still.
+#[derive(Clone, Copy, PartialEq)]
+pub struct Ran {
+    pub turns: usize,
+    pub stopped: Option<Refusal>,
+}
+
+impl<B: Blocks + Drop> Pair<B> {
+    /// Makes turns, each of the queue that was enabled first, until none is enabled or the next one is refused: JournalFull, ENOSR or ERANGE
+    /// ([`Pair::turn`]). The journal gains an entry a turn, so it ends: two `ldterm`s that echo each other's echo go on till the journal
+    /// is full. No memory is taken.
+    pub fn runqueues(&mut self) -> Ran
+        ensures ran { RanTurns result.turns self.old self.new }
+        ensures entries { length self.new.journal ≡ length self.old.journal + result.turns }
+        ensures stopped { result.stopped ≡ next_refused self.new }
+        ensures rest { IfNone result.stopped (self.new.state.enabled ≡ []) }
+    {
+        let left = self.entries_left();
+        for turns in 0..left {
+            let Some(queue) = self.first_enabled() else {
+                return Ran {
+                    turns,
+                    stopped: None,
+                };
+            };
+            if let Err(refusal) = self.turn(queue) {
+                return Ran {
+                    turns,
+                    stopped: Some(refusal),
+                };
+            }
+        }
+        let stopped = match self.first_enabled() {
+            None => None,
+            Some(queue) => self.turn_refusal(queue),
+        };
+        Ran {
+            turns: left,
+            stopped,
+        }
+    }
+}

@@ -1,0 +1,141 @@
+//! Writes an image that was read, in version 2.
+
+ghost use Rattle.std.specs.Prelude.{◌<◌, length, map};
+ghost use Rattle.strm_types.specs.Slots.{map_slot};
+ghost use Rattle.strm_image.specs.FlowTexts.{flow_now};
+ghost use Rattle.strm_image.specs.Written.{IsShortSlot};
+
+use strm_image::writing::*;
+use strm_image::{
+    AccountText, Flow, LdtermText, MessagesText, ModuleText, QueueKind, QueueText, Sink, StateText,
+    StreamText, message_behind,
+};
+use strm_types::{BANDS, Band, Book, HIGH_PRIORITY_RANK, Slot};
+
+/// The flow control of all bands.
+#[derive(Clone, Copy)]
+pub struct AllBands(pub [Flow; BANDS]);
+
+impl Bands for AllBands {
+    ghost flows = { λ b. map flow_now b.0 };
+
+    fn flow(&self, band: u8) -> Flow {
+        self.0[usize::from(band)]
+    }
+}
+
+// The bytes of a line or the signals, which are fewer than 256.
+fn few(bytes: &[u8]) -> &[u8]
+    ensures { length result.now < 256 }
+{
+    &bytes[..bytes.len().min(255)]
+}
+
+fn put_messages(out: &mut Sink, messages: &MessagesText<'_>) {
+    put_u32(out, messages.count);
+    let mut rest = messages.text;
+    let mut rank = HIGH_PRIORITY_RANK;
+    for _ in 0..messages.count {
+        if let Some((message, after)) = message_behind(
+            rest,
+            messages.version,
+            messages.queue,
+            rank,
+        ) {
+            put_message(
+                out,
+                message.kind,
+                Band(message.band),
+                message.control,
+                message.body,
+            );
+            rank = message.rank();
+            rest = after;
+        }
+    }
+}
+
+pub fn put_queue(out: &mut Sink, queue: &QueueText<'_>, at: QueueKind) {
+    put_queue_flags(out, queue.want_read, queue.no_enable);
+    put_flows(out, &AllBands(queue.flows), at);
+    put_messages(out, &queue.messages);
+}
+
+fn put_ldterm(out: &mut Sink, l: &LdtermText<'_>) {
+    put_termios(out, &l.termios);
+    put_flag(out, l.stopped);
+    put_flag(out, l.after_lnext);
+    put_u32(out, l.column);
+    put_line(out, few(l.line));
+    put_queue(out, &l.read_queue, QueueKind::LdtermRead);
+    put_queue(out, &l.write_queue, QueueKind::LdtermWrite);
+}
+
+fn put_module(out: &mut Sink, module: &ModuleText<'_>) {
+    put_module_name(out, module.name());
+    match module {
+        ModuleText::Ldterm(l) => put_ldterm(out, l),
+        ModuleText::Ptem(p) => put_ptem(out, &p.termios, p.window),
+        ModuleText::Pckt => {}
+    }
+}
+
+fn short(slot: Slot<&[u8]>) -> Slot<&[u8]>
+    ensures { IsShortSlot (map_slot (λ b. b.now) result) }
+{
+    match slot {
+        Slot::Answered {
+            number,
+            command,
+            acked,
+            error,
+            body,
+        } => Slot::Answered {
+            number,
+            command,
+            acked,
+            error,
+            body: few(body),
+        },
+        other => other,
+    }
+}
+
+fn put_stream(out: &mut Sink, stream: &StreamText<'_>) {
+    put_read_mode(out, stream.read_mode);
+    put_control_mode(out, stream.control_mode);
+    put_head_bits(out, &stream.bits);
+    put_signals(out, few(stream.signals));
+    put_slot(out, short(stream.slot));
+    put_u8(out, stream.modules.len() as u8);
+    for module in stream.modules.as_slice() {
+        put_module(out, module);
+    }
+    put_queue(out, &stream.head, QueueKind::Head);
+    put_queue(out, &stream.driver, QueueKind::Driver);
+}
+
+fn put_ledger(out: &mut Sink, account: &AccountText) {
+    let book = Book {
+        written: account.written,
+        made: account.made,
+    };
+    put_account(out, &book, &account.fates);
+}
+
+/// The image of a state.
+pub fn put_state(out: &mut Sink, state: &StateText<'_>) {
+    let opened = &state.opened;
+    put_front(
+        out,
+        opened.master,
+        opened.slave,
+        state.locked,
+        state.next_ioctl,
+    );
+    put_stream(out, &state.streams.master);
+    put_stream(out, &state.streams.slave);
+    put_enabled(out, state.enabled.as_slice());
+    put_ledger(out, &state.accounts.master);
+    put_ledger(out, &state.accounts.slave);
+}
