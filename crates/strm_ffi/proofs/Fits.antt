@@ -29,8 +29,8 @@ pub content-small : (old new : PairState) (caller : Caller) (asked : Request) (a
     → AreWithin old.state → AddsEntry old new (Called caller asked (reply_in answer content)) → answer_len answer ≡ length content → length content ≤ content_max asked
 content-small old new caller asked answer content within adds filled =
     subst (λ n. n ≤ content_max asked)
-      (ap (λ a. length (content_of a)) adds.step.answered ∙ content-length caller answer content filled)
-      (content-fits plain caller asked old.state within)
+    (ap (λ a. length (content_of a)) adds.step.answered ∙ content-length caller answer content filled)
+    (content-fits plain caller asked old.state within)
 
 -- each step leaves heads as they have to be
 pub stays-within : (old new : PairState) (entry : PlainEntry) → AreWithin old.state → AddsEntry old new entry → AreWithin new.state

@@ -61,7 +61,7 @@ abbrev pub HaveParts : ℕ → ℕ → Option ℕ → Option ℕ → Type 0
 HaveParts there size control body =
     (bytes : List ℕ) → part_len control + part_len body ≤ length bytes
     → parts_at there size (take (part_len control + part_len body) bytes)
-        ≡ Some (record { control = part_in control bytes; body = part_in body (drop (part_len control) bytes) })
+    ≡ Some (record { control = part_in control bytes; body = part_in body (drop (part_len control) bytes) })
 
 -- numbers that ask for a stored call, over its bytes
 abbrev pub AsksFor : Ask → Event ℕ → Type 0

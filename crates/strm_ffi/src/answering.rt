@@ -4,11 +4,10 @@ ghost use Rattle.std.specs.Prelude.{◌≡◌};
 ghost use Rattle.strm_types.specs.Journal.{answer_len};
 ghost use Rattle.strm_ffi.specs.Calls.{Replies};
 
-use strm_types::Answer;
-
 use crate::asking::parts_numbers;
 use crate::numbers::{module_number, prio_number};
 use crate::replies::Reply;
+use strm_types::Answer;
 
 /// A reply of a kind, with a number and so many bytes.
 const fn plain(kind: u32, value: u32, bytes: usize) -> Reply

@@ -5,13 +5,12 @@ ghost use Rattle.strm_types.specs.Events.{request};
 ghost use Rattle.strm_ffi.specs.Numbers.{parts_at};
 ghost use Rattle.strm_ffi.specs.Calls.{AsksFor, HaveParts, caller_at, event_at};
 
-use strm_types::{Caller, Event};
-
 use crate::asks::Ask;
 use crate::numbers::{
     band_number, band_of, flush_number, flush_of, mode_number, mode_of, module_number, module_of,
     prio_number, prio_of, side_number, side_of, wanted_number, wanted_of,
 };
+use strm_types::{Caller, Event};
 
 /// Who makes a call.
 pub(crate) fn caller_of(ask: &Ask) -> Option<Caller>

@@ -5,13 +5,12 @@ ghost use Rattle.strm_types.specs.declared.events.Event.TheVariants.{Read, Write
 ghost use Rattle.strm_types.specs.declared.limits.TheConstants.{READ_MAX};
 ghost use Rattle.strm_ffi.specs.Outcomes.{AtHandle, ask_refused, side_refused, AnswersAsk, AnswersSide, Stay, no_bytes};
 
-use std::alloc::Global;
-use strm_types::{Event, READ_MAX, Refusal};
-
 use crate::asks::Ask;
 use crate::handle::Handle;
 use crate::kept::refused;
 use crate::replies::Reply;
+use std::alloc::Global;
+use strm_types::{Event, READ_MAX, Refusal};
 
 /// Makes any call: `ask` says which one, `bytes` are those that it brings, `out` has room for those that it gives.
 #[unsafe(no_mangle)]

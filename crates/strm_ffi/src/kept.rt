@@ -5,16 +5,15 @@ ghost use Rattle.strm_types.specs.Events.{request};
 ghost use Rattle.strm_types.specs.Numbers.{number_of};
 ghost use Rattle.strm_ffi.specs.Outcomes.{AtPair, refused_within, ask_refused, side_refused, turn_refused, Answers, AnswersAsk, AnswersSide, Stay, Turns};
 
-use std::marker::Model;
-use strm_pair::Pair;
-use strm_raw::RawStore;
-use strm_types::{Caller, Content, Event, Refusal};
-
 use crate::answering::replied;
 use crate::asking::{caller_of, event_of};
 use crate::asks::Ask;
 use crate::numbers::{queue_of, side_of, went};
 use crate::replies::{Reply, Went};
+use std::marker::Model;
+use strm_pair::Pair;
+use strm_raw::RawStore;
+use strm_types::{Caller, Content, Event, Refusal};
 
 /// A pair in one piece of memory with room for an answer. Contracts see the pair.
 #[derive(Drop)]
@@ -76,13 +75,7 @@ impl Kept {
     }
 
     /// Makes the call of numbers.
-    pub(crate) fn ask(
-        &mut self,
-        ask: &Ask,
-        bytes: &[u8],
-        out: &mut [u8],
-        reply: &mut Reply,
-    ) -> u32
+    pub(crate) fn ask(&mut self, ask: &Ask, bytes: &[u8], out: &mut [u8], reply: &mut Reply) -> u32
         ensures { AtPair (ask_refused ask.now bytes.now (length out.old))
             (Stay out.old out.new reply.old reply.new)
             (AnswersAsk ask.now bytes.now reply.new out.old out.new) self.old self.new result }

@@ -7,13 +7,12 @@ ghost use Rattle.strm_pair.specs.Shows.{first_at, messages_at};
 ghost use Rattle.strm_ffi.specs.Numbers.{direction_at, queue_at};
 ghost use Rattle.strm_ffi.specs.Outcomes.{AtHandle, named, Tells, books_told};
 
-use std::alloc::Global;
-use strm_types::Refusal;
-
 use crate::handle::Handle;
 use crate::kept::refused;
 use crate::numbers::{NO_QUEUE, queue_number, queue_of, side_of};
 use crate::replies::{Books, Sizes};
+use std::alloc::Global;
+use strm_types::Refusal;
 
 /// The queue at a place of the enabled list; `NO_QUEUE` behind the last one, and of a closed handle.
 #[unsafe(no_mangle)]
@@ -101,12 +100,13 @@ pub extern "C" fn strm_ledger(
     let answered = match side_of(side) {
         Some(side) => {
             let ledger = kept.pair.ledger(side.direction());
+            let gone = ledger.fates;
             *told = Books {
                 written: ledger.written,
                 made: ledger.made,
                 queued: ledger.queued,
                 inlined: ledger.inline,
-                gone: ledger.fates,
+                gone,
             };
             0
         }

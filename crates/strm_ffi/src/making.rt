@@ -4,13 +4,12 @@ ghost use Rattle.std.specs.Prelude.{◌≡◌, ◌<◌, ◌≤◌, None, IfSome}
 ghost use Rattle.strm_laws.specs.Pair.{new_pair};
 ghost use Rattle.strm_ffi.specs.Outcomes.{Makes};
 
+use crate::handle::Handle;
+use crate::kept::{Kept, refused};
 use std::alloc::Global;
 use strm_pair::Pair;
 use strm_raw::RawStore;
 use strm_types::{Config, Content, Refusal};
-
-use crate::handle::Handle;
-use crate::kept::{Kept, refused};
 
 /// The most blocks of a kind that a pair has.
 const BLOCKS_MAX: usize = 65536;

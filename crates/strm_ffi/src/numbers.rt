@@ -3,12 +3,11 @@
 ghost use Rattle.std.specs.Prelude.{◌≡◌, Some};
 ghost use Rattle.strm_ffi.specs.Numbers as codes;
 
-use strm_types::{
-    Band, ControlMode, FlushQueues, Mode, ModuleName, Place, Prio, QueueName, ReadMode, Side,
-    Turn, Wanted, Way,
-};
-
 use crate::replies::Went;
+use strm_types::{
+    Band, ControlMode, FlushQueues, Mode, ModuleName, Place, Prio, QueueName, ReadMode, Side, Turn,
+    Wanted, Way,
+};
 
 /// High priority, beside the bands from 0 to 255.
 const HIGH: u32 = 256;

@@ -3,21 +3,15 @@
 ghost use Rattle.std.specs.Prelude.{◌≡◌};
 ghost use Rattle.strm_ffi.specs.Outcomes.{AtHandle, turn_refused, Turns};
 
-use std::alloc::Global;
-use strm_types::Refusal;
-
 use crate::handle::Handle;
 use crate::kept::refused;
 use crate::replies::Went;
+use std::alloc::Global;
+use strm_types::Refusal;
 
 /// Makes a turn of an enabled queue's service procedure.
 #[unsafe(no_mangle)]
-pub extern "C" fn strm_turn(
-    alloc: Global,
-    handle: &mut Handle,
-    queue: u32,
-    went: &mut Went,
-) -> u32
+pub extern "C" fn strm_turn(alloc: Global, handle: &mut Handle, queue: u32, went: &mut Went) -> u32
     ensures { AtHandle (turn_refused queue) (went.new ≡ went.old) (Turns queue went.new) handle.old.held.kept handle.new.held.kept result }
 {
     let Some(mut kept) = handle.take(alloc) else {

@@ -23,8 +23,8 @@ returns-in-Err c =
     let gives = ap (λ (n : Needs). n.gives) c.needs.ensures.value in
     let refused = ap (λ (v : PairState). call_refused v c.args.caller asked) c.self.view_is ∙ within c.args.caller asked (length c.args.out.now) c.args.self.now (omega (arith, gives, c.if-needs-out.false)) in
     subst (λ o. Decided o ((c.call.new.self ≡ c.args.self.now) × Stay c.args.out.now c.args.out.now c.args.reply.now c.args.reply.now) (Answers c.args.caller asked c.args.reply.now c.args.out.now c.args.out.now c.args.self.now c.call.new.self) c.refused-in-Err.result) refused
-      (stayed c.call.result c.refused-in-Err.result ((c.call.new.self ≡ c.self.inside.pair) × (c.call.new.out ≡ c.self.inside.answer)) _ _ (call_refused c.self.inside.pair c.args.caller asked) c.in-Err.refusal c.call.ensures.refused c.in-Err.is c.refused-in-Err.ensures
-      (λ same. (same.0 ∙ c.self.view_is, (refl, refl))))
+    (stayed c.call.result c.refused-in-Err.result ((c.call.new.self ≡ c.self.inside.pair) × (c.call.new.out ≡ c.self.inside.answer)) _ _ (call_refused c.self.inside.pair c.args.caller asked) c.in-Err.refusal c.call.ensures.refused c.in-Err.is c.refused-in-Err.ensures
+    (λ same. (same.0 ∙ c.self.view_is, (refl, refl))))
 
 -- src/kept.rt:73:9
 pub give-requires : goal.give-requires
@@ -48,5 +48,5 @@ returns c =
     let filled = c.give.ensures ∙ ap (λ bytes. bytes ++ drop (length bytes) c.args.out.now) c.as_slice.ensures.value in
     let adds = subst (λ (v : PairState). AddsEntry v c.call.new.self (Called c.args.caller asked (reply_in c.in-Ok.answer c.call.new.out.items))) c.self.view_is c.in-Ok.ensures.adds in
     subst (λ o. Decided o ((c.call.new.self ≡ c.args.self.now) × Stay c.args.out.now c.give.new.out c.args.reply.now c.replied.result) (Answers c.args.caller asked c.replied.result c.args.out.now c.give.new.out c.args.self.now c.call.new.self) 0) refused
-      (was_done c.call.result 0 ((c.call.new.self ≡ c.self.inside.pair) × (c.call.new.out ≡ c.self.inside.answer)) _ _ (call_refused c.self.inside.pair c.args.caller asked) c.in-Ok.answer c.call.ensures.refused c.in-Ok.is refl
-      (answered c.args.caller asked c.replied.result c.in-Ok.answer c.call.new.out.items c.args.out.now c.give.new.out c.args.self.now c.call.new.self c.replied.ensures.bytes c.replied.ensures.told c.in-Ok.ensures.filled filled adds))
+    (was_done c.call.result 0 ((c.call.new.self ≡ c.self.inside.pair) × (c.call.new.out ≡ c.self.inside.answer)) _ _ (call_refused c.self.inside.pair c.args.caller asked) c.in-Ok.answer c.call.ensures.refused c.in-Ok.is refl
+    (answered c.args.caller asked c.replied.result c.in-Ok.answer c.call.new.out.items c.args.out.now c.give.new.out c.args.self.now c.call.new.self c.replied.ensures.bytes c.replied.ensures.told c.in-Ok.ensures.filled filled adds))

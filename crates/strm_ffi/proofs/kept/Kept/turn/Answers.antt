@@ -19,8 +19,8 @@ returns-in-Err c =
     let named = sym c.queue_of.ensures ∙ c.in-Some.is in
     let refused = ap (λ (v : PairState). queue_refused v c.in-Some.name) c.self.view_is ∙ ap (λ q. turn_of q c.args.self.now) (sym named) in
     subst (λ o. Decided o ((c.turn.new.self ≡ c.args.self.now) × (c.args.told.now ≡ c.args.told.now)) (Turns c.args.queue c.args.told.now c.args.self.now c.turn.new.self) c.refused-in-Err.result) refused
-      (stayed c.turn.result c.refused-in-Err.result (c.turn.new.self ≡ c.self.inside.pair) _ _ (queue_refused c.self.inside.pair c.in-Some.name) c.in-Err.refusal c.turn.ensures.refused c.in-Err.is c.refused-in-Err.ensures
-      (λ same. (same ∙ c.self.view_is, refl)))
+    (stayed c.turn.result c.refused-in-Err.result (c.turn.new.self ≡ c.self.inside.pair) _ _ (queue_refused c.self.inside.pair c.in-Some.name) c.in-Err.refusal c.turn.ensures.refused c.in-Err.is c.refused-in-Err.ensures
+    (λ same. (same ∙ c.self.view_is, refl)))
 
 -- src/kept.rt:118:5
 pub invariant_of-self-2 : goal.invariant_of-self-2
