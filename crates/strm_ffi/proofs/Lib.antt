@@ -1,4 +1,5 @@
 pub mod AsBox
+pub mod AtHandles
 pub mod BothParts
 pub mod Decisions
 pub mod Fits
