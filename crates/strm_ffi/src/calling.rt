@@ -1,0 +1,77 @@
+//! Calls of a C program.
+
+ghost use Rattle.std.specs.Prelude.{◌≡◌, length, min};
+ghost use Rattle.strm_types.specs.declared.events.Event.TheVariants.{Read, Write};
+ghost use Rattle.strm_types.specs.declared.limits.TheConstants.{READ_MAX};
+ghost use Rattle.strm_ffi.specs.Outcomes.{AtHandle, ask_refused, side_refused, AnswersAsk, AnswersSide, Stay, no_bytes};
+
+use crate::asks::Ask;
+use crate::handle::Handle;
+use crate::kept::refused;
+use crate::replies::Reply;
+use std::alloc::Global;
+use strm_types::{Event, READ_MAX, Refusal};
+
+/// Makes any call: `ask` says which one, `bytes` are those that it brings, `out` has room for those that it gives.
+#[unsafe(no_mangle)]
+pub extern "C" fn strm_call(
+    alloc: Global,
+    handle: &mut Handle,
+    ask: &Ask,
+    bytes: &[u8],
+    out: &mut [u8],
+    reply: &mut Reply,
+) -> u32
+    ensures { AtHandle (ask_refused ask.now bytes.now (length out.old)) (Stay out.old out.new reply.old reply.new)
+        (AnswersAsk ask.now bytes.now reply.new out.old out.new) handle.old.held.kept handle.new.held.kept result }
+{
+    let Some(mut kept) = handle.take(alloc) else {
+        return refused(Refusal::Einval);
+    };
+    let told = kept.as_mut().ask(ask, bytes, out, reply);
+    handle.put(kept);
+    told
+}
+
+/// Writes bytes: write(2) of a side.
+#[unsafe(no_mangle)]
+pub extern "C" fn strm_write(
+    alloc: Global,
+    handle: &mut Handle,
+    side: u32,
+    bytes: &[u8],
+    reply: &mut Reply,
+) -> u32
+    ensures { AtHandle (side_refused side (Write bytes.now) 0) (Stay no_bytes no_bytes reply.old reply.new)
+        (AnswersSide side (Write bytes.now) reply.new no_bytes no_bytes) handle.old.held.kept handle.new.held.kept result }
+{
+    let Some(mut kept) = handle.take(alloc) else {
+        return refused(Refusal::Einval);
+    };
+    let told = kept
+        .as_mut()
+        .of_side(side, &Event::Write { bytes }, &mut [], reply);
+    handle.put(kept);
+    told
+}
+
+/// Reads as many bytes as a buffer has room for, up to 4096: read(2) of a side.
+#[unsafe(no_mangle)]
+pub extern "C" fn strm_read(
+    alloc: Global,
+    handle: &mut Handle,
+    side: u32,
+    out: &mut [u8],
+    reply: &mut Reply,
+) -> u32
+    ensures { AtHandle (side_refused side (Read (min (length out.old) READ_MAX)) (length out.old)) (Stay out.old out.new reply.old reply.new)
+        (AnswersSide side (Read (min (length out.old) READ_MAX)) reply.new out.old out.new) handle.old.held.kept handle.new.held.kept result }
+{
+    let Some(mut kept) = handle.take(alloc) else {
+        return refused(Refusal::Einval);
+    };
+    let n = out.len().min(READ_MAX) as u32;
+    let told = kept.as_mut().of_side(side, &Event::Read { n }, out, reply);
+    handle.put(kept);
+    told
+}

@@ -1,0 +1,16 @@
+//! The library for C: a pair behind a handle, and calls, turns and looks at it by numbers. `include/strm.h` is its manual.
+#![tactic(auto)]
+
+mod answering;
+mod asking;
+mod asks;
+mod calling;
+mod handle;
+mod held;
+mod kept;
+mod looking;
+mod making;
+mod numbers;
+mod parts;
+mod replies;
+mod turning;

@@ -1,0 +1,23 @@
+//! Turns of a C program.
+
+ghost use Rattle.std.specs.Prelude.{◌≡◌};
+ghost use Rattle.strm_ffi.specs.Outcomes.{AtHandle, turn_refused, Turns};
+
+use crate::handle::Handle;
+use crate::kept::refused;
+use crate::replies::Went;
+use std::alloc::Global;
+use strm_types::Refusal;
+
+/// Makes a turn of an enabled queue's service procedure.
+#[unsafe(no_mangle)]
+pub extern "C" fn strm_turn(alloc: Global, handle: &mut Handle, queue: u32, went: &mut Went) -> u32
+    ensures { AtHandle (turn_refused queue) (went.new ≡ went.old) (Turns queue went.new) handle.old.held.kept handle.new.held.kept result }
+{
+    let Some(mut kept) = handle.take(alloc) else {
+        return refused(Refusal::Einval);
+    };
+    let told = kept.as_mut().turn(queue, went);
+    handle.put(kept);
+    told
+}

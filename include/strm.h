@@ -1,0 +1,481 @@
+/* strm.h - the pseudoterminal stack of System V Release 4 STREAMS, as a library
+ *
+ * NAME
+ *   strm - pairs of a master and a slave with the modules ldterm, ptem and pckt. No device, no thread, no clock, no signal handler.
+ *
+ * SYNOPSIS
+ *   #include <strm.h>                                  cc prog.c -lstrm       (or: cc prog.c libstrm.a)
+ *
+ *   strm_pair p = STRM_CLOSED;
+ *   strm_reply r;
+ *   strm_new(&p, 256, 8192, 262144);                   256 blocks of each kind; a journal of 8192 entries and 256 KiB
+ *   strm_open_terminal(&p);                            both sides open, ptem and ldterm on the slave
+ *   strm_write(&p, STRM_MASTER, "ls\r", 3, &r);        r.value is 3: so many bytes were taken
+ *   strm_run(&p);                                      turns until no queue is enabled
+ *   strm_read(&p, STRM_SLAVE, buf, sizeof buf, &r);    r.bytes is 3, buf holds "ls\n"
+ *   strm_read(&p, STRM_MASTER, buf, sizeof buf, &r);   r.bytes is 4, buf holds "ls\r\n"
+ *   strm_free(&p);
+ *
+ * DESCRIPTION
+ *   Each call returns at once: where a call of a system would sleep it is refused with STRM_EAGAIN. Bytes go from side to side by
+ *   turns alone (strm_turn, strm_run). A pair is at rest where no queue is enabled: then nothing happens until somebody calls. So a
+ *   test needs no time-out, and the same calls give the same bytes on every machine.
+ *
+ * ERRORS
+ *   A function that returns strm_refusal gives 0 (STRM_OK), or the number of its refusal; these are the numbers below, and not those
+ *   of errno.h (strm_host_errno). A refused call has changed nothing: neither the pair nor what the caller's pointers lead to.
+ *   STRM_EINVAL comes first, for a closed handle, a number that names nothing, and a buffer that is too small for the greatest answer
+ *   of the call, so that no byte is lost at this interface; then what the pair refuses, in the order of the README's section Refusals.
+ *
+ * UNITS
+ *   Lengths are bytes. A message block holds up to 256. The wire forms of termios and winsize are strm_termios and strm_winsize.
+ *
+ * OWNERSHIP
+ *   The library keeps no pointer of the caller's behind a call, calls nothing back, and has no state of its own beside the handles.
+ *   strm_new takes all memory that a pair will use, by malloc, and strm_free gives it back; no other function takes any.
+ *   A handle is closed when its bytes are all 0 (STRM_CLOSED). An open one isn't copied and then used or freed twice, as with a FILE.
+ *
+ * THREADS
+ *   A handle is used by one thread at a time, and may be handed from one to another behind a lock, a thread's start or its join. Two
+ *   handles are independent. No function is called from a signal handler, nor in the forked child of a process with threads.
+ *
+ * WHAT A CALLER OWES (nothing checks it)
+ *   Pointers aren't NULL, not even those beside a length of 0, lead to as much memory as their length says, and don't overlap where one
+ *   is written to. A bool is 0 or 1. A handle is closed, or was made by strm_new and only handed to these functions since.
+ *
+ * WHAT STAYS
+ *   STRM_VERSION is 65536 times a major number and a minor one. Within a major number names, numbers, layouts and meanings stay; a larger
+ *   minor number has more calls. The shared object's soname carries the major number. A program that loads it compares strm_version().
+ *
+ * PROVED: each function that libstrm exports, by its contract in crates/strm_ffi. NOT PROVED: the inline functions of this file, and malloc.
+ */
+#ifndef STRM_H
+#define STRM_H
+
+#include <stdbool.h>
+#include <stddef.h>
+#include <stdint.h>
+#include <string.h>
+
+#ifdef __cplusplus
+extern "C" {
+#endif
+
+#define STRM_VERSION 65536u /* 1.0 */
+
+/* A pair, in place. Nothing behind `at` is the caller's. */
+typedef struct strm_pair {
+    void *at;
+    bool is_open;
+} strm_pair;
+
+#define STRM_CLOSED { NULL, false }
+
+/* Why a call is refused; 0 where it is done. */
+typedef uint32_t strm_refusal;
+
+enum {
+    STRM_OK = 0,
+    STRM_EINVAL = 1,       /* an argument is out of range, or the call doesn't fit what is there */
+    STRM_EAGAIN = 2,       /* the call would have to wait: nothing to read, no room to write */
+    STRM_ENXIO = 3,        /* that side isn't open, or was hung up */
+    STRM_EBADMSG = 4,      /* the first message isn't one that a read gives: a get takes it */
+    STRM_ENOSR = 5,        /* fewer blocks are free than the call may need: make turns, read, or take a larger pair */
+    STRM_ERANGE = 6,       /* a size or a number is beyond its limit */
+    STRM_JOURNAL_FULL = 7, /* the journal has no room for the call and its longest answer */
+    STRM_NO_MINOR = 8,     /* not of this interface */
+    STRM_NO_MEMORY = 9,    /* malloc gave none */
+    STRM_STILL_SHARED = 10, /* not of this interface */
+    STRM_EIO = 11          /* the caller is in the background, and may not be stopped */
+};
+
+/* A side, and the direction of what it writes. */
+enum { STRM_MASTER = 0, STRM_SLAVE = 1 };
+
+/* A module. */
+enum { STRM_LDTERM = 1, STRM_PTEM = 2, STRM_PCKT = 3 };
+
+/* A queue, by its side (M, S), place (HEAD, LDTERM, DRV) and way (R up to the reader, W down). Three places of a side have queues. */
+enum {
+    STRM_M_HEAD_R = 0, STRM_M_LDTERM_R = 2, STRM_M_LDTERM_W = 3, STRM_M_DRV_W = 5,
+    STRM_S_HEAD_R = 6, STRM_S_LDTERM_R = 8, STRM_S_LDTERM_W = 9, STRM_S_DRV_W = 11,
+    STRM_NO_QUEUE = 12
+};
+
+/* Which queues a flush empties (I_FLUSH), and the modes of a head (I_SRDOPT). */
+enum { STRM_FLUSHR = 1, STRM_FLUSHW = 2, STRM_FLUSHRW = 3 };
+enum { STRM_RNORM, STRM_RMSGN, STRM_RMSGD, STRM_RPROTNORM, STRM_RPROTDAT, STRM_RPROTDIS };
+
+/* Beside a band from 0 to 255: high priority; any message, or all bands. */
+enum { STRM_HIPRI = 256, STRM_ANY = 257 };
+
+/* Which parts a message has. */
+enum { STRM_NO_PART = 0, STRM_CONTROL = 1, STRM_DATA = 2, STRM_BOTH = 3 };
+
+/* Signals, by System V's numbers: WINCH and TSTP have others on Linux and BSD (strm_host_signal). */
+enum { STRM_SIGHUP = 1, STRM_SIGINT = 2, STRM_SIGQUIT = 3, STRM_SIGWINCH = 20, STRM_SIGTSTP = 24, STRM_SIGTTIN = 26, STRM_SIGTTOU = 27 };
+
+/* ------------------------------------------------------------------------------------------------------------- pairs */
+
+/* The version of the library that is linked. */
+uint32_t strm_version(void);
+
+/* Makes a pair that nobody opened in a closed handle: 1 to 65536 blocks of each kind, of which a write wants 32 free and one for each
+ * begun 256 bytes, and a journal of so many entries and so many bytes. EINVAL, NO_MEMORY; the handle stays then. */
+strm_refusal strm_new(strm_pair *p, size_t blocks, size_t entries, size_t bytes);
+
+/* Frees a pair and closes its handle. A closed one stays so. */
+void strm_free(strm_pair *p);
+
+/* ------------------------------------------------------------------------------------------------------------- calls */
+
+/* A call: `op` says which one, `side` on which stream, and a, b, c are its numbers:
+ *   PUSH a: a module, another number is EINVAL      FLUSH a: FLUSHR.., b: a band or ANY     READ a: how many bytes at most
+ *   PUT a: a band or HIPRI, b: which parts, c: how many bytes in front are the control part, where there are both
+ *   GET a: a band, HIPRI or ANY, b, c: the most bytes of the control part and of the data part
+ *   MODE a: RNORM..   IOCTL a: the command   IOCTL_RESULT a: the number that a pending one was given
+ * and the others have none. `group` is the caller's process group, or 0, and the two bools are what job control asks of the caller:
+ * whether SIGTTIN and SIGTTOU are ignored or blocked, and whether its group is orphaned. */
+typedef struct strm_ask {
+    uint32_t op, side, a, b, c;
+    uint32_t group;
+    bool ignores, orphaned;
+} strm_ask;
+
+enum {
+    STRM_OP_OPEN_MASTER, STRM_OP_UNLOCK, STRM_OP_OPEN_SLAVE, STRM_OP_CLOSE, STRM_OP_PUSH, STRM_OP_POP, STRM_OP_LOOK, STRM_OP_FLUSH,
+    STRM_OP_WRITE, STRM_OP_READ, STRM_OP_PUT, STRM_OP_GET, STRM_OP_MODE, STRM_OP_NREAD, STRM_OP_IOCTL, STRM_OP_IOCTL_RESULT,
+    STRM_OP_SIGNALS
+};
+
+/* An answer. `bytes` of it stand at the front of the caller's buffer, those of a control part before those of a data part. `value` is
+ * a module, a count of bytes or messages, the number of an ioctl, a refusal, or a signal. Of a message `prio` is its band or HIPRI,
+ * `parts` which parts it has, `size` how long its control part is; more_* say that more of that part waits (MORECTL, MOREDATA). Of
+ * SIZES `size` is how many bytes of data the first message has. */
+typedef struct strm_reply {
+    size_t bytes;
+    uint32_t kind, value, prio, parts, size;
+    bool more_control, more_data;
+} strm_reply;
+
+enum {
+    STRM_DONE, STRM_NAME, STRM_COUNT, STRM_BYTES, STRM_MESSAGE, STRM_SIZES, STRM_PENDING, STRM_NAK, STRM_SIGNALS, STRM_STOPPED
+};
+
+/* Makes any call. `bytes` are what a write, a put (control part first) or an ioctl brings, `out` takes what the call gives: a read and
+ * each part of a get as much as it asks for, up to 4096; an ioctl 256; signals 32; others none. */
+strm_refusal strm_call(strm_pair *p, const strm_ask *ask, const void *bytes, size_t n, void *out, size_t room, strm_reply *reply);
+
+/* write(2): reply->value of the bytes were taken, and fewer than n where flow control takes no more: make turns, let the other side read,
+ * and go on behind them. EAGAIN where none were taken. */
+strm_refusal strm_write(strm_pair *p, uint32_t side, const void *bytes, size_t n, strm_reply *reply);
+
+/* read(2) of at most `room` bytes, and 4096: reply->bytes came. 0 is the end of input: a hang-up, or an EOF key where ldterm stands. A line
+ * of ldterm under ICANON is one read. */
+strm_refusal strm_read(strm_pair *p, uint32_t side, void *out, size_t room, strm_reply *reply);
+
+/* ------------------------------------------------------------------------------------------------------------- turns */
+
+/* What a turn did: nothing on an empty queue (IDLE), nothing on a blocked one, or `moved` bytes of the first message went on. */
+typedef struct strm_went {
+    uint32_t kind, moved;
+} strm_went;
+
+enum { STRM_IDLE, STRM_BLOCKED, STRM_MOVED };
+
+/* Makes a turn of a queue's service procedure. EINVAL: the queue isn't enabled. ERANGE, JOURNAL_FULL, ENOSR. */
+strm_refusal strm_turn(strm_pair *p, uint32_t queue, strm_went *went);
+
+/* ------------------------------------------------------------------------------------------------------------- looks: no call is made */
+
+/* The queue at a place of the enabled list, from 0 in the order in which they were enabled; NO_QUEUE behind the last, and of a closed pair. */
+uint32_t strm_enabled(strm_pair *p, size_t place);
+
+/* How many messages stand on a queue, and how many bytes they have: 0 and 0 for a queue that isn't there. */
+typedef struct strm_standing {
+    size_t messages, bytes;
+} strm_standing;
+
+strm_refusal strm_sizes(strm_pair *p, uint32_t queue, strm_standing *told);
+
+/* How many bytes the first message of a queue has: 0 where none stands there. */
+strm_refusal strm_first_size(strm_pair *p, uint32_t queue, size_t *told);
+
+/* Where the bytes of a direction are: written + made = queued + inlined + the sum of gone[], which counts by the rules below. */
+enum {
+    STRM_RULE_READ, STRM_RULE_IGNCR, STRM_RULE_ERASE_KEY, STRM_RULE_ERASED, STRM_RULE_KILLED, STRM_RULE_EOF_KEY, STRM_RULE_SIGNAL_KEY,
+    STRM_RULE_FLOW_KEY, STRM_RULE_LNEXT_KEY, STRM_RULE_REPRINT_KEY, STRM_RULE_LINE_FULL, STRM_RULE_LINE_OVER, STRM_RULE_FLUSHED,
+    STRM_RULE_REST_DISCARDED, STRM_RULE_CONTROL_DROPPED, STRM_RULE_DOUBLED, STRM_RULE_MODULE_POPPED, STRM_RULE_END_CLOSED,
+    STRM_RULE_REPLACED, STRM_RULE_ONOCR, STRM_RULE_ECHO_FULL, STRM_RULES
+};
+
+typedef struct strm_books {
+    uint64_t written, made, queued, inlined, gone[STRM_RULES];
+} strm_books;
+
+strm_refusal strm_ledger(strm_pair *p, uint32_t side, strm_books *told);
+
+/* ------------------------------------------------------------------------------------------------------------- helpers, not proved */
+
+/* A call without bytes. */
+static inline strm_refusal strm_do(strm_pair *p, uint32_t op, uint32_t side, uint32_t a, uint32_t b, strm_reply *reply)
+{
+    strm_ask ask = { op, side, a, b, 0, 0, false, false };
+    uint8_t none[1] = { 0 };
+    return strm_call(p, &ask, none, 0, none, 0, reply);
+}
+
+/* open(2) of the master, once in a pair's life; unlockpt(3C); open(2) of the slave, EAGAIN before the unlock; close(2) of a side. */
+static inline strm_refusal strm_open_master(strm_pair *p) { strm_reply r; return strm_do(p, STRM_OP_OPEN_MASTER, STRM_MASTER, 0, 0, &r); }
+static inline strm_refusal strm_unlock(strm_pair *p) { strm_reply r; return strm_do(p, STRM_OP_UNLOCK, STRM_MASTER, 0, 0, &r); }
+static inline strm_refusal strm_open_slave(strm_pair *p) { strm_reply r; return strm_do(p, STRM_OP_OPEN_SLAVE, STRM_SLAVE, 0, 0, &r); }
+static inline strm_refusal strm_close(strm_pair *p, uint32_t side) { strm_reply r; return strm_do(p, STRM_OP_CLOSE, side, 0, 0, &r); }
+
+/* I_PUSH, I_POP, I_FLUSH (I_FLUSHBAND of one band), I_SRDOPT of streamio(7I). */
+static inline strm_refusal strm_push(strm_pair *p, uint32_t side, uint32_t module) { strm_reply r; return strm_do(p, STRM_OP_PUSH, side, module, 0, &r); }
+static inline strm_refusal strm_pop(strm_pair *p, uint32_t side) { strm_reply r; return strm_do(p, STRM_OP_POP, side, 0, 0, &r); }
+static inline strm_refusal strm_flush(strm_pair *p, uint32_t side, uint32_t what, uint32_t band) { strm_reply r; return strm_do(p, STRM_OP_FLUSH, side, what, band, &r); }
+static inline strm_refusal strm_srdopt(strm_pair *p, uint32_t side, uint32_t mode) { strm_reply r; return strm_do(p, STRM_OP_MODE, side, mode, 0, &r); }
+
+/* A terminal as a shell expects it: both sides open, ptem and ldterm on the slave. */
+static inline strm_refusal strm_open_terminal(strm_pair *p)
+{
+    strm_refusal e = strm_open_master(p);
+    if (!e) e = strm_unlock(p);
+    if (!e) e = strm_open_slave(p);
+    if (!e) e = strm_push(p, STRM_SLAVE, STRM_PTEM);
+    if (!e) e = strm_push(p, STRM_SLAVE, STRM_LDTERM);
+    return e;
+}
+
+/* Turns of the queue that was enabled first, until none is enabled or a turn is refused. Each turn takes an entry of the journal, so it ends. */
+static inline strm_refusal strm_run(strm_pair *p)
+{
+    strm_refusal e = STRM_OK;
+    uint32_t queue;
+    strm_went went;
+    while (!e && (queue = strm_enabled(p, 0)) != STRM_NO_QUEUE) e = strm_turn(p, queue, &went);
+    return e;
+}
+
+/* Takes the signals that came up, each once, in order: *n numbers. */
+static inline strm_refusal strm_signals(strm_pair *p, uint32_t side, uint8_t out[32], size_t *n)
+{
+    strm_ask ask = { STRM_OP_SIGNALS, side, 0, 0, 0, 0, false, false };
+    strm_reply r;
+    uint8_t none[1] = { 0 };
+    strm_refusal e = strm_call(p, &ask, none, 0, out, 32, &r);
+    *n = e ? 0 : r.bytes;
+    return e;
+}
+
+/* putpmsg(2): a part that is NULL is absent. At most 64 bytes of control, else ERANGE, and 256 of data. */
+static inline strm_refusal strm_put(strm_pair *p, uint32_t side, uint32_t prio, const void *control, size_t clen, const void *data, size_t dlen)
+{
+    strm_ask ask = { STRM_OP_PUT, side, prio, (control ? 1u : 0u) | (data ? 2u : 0u), 0, 0, false, false };
+    uint8_t bytes[320], none[1] = { 0 };
+    strm_reply r;
+    if (!control) clen = 0;
+    if (!data) dlen = 0;
+    if (clen > 64 || dlen > 256) return STRM_ERANGE;
+    if (clen) memcpy(bytes, control, clen);
+    if (dlen) memcpy(bytes + clen, data, dlen);
+    if (ask.b == STRM_BOTH) ask.c = (uint32_t)clen;
+    return strm_call(p, &ask, bytes, clen + dlen, none, 0, &r);
+}
+
+/* getpmsg(2) of the first message, or its front, if it is the wanted one: at most cmax and dmax bytes, whose sum `out` has room for. */
+static inline strm_refusal strm_get(strm_pair *p, uint32_t side, uint32_t wanted, uint32_t cmax, uint32_t dmax, void *out, size_t room, strm_reply *reply)
+{
+    strm_ask ask = { STRM_OP_GET, side, wanted, cmax, dmax, 0, false, false };
+    uint8_t none[1] = { 0 };
+    return strm_call(p, &ask, none, 0, out, room, reply);
+}
+
+/* Commands of strm_ioctl, as ptem and the slave's head know them. */
+enum {
+    STRM_TCGETS = 1, STRM_TCSETS = 2, STRM_TCSETSW = 3, STRM_TCSETSF = 4, STRM_TIOCGWINSZ = 5, STRM_TIOCSWINSZ = 6, STRM_TIOCSIGNAL = 7,
+    STRM_TIOCGPGRP = 8, STRM_TIOCSPGRP = 9
+};
+
+/* Beside a refusal's number: the ioctl was answered with M_IOCNAK for that reason. */
+#define STRM_NAKED 0x100u
+
+/* I_STR: an ioctl that is waited for by turns. *given bytes of its answer stand in out. */
+static inline strm_refusal strm_ioctl(strm_pair *p, uint32_t side, uint32_t command, const void *body, size_t n, uint8_t out[256], size_t *given)
+{
+    strm_ask ask = { STRM_OP_IOCTL, side, command, 0, 0, 0, false, false };
+    uint8_t none[1] = { 0 };
+    strm_reply r;
+    strm_refusal e = strm_call(p, &ask, n ? body : none, n, out, 256, &r);
+    *given = 0;
+    if (!e && r.kind == STRM_PENDING) {
+        ask.op = STRM_OP_IOCTL_RESULT;
+        ask.a = r.value;
+        e = strm_run(p);
+        if (!e) e = strm_call(p, &ask, none, 0, out, 256, &r);
+    }
+    if (e) return e;
+    *given = r.bytes;
+    return r.kind == STRM_NAK ? (STRM_NAKED | r.value) : 0u;
+}
+
+/* termio(7I): the wire has 35 bytes, the words most significant byte first. */
+typedef struct strm_termios {
+    uint32_t iflag, oflag, cflag, lflag;
+    uint8_t cc[19];
+} strm_termios;
+
+typedef struct strm_winsize {
+    uint16_t rows, columns, width, height;
+} strm_winsize;
+
+/* Bits of iflag, oflag and lflag, and places of cc, by System V's numbers. */
+enum {
+    STRM_ISTRIP = 0x20, STRM_INLCR = 0x40, STRM_IGNCR = 0x80, STRM_ICRNL = 0x100, STRM_IUCLC = 0x200, STRM_IXON = 0x400,
+    STRM_IXANY = 0x800, STRM_IMAXBEL = 0x2000
+};
+enum { STRM_OPOST = 1, STRM_OLCUC = 2, STRM_ONLCR = 4, STRM_OCRNL = 8, STRM_ONOCR = 0x10, STRM_ONLRET = 0x20, STRM_XTABS = 0x1800 };
+enum {
+    STRM_ISIG = 1, STRM_ICANON = 2, STRM_ECHO = 8, STRM_ECHOE = 0x10, STRM_ECHOK = 0x20, STRM_ECHONL = 0x40, STRM_NOFLSH = 0x80,
+    STRM_TOSTOP = 0x100, STRM_ECHOCTL = 0x200, STRM_ECHOKE = 0x800, STRM_IEXTEN = 0x8000
+};
+enum {
+    STRM_VINTR = 0, STRM_VQUIT = 1, STRM_VERASE = 2, STRM_VKILL = 3, STRM_VEOF = 4, STRM_VEOL = 5, STRM_VEOL2 = 6, STRM_VSTART = 8,
+    STRM_VSTOP = 9, STRM_VSUSP = 10, STRM_VREPRINT = 12, STRM_VWERASE = 14, STRM_VLNEXT = 15
+};
+
+static inline void strm_put_word(uint8_t *at, uint32_t word)
+{
+    at[0] = (uint8_t)(word >> 24), at[1] = (uint8_t)(word >> 16), at[2] = (uint8_t)(word >> 8), at[3] = (uint8_t)word;
+}
+
+static inline uint32_t strm_get_word(const uint8_t *at)
+{
+    return (uint32_t)at[0] << 24 | (uint32_t)at[1] << 16 | (uint32_t)at[2] << 8 | (uint32_t)at[3];
+}
+
+/* TCGETS. NAK EINVAL where no ptem stands. */
+static inline strm_refusal strm_tcgetattr(strm_pair *p, uint32_t side, strm_termios *t)
+{
+    uint8_t b[256];
+    size_t n;
+    strm_refusal e = strm_ioctl(p, side, STRM_TCGETS, b, 0, b, &n);
+    if (e) return e;
+    t->iflag = strm_get_word(b), t->oflag = strm_get_word(b + 4), t->cflag = strm_get_word(b + 8), t->lflag = strm_get_word(b + 12);
+    memcpy(t->cc, b + 16, sizeof t->cc);
+    return STRM_OK;
+}
+
+/* `when` is TCSETS at once, TCSETSW behind the output, or TCSETSF with the input flushed too. */
+static inline strm_refusal strm_tcsetattr(strm_pair *p, uint32_t side, uint32_t when, const strm_termios *t)
+{
+    uint8_t b[35], out[256];
+    size_t n;
+    strm_put_word(b, t->iflag), strm_put_word(b + 4, t->oflag), strm_put_word(b + 8, t->cflag), strm_put_word(b + 12, t->lflag);
+    memcpy(b + 16, t->cc, sizeof t->cc);
+    return strm_ioctl(p, side, when, b, sizeof b, out, &n);
+}
+
+/* TIOCGWINSZ and TIOCSWINSZ: where the size changes the slave's head gets SIGWINCH. */
+static inline strm_refusal strm_get_winsize(strm_pair *p, uint32_t side, strm_winsize *w)
+{
+    uint8_t b[256];
+    size_t n;
+    strm_refusal e = strm_ioctl(p, side, STRM_TIOCGWINSZ, b, 0, b, &n);
+    if (e) return e;
+    w->rows = (uint16_t)(b[0] << 8 | b[1]), w->columns = (uint16_t)(b[2] << 8 | b[3]);
+    w->width = (uint16_t)(b[4] << 8 | b[5]), w->height = (uint16_t)(b[6] << 8 | b[7]);
+    return STRM_OK;
+}
+
+static inline strm_refusal strm_set_winsize(strm_pair *p, uint32_t side, const strm_winsize *w)
+{
+    uint8_t b[8], out[256];
+    size_t n;
+    strm_put_word(b, (uint32_t)w->rows << 16 | w->columns), strm_put_word(b + 4, (uint32_t)w->width << 16 | w->height);
+    return strm_ioctl(p, side, STRM_TIOCSWINSZ, b, sizeof b, out, &n);
+}
+
+/* Names, as scripts and the README have them; "?" for a number that has none. */
+static inline const char *strm_refusal_name(strm_refusal refusal)
+{
+    static const char *const names[] = { "ok", "EINVAL", "EAGAIN", "ENXIO", "EBADMSG", "ENOSR", "ERANGE", "JournalFull", "NoMinor", "NoMemory", "StillShared", "EIO" };
+    refusal &= ~STRM_NAKED;
+    return refusal < sizeof names / sizeof *names ? names[refusal] : "?";
+}
+
+static inline const char *strm_rule_name(uint32_t rule)
+{
+    static const char *const names[] = { "read", "igncr", "erase-key", "erased", "killed", "eof-key", "signal-key", "flow-key", "lnext-key", "reprint-key",
+        "line-full", "line-over", "flushed", "rest-discarded", "control-dropped", "doubled", "module-popped", "end-closed", "replaced", "onocr", "echo-full" };
+    return rule < STRM_RULES ? names[rule] : "?";
+}
+
+static inline const char *strm_signal_name(uint32_t number)
+{
+    switch (number) {
+    case STRM_SIGHUP: return "HUP";
+    case STRM_SIGINT: return "INT";
+    case STRM_SIGQUIT: return "QUIT";
+    case STRM_SIGWINCH: return "WINCH";
+    case STRM_SIGTSTP: return "TSTP";
+    case STRM_SIGTTIN: return "TTIN";
+    case STRM_SIGTTOU: return "TTOU";
+    default: return "?";
+    }
+}
+
+/* This host's numbers, where <signal.h> and <errno.h> stand before this file; 0 where the host has none. */
+#ifdef SIGINT
+static inline int strm_host_signal(uint32_t number)
+{
+    switch (number) {
+#ifdef SIGHUP
+    case STRM_SIGHUP: return SIGHUP;
+#endif
+    case STRM_SIGINT: return SIGINT;
+#ifdef SIGQUIT
+    case STRM_SIGQUIT: return SIGQUIT;
+#endif
+#ifdef SIGWINCH
+    case STRM_SIGWINCH: return SIGWINCH;
+#endif
+#ifdef SIGTSTP
+    case STRM_SIGTSTP: return SIGTSTP;
+#endif
+#ifdef SIGTTIN
+    case STRM_SIGTTIN: return SIGTTIN;
+#endif
+#ifdef SIGTTOU
+    case STRM_SIGTTOU: return SIGTTOU;
+#endif
+    default: return 0;
+    }
+}
+#endif
+#ifdef EAGAIN
+static inline int strm_host_errno(strm_refusal refusal)
+{
+    switch (refusal & ~STRM_NAKED) {
+    case STRM_OK: return 0;
+    case STRM_EINVAL: return EINVAL;
+    case STRM_EAGAIN: return EAGAIN;
+    case STRM_ENXIO: return ENXIO;
+    case STRM_EBADMSG: return EBADMSG;
+#ifdef ENOSR
+    case STRM_ENOSR: return ENOSR;
+#endif
+    case STRM_ERANGE: return ERANGE;
+    case STRM_JOURNAL_FULL: return ENOSPC;
+    case STRM_NO_MEMORY: return ENOMEM;
+    case STRM_EIO: return EIO;
+    default: return EBUSY;
+    }
+}
+#endif
+
+#ifdef __cplusplus
+}
+#endif
+#endif
