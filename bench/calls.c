@@ -1,6 +1,6 @@
 /* What a round costs through libstrm, and through a pseudoterminal of this system in the same process: CPU and clock, nanoseconds.
  *
- *     cc -O2 -Iinclude bench/calls.c libstrm.a -o calls && ./calls
+ *     cc -O2 -Iinclude bench/calls.c libstrm.a -o calls && ./calls          (./calls ROW ROUNDS: rounds of a row, from 0, on the pair alone)
  *
  * A round writes, and reads all that comes of it; the pair's queues are run in between. Each figure is the least of seven runs. */
 #define _GNU_SOURCE
@@ -40,47 +40,47 @@ static void done(strm_refusal e)
     if (e) die(strm_refusal_name(e));
 }
 
-static void pair_write(uint32_t side, size_t n)
+/* Writes, and where the journal is full it begins anew: how many bytes were taken. */
+static size_t pair_write(uint32_t side, const uint8_t *bytes, size_t n)
 {
     strm_reply r;
-    size_t at = 0;
-    while (at < n) {
-        strm_refusal e = strm_write(&pair, side, text + at, n - at < 512 ? n - at : 512, &r);
-        if (e == STRM_JOURNAL_FULL) done(strm_restart(&pair));
-        else if (e == STRM_EAGAIN) return;
-        else if (e) die("a write");
-        else at += r.value;
-    }
+    strm_refusal e = strm_write(&pair, side, bytes, n < 512 ? n : 512, &r);
+    if (e == STRM_JOURNAL_FULL) done(strm_restart(&pair)), e = strm_write(&pair, side, bytes, n < 512 ? n : 512, &r);
+    if (e == STRM_EAGAIN) return 0;
+    done(e);
+    return r.value;
 }
 
-static size_t pair_run_and_read(uint32_t side)
+static void pair_run(void)
 {
-    strm_reply r;
-    size_t turns, got = 0;
+    size_t turns;
     strm_refusal e;
     while ((e = strm_runqueues(&pair, &turns)) == STRM_JOURNAL_FULL) done(strm_restart(&pair));
     done(e);
-    for (;;) {
-        e = strm_read(&pair, side, out, sizeof out, &r);
-        if (e == STRM_JOURNAL_FULL) done(strm_restart(&pair));
-        else if (e == STRM_EAGAIN) return got;
-        else if (e) die("a read");
-        else got += r.bytes;
+}
+
+/* Reads till so many bytes came, or nothing stands there. */
+static size_t pair_read(uint32_t side, size_t wanted)
+{
+    strm_reply r;
+    size_t got = 0;
+    while (got < wanted) {
+        strm_refusal e = strm_read(&pair, side, out, sizeof out, &r);
+        if (e == STRM_JOURNAL_FULL) done(strm_restart(&pair)), e = strm_read(&pair, side, out, sizeof out, &r);
+        if (e == STRM_EAGAIN) return got;
+        done(e);
+        got += r.bytes;
     }
+    return got;
 }
 
 static void pair_goes(uint32_t from, size_t n, size_t comes)
 {
-    size_t got = 0;
-    strm_reply r;
-    size_t at = 0;
+    size_t at = 0, got = 0;
     while (got < comes) {
-        if (at < n) {
-            strm_refusal e = strm_write(&pair, from, text + at, n - at < 512 ? n - at : 512, &r);
-            if (e == STRM_JOURNAL_FULL) done(strm_restart(&pair));
-            else if (!e) at += r.value;
-        }
-        got += pair_run_and_read(!from);
+        if (at < n) at += pair_write(from, text + at, n - at);
+        pair_run();
+        got += pair_read(!from, comes - got);
     }
 }
 
@@ -108,14 +108,16 @@ static uint8_t key(void)
 static void pair_keystroke(void)
 {
     text[0] = key();
-    pair_write(STRM_MASTER, 1);
-    pair_run_and_read(STRM_MASTER);
+    pair_write(STRM_MASTER, text, 1);
+    pair_run();
+    if (pair_read(STRM_MASTER, text[0] == 'z' ? 1 : sizeof out) == 0) die("no echo");
 }
 
 static void pair_line(void)
 {
-    pair_write(STRM_MASTER, 41);
-    if (pair_run_and_read(STRM_SLAVE) != 41 || pair_run_and_read(STRM_MASTER) != 42) die("no line");
+    pair_write(STRM_MASTER, text, 41);
+    pair_run();
+    if (pair_read(STRM_SLAVE, 41) != 41 || pair_read(STRM_MASTER, 42) != 42) die("no line");
 }
 
 /* ------------------------------------------------------------------------------------------------------- the system */
@@ -196,9 +198,19 @@ static void fill(int is_line)
         for (i = 79; i < sizeof text; i += 80) text[i] = '\n';
 }
 
-int main(void)
+/* So many rounds of a row on the pair alone, for callgrind. */
+static int rounds_of(size_t row, size_t rounds)
+{
+    fill(rows[row].is_line);
+    pair_opens(rows[row].is_raw);
+    while (rounds-- > 0) rows[row].ours();
+    return 0;
+}
+
+int main(int count, char **words)
 {
     size_t i;
+    if (count == 3) return rounds_of(strtoul(words[1], NULL, 10) % (sizeof rows / sizeof *rows), strtoul(words[2], NULL, 10));
     printf("| A round of | pair, CPU ns | clock ns | Linux pty, CPU ns | clock ns |\n|---|---|---|---|---|\n");
     for (i = 0; i < sizeof rows / sizeof *rows; i++) {
         double ours[2], theirs[2];

@@ -26,7 +26,7 @@ PROGRAMS = {
             b"echo one two\r", b"echo tyop\x7f\x7fpo\r", b"cat\r", b"a lin\x7fne\r", b"kept\x15gone\r", b"two words\x17x\r", b"\x04", b"stty size\r",
             (30, 100), b"stty size\r", b"cat\r", b"\x03", b"cat\r", b"\x1a", b"jobs\r", b"fg\r", b"resumed\r", b"\x04", b"sleep 100\r", b"\x03",
             b"printf 'a\\tb\\nc\\n'\r", b"stty -echo; cat\r", b"unseen\r", b"\x04", b"stty echo\r", b"seq 1 200\r", b"echo \xc3\xa9\xe2\x82\xac\r",
-            b"read -n 3 x\r", b"abc", b"\x1b[A\x1b[A\r", b"stty raw; printf 'x\\ny\\n'; stty sane\r", b"exit 3\r",
+            b"read -n 3 x\r", b"abc", b"\x1b[A\x1b[A\r", b"exit 3\r",
         ],
     ),
     "ed": (
@@ -34,7 +34,7 @@ PROGRAMS = {
         [b"a\r", b"first line\r", b"secnd\x7f\x7f\x7fond line\r", b".\r", b",p\r", b"2s/second/2nd/p\r", b"nonsense\r", b"h\r", b"\x03", b"q\r", b"q\r"],
     ),
     "vim": (
-        ["vim", "-u", "NONE", "-i", "NONE", "-n", "-N"],
+        ["vim", "-u", "NONE", "-i", "NONE", "-n", "-N", "--cmd", "set shortmess+=I"],
         [b"ihello world\rsecond", b"\x1b", b"ggdw", b"2ix\x1b", b":set number\r", (20, 60), b"/second\r", b"\x03", b":q!\r"],
     ),
     "python": (
@@ -60,6 +60,7 @@ def shown(terminal, steps):
     end = time.monotonic() + 3
     while not terminal.ended and time.monotonic() < end:
         terminal.step()
+    told[-1] += terminal.take()
     terminal.close()
     return told, terminal.status
 
@@ -100,7 +101,7 @@ def random_line(chance):
             keys += b"\x17"
         else:
             keys += b"\x15"
-    return bytes(keys) + (b"\x04" if chance.random() < 0.2 and keys else b"") + chance.choice([b"\r", b"\n"])
+    return bytes(keys) + (b"z\x04" if chance.random() < 0.2 else b"") + chance.choice([b"\r", b"\n"])
 
 
 def main():

@@ -11,7 +11,10 @@ use strm::{Pair, Refused, Side, Sizes, Winsize, RULES};
 fn show(what: &str, read: Result<usize, Refused>, out: &[u8]) {
     match read {
         Ok(n) => {
-            let text: String = out[..n].iter().map(|byte| if (32..127).contains(byte) { char::from(*byte).to_string() } else { format!("\\x{byte:02x}") }).collect();
+            let text: String = out[..n]
+                .iter()
+                .map(|byte| if (32..127).contains(byte) { char::from(*byte).to_string() } else { format!("\\x{byte:02x}") })
+                .collect();
             println!("{what:<20}{n} \"{text}\"");
         }
         Err(refused) => println!("{what:<20}{refused}"),

@@ -28,18 +28,21 @@ class Pair:
     """A master and a slave. `blocks` of each kind are its pool (a write wants 32 free and one for each begun 256 bytes), `entries` and
     `journal_bytes` the room of its journal. All memory is taken here; `free`, or the end of a `with`, gives it back.
 
-    `room` are these three. `before_restart` has what is called, with the pair, before its journal begins anew: recorders take its entries there."""
+    With `image` the pair is made of what Pair.image gave: EINVAL where it is none, ENOSR where it wants more blocks. `room` are the sizes. `before_restart` has what is called, with the pair, before its journal begins anew: recorders take its entries there."""
 
-    def __init__(self, blocks=256, entries=8192, journal_bytes=262144, keeps=False, library=None):
+    def __init__(self, blocks=256, entries=8192, journal_bytes=262144, keeps=False, library=None, image=None):
         self.library = Library.at(library)
         self.room, self.keeps, self.before_restart, self.restarts = (blocks, entries, journal_bytes), keeps, [], 0
         self._handle, self._ask, self._reply, self._went = Handle(), Ask(), Reply(), Went()
         self._turns, self._room = ctypes.c_size_t(), ctypes.create_string_buffer(ANSWER_MAX)
         parts = (self._handle, self._ask, self._reply, self._went, self._turns, self._room)
         self._at, self._ask_at, self._reply_at, self._went_at, self._turns_at, self._room_at = map(ctypes.addressof, parts)
-        refused = self.library.new(self._at, blocks, entries, journal_bytes)
+        if image is None:
+            refused = self.library.new(self._at, *self.room)
+        else:
+            refused = self.library.restore(self._at, *self.room, bytes(image), len(image))
         if refused:
-            raise Refused(refused, "new")
+            raise Refused(refused, "new" if image is None else "restore")
         # Bound once: each look-up costs as much as the call itself.
         self._write, self._read, self._runqueues, self._call = (
             getattr(self.library, name) for name in ("write", "read", "runqueues", "call")
@@ -72,7 +75,7 @@ class Pair:
             self.library.free(self._at)
 
     def __reduce_ex__(self, _):
-        raise TypeError("a pair isn't copied: its image is (Pair.image, Pair.restored)")
+        raise TypeError("a pair isn't copied: its image is (Pair.image, Pair(image=..))")
 
     # ------------------------------------------------------------------------------------------------------------- calls
 
@@ -272,13 +275,14 @@ class Pair:
             raise Refused(refused, "turn")
         return _turn(queue, self._went)
 
-    def runqueues(self):
-        """Turns, each of the queue that was enabled first, until none is: how many were made."""
+    def runqueues(self, most=1_000_000):
+        """Turns, each of the queue that was enabled first, until none is: how many were made. JournalFull, behind so many and more: they don't end, as
+        with an ldterm on each side that echo each other. What was made stays made."""
         refused = self._runqueues(self._at, self._turns_at)
         if not refused:
             return self._turns.value
         made = 0
-        while refused and self._mends(refused):
+        while refused and made + self._turns.value < most and self._mends(refused):
             made += self._turns.value
             refused = self._runqueues(self._at, self._turns_at)
         if refused:
@@ -321,6 +325,18 @@ class Pair:
         refused = function(self._at, number, ctypes.addressof(told))
         if refused:
             raise Refused(refused, name)
+
+    def image(self):
+        """What the pair is between two calls, as docs/IMAGES.md spells it, for Pair(image=..) at any later time, on any machine."""
+        room, given = 1 << 16, ctypes.c_size_t()
+        while True:
+            out = ctypes.create_string_buffer(room)
+            refused = self.library.image(self._at, ctypes.addressof(out), room, ctypes.addressof(given))
+            if not refused:
+                return out[: given.value]
+            if REFUSALS[refused] not in ("EINVAL", "ERANGE") or not self.is_open or room > 1 << 28:
+                raise Refused(refused, "image")
+            room *= 4
 
     # ------------------------------------------------------------------------------------------------------------- the journal
 

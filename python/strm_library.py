@@ -72,7 +72,12 @@ def prototypes():
         ("strm_sizes", number, (pointer, number, pointer)),
         ("strm_first_size", number, (pointer, number, pointer)),
         ("strm_ledger", number, (pointer, number, pointer)),
+        ("strm_image", number, (pointer, pointer, size, pointer)),
+        ("strm_restore", number, (pointer, size, size, size, lent, size)),
     )
+
+
+LATER = ("strm_image", "strm_restore")  # a library of 1.1 may lack these
 
 
 def places(path):
@@ -99,6 +104,8 @@ class Library:
     def __init__(self, path=None):
         shared = self._found(path)
         for name, result, arguments in prototypes():
+            if name in LATER and not hasattr(shared, name):
+                continue
             function = getattr(shared, name)
             function.restype, function.argtypes = result, arguments
             setattr(self, name[len("strm_") :], function)

@@ -336,8 +336,17 @@ pub struct Termios {
 #[derive(Clone, Debug, PartialEq, Eq)]
 pub enum Entry {
     /// The call's numbers as strm_ask has them (op, side, a, b, c), what it brought, the kind and number of its answer, and what that gave.
-    Call { numbers: [u32; 5], brought: Vec<u8>, kind: u32, value: u32, given: Vec<u8> },
-    Turn { queue: Option<Queue>, went: Turn },
+    Call {
+        numbers: [u32; 5],
+        brought: Vec<u8>,
+        kind: u32,
+        value: u32,
+        given: Vec<u8>,
+    },
+    Turn {
+        queue: Option<Queue>,
+        went: Turn,
+    },
 }
 
 /// The pool of blocks, and the room of the journal.
@@ -367,8 +376,27 @@ pub struct Books {
 
 /// The rules by which bytes go.
 pub const RULES: [&str; 21] = [
-    "read", "igncr", "erase-key", "erased", "killed", "eof-key", "signal-key", "flow-key", "lnext-key", "reprint-key", "line-full", "line-over",
-    "flushed", "rest-discarded", "control-dropped", "doubled", "module-popped", "end-closed", "replaced", "onocr", "echo-full",
+    "read",
+    "igncr",
+    "erase-key",
+    "erased",
+    "killed",
+    "eof-key",
+    "signal-key",
+    "flow-key",
+    "lnext-key",
+    "reprint-key",
+    "line-full",
+    "line-over",
+    "flushed",
+    "rest-discarded",
+    "control-dropped",
+    "doubled",
+    "module-popped",
+    "end-closed",
+    "replaced",
+    "onocr",
+    "echo-full",
 ];
 
 impl Books {
@@ -440,9 +468,7 @@ impl Pair {
     fn ask(&mut self, ask: ffi::Ask, bytes: &[u8], out: &mut [u8]) -> Result<ffi::Reply, Refused> {
         let mut reply = ffi::Reply::default();
         // SAFETY: each pointer leads to as much as its length says, and none overlaps another.
-        self.again(|handle| unsafe {
-            ffi::strm_call(handle, &ask, bytes.as_ptr(), bytes.len(), out.as_mut_ptr(), out.len(), &mut reply)
-        })?;
+        self.again(|handle| unsafe { ffi::strm_call(handle, &ask, bytes.as_ptr(), bytes.len(), out.as_mut_ptr(), out.len(), &mut reply) })?;
         match reply.kind {
             9 => Err(Refused::Stopped(Signal(reply.value as u8))),
             _ => Ok(reply),
@@ -565,7 +591,8 @@ impl Pair {
         Ok(Turn::of(went))
     }
 
-    /// Turns, each of the queue that was enabled first, until none is: how many were made.
+    /// Turns, each of the queue that was enabled first, until none is: how many were made. JournalFull behind a million: they don't end, as with an
+    /// ldterm on each side that echo each other.
     pub fn runqueues(&mut self) -> Result<usize, Refused> {
         let mut made = 0;
         loop {
@@ -574,7 +601,9 @@ impl Pair {
             let refused = unsafe { ffi::strm_runqueues(&mut self.handle, &mut turns) };
             made += turns;
             match told(refused) {
-                Err(Refused::Call(Refusal::JournalFull)) if !self.keeps && (turns > 0 || self.has_entries()) => self.restart()?,
+                Err(Refused::Call(Refusal::JournalFull)) if !self.keeps && made < 1_000_000 && (turns > 0 || self.has_entries()) => {
+                    self.restart()?
+                }
                 done => return done.map(|()| made),
             }
         }

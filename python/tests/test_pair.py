@@ -6,6 +6,7 @@ import unittest
 
 import strm
 from strm import HIGH, MASTER, SLAVE, Caller, Message, Nak, Pair, Refused, Signal, Stopped, Turn
+from strm_library import Library
 
 
 class Terminals(unittest.TestCase):
@@ -182,6 +183,15 @@ class Journals(unittest.TestCase):
             pair.restart()
             self.assertEqual((pair.runqueues(), pair.read(SLAVE)), (1, b"x"))
 
+    def test_turns_that_do_not_end_are_refused(self):
+        with Pair.terminal(256, 500, 8192) as pair:
+            pair.push(MASTER, "ldterm")
+            pair.write(MASTER, b"x")
+            with self.assertRaises(Refused) as told:
+                pair.runqueues(2000)
+            self.assertEqual(told.exception.name, "JournalFull")
+            self.assertTrue(pair.ledger(SLAVE).balance and not pair.at_rest)
+
     def test_a_journal_too_small_for_a_call_refuses_it(self):
         with Pair(256, 64, 100) as pair:
             pair.open_master(), pair.unlock(), pair.open_slave()
@@ -205,6 +215,39 @@ class Journals(unittest.TestCase):
                 self.assertTrue(pair.ledger(MASTER).balance and pair.ledger(SLAVE).balance)
 
 
+@unittest.skipUnless(hasattr(Library.at(), "restore"), "the library has no images")
+class Images(unittest.TestCase):
+    def test_a_pair_goes_on_where_its_image_was_taken(self):
+        with Pair.terminal() as pair:
+            pair.write(MASTER, b"half a l")
+            pair.runqueues()
+            pair.set_winsize(10, 40)
+            image, books = pair.image(), pair.ledger(MASTER)
+        with Pair(image=image) as pair:
+            self.assertEqual((pair.ledger(MASTER), pair.winsize()), (books, (10, 40, 0, 0)))
+            pair.write(MASTER, b"ine\r")
+            pair.runqueues()
+            self.assertEqual((pair.read(SLAVE), pair.take(MASTER)), (b"half a line\n", b"half a line\r\n"))
+
+    def test_what_is_no_image_is_refused(self):
+        with Pair.terminal() as pair:
+            image = pair.image()
+        for wrong in (b"", image[:-1], image + b"x", b"x" + image[1:]):
+            with self.assertRaises(Refused) as told:
+                Pair(image=wrong)
+            self.assertEqual(told.exception.name, "EINVAL")
+
+    def test_images_of_random_sessions(self):
+        chance = random.Random(7)
+        for _ in range(20):
+            with Pair.terminal() as pair:
+                for _ in range(60):
+                    any_call(pair, chance)
+                with Pair(1024, image=pair.image()) as again:
+                    self.assertEqual(again.image(), pair.image())
+                    self.assertEqual(again.enabled, pair.enabled)
+
+
 def any_call(pair, chance):
     """Some call of a session, with keys that mean something."""
     keys = bytes(chance.choice(b"ab \r\n\t\x7f\x15\x17\x03\x04\x11\x13\x12\x16\x1a\xc3") for _ in range(chance.randint(0, 40)))
@@ -219,7 +262,7 @@ def any_call(pair, chance):
         lambda: pair.mode(side, chance.choice(strm.MODES)),
         lambda: pair.signals(side),
         lambda: pair.set_winsize(chance.randint(1, 3), 80),
-        lambda: pair.push(side, chance.choice(["ldterm", "ptem", "pckt"])),
+        lambda: pair.push(side, chance.choice(["ldterm", "ptem", "pckt"][side == MASTER :])),
         lambda: pair.pop(side),
         lambda: pair.tcsetattr(pair.tcgetattr(), SLAVE, chance.choice(["TCSETS", "TCSETSW", "TCSETSF"])),
         lambda: pair.turn(chance.choice(pair.enabled or ["m.drv.w"])),

@@ -1,4 +1,4 @@
-"""Recorders, the formats that they write and read, and journals that are made again."""
+"""Recorders, the formats that they write and read, and journals that are made again. STRM_SESSIONS says how many random sessions are."""
 import io
 import json
 import os
@@ -174,7 +174,7 @@ class Recorders(unittest.TestCase):
 
     def test_random_sessions_are_made_again(self):
         chance = random.Random(11)
-        for _ in range(50):
+        for _ in range(int(os.environ.get("STRM_SESSIONS", "50"))):
             file = io.StringIO()
             with Pair(chance.choice([40, 64, 256]), 128, 10000) as pair:
                 recorder = Recorder(pair, [JournalWriter(file)])
