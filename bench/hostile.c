@@ -24,7 +24,8 @@ static uint32_t chance(uint32_t n)
 
 static uint32_t number(uint32_t usual)
 {
-    static const uint32_t edges[] = { 0, 1, 2, 3, 11, 12, 16, 17, 64, 65, 255, 256, 257, 258, 4095, 4096, 4097, 8192, 65535, 65536, 0x7fffffff, 0xfffffffe, 0xffffffff };
+    static const uint32_t edges[] = { 0, 1, 2, 3, 11, 12, 16, 17, 64, 65, 255, 256, 257, 258, 4095, 4096, 4097, 8192, 65535, 65536, 0x7fffffff,
+        0xfffffffe, 0xffffffff };
     switch (chance(12)) {
     case 0: return edges[chance(sizeof edges / sizeof *edges)];
     case 1: return chance(0x7fffffff) * 2 + chance(2);

@@ -56,7 +56,8 @@ int main(int count, char **words)
         if (typed == 20000) first = peak();
     }
     if (strm_ledger(&p, STRM_MASTER, &books)) return 6;
-    printf("%lu keystrokes: %lu bytes of echo seen, %lu read, %lu in a line; the journal began anew %lu times\n", keystrokes, seen, read, (unsigned long)books.inlined, restarts);
+    printf("%lu keystrokes: %lu bytes of echo seen, %lu read, %lu in a line; ", keystrokes, seen, read, (unsigned long)books.inlined);
+    printf("the journal began anew %lu times\n", restarts);
     printf("memory: %ld kB behind 20,000 keystrokes, %ld kB at the end\n", first, peak());
     strm_free(&p);
     return read + books.inlined != keystrokes || (keystrokes > 20000 && peak() > first + 64);

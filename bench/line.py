@@ -1,5 +1,6 @@
 #!/usr/bin/env python3
-"""What a typed line costs from Python: a write of 3 bytes, the turns, and the reads of the line and of its echo. Microseconds, the least of seven runs.
+"""What a typed line costs from Python: a write of 3 bytes, the turns, and the reads of the line and of its echo. Microseconds, the least of
+seven runs.
 
     STRM_LIBRARY=PREFIX/lib/libstrm.so.1 python3 bench/line.py [LINES]
 """

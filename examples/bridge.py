@@ -9,12 +9,13 @@ by which it tells of each tcsetattr:
     your terminal (raw) -> write m -> ldterm -> read s -> kernel -> program
     your terminal <- read m <- ldterm <- write s <- kernel <- program
 
-A resize of your terminal is a TIOCSWINSZ of the master, whose SIGWINCH goes on to the program; INTR, QUIT and SUSP keys come up as signals, and go on by
-TIOCSIG; an EOF key is a read of no bytes, and goes on as the EOF byte alone. The program's modes are set at the pair as it sets them; those of output
-are OPOST and ONLCR. The kernel tells of modes beside the bytes, so output under modes that are taken back at once may go by the ones behind it. The journal of a session is what a bug report needs: strm_record.replay.
+A resize of your terminal is a TIOCSWINSZ of the master, whose SIGWINCH goes on to the program; INTR, QUIT and SUSP keys come up as signals, and
+go on by TIOCSIG; an EOF key is a read of no bytes, and goes on as the EOF byte alone. The program's modes are set at the pair as it sets them;
+those of output are OPOST and ONLCR. The kernel tells of modes beside the bytes, so output under modes that are taken back at once may go by
+the ones behind it. The journal of a session is what a bug report needs: strm_record.replay.
 
-`Bridge` has the methods that strm_expect.spawn wants: spawn(Bridge(["bash"])). A program of the system doesn't say that it waits; `step` takes it to do so
-where all processes of its session sleep and none has run for a while.
+`Bridge` has the methods that strm_expect.spawn wants: spawn(Bridge(["bash"])). A program of the system doesn't say that it waits; `step` takes
+it to do so where all processes of its session sleep and none has run for a while.
 """
 import argparse
 import errno

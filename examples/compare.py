@@ -3,9 +3,9 @@
 
     STRM_LIBRARY=PREFIX/lib/libstrm.so.1 python3 examples/compare.py [--keys N] [--seed N] [bash ed vim python]
 
-Each program is given the same steps, each once it waits, and what the master reads behind each is compared, byte by byte. Then N lines of random keys
-are typed to `cat`: letters, blanks, ERASE, WERASE, KILL, ^D and RETURN, by whose rules both go alike. Where they don't is told by docs/BEHAVIOUR.md, 'For
-those who know Linux'. A program that isn't there is left out. The status is 1 where anything differs.
+Each program is given the same steps, each once it waits, and what the master reads behind each is compared, byte by byte. Then N lines of
+random keys are typed to `cat`: letters, blanks, ERASE, WERASE, KILL, ^D and RETURN, by whose rules both go alike. Where they don't is told
+by docs/BEHAVIOUR.md, 'For those who know Linux'. A program that isn't there is left out. The status is 1 where anything differs.
 """
 import argparse
 import os
@@ -17,7 +17,7 @@ import time
 
 from bridge import Bridge, Linux
 
-PLAIN = {"TERM": "xterm", "PS1": "$ ", "PS2": "> ", "LC_ALL": "C.UTF-8", "HISTFILE": "", "INPUTRC": "/dev/null", "PYTHONSTARTUP": "", "PYTHON_HISTORY": "/dev/null"}
+PLAIN = {"TERM": "xterm", "PS1": "$ ", "PS2": "> ", "LC_ALL": "C.UTF-8", "HISTFILE": "", "INPUTRC": "/dev/null", "PYTHON_HISTORY": "/dev/null"}
 
 PROGRAMS = {
     "bash": (
@@ -31,7 +31,10 @@ PROGRAMS = {
     ),
     "ed": (
         ["ed", "-p", "* "],
-        [b"a\r", b"first line\r", b"secnd\x7f\x7f\x7fond line\r", b".\r", b",p\r", b"2s/second/2nd/p\r", b"nonsense\r", b"h\r", b"\x03", b"q\r", b"q\r"],
+        [
+            b"a\r", b"first line\r", b"secnd\x7f\x7f\x7fond line\r", b".\r", b",p\r", b"2s/seond/2nd/p\r", b"nonsense\r", b"h\r", b"\x03", b"q\r",
+            b"q\r",
+        ],
     ),
     "vim": (
         ["vim", "-u", "NONE", "-i", "NONE", "-n", "-N", "--cmd", "set shortmess+=I"],
@@ -39,7 +42,10 @@ PROGRAMS = {
     ),
     "python": (
         [sys.executable, "-q", "-I"],
-        [b"6 * 7\r", b"def f(n):\r", b"    return n + 1\r", b"\r", b"f(41)\r", b"whiel\x7f\x7fle = 1\r", b"input()\r", b"a lie\x7fne\r", b"\x03", b"1/0\r", b"exit()\r"],
+        [
+            b"6 * 7\r", b"def f(n):\r", b"    return n + 1\r", b"\r", b"f(41)\r", b"whiel\x7f\x7fle = 1\r", b"input()\r", b"a lie\x7fne\r", b"\x03",
+            b"1/0\r", b"exit()\r",
+        ],
     ),
 }  # fmt: skip
 

@@ -26,9 +26,11 @@ from strm_words import *
 
 class Pair:
     """A master and a slave. `blocks` of each kind are its pool (a write wants 32 free and one for each begun 256 bytes), `entries` and
-    `journal_bytes` the room of its journal. All memory is taken here; `free`, or the end of a `with`, gives it back.
+    `journal_bytes` the room of its journal. All memory is taken here; `free`, or the end of a `with`, gives it back. With `image` the pair
+    is made of what Pair.image gave: EINVAL where it is none, ENOSR where it wants more blocks.
 
-    With `image` the pair is made of what Pair.image gave: EINVAL where it is none, ENOSR where it wants more blocks. `room` are the sizes. `before_restart` has what is called, with the pair, before its journal begins anew: recorders take its entries there."""
+    `room` are the three sizes. `before_restart` has what is called, with the pair, before its journal begins anew: recorders take its
+    entries there."""
 
     def __init__(self, blocks=256, entries=8192, journal_bytes=262144, keeps=False, library=None, image=None):
         self.library = Library.at(library)
@@ -276,8 +278,8 @@ class Pair:
         return _turn(queue, self._went)
 
     def runqueues(self, most=1_000_000):
-        """Turns, each of the queue that was enabled first, until none is: how many were made. JournalFull, behind so many and more: they don't end, as
-        with an ldterm on each side that echo each other. What was made stays made."""
+        """Turns, each of the queue that was enabled first, until none is: how many were made. JournalFull, behind so many and more: they
+        don't end, as with an ldterm on each side that echo each other. What was made stays made."""
         refused = self._runqueues(self._at, self._turns_at)
         if not refused:
             return self._turns.value

@@ -1,8 +1,9 @@
 """A prompt on a pair, for learning and for trying things: python3 -m strm, in the folder python/ (README: how the library is found).
 
-The commands are those of the program's scripts, and some more; `help` lists them. Each turn is named as it is made, and behind each command that changed
-something a picture shows the two streams: the modules, how many messages and bytes stand on each queue, and the enabled queues by the place in
-which their turns come. What can't be done is said, and the prompt goes on. Lines are edited with the arrow keys, and TAB completes commands.
+The commands are those of the program's scripts, and some more; `help` lists them. Each turn is named as it is made, and behind each command
+that changed something a picture shows the two streams: the modules, how many messages and bytes stand on each queue, and the enabled queues
+by the place in which their turns come. What can't be done is said, and the prompt goes on. Lines are edited with the arrow keys, and TAB
+completes commands.
 """
 import cmd
 import re
@@ -111,8 +112,8 @@ class Picture:
 
 def told(entry):
     """A turn, as the prompt says it."""
-    moved = f"{entry.moved} bytes went on" if entry.kind == "moved" else {"idle": "the queue is empty", "blocked": "its first message may not go on"}[entry.kind]
-    return f"  turn of {entry.queue}: {moved}"
+    kinds = {"idle": "the queue is empty", "blocked": "its first message may not go on", "moved": f"{entry.moved} bytes went on"}
+    return f"  turn of {entry.queue}: {kinds[entry.kind]}"
 
 
 class Prompt(cmd.Cmd):

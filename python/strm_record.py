@@ -1,30 +1,31 @@
-"""Records what goes over a pair, from its journal: as a journal's file, which can be made again answer by answer, as an asciicast (version 2), and as
-typescripts of script(1) with their timing files, in both formats.
+"""Records what goes over a pair, from its journal: as a journal's file, which can be made again answer by answer, as an asciicast (version
+2), and as typescripts of script(1) with their timing files, in both formats.
 
-    pair = Pair.terminal()
+    pair = Pair()
     recorder = Recorder(pair, [AsciicastWriter("demo.cast"), JournalWriter("bug.jsonl")])
+    pair.open_terminal()
     ...                                     # the session; recorder.drain() as often as the times are to be told
     recorder.close()
 
     differences = replay(read_journal("bug.jsonl"))     # [] where a new pair gives every answer of the file
 
-A recorder takes the journal's entries through a cursor, each once: when `drain` is called, when the pair's journal is full and begins anew, and at the
-end. So a session of any length takes no more memory, and no entry is lost. An entry's time is that of the drain which takes it.
+A recorder takes the journal's entries through a cursor, each once: when `drain` is called, when the pair's journal is full and begins anew,
+and at the end. So a session of any length takes no more memory, and no entry is lost. An entry's time is that of the drain which takes it.
 
-A journal's file has a line of JSON for each entry, and one in front that says "strm journal", the version of the format, the version of libstrm and the
-sizes of the pair. In strings of bytes the characters U+0000 to U+00FF are the bytes. All times are seconds.
+A journal's file has a line of JSON for each entry, and one in front that says "strm journal", the version of the format, the version of
+libstrm and the sizes of the pair. In strings of bytes the characters U+0000 to U+00FF are the bytes. All times are seconds.
 
     {"format": "strm journal", "version": 1, "library": "1.1", "blocks": 256, "entries": 8192, "bytes": 262144, "title": ".."}
     {"at": 0.5, "call": "write", "side": "m", "numbers": [0, 0, 0], "caller": [0, false, false], "bytes": "ls\\r",
      "answer": {"kind": "count", "value": 3}}
     {"at": 0.5, "turn": "m.drv.w", "kind": "moved", "moved": 3}
 
-`numbers` are a, b and c of strm_ask in strm.h, left out where they are 0, as are `caller` and `bytes` where there are none; an answer has the fields of
-strm_reply that aren't 0, and its bytes.
+`numbers` are a, b and c of strm_ask in strm.h, left out where they are 0, as are `caller` and `bytes` where there are none; an answer has
+the fields of strm_reply that aren't 0, and its bytes.
 
-An event is (at, kind, data), as in an asciicast: "o" and bytes that the master read; "i" and bytes that it wrote; "r" and (columns, rows), a window's new
-size. Entries give events (`Events`), the writers take them, and the readers give them back. An asciicast is text: bytes that are no UTF-8 stand there as
-U+FFFD. All other files keep every byte.
+An event is (at, kind, data), as in an asciicast: "o" and bytes that the master read; "i" and bytes that it wrote; "r" and (columns, rows), a
+window's new size. Entries give events (`Events`), the writers take them, and the readers give them back. An asciicast is text: bytes that
+are no UTF-8 stand there as U+FFFD. All other files keep every byte.
 """
 import codecs
 import json
@@ -332,8 +333,8 @@ def read_journal(path):
 
 
 def replay(journal, pair=None):
-    """Makes a journal's entries again, on a new pair of the sizes that it names or on the one that is handed in: [(number, entry, what came instead)], of
-    which the last one is a Refused where a call or turn was refused. It ends there, as nothing behind it could be the same."""
+    """Makes a journal's entries again, on a new pair of the sizes that it names or on the one that is handed in: [(number, entry, what came
+    instead)], of which the last one is a Refused where a call or turn was refused. It ends there, as nothing behind could be the same."""
     sizes = getattr(journal, "header", {})
     pair = pair or Pair(sizes.get("blocks", 256), sizes.get("entries", 8192), sizes.get("bytes", 262144))
     differences = []

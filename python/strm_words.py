@@ -198,7 +198,7 @@ LFLAGS = dict(
 KEYS = dict(
     VINTR=0, VQUIT=1, VERASE=2, VKILL=3, VEOF=4, VEOL=5, VEOL2=6, VSTART=8, VSTOP=9, VSUSP=10, VREPRINT=12, VWERASE=14, VLNEXT=15
 )
-FLAGS = {**{n: ("iflag", b) for n, b in IFLAGS.items()}, **{n: ("oflag", b) for n, b in OFLAGS.items()}, **{n: ("lflag", b) for n, b in LFLAGS.items()}}
+FLAGS = {name: (word, bits) for word, flags in (("iflag", IFLAGS), ("oflag", OFLAGS), ("lflag", LFLAGS)) for name, bits in flags.items()}
 
 
 class Termios:

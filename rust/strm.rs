@@ -16,9 +16,9 @@
 //!
 //!     rustc --edition 2021 prog.rs -L PREFIX/lib -l static=strm         (or: -l strm, for the shared object)
 //!
-//! `tools/library PREFIX` lays the library out, and include/strm.h is the manual of each call. A call returns at once; one that is refused has changed
-//! nothing. A full journal begins anew, and the call is made again, unless `Pair::keeps` is set. A `Pair` owns its memory and gives it back when it is
-//! dropped. It may move to another thread (`Send`), and each call takes it alone (`&mut self`).
+//! `tools/library PREFIX` lays the library out, and include/strm.h is the manual of each call. A call returns at once; one that is refused has
+//! changed nothing. A full journal begins anew, and the call is made again, unless `Pair::keeps` is set. A `Pair` owns its memory and gives it
+//! back when it is dropped. It may move to another thread (`Send`), and each call takes it alone (`&mut self`).
 #![allow(dead_code)]
 
 use std::{fmt, io};
