@@ -110,7 +110,7 @@ class Hosted:
     def _runs(self, program):
         self.may_run.acquire()
         try:
-            self.status = program(Terminal(self)) or 0
+            self.status = None if self.over else program(Terminal(self)) or 0
         except SystemExit as left:
             self.status = left.code or 0
         except Ended:
@@ -124,11 +124,20 @@ class Hosted:
         self.has_run.release()
 
     def _closes(self):
+        """A close takes what stands in ldterm, so it comes when all was shown."""
         try:
-            self.pair.runqueues()
+            while self.pair.runqueues() or self.pair.sizes("s.ldterm.w").messages:
+                self._lets_run()
             self.pair.close(SLAVE)
-        except Refused:
+        except (Refused, Ended):
             pass  # the program closed it, or the test did
+
+    def _lets_run(self):
+        """In the program's thread: the test goes on till it wants more."""
+        self.has_run.release()
+        self.may_run.acquire()
+        if self.over:
+            raise Ended
 
     def waits(self, call, terminal):
         """In the program's thread: makes a call again until it isn't EAGAIN, and lets the test run in between."""
@@ -141,10 +150,7 @@ class Hosted:
             except Refused as refusal:
                 if refusal.name not in ("EAGAIN", "ENOSR"):
                     raise
-            self.has_run.release()
-            self.may_run.acquire()
-            if self.over:
-                raise Ended
+            self._lets_run()
 
     def resume(self):
         """In the test's thread: lets the program run till it waits or ends. Whether it made a call."""

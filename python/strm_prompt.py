@@ -334,7 +334,7 @@ class Prompt(cmd.Cmd):
         self.do_show("")
 
     def do_record(self, line):
-        """record FILE         from here on all calls and turns go to a journal's file; `record off` ends it. Begun before open, it can be replayed"""
+        """record FILE         writes the journal to a file, from where it began and on; `record off` ends it"""
         if self.recorder:
             self.recorder.close()
         self.recorder = None if line == "off" else Recorder(self.pair, [JournalWriter(*self.words(line, str))])

@@ -94,6 +94,18 @@ class Spawned(unittest.TestCase):
             self.assertEqual(child.read(), b"o\r\nthree")
             self.assertEqual(child.read(), b"")
 
+    def test_what_stands_at_the_programs_end_is_shown(self):
+        text = b"".join(b"line %d\n" % number for number in range(3000))
+        with spawn(lambda terminal: terminal.write(text) and 0) as child:
+            child.expect(EOF)
+            self.assertEqual(child.before, text.replace(b"\n", b"\r\n"))
+
+    def test_a_test_that_ends_early(self):
+        ran = []
+        with spawn(lambda terminal: ran.append(terminal.read())):
+            pass
+        self.assertEqual(ran, [])
+
     def test_windows_and_echo(self):
         sizes = []
 
