@@ -153,7 +153,7 @@ class Prompt(cmd.Cmd):
             self.say(str(stopped))
         except Wrong as wrong:
             self.say(f"{wrong}")
-        except (ValueError, KeyError, IndexError, OSError) as failure:
+        except Exception as failure:  # no mistake ends the prompt
             self.say(f"not understood: {failure}; `help {line.split()[0]}` says what it wants")
         return False
 
@@ -328,22 +328,25 @@ class Prompt(cmd.Cmd):
         """new [BLOCKS]        frees this pair, and makes another one"""
         blocks, = self.words(line, (int, 256))
         pair = Pair(blocks)
+        self.do_record("off")
         self.pair.free()
-        self.recorder = None
         self.use(pair)
         self.do_show("")
 
     def do_record(self, line):
         """record FILE         writes the journal to a file, from where it began and on; `record off` ends it"""
-        if self.recorder:
-            self.recorder.close()
-        self.recorder = None if line == "off" else Recorder(self.pair, [JournalWriter(*self.words(line, str))])
+        recorder, self.recorder = self.recorder, None
+        if recorder:
+            recorder.close()
+        if line != "off":
+            self.recorder = Recorder(self.pair, [JournalWriter(*self.words(line, str))])
 
     def do_replay(self, line):
         """replay FILE         makes a journal's file again on a new pair, and compares every answer"""
         journal = read_journal(*self.words(line, str))
         pair = Pair(journal.header["blocks"], journal.header["entries"], journal.header["bytes"])
         differences = replay(journal, pair)
+        self.do_record("off")
         self.use(pair)
         for number, entry, made in differences:
             self.say(f"entry {number}: {entry}\n  instead: {made!r}")
