@@ -9,7 +9,6 @@ use crate::ledger::Ledger;
 use crate::memory::Memory;
 use crate::msg_nodes::MsgLink;
 use crate::neighbours::{Ends, NO_ENDS};
-use crate::threading::{thread_data, thread_messages};
 use std::alloc::{AllocError, Global};
 use std::marker::Model;
 use std::ptr::null_mut;
@@ -17,8 +16,9 @@ use strm_blocks::InHand;
 
 /// A store of message blocks and data blocks (STREAMS Programming Guide, "Message Structure"). Each block is a node, in
 /// memory that is reserved when the store is made and given back when it is dropped: a message block leads to the next one
-/// of its message by `b_cont` and to its data block, and a data block keeps `db_ref`, each link being a raw pointer. Free
-/// blocks are linked too, the one freed last first. A message in hand is named by the number of its first block's node.
+/// of its message by `b_cont` and to its data block, and a data block keeps `db_ref`, each link being a raw pointer. Blocks
+/// that were freed are linked too, the one freed last first; where none is, the next node is made that was never used. A
+/// message in hand is named by the number of its first block's node.
 #[derive(Drop)]
 pub struct RawStore {
     pub(crate) memory: Memory,
@@ -44,7 +44,8 @@ impl Model for RawStore {
 
 impl RawStore {
     /// A store of so many message blocks and data blocks, from 1 to 65536 of each, with nothing in it. All memory is
-    /// taken here, and `AllocError` says that it was refused. It takes a step for each block.
+    /// taken here, and `AllocError` says that it was refused. The cost is the same whatever the numbers: no block is made
+    /// before it is used.
     pub fn new(alloc: Global, mblks: usize, dblks: usize) -> Result<RawStore, AllocError>
         requires some_mblks { 0 < mblks }
         requires few_mblks { mblks ≤ 65536 }
@@ -52,17 +53,15 @@ impl RawStore {
         requires few_dblks { dblks ≤ 65536 }
         ensures { IfOk result (λ s. s ≡ empty_store mblks dblks) }
     {
-        let mut memory = Memory::new(alloc, mblks, dblks)?;
-        let free_msg = thread_messages(&mut memory, mblks);
-        let free_data = thread_data(&mut memory, dblks);
+        let memory = Memory::new(alloc, mblks, dblks)?;
         let mut ledger = Ledger::new();
-        let (message, datum) = (memory.message_link(0), memory.data_link(0));
-        ledger.note(message.at, datum.at, mblks, dblks);
+        let (message, datum) = memory.begins();
+        ledger.note(message.at, datum.at, 0, 0);
         Ok(RawStore {
             memory,
             ends: [NO_ENDS; 8],
-            free_msg,
-            free_data,
+            free_msg: None,
+            free_data: None,
             spare_m: mblks,
             spare_d: dblks,
             ledger,
