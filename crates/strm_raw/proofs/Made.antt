@@ -1,10 +1,10 @@
 -- A node that is made behind the others.
-use Rattle.std.proofs.Common.{ℕ, zero, suc, ◌≡◌, ◌≤◌, ◌+◌, List, [], ◌∷◌, ◌++◌, length, map, get_or, refl, sym, ap, ◌∙◌, subst, arith, inl, inr}
+use Rattle.std.proofs.Common.{ℕ, zero, suc, ◌≡◌, ◌≤◌, ◌+◌, List, [], ◌∷◌, ◌++◌, length, map, get_or, refl, sym, ap, ◌∙◌, subst, arith}
 use Rattle.std.specs.Prelude.{Option, Some, None, replicate, slice_get}
 use Rattle.std.proofs.lemmas.List.{length-append, length-replicate}
 use denote.RawPtr.{Ptr}
 use Rattle.strm_raw.specs.Links.{IsPlace}
-use Rattle.strm_raw.specs.Numbered.{Rows, rows, AreLinked, IsRow, IsMsg, IsMsgOrNone, IsData, IsDataOrNone, row_of, data_of, nodes_of, data_number, Row, DataRow, no_row, no_data}
+use Rattle.strm_raw.specs.Numbered.{Rows, rows, AreLinked, IsRow, IsMsgOrNone, IsData, IsDataOrNone, row_of, data_of, nodes_of, Row, DataRow, no_row, no_data}
 use Rattle.strm_raw.specs.declared.msg_nodes.MsgNode.{MsgNode}
 use Rattle.strm_raw.specs.declared.msg_nodes.MsgLink.{MsgLink}
 use Rattle.strm_raw.specs.declared.data_nodes.DataNode.{DataNode}

@@ -1,15 +1,14 @@
 -- What a block that is made leaves of a store: all that it was, and one more block that is linked as free.
-use Rattle.std.proofs.Common.{ℕ, ◌≡◌, ◌≤◌, ◌<◌, ◌+◌, ◌-◌, cond, eqb, List, [], ◌∷◌, ◌++◌, length, map, refl, sym, ap, ◌∙◌, subst, arith}
-use Rattle.std.specs.Prelude.{Option, None, Some, option_map, count_by}
+use Rattle.std.proofs.Common.{ℕ, ◌≡◌, ◌≤◌, ◌<◌, ◌+◌, cond, eqb, List, [], ◌∷◌, ◌++◌, length, map, refl, sym, ap, ◌∙◌, subst, arith}
+use Rattle.std.specs.Prelude.{Option, None, Some, count_by}
 use Rattle.std.proofs.lemmas.Bool.Decides.{nat_tests}
 use Rattle.std.proofs.lemmas.List.{get_or_past}
 use Rattle.std.proofs.lemmas.List.Sums.{sum_by_push}
-use denote.RawPtr.{Ptr}
 use Rattle.strm_types.specs.Ranked as ranked
-use Rattle.strm_blocks.specs.Blocks.{Block, StoreValue, rank_of, list_at}
-use Rattle.strm_raw.specs.Numbered.{Nodes, Row, DataRow, row_at, data_at, no_row, no_data, msg_number, data_number, IsMsg, IsMsgOrNone, IsData, IsDataOrNone}
+use Rattle.strm_blocks.specs.Blocks.{StoreValue, rank_of, list_at}
+use Rattle.strm_raw.specs.Numbered.{Nodes, Row, DataRow, row_at, data_at, no_row, no_data, msg_number, data_number, IsMsg, IsData}
 use Rattle.strm_raw.specs.Roster.{Msg, Roster}
-use Rattle.strm_raw.specs.Raw.{weigh, ids, times, chain_of, held_of, block_no, shown, value_of, breaks, gap, IsRaw, next_of, free_after, is_there, is_named, askew}
+use Rattle.strm_raw.specs.Raw.{weigh, ids, times, chain_of, block_no, shown, value_of, breaks, gap, IsRaw, next_of, free_after, is_there, askew}
 use Rattle.strm_raw.specs.Made.{GivesMessage, GivesData, given_message}
 use Rattle.strm_raw.specs.Lists.{AreListed, IsTied, on, back, ahead_of, behind_of, ends_at, queue_at}
 use Rattle.strm_raw.specs.declared.neighbours.Ends.{Ends}
@@ -17,7 +16,7 @@ use Rattle.strm_raw.specs.declared.msg_nodes.MsgLink.{MsgLink}
 use Rattle.strm_raw.specs.declared.data_nodes.DataLink.{DataLink}
 use Rattle.strm_raw.proofs.Apart.{gap-self, times-cons}
 use Rattle.strm_raw.proofs.Becoming.{Becomes}
-use Rattle.strm_raw.proofs.Made.{more-same, more-len, msg-more, data-more}
+use Rattle.strm_raw.proofs.Made.{more-same, more-len, msg-more}
 use Rattle.strm_raw.proofs.Relinking.{map-ext}
 use Rattle.strm_raw.proofs.Standing.{empty, none-m, none-d}
 use Rattle.strm_raw.proofs.Stocking.{shown-kept}

@@ -1,5 +1,5 @@
 -- The free block that is given out next: one that is linked, or one that is made.
-use Rattle.std.specs.Prelude.{ℕ, ◌≡◌, ◌+◌, List, [], ◌∷◌, ◌++◌, length, Option, None, Some}
+use Rattle.std.specs.Prelude.{◌≡◌, ◌+◌, [], ◌∷◌, ◌++◌, length, Option, None, Some}
 use Rattle.strm_raw.specs.Numbered.{Nodes, no_row, no_data, msg_number, data_number, IsMsg, IsData}
 use Rattle.strm_raw.specs.Roster.{Roster}
 use Rattle.strm_raw.specs.Raw.{given_data}

@@ -1,5 +1,5 @@
 -- What a raw store stands for, and what holds of its fields.
-use Rattle.std.specs.Prelude.{◌≢◌, ℕ, zero, suc, ◌≡◌, ◌≤◌, ◌+◌, ◌-◌, ◌==◌, nat_lt, if◌then◌else◌, List, [], ◌∷◌, ◌++◌, length, map, drop, slice_index_or, replicate, sum_by, count_by, slice_range, Option, None, Some, option_map}
+use Rattle.std.specs.Prelude.{◌≢◌, ℕ, ◌≡◌, ◌≤◌, ◌+◌, ◌-◌, ◌==◌, nat_lt, if◌then◌else◌, List, [], ◌∷◌, ◌++◌, length, map, drop, slice_index_or, replicate, sum_by, count_by, slice_range, Option, None, Some, option_map}
 use Rattle.strm_blocks.specs.Blocks.{Block, Held, StoreValue, times_in}
 use Rattle.strm_raw.specs.Numbered.{Nodes, Row, DataRow, row_at, data_at, msg_number, data_number, with_data, IsMsg, IsMsgOrNone, IsDataOrNone}
 use Rattle.strm_raw.specs.Roster.{Msg, Roster}

@@ -1,4 +1,4 @@
-use Rattle.std.proofs.Common.{◌+◌, length, refl, sym, ap, subst}
+use Rattle.std.proofs.Common.{length, refl, sym, subst}
 use Rattle.strm_raw.specs.Numbered.{Nodes, IsData, IsDataOrNone, no_data}
 use Rattle.strm_raw.specs.Made.{GivesData}
 use Rattle.strm_raw.proofs.Made.{more-len}

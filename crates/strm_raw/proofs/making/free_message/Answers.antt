@@ -1,4 +1,4 @@
-use Rattle.std.proofs.Common.{◌+◌, length, refl, sym, ap, subst}
+use Rattle.std.proofs.Common.{length, refl, sym, subst}
 use Rattle.strm_raw.specs.Numbered.{Nodes, IsMsg, IsMsgOrNone, no_row}
 use Rattle.strm_raw.specs.Made.{GivesMessage}
 use Rattle.strm_raw.proofs.Made.{more-len}

@@ -1,4 +1,4 @@
-use Rattle.std.proofs.Common.{◌≡◌, ◌<◌, ◌+◌, length, sym, ap, subst, ◌∙◌, arith}
+use Rattle.std.proofs.Common.{◌≡◌, ◌+◌, length, sym, ap, subst, ◌∙◌, arith}
 use denote.RawPtr.{InBlock}
 use Rattle.strm_raw.specs.Links.{place}
 use Rattle.strm_raw.specs.DataNodes as data_blocks

@@ -1,4 +1,4 @@
-use Rattle.std.proofs.Common.{◌≡◌, ◌<◌, ◌+◌, length, refl, sym, ap, subst, ◌∙◌, arith}
+use Rattle.std.proofs.Common.{◌≡◌, ◌+◌, length, refl, sym, ap, subst, ◌∙◌, arith}
 use denote.RawPtr.{InBlock}
 use Rattle.strm_raw.specs.Links.{place}
 use Rattle.strm_raw.specs.MsgNodes as messages
