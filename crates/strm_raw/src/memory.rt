@@ -42,6 +42,7 @@ impl Memory {
     }
 
     /// Makes the next message block. It names the first data block, and is linked to no other.
+    #[cold]
     pub(crate) fn make_message(&mut self) -> MsgLink
         requires room { length self.old.rows < self.old.mblks }
         requires few { self.old.mblks ≤ 65536 }
@@ -69,6 +70,7 @@ impl Memory {
     }
 
     /// Makes the next data block. No message block names it.
+    #[cold]
     pub(crate) fn make_data(&mut self) -> DataLink
         requires { length self.old.datas < self.old.dblks }
         ensures made { self.new ≡ record self.old { datas = self.old.datas ++ no_data ∷ [] } }
@@ -238,6 +240,16 @@ impl Memory {
         let node = reach_mut(&mut self.datas, at.at);
         node.references = references;
         node.next = next;
+    }
+
+    /// Gives a data block so many references.
+    pub(crate) fn set_references(&mut self, at: DataLink, references: u8)
+        requires { IsData self.old.dat (length self.old.datas) at }
+        ensures { let i = data_number self.old.dat at in
+            self.new ≡ with_data i (record (data_at i self.old.datas) { references = references }) self.old }
+    {
+        let node = reach_mut(&mut self.datas, at.at);
+        node.references = references;
     }
 
     /// Writes bytes into a data block, from a place on.

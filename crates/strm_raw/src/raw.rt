@@ -4,7 +4,7 @@ ghost use Rattle.strm_blocks.specs.Blocks.{IsInHand, token, in_hand, dropped, em
 ghost use Rattle.strm_raw.specs.Raw.{GivesLast, GivesOne};
 ghost use Rattle.strm_raw.specs.Numbered.{IsData, IsDataOrNone, data_at, data_number};
 
-use crate::data_nodes::{DataLink, DataNode};
+use crate::data_nodes::DataLink;
 use crate::ledger::Ledger;
 use crate::memory::Memory;
 use crate::msg_nodes::MsgLink;
@@ -108,16 +108,12 @@ fn release(
     ensures { GivesLast memory.old memory.new ledger.old.roster ledger.new.roster number first result.0 spare result.1
         ⊎ GivesOne memory.old memory.new ledger.old.roster ledger.new.roster number first result.0 spare result.1 }
 {
-    let DataNode {
-        next,
-        references,
-        ..
-    } = *memory.datum(number);
+    let references = memory.datum(number).references;
     if references == 1 {
         memory.set_datum(number, 0, first);
         ledger.note(null_mut(), number.at, 0, 0);
         return (Some(number), spare + 1);
     }
-    memory.set_datum(number, references - 1, next);
+    memory.set_references(number, references - 1);
     (first, spare)
 }

@@ -38,7 +38,7 @@ impl Blocks for RawStore {
         let free = self.memory.message(at);
         let next = self.memory.datum(number).next;
         self.memory.write(number, 0, bytes);
-        self.memory.set_datum(number, 1, None);
+        self.memory.set_references(number, 1);
         let shows = Shows {
             kind,
             band: band.0,
@@ -63,17 +63,13 @@ impl Blocks for RawStore {
         let first = self.memory.message_link(message.name() as usize);
         let link = block_link(&self.memory, first, at);
         let block = self.memory.message(link);
-        let DataNode {
-            next,
-            references,
-            ..
-        } = *self.memory.datum(block.number);
+        let references = self.memory.datum(block.number).references;
         if references == 255 {
             return Err(NoBlocks);
         }
         let free = free_message(&mut self.memory, &mut self.ledger, self.free_msg);
         let taken = self.memory.message(free);
-        self.memory.set_datum(block.number, references + 1, next);
+        self.memory.set_references(block.number, references + 1);
         let shows = Shows {
             kind: block.kind,
             band: block.band,

@@ -52,12 +52,12 @@ done c =
     let old = (data_at d v.datas).bytes in let filled = c.args.bytes.now ++ drop (0 + length c.args.bytes.now) old in
     let is = writing.written-raw is0 d within filled in let V = writing.written is0 d within filled in
     let node : MsgNode = record c.message-free.result { kind = c.args.kind; band = c.args.band.0; number = k; start = 0; end = length c.args.bytes.now; next = None } in
-    let then : Nodes → Nodes = λ w. with_data (data_number w.dat k) (record { next = None; references = 1; bytes = (data_at (data_number w.dat k) w.datas).bytes }) w in
+    let then : Nodes → Nodes = λ w. with_data (data_number w.dat k) (record (data_at (data_number w.dat k) w.datas) { references = 1 }) w in
     let shows : Shows = record { kind = c.args.kind; band = c.args.band.0; number = k; start = 0; end = length c.args.bytes.now } in
     let written : Nodes → Nodes = λ w. with_row (msg_number w.mat at) (showing w.dat shows (row_at (msg_number w.mat at) w.rows)) w in
-    let memory = c.show.ensures ∙ ap (λ (w : Nodes). written w) c.set_datum.ensures
+    let memory = c.show.ensures ∙ ap (λ (w : Nodes). written w) c.set_references.ensures
     ∙ ap (λ (w : Nodes). written (then w)) c.write.ensures ∙ ap (λ (r : Row). with_row (msg_number v.mat at) (showing v.dat shows r) (then V)) (sym c.message-free.ensures.row) in
-    let x : DataRow = record { next = None; references = 1; bytes = (data_at d V.datas).bytes } in
+    let x : DataRow = record (data_at d V.datas) { references = 1 } in
     let next_is = ap (λ (r : DataRow). r.next) c.datum.ensures.row ∙ sym (writing.data-kept is0 d within filled (λ (r : DataRow). r.next) refl d) in
     let len : length V.datas ≡ length v.datas = length-set v.datas d _ in
     let link = subst (λ n. IsDataOrNone v.dat n c.datum.result.now.next) (sym len) c.datum.ensures.link in

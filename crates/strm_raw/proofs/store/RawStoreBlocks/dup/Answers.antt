@@ -1,6 +1,6 @@
 use Rattle.std.proofs.Common.{ℕ, ◌≡◌, ◌+◌, ◌-◌, ◌<◌, refl, sym, ap, ◌∙◌, subst, arith, length, get_or, List, inl, inr, [], ◌∷◌}
 use Rattle.std.proofs.lemmas.Bool.Decides.{nat_tests}
-use Rattle.std.specs.Prelude.{None, option_map}
+use Rattle.std.specs.Prelude.{None}
 use denote.RawPtr.{Ptr}
 use Rattle.strm_blocks.specs.Blocks.{StoreValue, token, Block, block_at, in_hand, IsFreshName, held, references, free_m}
 use Rattle.strm_blocks.specs.Outcomes.{NoneShared, Duplicated}
@@ -59,9 +59,9 @@ done c =
     let d = data_number w.dat c.message-block.result.number in
     let free = c.free_message-free.result in
     let node : MsgNode = record c.message-block.result { name = c.message-taken.result.name; next = None; ahead = c.message-taken.result.ahead; behind = c.message-taken.result.behind } in
-    let x : DataRow = record { next = option_map (data_number w.dat) c.datum.result.now.next; references = c.datum.result.now.references + 1; bytes = (data_at d w.datas).bytes } in
+    let x : DataRow = record (data_at d w.datas) { references = c.datum.result.now.references + 1 } in
     let y = c.message-block.result in let shows : Shows = record { kind = y.kind; band = y.band; number = y.number; start = y.start; end = y.end } in
-    let memory = c.show.ensures ∙ ap (λ (w : Nodes). with_row (msg_number w.mat free) (showing w.dat shows (row_at (msg_number w.mat free) w.rows)) w) c.set_datum.ensures
+    let memory = c.show.ensures ∙ ap (λ (w : Nodes). with_row (msg_number w.mat free) (showing w.dat shows (row_at (msg_number w.mat free) w.rows)) w) c.set_references.ensures
     ∙ ap (λ (r : Row). with_row (msg_number w.mat free) (showing w.dat shows r) (with_data d x w)) (sym c.message-taken.ensures.row) in
     let row2 : row_of w.mat w.dat y ≡ row_at (get_or (ids (finding.found is l here)) at 0) v.rows = (λ j. row_of (mat j) (dat j) y) ∙ row in
     let some : 0 < (data_at d w.datas).references = subst (λ (k : ℕ × List DataRow). 0 < (data_at k.0 k.1).references) (λ j. (sym (ap (λ (r : Row). r.number) row2) j, sym datas j)) (finding.found-named is l here at (omega arith)) in
