@@ -76,44 +76,42 @@ impl RawStore {
     {
         let at = self.memory.message_link(message.name() as usize);
         let node = self.memory.message(at);
-        let (free_data, spare_d) = release(
+        release(
             &mut self.memory,
             &mut self.ledger,
             node.number,
-            self.free_data,
-            self.spare_d,
+            &mut self.free_data,
+            &mut self.spare_d,
         );
         self.memory.set_next(at, self.free_msg);
         self.free_msg = Some(at);
-        self.free_data = free_data;
-        self.spare_d = spare_d;
         self.spare_m += 1;
         self.ledger.note(at.at, node.number.at, 0, 0);
     }
 }
 
-// Takes a reference away from a data block, which is the first free one where it has no other. Returns the first free one
-// and how many there are.
+// Takes a reference away from a data block, which is the first free one where it has no other.
 fn release(
     memory: &mut Memory,
     ledger: &mut Ledger,
     number: DataLink,
-    first: Option<DataLink>,
-    spare: usize,
-) -> (Option<DataLink>, usize)
+    first: &mut Option<DataLink>,
+    spare: &mut usize,
+)
     requires there { IsData memory.old.dat (length memory.old.datas) number }
-    requires first { IsDataOrNone memory.old.dat (length memory.old.datas) first }
+    requires first { IsDataOrNone memory.old.dat (length memory.old.datas) first.old }
     requires named { 0 < (data_at (data_number memory.old.dat number) memory.old.datas).references }
-    requires few { spare < 2 ^ 63 }
-    ensures { GivesLast memory.old memory.new ledger.old.roster ledger.new.roster number first result.0 spare result.1
-        ⊎ GivesOne memory.old memory.new ledger.old.roster ledger.new.roster number first result.0 spare result.1 }
+    requires few { spare.old < 2 ^ 63 }
+    ensures { GivesLast memory.old memory.new ledger.old.roster ledger.new.roster number first.old first.new spare.old spare.new
+        ⊎ GivesOne memory.old memory.new ledger.old.roster ledger.new.roster number first.old first.new spare.old spare.new }
 {
     let references = memory.datum(number).references;
     if references == 1 {
-        memory.set_datum(number, 0, first);
+        memory.set_datum(number, 0, *first);
         ledger.note(null_mut(), number.at, 0, 0);
-        return (Some(number), spare + 1);
+        *first = Some(number);
+        *spare += 1;
+        return;
     }
     memory.set_references(number, references - 1);
-    (first, spare)
 }
