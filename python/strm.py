@@ -331,15 +331,15 @@ class Pair:
 
     def image(self):
         """What the pair is between two calls, as docs/IMAGES.md spells it, for Pair(image=..) at any later time, on any machine."""
-        room, given = 1 << 16, ctypes.c_size_t()
+        room, length = 1 << 16, ctypes.c_size_t()
         while True:
             out = ctypes.create_string_buffer(room)
-            refused = self.library.image(self._at, ctypes.addressof(out), room, ctypes.addressof(given))
+            refused = self.library.image(self._at, ctypes.addressof(out), room, ctypes.addressof(length))
             if not refused:
-                return out[: given.value]
-            if REFUSALS[refused] not in ("EINVAL", "ERANGE") or not self.is_open or room > 1 << 28:
+                return out[: length.value]
+            if length.value <= room:
                 raise Refused(refused, "image")
-            room *= 4
+            room = length.value
 
     # ------------------------------------------------------------------------------------------------------------- the journal
 
