@@ -47,3 +47,8 @@ mod PutBehind
 pub mod Refilled
 pub mod FlowsSet
 pub mod LdtermsMade
+mod StacksMade
+mod OnceMore
+mod EndsMade
+mod TextsTold
+mod PairsMade

@@ -26,3 +26,5 @@ pub mod Imaging
 pub mod Runs
 pub mod Standing
 pub mod Placing
+pub mod Laying
+pub mod Restored
