@@ -1,4 +1,4 @@
--- A base is made of nothing. What stands in it is that of a pair as it is made.
+-- It is made of nothing, with no entry.
 use mathlib.Core.Path.{refl}
 use mathlib.Core.List.{[], ◌∷◌}
 use base.Fml.{ftrue}
@@ -13,19 +13,18 @@ use denote.Struct.Owning.{shape}
 use denote.Struct.Struct.{Struct}
 use denote.Triple.Walked.{walk_of, says, ends_at}
 use Rattle.std.proofs.raw_atomic.Walks.{proved}
-use Rattle.strm_pair.specs.Starts.{new_start}
-use Rattle.strm_pair.specs.contracts.base.Base.{the_type}
-use Rattle.strm_pair.specs.declared.base.Base.{Base}
-use Rattle.strm_pair.specs.contracts.base.Base.new as F
-use Rattle.strm_pair.specs.contracts.base.Base.new.Key.{name as #self}
-use Rattle.strm_pair.proofs.base.Base.new.Statement.{statement}
-use Rattle.strm_pair.proofs.base.Base.new.Code as code
+use Rattle.strm_pair.specs.contracts.past.Past.{the_type}
+use Rattle.strm_pair.specs.declared.past.Past.{Past}
+use Rattle.strm_pair.specs.contracts.past.Past.none as F
+use Rattle.strm_pair.specs.contracts.past.Past.none.Key.{name as #self}
+use Rattle.strm_pair.proofs.past.Past.none.Statement.{statement}
+use Rattle.strm_pair.proofs.past.Past.none.Code as code
 
-abbrev made : Base
-made = record { marker = record {}; start = new_start }
+abbrev made : Past
+made = record { marker = record {}; entries = [] }
 
-pub new_spec : {M : Type 1} → statement M
-new_spec 𝓤 𝓛 𝓜 𝓡 wired =
+pub none_spec : {M : Type 1} → statement M
+none_spec 𝓤 𝓛 𝓜 𝓡 wired =
     let c = F.clauses 𝓛 𝓜.mem 𝓡.returns in
     proved 𝓛 F.ended tt c 𝓜 𝓡 tt #self code.function (code.unfolded 𝓤 𝓛.H 𝓜 𝓡 wired) (λ κs. tt) (λ κs. tt) (λ κs qs bounds a g are.
     let y : (walk_of 𝓛 F.ended tt c).Ghost = ((κs, qs, bounds, a, tt), g) in

@@ -1,6 +1,6 @@
--- The body is empty. The borrow is opened, and closed at the base that the journal leads to.
+-- The body is empty. The borrow is opened, and closed with the journal's entries behind the others.
 use mathlib.Core.Path.{refl}
-use mathlib.Core.List.{[], ◌∷◌}
+use mathlib.Core.List.{[], ◌∷◌, ◌++◌}
 use base.Logic.{id⊢}
 use base.Fml.{ftrue, flft}
 use mir.Syntax.{named}
@@ -17,13 +17,12 @@ use denote.Steps.{nothing, opens, closes}
 use denote.Triple.Walked.{Stays, stay_ref, stay_dropped, walk_of, says, ends_at, Goes-ref, Goes-dropped}
 use Rattle.std.proofs.raw_atomic.Walks.{proved}
 use Rattle.strm_pair.specs.Pairs.{journal_of}
-use Rattle.strm_pair.specs.Starts.{led_on}
-use Rattle.strm_pair.specs.contracts.base.Base.{the_row as R}
+use Rattle.strm_pair.specs.contracts.past.Past.{the_row as R}
 use Rattle.strm_pair.specs.contracts.journal.Journal.{the_row as J}
-use Rattle.strm_pair.specs.contracts.base.Base.go_on as F
-use Rattle.strm_pair.specs.contracts.base.Base.go_on.Key.{name as #self}
-use Rattle.strm_pair.proofs.base.Base.go_on.Statement.{statement}
-use Rattle.strm_pair.proofs.base.Base.go_on.Code as code
+use Rattle.strm_pair.specs.contracts.past.Past.go_on as F
+use Rattle.strm_pair.specs.contracts.past.Past.go_on.Key.{name as #self}
+use Rattle.strm_pair.proofs.past.Past.go_on.Statement.{statement}
+use Rattle.strm_pair.proofs.past.Past.go_on.Code as code
 
 abbrev stayed : Stays F.ended.signature.params F.ended.kept
 stayed = (stay_ref (0 ∷ []) tt (plain (λ _. R)), (stay_dropped (RefOf (1 ∷ []) tt (plain (λ _. J)) (λ _. tt)) yes, tt))
@@ -34,7 +33,7 @@ go_on_spec 𝓤 𝓛 𝓜 𝓡 wired =
     proved 𝓛 F.ended stayed c 𝓜 𝓡 (Goes-ref 𝓛 2 0 tt (plain (λ _. R)), (Goes-dropped 𝓛 2 (RefOf (1 ∷ []) tt (plain (λ _. J)) (λ _. tt)) yes (λ κs x w. refl), tt))
     #self code.function (code.unfolded 𝓤 𝓛.H 𝓜 𝓡 wired)
     (λ κs. (mut_vals, (shr_vals, tt))) (λ κs. (mut_Tells (named 0) κs.0 R, (shr_Tells (named 1) κs.1.0 J, tt))) (λ κs qs bounds a g are.
-    let b = a.0.ref_ptr.0 in let o = a.0.ref_ptr.1 in let h' = record a.0.now { start = led_on (journal_of a.1.0.now) a.0.now.start } in
+    let b = a.0.ref_ptr.0 in let o = a.0.ref_ptr.1 in let h' = record a.0.now { entries = a.0.now.entries ++ journal_of a.1.0.now } in
     let y : (walk_of 𝓛 F.ended stayed c).Ghost = ((κs, qs, bounds, a, (mut_vals a.0, (shr_vals a.1.0, tt))), g) in
     qed 𝓛 (((‵ (flft κs.0 qs.0) ⊛ ‵ (flft κs.1.0 qs.1.0) ⊛ ‵ ftrue) ⊛ ‵ (owns (MutRef (named 0) κs.0 R ∷ ShrRef (named 1) κs.1.0 J ∷ []) a y.0.4)) ∷ ‵ ftrue ∷ []) ∵
     split ! $ split ! $ move ! (2 ∷ []) $ fsplit ! $ keep ! (0 ∷ 2 ∷ 3 ∷ []) $ enter ! _ _ _ _ _ $
