@@ -54,3 +54,5 @@ mod OnceMore
 mod EndsMade
 mod TextsTold
 mod PairsMade
+mod RestoredPairs
+mod ImagesBack

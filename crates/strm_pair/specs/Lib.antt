@@ -29,3 +29,4 @@ pub mod Standing
 pub mod Placing
 pub mod Laying
 pub mod Restored
+pub mod Reserved
