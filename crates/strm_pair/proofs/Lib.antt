@@ -49,3 +49,10 @@ mod PutBehind
 pub mod Refilled
 pub mod FlowsSet
 pub mod LdtermsMade
+mod StacksMade
+mod OnceMore
+mod EndsMade
+mod TextsTold
+mod PairsMade
+mod RestoredPairs
+mod ImagesBack

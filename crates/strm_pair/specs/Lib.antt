@@ -27,3 +27,6 @@ pub mod Imaging
 pub mod Runs
 pub mod Standing
 pub mod Placing
+pub mod Laying
+pub mod Restored
+pub mod Reserved

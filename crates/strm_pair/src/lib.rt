@@ -22,6 +22,7 @@ mod pair;
 mod past;
 mod putting;
 mod refusals;
+pub mod restore_laws;
 mod room;
 mod running;
 mod serving;

@@ -8,6 +8,7 @@ mod ledgers;
 mod messages;
 mod recount;
 mod restarts;
+mod restoring;
 mod running;
 mod walk;
 
