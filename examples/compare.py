@@ -82,7 +82,7 @@ def compared(name, words, steps):
         os.chdir("/")
         shutil.rmtree(room)
     labels = ["its beginning", *steps]
-    differ = [n for n in range(max(len(ours), len(theirs))) if ours[n : n + 1] != theirs[n : n + 1]]
+    differ = list(differing(ours, theirs))
     for n in differ:
         print(f"{name}, behind {labels[n]!r}:\n  Linux {theirs[n : n + 1]}\n  pair  {ours[n : n + 1]}")
     if our_end != their_end:
@@ -90,6 +90,17 @@ def compared(name, words, steps):
     same = max(len(ours), len(theirs)) - len(differ)
     print(f"{name}: {same} of {same + len(differ)} steps show the same")
     return same, len(differ) + (our_end != their_end)
+
+
+def differing(ours, theirs):
+    """The steps behind which other bytes were shown. Two steps that show the same together are the same: one was told before its end."""
+    n = 0
+    while n < max(len(ours), len(theirs)):
+        if b"".join(ours[n : n + 2]) == b"".join(theirs[n : n + 2]):
+            n += ours[n : n + 1] != theirs[n : n + 1]
+        elif ours[n : n + 1] != theirs[n : n + 1]:
+            yield n
+        n += 1
 
 
 def random_line(chance):

@@ -27,6 +27,11 @@ from strm_record import (
 from tests.test_pair import any_call
 
 
+def knows(tool, option):
+    """Whether a tool is there, and has an option."""
+    return shutil.which(tool) is not None and option in subprocess.run([tool, "--help"], capture_output=True, text=True).stdout
+
+
 class Clock:
     """Seconds that go on by a quarter each time they are asked for."""
 
@@ -112,7 +117,7 @@ class Recorders(unittest.TestCase):
         entries, _, _ = self.recorded(AdvancedTypescriptWriter(log, timing))
         self.assertEqual(read_typescript(log, timing), events(entries))
 
-    @unittest.skipUnless(shutil.which("scriptreplay"), "scriptreplay is missing")
+    @unittest.skipUnless(knows("scriptreplay", "--log-io"), "scriptreplay is missing, or old")
     def test_scriptreplay_shows_the_same_bytes(self):
         paths = [str(self.room / name) for name in ("log", "timing", "io", "advanced")]
         _, shown, _ = self.recorded(TypescriptWriter(*paths[:2]), AdvancedTypescriptWriter(*paths[2:]))
@@ -121,7 +126,7 @@ class Recorders(unittest.TestCase):
             self.assertEqual(told.returncode, 0, told.stderr)
             self.assertIn(told.stdout, (shown, shown + b"\n"))
 
-    @unittest.skipUnless(shutil.which("script"), "script is missing")
+    @unittest.skipUnless(knows("script", "--logging-format") and os.path.exists("/dev/ptmx"), "script is missing, or old")
     def test_what_script_wrote_is_read(self):
         for words in (["-O", "log", "-T", "timing"], ["-B", "log", "-T", "timing", "--logging-format", "advanced"]):
             told = subprocess.run(["script", "-q", "-c", "printf 'a\\nb'; sleep 0.1; printf c", *words], cwd=self.room, capture_output=True)
