@@ -23,7 +23,8 @@
  *
  * ERRORS
  *   A function that returns strm_refusal gives 0 (STRM_OK), or the number of its refusal; these are the numbers below, and not those
- *   of errno.h (strm_host_errno). A refused call has changed nothing: neither the pair nor what the caller's pointers lead to.
+ *   of errno.h (strm_host_errno). A refused call has changed nothing: neither the pair nor what the caller's pointers lead to; strm_runqueues
+ *   alone has made the turns in front of the refused one.
  *   STRM_EINVAL comes first, for a closed handle, a number that names nothing, and a buffer that is too small for the greatest answer
  *   of the call, so that no byte is lost at this interface; then what the pair refuses, in the order of the README's section Refusals.
  *
@@ -46,6 +47,7 @@
  * WHAT STAYS
  *   STRM_VERSION is 65536 times a major number and a minor one. Within a major number names, numbers, layouts and meanings stay; a larger
  *   minor number has more calls. The shared object's soname carries the major number. A program that loads it compares strm_version().
+ *   1.1 has strm_restart and strm_runqueues beside the calls of 1.0, and a program of 1.0 runs with it as it is.
  *
  * PROVED: each function that libstrm exports, by its contract in crates/strm_ffi. NOT PROVED: the inline functions of this file, and malloc.
  */
@@ -61,7 +63,7 @@
 extern "C" {
 #endif
 
-#define STRM_VERSION 65536u /* 1.0 */
+#define STRM_VERSION 65537u /* 1.1 */
 
 /* A pair, in place. Nothing behind `at` is the caller's. */
 typedef struct strm_pair {
@@ -186,6 +188,17 @@ enum { STRM_IDLE, STRM_BLOCKED, STRM_MOVED };
 /* Makes a turn of a queue's service procedure. EINVAL: the queue isn't enabled. ERANGE, JOURNAL_FULL, ENOSR. */
 strm_refusal strm_turn(strm_pair *p, uint32_t queue, strm_went *went);
 
+/* Makes turns, each of the queue that was enabled first, until no queue is enabled (OK) or the next turn is refused: ERANGE, JOURNAL_FULL,
+ * ENOSR. *turns is how many were made, also where one was refused; what stopped goes on where it was once there is room. Each turn takes an
+ * entry of the journal, so it ends. EINVAL is a closed handle alone, and *turns stays then. */
+strm_refusal strm_runqueues(strm_pair *p, size_t *turns);
+
+/* ------------------------------------------------------------------------------------------------------------- the journal */
+
+/* Begins the journal anew, in place: it is empty, and begins at the state that the pair has. All else stays, so a pair whose journal is full
+ * goes on. It takes no memory. EINVAL is a closed handle alone. */
+strm_refusal strm_restart(strm_pair *p);
+
 /* ------------------------------------------------------------------------------------------------------------- looks: no call is made */
 
 /* The queue at a place of the enabled list, from 0 in the order in which they were enabled; NO_QUEUE behind the last, and of a closed pair. */
@@ -248,15 +261,8 @@ static inline strm_refusal strm_open_terminal(strm_pair *p)
     return e;
 }
 
-/* Turns of the queue that was enabled first, until none is enabled or a turn is refused. Each turn takes an entry of the journal, so it ends. */
-static inline strm_refusal strm_run(strm_pair *p)
-{
-    strm_refusal e = STRM_OK;
-    uint32_t queue;
-    strm_went went;
-    while (!e && (queue = strm_enabled(p, 0)) != STRM_NO_QUEUE) e = strm_turn(p, queue, &went);
-    return e;
-}
+/* Turns until none is enabled or one is refused: strm_runqueues. */
+static inline strm_refusal strm_run(strm_pair *p) { size_t turns; return strm_runqueues(p, &turns); }
 
 /* Takes the signals that came up, each once, in order: *n numbers. */
 static inline strm_refusal strm_signals(strm_pair *p, uint32_t side, uint8_t out[32], size_t *n)
@@ -358,7 +364,7 @@ static inline uint32_t strm_get_word(const uint8_t *at)
 /* TCGETS. NAK EINVAL where no ptem stands. */
 static inline strm_refusal strm_tcgetattr(strm_pair *p, uint32_t side, strm_termios *t)
 {
-    uint8_t b[256];
+    uint8_t b[256] = { 0 };
     size_t n;
     strm_refusal e = strm_ioctl(p, side, STRM_TCGETS, b, 0, b, &n);
     if (e) return e;
@@ -380,7 +386,7 @@ static inline strm_refusal strm_tcsetattr(strm_pair *p, uint32_t side, uint32_t 
 /* TIOCGWINSZ and TIOCSWINSZ: where the size changes the slave's head gets SIGWINCH. */
 static inline strm_refusal strm_get_winsize(strm_pair *p, uint32_t side, strm_winsize *w)
 {
-    uint8_t b[256];
+    uint8_t b[256] = { 0 };
     size_t n;
     strm_refusal e = strm_ioctl(p, side, STRM_TIOCGWINSZ, b, 0, b, &n);
     if (e) return e;

@@ -4,3 +4,4 @@ pub mod BothParts
 pub mod Decisions
 pub mod Fits
 pub mod Opens
+pub mod RunsWithin

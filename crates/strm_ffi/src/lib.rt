@@ -12,5 +12,6 @@ mod looking;
 mod making;
 mod numbers;
 mod parts;
+mod recording;
 mod replies;
 mod turning;
