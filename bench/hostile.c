@@ -64,6 +64,7 @@ static void ask_any(strm_pair *p)
     ask.op = number(17), ask.side = number(2), ask.a = number(10), ask.b = number(5), ask.c = number(300);
     ask.group = chance(3) ? 0 : number(3), ask.ignores = chance(2) != 0, ask.orphaned = chance(2) != 0;
     if (chance(2)) room = 8192;
+    if (ask.op == STRM_OP_CLOSE && chance(20)) ask.op = STRM_OP_READ; /* sides stay open for a while */
     memset(&reply, 0x5a, sizeof reply);
     same = reply;
     e = strm_call(p, &ask, bytes + chance((uint32_t)(MOST - n)), n, out, room, &reply);
@@ -131,7 +132,8 @@ static void make(strm_pair *p)
 {
     static const size_t blocks[] = { 0, 1, 40, 64, 256, 65536, 65537, 300 };
     bool was_open = p->is_open;
-    strm_refusal e = strm_new(p, blocks[chance(8)], number(500) % 5000, number(20000) % 100000);
+    size_t entries = chance(20) ? number(500) % 5000 : (size_t)-1 >> chance(24);
+    strm_refusal e = strm_new(p, blocks[chance(8)], entries, chance(20) ? number(20000) % 100000 : (size_t)-1 >> chance(24));
     judge(e, 0, 0, p->is_open == was_open);
     if (was_open && !e) fail("an open handle was made anew");
     if (!e && chance(8)) judge(strm_open_terminal(p), 0, 0, 1);

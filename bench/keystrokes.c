@@ -60,5 +60,5 @@ int main(int count, char **words)
     printf("the journal began anew %lu times\n", restarts);
     printf("memory: %ld kB behind 20,000 keystrokes, %ld kB at the end\n", first, peak());
     strm_free(&p);
-    return read + books.inlined != keystrokes || (keystrokes > 20000 && peak() > first + 64);
+    return read + books.inlined != keystrokes || (keystrokes > 20000 && peak() > first + 512);
 }

@@ -50,7 +50,7 @@ def main():
         print(f"a typed line: {min(typed(pair, lines) for _ in range(7)):.1f} us")
         print(f"a read that is refused: {min(refused(pair, lines) for _ in range(7)):.2f} us")
         recorder = Recorder(pair, [Nothing()])
-        print(f"a typed line whose eight entries a recorder takes: {min(typed(pair, lines) for _ in range(7)):.1f} us")
+        print(f"a typed line whose seven entries a recorder takes: {min(typed(pair, lines) for _ in range(7)):.1f} us")
         recorder.close()
 
 

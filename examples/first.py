@@ -18,12 +18,14 @@ def show(what, read, *arguments):
     except Refused as refused:
         print(f"{what:<20}{refused.name}")
     else:
-        print(f"{what:<20}{len(data)} \"{''.join(chr(byte) if 32 <= byte < 127 else f'{chr(92)}x{byte:02x}' for byte in data)}\"")
+        text = "".join(chr(byte) if 32 <= byte < 127 else f"\\x{byte:02x}" for byte in data)
+        print(f'{what:<20}{len(data)} "{text}"')
 
 
 def session(pair):
     """The README's session."""
-    print(f"{'the user types':<20}{pair.write(MASTER, bytes([*b'lx', 0x7F, *b's', 13]))}")
+    typed = pair.write(MASTER, b"lx\x7fs\r")
+    print(f"{'the user types':<20}{typed}")
     pair.runqueues()
     show("the program reads", pair.read, SLAVE)
     show("the user sees", pair.read, MASTER)
@@ -37,7 +39,8 @@ def signals(pair):
     print(f"{'window':<20}{told.rows} x {told.columns}")
     pair.write(MASTER, b"abc\x03")
     pair.runqueues()
-    print(f"{'signals':<20}{''.join(signal.name + ' ' for signal in pair.signals(SLAVE))}")
+    names = "".join(signal.name + " " for signal in pair.signals(SLAVE))
+    print(f"{'signals':<20}{names}")
 
 
 def books(pair):

@@ -19,6 +19,7 @@ loader, pkg-config, and in ~/.local/lib and /usr/local/lib: `tools/library PREFI
 A pair is used by one thread at a time. `python3 -m strm` is a prompt that shows the streams.
 """
 import ctypes
+import struct
 
 from strm_library import Ask, Counts, Entry, Handle, Library, Place, Reply, Stands, Went
 from strm_words import *
@@ -330,15 +331,15 @@ class Pair:
 
     def image(self):
         """What the pair is between two calls, as docs/IMAGES.md spells it, for Pair(image=..) at any later time, on any machine."""
-        room, given = 1 << 16, ctypes.c_size_t()
+        room, length = 1 << 16, ctypes.c_size_t()
         while True:
             out = ctypes.create_string_buffer(room)
-            refused = self.library.image(self._at, ctypes.addressof(out), room, ctypes.addressof(given))
+            refused = self.library.image(self._at, ctypes.addressof(out), room, ctypes.addressof(length))
             if not refused:
-                return out[: given.value]
-            if REFUSALS[refused] not in ("EINVAL", "ERANGE") or not self.is_open or room > 1 << 28:
+                return out[: length.value]
+            if length.value <= room:
                 raise Refused(refused, "image")
-            room *= 4
+            room = length.value
 
     # ------------------------------------------------------------------------------------------------------------- the journal
 
@@ -368,35 +369,39 @@ class Pair:
 class Cursor:
     """A place in a pair's journal: `next` gives the entry there and moves on. Behind a restart it stands at the new beginning."""
 
+    _fields = struct.Struct("@QII 6I?? Q5I?? II")  # strm_entry
+
     def __init__(self, pair):
         self._restarts = pair.restarts
-        self.pair, self._at, self._entry = pair, Place(), Entry()
-        self._room = ctypes.create_string_buffer(ANSWER_MAX + 8 * BLOCK)
+        self.pair, self._place, self._entry = pair, Place(), Entry()
+        self._grow(ANSWER_MAX + 8 * BLOCK)
+
+    def _grow(self, size):
+        self._room = ctypes.create_string_buffer(size)
+        parts = (self._place, self._entry, self._room)
+        self._arguments = (self.pair._at, *map(ctypes.addressof, parts), size)
 
     def next(self):
         """The entry, or None where all were taken."""
         if self._restarts != self.pair.restarts:
-            self._at.entry = self._at.byte = 0
+            self._place.entry = self._place.byte = 0
             self._restarts = self.pair.restarts
-        refused = self._taken()
-        told = self._entry
-        if REFUSALS[refused] == "EINVAL" and told.brings + told.reply.bytes > len(self._room):
-            self._room = ctypes.create_string_buffer(told.brings + told.reply.bytes)
-            refused = self._taken()
-        if REFUSALS[refused] == "EAGAIN":
-            return None
+        refused = self.pair.library.next_entry(*self._arguments)
         if refused:
-            raise Refused(refused, "next_entry")
-        if told.kind:
-            return _turn(QUEUE_NAMES[told.queue], told.went)
-        ask = told.ask
-        caller = Caller(ask.group, ask.ignores, ask.orphaned)
-        answer = _answer(told.reply, self._room[told.brings : told.brings + told.reply.bytes])
-        return Call(OPS[ask.op], Side(ask.side), ask.a, ask.b, ask.c, caller, self._room[: told.brings], answer)
-
-    def _taken(self):
-        at = ctypes.addressof
-        return self.pair.library.next_entry(self.pair._at, at(self._at), at(self._entry), at(self._room), len(self._room))
+            if REFUSALS[refused] == "EAGAIN":
+                return None
+            wanted = self._entry.brings + self._entry.reply.bytes
+            if REFUSALS[refused] != "EINVAL" or wanted <= len(self._room):
+                raise Refused(refused, "next_entry")
+            self._grow(wanted)
+            return self.next()
+        brings, kind, queue, op, side, a, b, c, group, ignores, orphaned, *reply, went, moved = self._fields.unpack_from(self._entry)
+        if kind:
+            return Turn(QUEUE_NAMES[queue], ("idle", "blocked", "moved")[went], moved)
+        room, given = self._room, reply[0]
+        answer = Answer(ANSWERS[reply[1]], *reply[2:], room[brings : brings + given] if given else b"")
+        caller = Caller(group, ignores, orphaned) if group or ignores or orphaned else NOBODY
+        return Call(OPS[op], MASTER if side == 0 else SLAVE, a, b, c, caller, room[:brings] if brings else b"", answer)
 
 
 def _answer(reply, given):

@@ -11,6 +11,7 @@ import sys
 
 import strm
 from strm import ANY, HIGH, MASTER, SLAVE, Call, Cursor, Pair, Refused, Stopped, Turn
+from strm_image import read_image
 from strm_record import JournalWriter, Recorder, read_journal, replay
 
 try:
@@ -41,6 +42,15 @@ def text_of(data):
     """Bytes as scripts print them."""
     names = {10: "\\n", 13: "\\r", 9: "\\t", 27: "\\e", 34: '\\"', 92: "\\\\"}
     return '"' + "".join(names.get(byte) or (chr(byte) if 32 <= byte < 127 else f"\\x{byte:02x}") for byte in data) + '"'
+
+
+def message_text(message):
+    """A message of an image: its data, and what else it is."""
+    kind = "" if message.kind == "M_DATA" else message.kind
+    band = f"band {message.band}" if message.band else ""
+    control = "" if message.control is None else f"control {text_of(message.control)}"
+    data = "" if message.data is None else text_of(message.data)
+    return "[" + " ".join(word for word in (kind, band, control, data) if word) + "]"
 
 
 class Stacks:
@@ -107,7 +117,20 @@ class Picture:
         for each in zip(left, right):
             yield "|" + "|".join(f" {text:<{self.WIDE - 1}}" for text in each) + "|"
         yield bar
+        yield from self.contents()
         yield f"enabled, in order: {', '.join(self.enabled)}" if self.enabled else "at rest: no queue is enabled"
+
+    def contents(self):
+        """The messages of each queue, the first one first, and the unfinished lines, where the library gives images."""
+        if not hasattr(self.pair.library, "image"):
+            return
+        image = read_image(self.pair.image())
+        for name, queue in image.queues.items():
+            if queue.messages:
+                yield f"{name:<10} {' '.join(map(message_text, queue.messages))}"
+        for side, stream in image.streams.items():
+            if stream.line:
+                yield f"{'ms'[side]}.ldterm   has the line {text_of(stream.line)}"
 
 
 def told(entry):

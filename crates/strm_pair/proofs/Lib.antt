@@ -37,6 +37,8 @@ mod Tried
 pub mod Balanced
 mod WideQueues
 mod PairImages
+mod UsedBytes
+mod BaseRows
 pub mod ChainTexts
 pub mod ListTexts
 pub mod RestTexts

@@ -21,6 +21,7 @@ pub mod Parts
 pub mod ModuleTurned
 pub mod ModuleServed
 pub mod Starts
+pub mod BaseTexts
 pub mod Writings
 pub mod Imaging
 pub mod Runs

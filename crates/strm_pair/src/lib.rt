@@ -19,6 +19,7 @@ mod messages;
 mod modules;
 mod naming;
 mod pair;
+mod past;
 mod putting;
 mod refusals;
 mod room;
