@@ -14,9 +14,7 @@ ghost use Rattle.strm_locks.specs.Turns.{Cuts};
 
 use std::alloc::Global;
 use strm_image::Trace;
-use strm_types::{
-    Answer, Caller, Content, Dir, Event, Ledger, NoMemory, QueueName, Refusal, Turn,
-};
+use strm_types::{Answer, Caller, Content, Dir, Event, Ledger, NoMemory, QueueName, Refusal, Turn};
 
 /// A pair, to its lock: a call or a turn is refused by name and changes nothing, or it adds one entry to the journal; and the pair can be
 /// made as new in place.
