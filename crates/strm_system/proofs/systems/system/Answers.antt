@@ -5,7 +5,7 @@ use Rattle.std.proofs.lemmas.List.Elements.{All-append, All-cons, All-nil}
 use Rattle.std.specs.Prelude.{All}
 use Rattle.strm_locks.specs.Books.{IsNew}
 use Rattle.strm_system.specs.declared.locked.Locked.{Locked}
-use Rattle.strm_system.proofs.tests.systems.system.Goals as goal
+use Rattle.strm_system.proofs.systems.system.Goals as goal
 
 pub loop-made-preserved : goal.loop-made-preserved
 loop-made-preserved c =
