@@ -24,7 +24,7 @@
  * ERRORS
  *   A function that returns strm_refusal gives 0 (STRM_OK), or the number of its refusal; these are the numbers below, and not those
  *   of errno.h (strm_host_errno). A refused call has changed nothing: neither the pair nor what the caller's pointers lead to; strm_runqueues
- *   alone has made the turns in front of the refused one.
+ *   has made the turns in front of the refused one, and strm_next_entry and strm_image tell how much doesn't fit.
  *   STRM_EINVAL comes first, for a closed handle, a number that names nothing, and a buffer that is too small for the greatest answer
  *   of the call, so that no byte is lost at this interface; then what the pair refuses, in the order of the README's section Refusals.
  *
@@ -33,7 +33,8 @@
  *
  * OWNERSHIP
  *   The library keeps no pointer of the caller's behind a call, calls nothing back, and has no state of its own beside the handles.
- *   strm_new takes all memory that a pair will use, by malloc, and strm_free gives it back; no other function takes any.
+ *   strm_new takes all memory that a pair will use, by malloc, and strm_free gives it back; no other function takes any but strm_image,
+ *   which frees it again.
  *   A handle is closed when its bytes are all 0 (STRM_CLOSED). An open one isn't copied and then used or freed twice, as with a FILE.
  *
  * THREADS
@@ -42,12 +43,13 @@
  *
  * WHAT A CALLER OWES (nothing checks it)
  *   Pointers aren't NULL, not even those beside a length of 0, lead to as much memory as their length says, and don't overlap where one
- *   is written to. A bool is 0 or 1. A handle is closed, or was made by strm_new and only handed to these functions since.
+ *   is written to. A bool is 0 or 1. A handle is closed, or was made by strm_new and only handed to these functions since. A cursor
+ *   was zeroed when the journal began, and only moved by strm_next_entry since: another one corrupts nothing, but may tell other bytes.
  *
  * WHAT STAYS
  *   STRM_VERSION is 65536 times a major number and a minor one. Within a major number names, numbers, layouts and meanings stay; a larger
  *   minor number has more calls. The shared object's soname carries the major number. A program that loads it compares strm_version().
- *   1.1 has strm_restart and strm_runqueues beside the calls of 1.0, and a program of 1.0 runs with it as it is.
+ *   1.1 has strm_restart, strm_runqueues, strm_next_entry and strm_image beside the calls of 1.0, and a program of 1.0 runs with it as it is.
  *
  * PROVED: each function that libstrm exports, by its contract in crates/strm_ffi. NOT PROVED: the inline functions of this file, and malloc.
  */
@@ -195,8 +197,34 @@ strm_refusal strm_runqueues(strm_pair *p, size_t *turns);
 
 /* ------------------------------------------------------------------------------------------------------------- the journal */
 
+/* Every call that wasn't refused and every turn is an entry, in order, with the bytes that the call brought and those that it was answered. A
+ * recorder takes the entries one by one through a cursor of its own, and then empties the journal, which takes no memory. */
+
+/* How many entries and how many of their bytes were taken. Zeroed, it stands at the first entry since strm_new or strm_restart. */
+typedef struct strm_cursor {
+    size_t entry, byte;
+} strm_cursor;
+
+/* An entry. CALLED: the numbers `ask` ask for the call, whose bytes are the first `brings` of the buffer, and the reply.bytes behind them are those
+ * of the answer `reply`; queue and went mean nothing. TURNED: the turn of `queue` did what `went` says; ask and reply mean nothing, and there
+ * are no bytes. */
+typedef struct strm_entry {
+    size_t brings;
+    uint32_t kind, queue;
+    strm_ask ask;
+    strm_reply reply;
+    strm_went went;
+} strm_entry;
+
+enum { STRM_CALLED, STRM_TURNED };
+
+/* Takes the entry at a cursor, which moves behind it. The buffer takes brings + reply.bytes, and stays behind them: for an answer 8192 do, and
+ * what a write brought is as long as its caller made it. EAGAIN: all entries were taken. EINVAL: `room` is less than the entry's bytes,
+ * and then the entry is told, so that the caller may come back with more, and cursor and buffer stay; or the handle is closed. The pair stays. */
+strm_refusal strm_next_entry(strm_pair *p, strm_cursor *at, strm_entry *entry, void *bytes, size_t room);
+
 /* Begins the journal anew, in place: it is empty, and begins at the state that the pair has. All else stays, so a pair whose journal is full
- * goes on. It takes no memory. EINVAL is a closed handle alone. */
+ * goes on. A cursor is zeroed then. It takes no memory. EINVAL is a closed handle alone. */
 strm_refusal strm_restart(strm_pair *p);
 
 /* ------------------------------------------------------------------------------------------------------------- looks: no call is made */
@@ -227,6 +255,13 @@ typedef struct strm_books {
 } strm_books;
 
 strm_refusal strm_ledger(strm_pair *p, uint32_t side, strm_books *told);
+
+/* ------------------------------------------------------------------------------------------------------------- images */
+
+/* Puts the image of the pair into a buffer: its state and ledgers as docs/IMAGES.md spells them, the same bytes on every machine. *length is how many
+ * they are. EINVAL: `room` is less than *length, which is told also then, or the handle is closed, and *length stays. NO_MEMORY: the
+ * image is made by malloc and copied, and that memory is freed again. The buffer stays where refused, and the pair always. */
+strm_refusal strm_image(strm_pair *p, void *out, size_t room, size_t *length);
 
 /* ------------------------------------------------------------------------------------------------------------- helpers, not proved */
 

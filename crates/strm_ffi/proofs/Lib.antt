@@ -5,3 +5,5 @@ pub mod Decisions
 pub mod Fits
 pub mod Opens
 pub mod RunsWithin
+pub mod StoredEntries
+pub mod TakenEntries
