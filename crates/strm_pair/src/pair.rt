@@ -8,7 +8,7 @@ ghost use Rattle.strm_laws.specs.Earlier.{modules_on};
 ghost use Rattle.strm_types.specs.declared.job_control.Verdict.TheVariants.{Allowed, Stopped};
 ghost use Rattle.strm_laws.specs.Based.{based};
 ghost use Rattle.strm_laws.specs.Pair.{new_pair, restarted, call_refused, call_verdict, queue_refused, AddsEntry};
-ghost use Rattle.strm_types.specs.Journal.{entries_in, reply_in, answer_len};
+ghost use Rattle.strm_types.specs.Journal.{entries_in, entry_len, reply_in, answer_len};
 ghost use Rattle.strm_laws.specs.Refusals.{enough, has_room};
 ghost use Rattle.strm_laws.specs.Step.{replay, IsLegal};
 ghost use Rattle.strm_laws.specs.Kept.{told_by};
@@ -469,6 +469,7 @@ impl<B: Blocks + Drop> Pair<B> {
     /// message has a message block at least, and all blocks are free where there is no message.
     pub fn journal(&self) -> Recorded<'_>
         ensures entries { entries_in result.entries.now result.bytes.now ≡ self.now.journal }
+        ensures lengths { sum_by entry_len result.entries.now ≡ length result.bytes.now }
         ensures replayed { self.now.state ≡ replay plain self.now.base self.now.journal }
         ensures legal { IsLegal plain self.now.base self.now.journal }
         ensures told { self.now.fates ≡ told_by plain self.now.base self.now.journal self.now.base_fates }
