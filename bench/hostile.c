@@ -124,7 +124,7 @@ static void take_entry(strm_pair *p)
     memset(&entry, 0, sizeof entry);
     if (chance(20) == 0) at.entry = number(100), at.byte = number(1000);
     e = strm_next_entry(p, &at, &entry, out, room);
-    judge(e, room, entry.brings + entry.reply.bytes, 1);
+    judge(e, room, entry.kind == STRM_TURNED ? 0 : entry.brings + entry.reply.bytes, 1);
     if (e == STRM_EAGAIN) at.entry = at.byte = 0;
 }
 

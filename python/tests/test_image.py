@@ -24,7 +24,7 @@ class Readers(unittest.TestCase):
             with self.assertRaises(ValueError):
                 read_image(text)
 
-    @unittest.skipUnless(hasattr(Library.at(), "restore"), "the library has no images")
+    @unittest.skipUnless(hasattr(Library.at(), "image"), "the library has no images")
     def test_what_stands_in_a_pair(self):
         with Pair() as pair:
             self.assertEqual(pair.image(), NEW)
@@ -40,7 +40,7 @@ class Readers(unittest.TestCase):
         self.assertEqual((slave.modules, slave.line, slave.window[:2]), (["ldterm", "ptem"], b"half a l", (10, 40)))
         self.assertEqual((told.enabled, slave.signals), (["m.drv.w"], [20]))
 
-    @unittest.skipUnless(hasattr(Library.at(), "restore"), "the library has no images")
+    @unittest.skipUnless(hasattr(Library.at(), "image"), "the library has no images")
     def test_images_say_what_the_pair_says(self):
         chance = random.Random(13)
         for _ in range(20):

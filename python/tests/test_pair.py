@@ -215,7 +215,7 @@ class Journals(unittest.TestCase):
                 self.assertTrue(pair.ledger(MASTER).balance and pair.ledger(SLAVE).balance)
 
 
-@unittest.skipUnless(hasattr(Library.at(), "restore"), "the library has no images")
+@unittest.skipUnless(hasattr(Library.at(), "restore"), "the library makes no pair of an image")
 class Images(unittest.TestCase):
     def test_a_pair_goes_on_where_its_image_was_taken(self):
         with Pair.terminal() as pair:
