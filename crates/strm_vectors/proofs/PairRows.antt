@@ -1,10 +1,10 @@
 -- Pairs that stand for images.
-use Rattle.std.proofs.Common.{◌≡◌, ◌∙◌, ◌≤◌, ◌-◌, ℕ, true, false, leb, refl, sym, ap, subst, arith, List}
+use Rattle.std.proofs.Common.{◌≡◌, ◌∙◌, ◌-◌, ℕ, true, leb, sym, ap, subst, List}
 use Rattle.std.specs.Prelude.{Result, Ok, Err, OnOk}
 use Rattle.std.proofs.lemmas.Bool.{and_parts, leb-true}
 use Rattle.strm_types.specs.declared.limits.Config.{Config}
 use Rattle.strm_laws.specs.Pair.{PairState}
-use Rattle.strm_laws.specs.Refusals.{Free, enough}
+use Rattle.strm_laws.specs.Refusals.{enough}
 use Rattle.strm_blocks.specs.Blocks.{StoreValue, empty_store}
 use Rattle.strm_image.specs.declared.versions.Version.TheVariants.{Second}
 use Rattle.strm_image.specs.Format.{IsTextOf}

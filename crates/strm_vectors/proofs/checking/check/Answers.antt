@@ -1,4 +1,4 @@
-use Rattle.std.proofs.Common.{◌≡◌, ◌∙◌, sym, subst}
+use Rattle.std.proofs.Common.{sym, subst}
 use Rattle.std.specs.Prelude.{OnOk}
 use Rattle.strm_image.specs.declared.versions.Version.TheVariants.{Second}
 use Rattle.strm_image.specs.Format.{IsTextOf}
