@@ -399,7 +399,7 @@ static inline uint32_t strm_get_word(const uint8_t *at)
 /* TCGETS. NAK EINVAL where no ptem stands. */
 static inline strm_refusal strm_tcgetattr(strm_pair *p, uint32_t side, strm_termios *t)
 {
-    uint8_t b[256];
+    uint8_t b[256] = { 0 };
     size_t n;
     strm_refusal e = strm_ioctl(p, side, STRM_TCGETS, b, 0, b, &n);
     if (e) return e;
@@ -421,7 +421,7 @@ static inline strm_refusal strm_tcsetattr(strm_pair *p, uint32_t side, uint32_t 
 /* TIOCGWINSZ and TIOCSWINSZ: where the size changes the slave's head gets SIGWINCH. */
 static inline strm_refusal strm_get_winsize(strm_pair *p, uint32_t side, strm_winsize *w)
 {
-    uint8_t b[256];
+    uint8_t b[256] = { 0 };
     size_t n;
     strm_refusal e = strm_ioctl(p, side, STRM_TIOCGWINSZ, b, 0, b, &n);
     if (e) return e;

@@ -150,7 +150,7 @@ signals s
   err ENXIO
 "#;
 
-/// What becomes of an ioctl under way where a module is popped.
+/// What becomes of an ioctl of a terminal, and of one under way where a module is popped.
 pub const POPPED: &str = r#"page: ioctl(2); streamio(7I): I_STR
 
 title: An ioctl ends as refused with the module on which its M_IOCTL waits, and the next one is answered
@@ -169,6 +169,19 @@ poll s 1
   err EINVAL
 ioctl s TIOCGWINSZ
   data 8 "\x00\x00\x00\x00\x00\x00\x00\x00"
+
+title: A terminal refuses a command that it doesn't know, and settings of another length once the output before them has gone
+setup: terminal
+ioctl s raw 99 "x"
+  nak EINVAL
+ioctl s raw 3 "abc"
+  pending 2
+run 50
+  ran 1
+poll s 2
+  nak EINVAL
+poll s 2
+  err EINVAL
 
 title: An ioctl waits on behind a pop of the module above
 setup: ldterm

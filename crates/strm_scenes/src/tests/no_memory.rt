@@ -32,7 +32,7 @@ const SLAVE_HEAD: QueueName = QueueName {
     way: Way::Up,
 };
 
-const SIZES: Config = Config {
+pub const SIZES: Config = Config {
     mblks: 64,
     dblks: 64,
     journal_events: 64,
@@ -165,7 +165,7 @@ const CALLS: [(Caller, Event<&'static [u8]>, Came); 24] = [
 ];
 
 // More blocks than a heap has that gives them as large as the machine's memory.
-const MOST_TAKEN: usize = 131072;
+pub const MOST_TAKEN: usize = 131072;
 
 // Takes blocks of a size until one is refused.
 fn take_all(alloc: Global, size: usize, taken: &mut Vec<Vec<u8>>) -> Result<(), AllocError> {
@@ -181,7 +181,7 @@ fn take_all(alloc: Global, size: usize, taken: &mut Vec<Vec<u8>>) -> Result<(), 
 // Takes all memory that the process can have, the largest blocks first: those above a page by halves, and the others by
 // each size, since the heap keeps blocks of a small size apart. It stops at `MOST_TAKEN` blocks, which only a heap reaches
 // that keeps the blocks of each size apart, as that of the sanitizer does, under which `rt try` runs.
-fn all_memory(alloc: Global) -> Result<Vec<Vec<u8>>, AllocError> {
+pub fn all_memory(alloc: Global) -> Result<Vec<Vec<u8>>, AllocError> {
     let mut taken = Vec::with_capacity(alloc, MOST_TAKEN)?;
     for halved in 0..35u32 {
         take_all(alloc, (1usize << 47) >> halved, &mut taken)?;
@@ -197,9 +197,13 @@ fn turns<B: Blocks + Drop>(pair: &mut Pair<B>) -> bool {
     pair.runqueues().stopped.is_none()
 }
 
-// Makes each call and the turns behind it: the first call that doesn't go as it says, if any.
-fn first_wrong<B: Blocks + Drop>(pair: &mut Pair<B>, out: &mut Content) -> Option<usize> {
-    for at in 0..CALLS.len() {
+// Makes so many of the calls, and the turns behind each: the first call that doesn't go as it says, if any.
+pub fn first_wrong<B: Blocks + Drop>(
+    pair: &mut Pair<B>,
+    out: &mut Content,
+    calls: usize,
+) -> Option<usize> {
+    for at in 0..CALLS.len().min(calls) {
         let (caller, event, came) = &CALLS[at];
         if pair.call(*caller, event, out) != *came || !turns(pair) {
             return Some(at);
@@ -217,15 +221,24 @@ fn calls_without_memory<B: Reserve>(rt: &impl Abort, alloc: Global) -> Result<()
     let mut out = Content::new();
     let taken = all_memory(alloc)?;
     let is_left = taken.len() < MOST_TAKEN && Vec::<u8>::with_capacity(alloc, 1).is_ok();
-    let first = first_wrong(&mut pair, &mut out);
+    let first = first_wrong(&mut pair, &mut out, CALLS.len());
     let entries = pair.journal().entries.len();
+    let is_cut = pair.cut(alloc).is_ok();
+    let kept = pair.journal().entries.len();
+    pair.restart();
+    let is_anew = pair.journal().entries.is_empty();
     pair.reset();
-    let second = first_wrong(&mut pair, &mut out);
+    let second = first_wrong(&mut pair, &mut out, CALLS.len());
     let shown = pair.sizes(SLAVE_HEAD);
     drop(taken);
     assert!(rt; !is_left, "all memory is taken");
     assert_eq!(rt; first, None);
     assert!(rt; entries > CALLS.len());
+    assert!(rt;
+        !is_cut && kept == entries,
+        "a cut is refused, and the journal stays"
+    );
+    assert!(rt; is_anew, "it begins anew without memory");
     assert_eq!(rt; second, None, "once more, in a pair as new");
     assert_eq!(rt; shown, (0, 0));
     Ok(())

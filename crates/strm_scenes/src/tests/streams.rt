@@ -45,6 +45,23 @@ close m
 open
   err EINVAL
 
+title: A side is closed once, and behind a master that was closed no slave is opened
+setup: pair
+close s
+  ok
+write s "x"
+  err ENXIO
+close s
+  err ENXIO
+close m
+  ok
+read m 1
+  err ENXIO
+open
+  err EINVAL
+slave
+  err ENXIO
+
 page: streamio(7I): I_FLUSH, I_FLUSHBAND
 
 title: A flush takes what is on its way to the readers

@@ -67,6 +67,25 @@ fn a_vector_has_what_waits(rt: HostRuntime) -> Result<(), Fail> {
     Ok(())
 }
 
+// `tools/refusals --tests strm_tests may_be_refused` refuses each request for memory of it in turn.
+#[test]
+fn memory_for_a_read_may_be_refused(rt: HostRuntime) -> Result<(), Fail> {
+    let alloc = rt.alloc();
+    let mut store = TableStore::new(alloc, 10, 10)?;
+    let mut head = fresh(&store, Table::new(alloc)?);
+    put(&mut store, &mut head.queue, b"abc");
+    let mut fates = Fates::none();
+    let direction = Dir::MasterToSlave;
+    match head.read_vec(alloc, &mut store, false, 100, direction, &mut fates) {
+        Ok(read) => assert!(&rt; read.bytes.as_slice() == b"abc".as_slice()),
+        Err(refusal) => {
+            assert_eq!(&rt; refusal, Refusal::NoMemory);
+            reads(&rt, alloc, &mut store, &mut head, false, (b"abc", None));
+        }
+    }
+    Ok(())
+}
+
 #[test]
 fn a_refused_read_leaves_the_message(rt: HostRuntime) -> Result<(), Fail> {
     let alloc = rt.alloc();

@@ -1,0 +1,136 @@
+//! Calls that ask for memory, where it is refused: the answer says so, all stays as it was, and the same call goes well once there is
+//! memory. `tools/refusals --tests strm_scenes may_be_refused` refuses each request of them in turn.
+
+ghost use Rattle.std.specs.Prelude.{◌≡◌, [], replicate};
+
+use super::no_memory::{MOST_TAKEN, SIZES, all_memory, first_wrong};
+use super::{BROKEN, FIRST_ANSWERS, FIRST_RUN, WELL, ends_as, plays_over, wrote};
+use std::alloc::Global;
+use std::process::Abort;
+use std::test::Fail;
+use strm_blocks::{Reserve, TableStore};
+use strm_pair::Pair;
+use strm_raw::RawStore;
+use strm_script::{ScriptEnd, run_script};
+use strm_types::{Content, LISTS, NoMemory};
+
+// A line that is full, a byte that finds no room in it, and its end.
+const FULL_LINE: &[u8] =
+    b"open\nunlock\nslave\npush s ptem\npush s ldterm\nwrite m \"xxxxxxxxxxxxxxxxxxxxxxxxxxxxxxxxxxxxxxxxxxxxxxxxxxxxxxxxxxxxxxxxxxxxxxxxxxxxxxxxxxxxxxxxxxxxxxxxxxxxxxxxxxxxxxxxxxxxxxxxxxxxxxxxxxxxxxxxxxxxxxxxxxxxxxxxxxxxxxxxxxxxxxxxxxxxxxxxxxxxxxxxxxxxxxxxxxxxxxxxxxxxxxxxxxxxxxxxxxxxxxxxxxxxxxxxxxxxxxxxxxxxxxxxxxxxxxxy\"\nrun 50\nwrite m \"\\n\"\nrun 50\nread s 300\n";
+
+const FULL_ANSWERS: &[u8] =
+    b"ok\nok\nok\nok\nok\nok 256\nran 4\nok 1\nran 4\ndata 256 \"xxxxxxxxxxxxxxxxxxxxxxxxxxxxxxxxxxxxxxxxxxxxxxxxxxxxxxxxxxxxxxxxxxxxxxxxxxxxxxxxxxxxxxxxxxxxxxxxxxxxxxxxxxxxxxxxxxxxxxxxxxxxxxxxxxxxxxxxxxxxxxxxxxxxxxxxxxxxxxxxxxxxxxxxxxxxxxxxxxxxxxxxxxxxxxxxxxxxxxxxxxxxxxxxxxxxxxxxxxxxxxxxxxxxxxxxxxxxxxxxxxxxxxxxxxxxxxx\\n\"\n";
+
+const SCRIPTS: [(&[u8], &[u8]); 2] = [(FIRST_RUN, FIRST_ANSWERS), (FULL_LINE, FULL_ANSWERS)];
+
+// Makes a store that holds nothing.
+fn store_of<B: Reserve>(rt: &impl Abort, alloc: Global) -> B
+    ensures lists { (B.value result).lists ≡ replicate LISTS [] }
+    ensures hand { (B.value result).hand ≡ [] }
+{
+    if let Ok(store) = B::reserve(alloc, SIZES.mblks, SIZES.dblks) {
+        return store;
+    }
+    let Ok(store) = B::reserve(alloc, SIZES.mblks, SIZES.dblks) else {
+        panic!(rt; "a store is refused twice")
+    };
+    store
+}
+
+// Makes a pair. Where that is refused, the store comes back with all its blocks free.
+fn pair_of<B: Reserve>(rt: &impl Abort, alloc: Global, store: B) -> Pair<B>
+    requires lists { (B.value store).lists ≡ replicate LISTS [] }
+    requires hand { (B.value store).hand ≡ [] }
+{
+    let store = match Pair::new(alloc, SIZES, store) {
+        Ok(pair) => return pair,
+        Err((NoMemory, store)) => store,
+    };
+    assert_eq!(rt; store.free_blocks(), (SIZES.mblks, SIZES.dblks));
+    let Ok(pair) = Pair::new(alloc, SIZES, store) else {
+        panic!(rt; "a pair is refused twice")
+    };
+    pair
+}
+
+// Makes the image of a pair, which has 300 bytes on a queue.
+fn image_of<B: Reserve>(rt: &impl Abort, alloc: Global, pair: &Pair<B>) {
+    let mut image = pair.image(alloc);
+    if image.is_err() {
+        image = pair.image(alloc);
+    }
+    assert!(rt; matches!(&image, Ok(text) if text.len() > 300));
+}
+
+// Looks at a script's answers: all of them, or the front of them behind a fault.
+fn answers(rt: &impl Abort, ended: ScriptEnd, written: &[u8], wanted: &[u8]) {
+    if ended == WELL {
+        wrote(rt, "a script", 1, written, wanted);
+    } else {
+        ends_as(rt, "a script", 1, ended, BROKEN);
+        assert!(rt; wanted.starts_with(written));
+    }
+}
+
+// Runs a script, and once more where memory was refused to it.
+fn script_goes<B: Reserve>(rt: &impl Abort, alloc: Global, script: &[u8], wanted: &[u8]) {
+    let mut reader = script;
+    let mut written = Vec::new(alloc);
+    let ended = run_script::<B, _, _>(alloc, &mut reader, &mut written);
+    answers(rt, ended, written.as_slice(), wanted);
+    if ended != WELL {
+        plays_over::<B>(rt, alloc, "a script", script, wanted, WELL);
+    }
+}
+
+// Makes each call that asks for memory, and once more where it is refused.
+fn makes_all<B: Reserve>(rt: &impl Abort, alloc: Global) {
+    let mut pair = pair_of(rt, alloc, store_of::<B>(rt, alloc));
+    let mut out = Content::new();
+    assert_eq!(rt; first_wrong(&mut pair, &mut out, 4), None);
+    image_of(rt, alloc, &pair);
+    for (script, wanted) in &SCRIPTS {
+        script_goes::<B>(rt, alloc, *script, *wanted);
+    }
+}
+
+#[test]
+fn any_one_request_for_memory_may_be_refused(rt: HostRuntime) {
+    makes_all::<RawStore>(&rt, rt.alloc());
+    makes_all::<TableStore>(&rt, rt.alloc());
+}
+
+// Makes each call that asks for memory where all is taken, and once more where it was given back. A heap of which not all can be taken is left out.
+fn refuses_all<B: Reserve>(rt: &impl Abort, alloc: Global) -> Result<(), Fail> {
+    let mut pair = pair_of(rt, alloc, store_of::<B>(rt, alloc));
+    let mut out = Content::new();
+    assert_eq!(rt; first_wrong(&mut pair, &mut out, 4), None);
+    let store = store_of::<B>(rt, alloc);
+    let mut reader = FIRST_RUN;
+    let mut written = Vec::new(alloc);
+    let taken = all_memory(alloc)?;
+    if taken.len() >= MOST_TAKEN {
+        return Ok(());
+    }
+    let no_store = B::reserve(alloc, 1, 1).is_err();
+    let came = Pair::new(alloc, SIZES, store);
+    let no_image = pair.image(alloc).is_err();
+    let ended = run_script::<B, _, _>(alloc, &mut reader, &mut written);
+    drop(taken);
+    assert!(rt; no_store && no_image);
+    let Err((NoMemory, store)) = came else {
+        panic!(rt; "a pair without memory")
+    };
+    assert_eq!(rt; store.free_blocks(), (SIZES.mblks, SIZES.dblks));
+    let _ = pair_of(rt, alloc, store);
+    image_of(rt, alloc, &pair);
+    ends_as(rt, "without memory", 1, ended, BROKEN);
+    answers(rt, ended, written.as_slice(), FIRST_ANSWERS);
+    Ok(())
+}
+
+#[test]
+fn what_asks_for_memory_is_refused_where_none_is_left(rt: HostRuntime) -> Result<(), Fail> {
+    refuses_all::<RawStore>(&rt, rt.alloc())?;
+    refuses_all::<TableStore>(&rt, rt.alloc())
+}
