@@ -4,6 +4,7 @@ pub mod BothParts
 pub mod Decisions
 pub mod Fits
 pub mod Opens
+pub mod RestoredWithin
 pub mod RunsWithin
 pub mod StoredEntries
 pub mod TakenEntries
