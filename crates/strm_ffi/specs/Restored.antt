@@ -15,7 +15,7 @@ pub record RestoresOf (sizes : Config) (text : List ℕ) (new : Option PairState
   pub enosr : n ≡ 5 → (x : Imaged) × (IsImageOf text x × (enough (image_blocks x) (record { mblks = sizes.mblks; dblks = sizes.dblks }) ≡ false))
   pub others : n ≢ 0 → n ≢ 1 → n ≢ 5 → n ≡ 9
 
-abbrev restores_where : Bool → Config → List ℕ → Option PairState → ℕ → Type 0
+abbrev pub restores_where : Bool → Config → List ℕ → Option PairState → ℕ → Type 0
 restores_where true sizes text new n = RestoresOf sizes text new n
 restores_where false sizes text new n = (n ≡ 1) × (new ≡ None)
 
