@@ -33,7 +33,7 @@
  *
  * OWNERSHIP
  *   The library keeps no pointer of the caller's behind a call, calls nothing back, and has no state of its own beside the handles.
- *   strm_new takes all memory that a pair will use, by malloc, and strm_free gives it back; no other function takes any but strm_image,
+ *   strm_new and strm_restore take all memory that a pair will use, by malloc, and strm_free gives it back; no other function takes any but strm_image,
  *   which frees it again.
  *   A handle is closed when its bytes are all 0 (STRM_CLOSED). An open one isn't copied and then used or freed twice, as with a FILE.
  *
@@ -49,7 +49,7 @@
  * WHAT STAYS
  *   STRM_VERSION is 65536 times a major number and a minor one. Within a major number names, numbers, layouts and meanings stay; a larger
  *   minor number has more calls. The shared object's soname carries the major number. A program that loads it compares strm_version().
- *   1.1 has strm_restart, strm_runqueues, strm_next_entry and strm_image beside the calls of 1.0, and a program of 1.0 runs with it as it is.
+ *   1.1 has strm_restart, strm_runqueues, strm_next_entry, strm_image and strm_restore beside the calls of 1.0, and a program of 1.0 runs with it as it is.
  *
  * PROVED: each function that libstrm exports, by its contract in crates/strm_ffi. NOT PROVED: the inline functions of this file, and malloc.
  */
@@ -262,6 +262,11 @@ strm_refusal strm_ledger(strm_pair *p, uint32_t side, strm_books *told);
  * they are. EINVAL: `room` is less than *length, which is told also then, or the handle is closed, and *length stays. NO_MEMORY: the
  * image is made by malloc and copied, and that memory is freed again. The buffer stays where refused, and the pair always. */
 strm_refusal strm_image(strm_pair *p, void *out, size_t room, size_t *length);
+
+/* Makes the pair of an image in a closed handle, over so many blocks of each kind and so large a journal as strm_new has: it goes on where the
+ * image was made, and its journal is empty and begins there. EINVAL: the handle is open, the number of blocks is none of 1 to 65536, or the n
+ * bytes are no image; ENOSR: the messages of the image take more blocks; NO_MEMORY. The handle stays then. */
+strm_refusal strm_restore(strm_pair *p, size_t blocks, size_t entries, size_t bytes, const void *image, size_t n);
 
 /* ------------------------------------------------------------------------------------------------------------- helpers, not proved */
 

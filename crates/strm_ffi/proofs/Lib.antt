@@ -4,6 +4,8 @@ pub mod BothParts
 pub mod Decisions
 pub mod Fits
 pub mod Opens
+pub mod RestoreRefused
+pub mod RestoredWithin
 pub mod RunsWithin
 pub mod StoredEntries
 pub mod TakenEntries

@@ -4,3 +4,4 @@ pub mod Entries
 pub mod Held
 pub mod Images
 pub mod Outcomes
+pub mod Restored

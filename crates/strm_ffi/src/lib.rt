@@ -16,4 +16,5 @@ mod numbers;
 mod parts;
 mod recording;
 mod replies;
+mod restoring;
 mod turning;

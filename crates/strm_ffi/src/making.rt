@@ -12,7 +12,7 @@ use strm_raw::RawStore;
 use strm_types::{Config, Content, Refusal};
 
 /// The most blocks of a kind that a pair has.
-const BLOCKS_MAX: usize = 65536;
+pub(crate) const BLOCKS_MAX: usize = 65536;
 
 /// The version of this interface: 65536 times the major number and the minor number.
 const VERSION: u32 = 65537;
