@@ -23,7 +23,8 @@
  *
  * ERRORS
  *   A function that returns strm_refusal gives 0 (STRM_OK), or the number of its refusal; these are the numbers below, and not those
- *   of errno.h (strm_host_errno). A refused call has changed nothing: neither the pair nor what the caller's pointers lead to.
+ *   of errno.h (strm_host_errno). A refused call has changed nothing: neither the pair nor what the caller's pointers lead to; strm_runqueues
+ *   has made the turns in front of the refused one, and strm_next_entry and strm_image tell how much doesn't fit.
  *   STRM_EINVAL comes first, for a closed handle, a number that names nothing, and a buffer that is too small for the greatest answer
  *   of the call, so that no byte is lost at this interface; then what the pair refuses, in the order of the README's section Refusals.
  *
@@ -32,7 +33,8 @@
  *
  * OWNERSHIP
  *   The library keeps no pointer of the caller's behind a call, calls nothing back, and has no state of its own beside the handles.
- *   strm_new takes all memory that a pair will use, by malloc, and strm_free gives it back; no other function takes any.
+ *   strm_new takes all memory that a pair will use, by malloc, and strm_free gives it back; no other function takes any but strm_image,
+ *   which frees it again.
  *   A handle is closed when its bytes are all 0 (STRM_CLOSED). An open one isn't copied and then used or freed twice, as with a FILE.
  *
  * THREADS
@@ -41,11 +43,13 @@
  *
  * WHAT A CALLER OWES (nothing checks it)
  *   Pointers aren't NULL, not even those beside a length of 0, lead to as much memory as their length says, and don't overlap where one
- *   is written to. A bool is 0 or 1. A handle is closed, or was made by strm_new and only handed to these functions since.
+ *   is written to. A bool is 0 or 1. A handle is closed, or was made by strm_new and only handed to these functions since. A cursor
+ *   was zeroed when the journal began, and only moved by strm_next_entry since: another one corrupts nothing, but may tell other bytes.
  *
  * WHAT STAYS
  *   STRM_VERSION is 65536 times a major number and a minor one. Within a major number names, numbers, layouts and meanings stay; a larger
  *   minor number has more calls. The shared object's soname carries the major number. A program that loads it compares strm_version().
+ *   1.1 has strm_restart, strm_runqueues, strm_next_entry and strm_image beside the calls of 1.0, and a program of 1.0 runs with it as it is.
  *
  * PROVED: each function that libstrm exports, by its contract in crates/strm_ffi. NOT PROVED: the inline functions of this file, and malloc.
  */
@@ -61,7 +65,7 @@
 extern "C" {
 #endif
 
-#define STRM_VERSION 65536u /* 1.0 */
+#define STRM_VERSION 65537u /* 1.1 */
 
 /* A pair, in place. Nothing behind `at` is the caller's. */
 typedef struct strm_pair {
@@ -186,6 +190,43 @@ enum { STRM_IDLE, STRM_BLOCKED, STRM_MOVED };
 /* Makes a turn of a queue's service procedure. EINVAL: the queue isn't enabled. ERANGE, JOURNAL_FULL, ENOSR. */
 strm_refusal strm_turn(strm_pair *p, uint32_t queue, strm_went *went);
 
+/* Makes turns, each of the queue that was enabled first, until no queue is enabled (OK) or the next turn is refused: ERANGE, JOURNAL_FULL,
+ * ENOSR. *turns is how many were made, also where one was refused; what stopped goes on where it was once there is room. Each turn takes an
+ * entry of the journal, so it ends. EINVAL is a closed handle alone, and *turns stays then. */
+strm_refusal strm_runqueues(strm_pair *p, size_t *turns);
+
+/* ------------------------------------------------------------------------------------------------------------- the journal */
+
+/* Every call that wasn't refused and every turn is an entry, in order, with the bytes that the call brought and those that it was answered. A
+ * recorder takes the entries one by one through a cursor of its own, and then empties the journal, which takes no memory. */
+
+/* How many entries and how many of their bytes were taken. Zeroed, it stands at the first entry since strm_new or strm_restart. */
+typedef struct strm_cursor {
+    size_t entry, byte;
+} strm_cursor;
+
+/* An entry. CALLED: the numbers `ask` ask for the call, whose bytes are the first `brings` of the buffer, and the reply.bytes behind them are those
+ * of the answer `reply`; queue and went mean nothing. TURNED: the turn of `queue` did what `went` says; ask and reply mean nothing, and there
+ * are no bytes. */
+typedef struct strm_entry {
+    size_t brings;
+    uint32_t kind, queue;
+    strm_ask ask;
+    strm_reply reply;
+    strm_went went;
+} strm_entry;
+
+enum { STRM_CALLED, STRM_TURNED };
+
+/* Takes the entry at a cursor, which moves behind it. The buffer takes brings + reply.bytes, and stays behind them: for an answer 8192 do, and
+ * what a write brought is as long as its caller made it. EAGAIN: all entries were taken. EINVAL: `room` is less than the entry's bytes,
+ * and then the entry is told, so that the caller may come back with more, and cursor and buffer stay; or the handle is closed. The pair stays. */
+strm_refusal strm_next_entry(strm_pair *p, strm_cursor *at, strm_entry *entry, void *bytes, size_t room);
+
+/* Begins the journal anew, in place: it is empty, and begins at the state that the pair has. All else stays, so a pair whose journal is full
+ * goes on. A cursor is zeroed then. It takes no memory. EINVAL is a closed handle alone. */
+strm_refusal strm_restart(strm_pair *p);
+
 /* ------------------------------------------------------------------------------------------------------------- looks: no call is made */
 
 /* The queue at a place of the enabled list, from 0 in the order in which they were enabled; NO_QUEUE behind the last, and of a closed pair. */
@@ -214,6 +255,13 @@ typedef struct strm_books {
 } strm_books;
 
 strm_refusal strm_ledger(strm_pair *p, uint32_t side, strm_books *told);
+
+/* ------------------------------------------------------------------------------------------------------------- images */
+
+/* Puts the image of the pair into a buffer: its state and ledgers as docs/IMAGES.md spells them, the same bytes on every machine. *length is how many
+ * they are. EINVAL: `room` is less than *length, which is told also then, or the handle is closed, and *length stays. NO_MEMORY: the
+ * image is made by malloc and copied, and that memory is freed again. The buffer stays where refused, and the pair always. */
+strm_refusal strm_image(strm_pair *p, void *out, size_t room, size_t *length);
 
 /* ------------------------------------------------------------------------------------------------------------- helpers, not proved */
 
@@ -248,15 +296,8 @@ static inline strm_refusal strm_open_terminal(strm_pair *p)
     return e;
 }
 
-/* Turns of the queue that was enabled first, until none is enabled or a turn is refused. Each turn takes an entry of the journal, so it ends. */
-static inline strm_refusal strm_run(strm_pair *p)
-{
-    strm_refusal e = STRM_OK;
-    uint32_t queue;
-    strm_went went;
-    while (!e && (queue = strm_enabled(p, 0)) != STRM_NO_QUEUE) e = strm_turn(p, queue, &went);
-    return e;
-}
+/* Turns until none is enabled or one is refused: strm_runqueues. */
+static inline strm_refusal strm_run(strm_pair *p) { size_t turns; return strm_runqueues(p, &turns); }
 
 /* Takes the signals that came up, each once, in order: *n numbers. */
 static inline strm_refusal strm_signals(strm_pair *p, uint32_t side, uint8_t out[32], size_t *n)
@@ -358,7 +399,7 @@ static inline uint32_t strm_get_word(const uint8_t *at)
 /* TCGETS. NAK EINVAL where no ptem stands. */
 static inline strm_refusal strm_tcgetattr(strm_pair *p, uint32_t side, strm_termios *t)
 {
-    uint8_t b[256];
+    uint8_t b[256] = { 0 };
     size_t n;
     strm_refusal e = strm_ioctl(p, side, STRM_TCGETS, b, 0, b, &n);
     if (e) return e;
@@ -380,7 +421,7 @@ static inline strm_refusal strm_tcsetattr(strm_pair *p, uint32_t side, uint32_t 
 /* TIOCGWINSZ and TIOCSWINSZ: where the size changes the slave's head gets SIGWINCH. */
 static inline strm_refusal strm_get_winsize(strm_pair *p, uint32_t side, strm_winsize *w)
 {
-    uint8_t b[256];
+    uint8_t b[256] = { 0 };
     size_t n;
     strm_refusal e = strm_ioctl(p, side, STRM_TIOCGWINSZ, b, 0, b, &n);
     if (e) return e;

@@ -3,7 +3,7 @@ use Rattle.std.specs.Prelude.{ℕ, ◌≡◌, ◌<◌, ◌≤◌, ◌*◌, ◌==
 use Rattle.std.specs.Borrow.{Bor}
 use Rattle.strm_bench.specs.Numbers.{IsNumber, number_of}
 use Rattle.strm_bench.specs.declared.plans.Act.{Act}
-use Rattle.strm_bench.specs.declared.plans.Act.TheVariants.{Types, TypesEchoed, Keys, Shows, Messages, Winsizes, BandedMessages}
+use Rattle.strm_bench.specs.declared.plans.Act.TheVariants.{Types, TypesEchoed, Keys, Shows, Messages, Winsizes, BandedMessages, Images, Restores, Cuts}
 use Rattle.strm_bench.specs.declared.plans.Plan.{Plan}
 use Rattle.strm_bench.specs.declared.plans.Round.{Round}
 use Rattle.strm_bench.specs.declared.plans.Stack.{Stack}
@@ -24,7 +24,8 @@ word words i = (slice_index_or words i (record { ref_ptr = (0, 0); now = [] })).
 -- what a number says is done in a round
 abbrev pub act_by : ℕ → Option Act
 act_by n = if n == 0 then Some Types else (if n == 1 then Some TypesEchoed else (if n == 2 then Some Keys
-    else (if n == 3 then Some Shows else (if n == 4 then Some Messages else (if n == 5 then Some Winsizes else (if n == 6 then Some BandedMessages else None))))))
+    else (if n == 3 then Some Shows else (if n == 4 then Some Messages else (if n == 5 then Some Winsizes else (if n == 6 then Some BandedMessages
+    else (if n == 7 then Some Images else (if n == 8 then Some Restores else (if n == 9 then Some Cuts else None)))))))))
 
 -- what a number says stands on the slave's stream
 abbrev pub stack_by : ℕ → Option Stack
@@ -46,7 +47,7 @@ pub record IsRound (words : Words) : Type 0 where
   pub line : IsNumber (word words 10)
   pub size : IsNumber (word words 11)
   pub asked : IsNumber (word words 12)
-  pub known_act : number_of (word words 7) ≤ 6
+  pub known_act : number_of (word words 7) ≤ 9
   pub known_stack : number_of (word words 8) ≤ 2
   pub known_text : number_of (word words 9) ≤ 2
   pub small : number_of (word words 11) ≤ 4096

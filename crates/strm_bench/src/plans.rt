@@ -19,6 +19,12 @@ pub enum Act {
     BandedMessages,
     /// The slave asks for the size of its window (termio(7I): TIOCGWINSZ).
     Winsizes,
+    /// The image of the pair is written.
+    Images,
+    /// It is written, and a pair is made of it.
+    Restores,
+    /// The master writes, the slave reads, and the journal is cut.
+    Cuts,
 }
 
 /// What stands on the slave's stream: nothing, or a ptem and above it a line discipline in its first modes or in raw mode.
@@ -57,8 +63,8 @@ pub enum Store {
     Tables,
 }
 
-/// A plan: so many pairs one after the other, and on each so many rounds, while `standing` messages of one byte stand on the
-/// slave's head. A warm plan makes each pair as new after its rounds, and makes them again, on memory that was written before.
+/// A plan: so many pairs one after the other, and on each so many rounds, while `standing` messages of one byte, or where images are
+/// written of a round's text, stand on the slave's head. A warm plan makes each pair as new after its rounds, and makes them again, on memory that was written before.
 #[derive(Clone, Copy)]
 pub struct Plan {
     pub pairs: u32,

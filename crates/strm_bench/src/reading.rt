@@ -77,6 +77,9 @@ fn act_as(number: u32) -> Option<Act>
         4 => Some(Act::Messages),
         5 => Some(Act::Winsizes),
         6 => Some(Act::BandedMessages),
+        7 => Some(Act::Images),
+        8 => Some(Act::Restores),
+        9 => Some(Act::Cuts),
         _ => None,
     }
 }

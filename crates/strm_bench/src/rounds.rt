@@ -5,9 +5,10 @@ ghost use Rattle.std.specs.Bool.{OnTrue};
 
 use crate::making::{MASTER, SLAVE, calls, turns};
 use crate::plans::{Act, Round};
-use strm_blocks::Blocks;
+use std::alloc::Global;
+use strm_blocks::{Blocks, Reserve};
 use strm_pair::Pair;
-use strm_types::{Answer, Band, Caller, Content, Event, Prio, TIOCGWINSZ, Wanted};
+use strm_types::{Answer, Band, Caller, Config, Content, Event, Prio, TIOCGWINSZ, Wanted};
 
 // How often a round writes, and reads behind each write, at most.
 const OFTEN: u32 = 4096;
@@ -150,8 +151,68 @@ fn winsizes<B: Blocks + Drop>(pair: &mut Pair<B>, round: &Round, out: &mut Conte
     given(round, out)
 }
 
+// So many bytes, where they are no more than was asked for.
+fn counted(round: &Round, bytes: usize) -> Option<u32>
+    ensures { IfSome result (λ bytes. bytes ≤ round.now.asked) }
+{
+    if bytes > round.asked as usize {
+        return None;
+    }
+    Some(bytes as u32)
+}
+
+// Writes the image of the pair: how many bytes it has.
+fn images<B: Blocks + Drop>(alloc: Global, pair: &Pair<B>, round: &Round) -> Option<u32>
+    ensures { IfSome result (λ bytes. bytes ≤ round.now.asked) }
+{
+    let Ok(text) = pair.image(alloc) else {
+        return None;
+    };
+    counted(round, text.len())
+}
+
+// Writes the image of the pair, and makes a pair of it with as many blocks, and a journal of one entry: how many bytes it has.
+fn restores<B: Reserve>(alloc: Global, pair: &Pair<B>, round: &Round) -> Option<u32>
+    ensures { IfSome result (λ bytes. bytes ≤ round.now.asked) }
+{
+    let Ok(text) = pair.image(alloc) else {
+        return None;
+    };
+    let sizes = Config {
+        mblks: 64,
+        dblks: 64,
+        journal_events: 1,
+        journal_bytes: 1,
+    };
+    let Ok(store) = B::reserve(alloc, sizes.mblks, sizes.dblks) else {
+        return None;
+    };
+    if Pair::restore(alloc, sizes, text.as_slice(), store).is_err() {
+        return None;
+    }
+    counted(round, text.len())
+}
+
+// A round of bytes, and a cut.
+fn cuts<B: Blocks + Drop>(
+    alloc: Global,
+    pair: &mut Pair<B>,
+    round: &Round,
+    text: &[u8],
+    out: &mut Content,
+) -> Option<u32>
+    ensures { IfSome result (λ bytes. bytes ≤ round.now.asked) }
+{
+    let bytes = moves(pair, round, text, out)?;
+    if pair.cut(alloc).is_err() {
+        return None;
+    }
+    Some(bytes)
+}
+
 /// A round, whose text is this one.
-pub fn makes_round<B: Blocks + Drop>(
+pub fn makes_round<B: Reserve>(
+    alloc: Global,
     pair: &mut Pair<B>,
     round: &Round,
     text: &[u8],
@@ -163,6 +224,9 @@ pub fn makes_round<B: Blocks + Drop>(
         Act::Messages => messages(pair, round, Band(0), text, out),
         Act::BandedMessages => messages(pair, round, Band(200), text, out),
         Act::Winsizes => winsizes(pair, round, out),
+        Act::Images => images(alloc, pair, round),
+        Act::Restores => restores(alloc, pair, round),
+        Act::Cuts => cuts(alloc, pair, round, text, out),
         _ => moves(pair, round, text, out),
     }
 }

@@ -4,30 +4,39 @@ ghost use Rattle.std.specs.Prelude.{◌≤◌, ◌*◌, if◌then◌else◌, IfS
 ghost use Rattle.strm_bench.specs.Plans.{bytes_asked};
 
 use crate::making::{MASTER, new_pair, sets_up};
-use crate::plans::{Plan, Store, Told};
+use crate::plans::{Act, Plan, Store, Told};
 use crate::rounds::{makes_round, sends};
 use crate::texts::text_of;
 use std::alloc::Global;
-use strm_blocks::{Blocks, Reserve, TableStore};
+use strm_blocks::{Reserve, TableStore};
 use strm_pair::Pair;
 use strm_raw::RawStore;
 use strm_types::Content;
 
 // The rounds on a pair, whose text is this one: how many bytes were read.
-fn rounds<B: Blocks + Drop>(pair: &mut Pair<B>, plan: &Plan, text: &[u8; 4096]) -> Option<u64>
+fn rounds<B: Reserve>(
+    alloc: Global,
+    pair: &mut Pair<B>,
+    plan: &Plan,
+    text: &[u8; 4096],
+) -> Option<u64>
     ensures { IfSome result (λ bytes. bytes ≤ plan.now.rounds * plan.now.round.asked) }
 {
     let mut out = Content::new();
     if !sets_up(pair, plan.round.stack, &mut out) {
         return None;
     }
-    for _ in 0..plan.standing {
-        sends(pair, MASTER, b"z", &mut out)?;
-    }
     let text = &text[..plan.round.size as usize];
+    let standing = match plan.round.act {
+        Act::Images | Act::Restores => text,
+        _ => b"z",
+    };
+    for _ in 0..plan.standing {
+        sends(pair, MASTER, standing, &mut out)?;
+    }
     let mut read = 0u64;
     for _ in 0..plan.rounds {
-        let bytes = makes_round(pair, &plan.round, text, &mut out)?;
+        let bytes = makes_round(alloc, pair, &plan.round, text, &mut out)?;
         read = read.saturating_add(bytes as u64);
     }
     Some(read)
@@ -38,10 +47,10 @@ fn one_pair<B: Reserve>(alloc: Global, plan: &Plan, text: &[u8; 4096]) -> Option
     ensures { IfSome result (λ told. told.read ≤ (if plan.now.warm then 2 else 1) * (plan.now.rounds * plan.now.round.asked)) }
 {
     let mut pair = new_pair::<B>(alloc, plan)?;
-    let mut read = rounds(&mut pair, plan, text)?;
+    let mut read = rounds(alloc, &mut pair, plan, text)?;
     if plan.warm {
         pair.reset();
-        read = read.saturating_add(rounds(&mut pair, plan, text)?);
+        read = read.saturating_add(rounds(alloc, &mut pair, plan, text)?);
     }
     let journal = pair.journal();
     Some(Told {

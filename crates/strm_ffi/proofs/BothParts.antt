@@ -1,9 +1,8 @@
 -- The two parts of a message in one buffer.
-use Rattle.std.proofs.Common.{ℕ, ◌≡◌, ◌≤◌, ◌+◌, List, length, take, drop, refl, sym, subst, arith}
+use Rattle.std.proofs.Common.{ℕ, ◌≡◌, ◌≤◌, ◌+◌, length, take, refl, sym, subst, arith}
 use Rattle.std.proofs.lemmas.Bool.Decides.{nat_tests}
-use Rattle.std.specs.Prelude.{Option, None, Some, nat_le, true}
+use Rattle.std.specs.Prelude.{Option, Some, nat_le, true}
 use Rattle.std.proofs.lemmas.List.{take-take, drop-take, length-take-le}
-use Rattle.strm_ffi.specs.Numbers.{parts_at}
 use Rattle.strm_ffi.specs.Calls.{HaveParts}
 
 parts-over : (len other : ℕ) → HaveParts 3 len (Some len) (Some other)

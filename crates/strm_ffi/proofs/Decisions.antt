@@ -1,5 +1,5 @@
 -- What a call or a turn of the pair comes to is what its number says.
-use Rattle.std.proofs.Common.{ℕ, ◌≡◌, ◌≤◌, List, refl, sym, subst, ap, ◌∙◌, arith}
+use Rattle.std.proofs.Common.{ℕ, ◌≡◌, ◌≤◌, refl, sym, subst, ap, ◌∙◌, arith}
 use Rattle.std.proofs.lemmas.Bool.Decides.{nat_tests}
 use Rattle.std.specs.Prelude.{Option, None, Some, Result, Ok, Err, IsOk, MatchOption, T, not, false, true, cond, nat_le}
 use Rattle.strm_types.specs.declared.events.Caller.{Caller}

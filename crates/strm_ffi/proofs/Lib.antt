@@ -4,3 +4,6 @@ pub mod BothParts
 pub mod Decisions
 pub mod Fits
 pub mod Opens
+pub mod RunsWithin
+pub mod StoredEntries
+pub mod TakenEntries

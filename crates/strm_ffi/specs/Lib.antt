@@ -1,4 +1,6 @@
 pub mod Numbers
 pub mod Calls
+pub mod Entries
 pub mod Held
+pub mod Images
 pub mod Outcomes

@@ -1,5 +1,5 @@
 -- What the numbers of include/strm.h stand for: one that stands for nothing is None.
-use Rattle.std.specs.Prelude.{ℕ, Bool, true, false, ◌==◌, nat_lt, nat_le, if◌then◌else◌, List, length, take, drop, Option, None, Some, option_map}
+use Rattle.std.specs.Prelude.{ℕ, ◌==◌, nat_lt, nat_le, if◌then◌else◌, List, length, take, drop, Option, None, Some, option_map}
 use Rattle.strm_types.specs.declared.answers.Turn.{Turn}
 use Rattle.strm_types.specs.declared.answers.Turn.TheVariants as turns
 use Rattle.strm_types.specs.declared.events.FlushQueues.{FlushQueues}

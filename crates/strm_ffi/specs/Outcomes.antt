@@ -1,11 +1,9 @@
 -- What an export does at a pair, and at the handle of one.
-use Rattle.std.specs.Prelude.{ℕ, ◌≡◌, ◌⊎◌, ◌<◌, ◌≤◌, ◌&&◌, Bool, true, false, nat_lt, nat_le, if◌then◌else◌, List, [], length, drop, Option, None, Some, option_map, option_and_then, IsSomeAnd}
+use Rattle.std.specs.Prelude.{ℕ, ◌≡◌, ◌⊎◌, ◌&&◌, Bool, true, false, nat_lt, nat_le, if◌then◌else◌, List, [], drop, Option, None, Some, IsSomeAnd, IfNone}
 use Rattle.strm_types.specs.declared.entries.Entry.TheVariants.{Called, Turned}
 use Rattle.strm_types.specs.declared.events.Caller.{Caller}
-use Rattle.strm_types.specs.declared.events.Event.TheVariants.{Read, Write}
 use Rattle.strm_types.specs.declared.ledger.Ledger.{Ledger}
 use Rattle.strm_types.specs.declared.limits.Config.{Config}
-use Rattle.strm_types.specs.declared.limits.TheConstants.{READ_MAX}
 use Rattle.strm_types.specs.declared.names.QueueName.{QueueName}
 use Rattle.strm_types.specs.declared.names.Side.{Side}
 use Rattle.strm_types.specs.declared.refusals.Refusal.{Refusal}
@@ -14,7 +12,7 @@ use Rattle.strm_types.specs.Events.{Request}
 use Rattle.strm_types.specs.JobControl.{caller_of}
 use Rattle.strm_types.specs.Journal.{content_max}
 use Rattle.strm_types.specs.Numbers.{number_of}
-use Rattle.strm_laws.specs.Pair.{PairState, new_pair, call_refused, queue_refused, AddsEntry}
+use Rattle.strm_laws.specs.Pair.{PairState, new_pair, restarted, call_refused, queue_refused, next_refused, AddsEntry, RanTurns}
 use Rattle.strm_ffi.specs.declared.asks.Ask.{Ask}
 use Rattle.strm_ffi.specs.declared.replies.Books.{Books}
 use Rattle.strm_ffi.specs.declared.replies.Reply.{Reply}
@@ -86,6 +84,25 @@ turn_refused queue p = turn_of (queue_at queue) p
 
 abbrev pub Turns : ℕ → Went → PairState → PairState → Type 0
 Turns queue went old new = IsSomeAnd (queue_at queue) (λ name. IsSomeAnd (turn_at went.kind went.moved) (λ turn. AddsEntry old new (Turned name turn)))
+
+-- Turns were made, each of the queue that was enabled first, until none is enabled or the next is refused, whose refusal is told.
+abbrev pub number_told : Option Refusal → ℕ
+number_told None = 0
+number_told (Some refusal) = number_of refusal
+
+pub record RunsQueues (turns : ℕ) (old new : PairState) (n : ℕ) : Type 0 where
+  pub ran : RanTurns turns old new
+  pub stopped : n ≡ number_told (next_refused new)
+  pub rest : IfNone (next_refused new) (new.state.enabled ≡ [])
+
+abbrev pub Runs : (before turns : ℕ) → Option PairState → Option PairState → ℕ → Type 0
+Runs before turns None new n = (n ≡ 1) × ((new ≡ None) × (turns ≡ before))
+Runs before turns (Some old) new n = IsSomeAnd new (λ new. RunsQueues turns old new n)
+
+-- The journal of a pair begins anew.
+abbrev pub Restarts : Option PairState → Option PairState → ℕ → Type 0
+Restarts None new n = (n ≡ 1) × (new ≡ None)
+Restarts (Some old) new n = (n ≡ 0) × (new ≡ Some (restarted old))
 
 -- A look at what is named by a number: EINVAL where it names nothing. The pair stays.
 abbrev pub named : {A : Type 0} → Option A → PairState → Option Refusal

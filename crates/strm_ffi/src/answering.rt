@@ -28,6 +28,13 @@ const fn plain(kind: u32, value: u32, bytes: usize) -> Reply
     }
 }
 
+/// A reply of 0 bytes.
+pub(crate) const fn nothing() -> Reply
+    ensures { result.bytes ≡ 0 }
+{
+    plain(0, 0, 0)
+}
+
 /// The numbers of an answer, whose bytes stand in the caller's buffer.
 pub(crate) fn replied(answer: &Answer<u32>) -> Reply
     ensures bytes { result.bytes ≡ answer_len answer.now }

@@ -16,3 +16,19 @@ pub struct Ask {
     /// Whether its process group is orphaned.
     pub orphaned: bool,
 }
+
+impl Ask {
+    /// Numbers that are all 0.
+    pub(crate) const fn none() -> Ask {
+        Ask {
+            op: 0,
+            side: 0,
+            a: 0,
+            b: 0,
+            c: 0,
+            group: 0,
+            ignores: false,
+            orphaned: false,
+        }
+    }
+}

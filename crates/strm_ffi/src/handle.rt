@@ -6,6 +6,7 @@ use crate::held::Held;
 use crate::kept::Kept;
 use crate::parts::Parts;
 use std::alloc::Global;
+use std::marker::Send;
 
 /// A pair as a C program holds it, in place: it never looks behind the pointer, and all zeros is a closed one.
 #[repr(C)]
@@ -14,6 +15,13 @@ pub struct Handle {
     pub held: Held,
     pub is_open: bool,
     pub ghost told: { is_some held.kept ≡ is_open },
+}
+
+// What goes into a handle may go from thread to thread: each of its parts may.
+fn sent<T: Send>(value: T) -> T
+    ensures { result ≡ value }
+{
+    value
 }
 
 impl Handle {
@@ -29,7 +37,7 @@ impl Handle {
         ensures { self.new.held.kept ≡ Some kept.value }
     {
         *self = Handle {
-            held: Held::of_parts(Parts::of(kept)),
+            held: Held::of_parts(Parts::of(sent(kept))),
             is_open: true,
         };
     }

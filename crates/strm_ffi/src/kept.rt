@@ -3,7 +3,8 @@
 ghost use Rattle.std.specs.Prelude.{◌≡◌, ◌≤◌, ◌++◌, length, drop};
 ghost use Rattle.strm_types.specs.Events.{request};
 ghost use Rattle.strm_types.specs.Numbers.{number_of};
-ghost use Rattle.strm_ffi.specs.Outcomes.{AtPair, refused_within, ask_refused, side_refused, turn_refused, Answers, AnswersAsk, AnswersSide, Stay, Turns};
+ghost use Rattle.strm_ffi.specs.Outcomes.{AtPair, refused_within, ask_refused, side_refused, turn_refused, Answers, AnswersAsk, AnswersSide, RunsQueues, Stay, Turns};
+ghost use Rattle.strm_laws.specs.Pair.{restarted};
 
 use crate::answering::replied;
 use crate::asking::{caller_of, event_of};
@@ -120,5 +121,24 @@ impl Kept {
         };
         *told = went(turn);
         0
+    }
+
+    /// Makes turns until no queue is enabled or the next one is refused.
+    pub(crate) fn runqueues(&mut self, turns: &mut usize) -> u32
+        ensures { RunsQueues turns.new self.old self.new result }
+    {
+        let ran = self.pair.runqueues();
+        *turns = ran.turns;
+        match ran.stopped {
+            None => 0,
+            Some(refusal) => refused(refusal),
+        }
+    }
+
+    /// Begins the journal anew.
+    pub(crate) fn restart(&mut self)
+        ensures { self.new ≡ restarted self.old }
+    {
+        self.pair.restart();
     }
 }

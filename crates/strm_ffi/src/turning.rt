@@ -1,7 +1,7 @@
 //! Turns of a C program.
 
 ghost use Rattle.std.specs.Prelude.{◌≡◌};
-ghost use Rattle.strm_ffi.specs.Outcomes.{AtHandle, turn_refused, Turns};
+ghost use Rattle.strm_ffi.specs.Outcomes.{AtHandle, Runs, turn_refused, Turns};
 
 use crate::handle::Handle;
 use crate::kept::refused;
@@ -18,6 +18,19 @@ pub extern "C" fn strm_turn(alloc: Global, handle: &mut Handle, queue: u32, went
         return refused(Refusal::Einval);
     };
     let told = kept.as_mut().turn(queue, went);
+    handle.put(kept);
+    told
+}
+
+/// Makes turns of the queue that was enabled first, until none is enabled or the next one is refused, and tells how many were made.
+#[unsafe(no_mangle)]
+pub extern "C" fn strm_runqueues(alloc: Global, handle: &mut Handle, turns: &mut usize) -> u32
+    ensures { Runs turns.old turns.new handle.old.held.kept handle.new.held.kept result }
+{
+    let Some(mut kept) = handle.take(alloc) else {
+        return refused(Refusal::Einval);
+    };
+    let told = kept.as_mut().runqueues(turns);
     handle.put(kept);
     told
 }

@@ -76,7 +76,7 @@ same_ways Down = refl
 same_queues : (n : QueueName) → same_queue n n ≡ true
 same_queues n = rw (same_sides n.side, same_places n.place, same_ways n.way) refl
 
-is_times : IsCount same_queue times
+pub is_times : IsCount same_queue times
 is_times = record { none = λ n. refl; more = λ n m ns. refl }
 
 -- there are twelve names
@@ -92,7 +92,7 @@ served places.Head w ps there = absurd cc
 served places.Ldterm w ps there = refl
 served places.Driver w ps there = refl
 
-ldterm_stands : (ps : List (Module ℕ)) → list_any is_ldterm (map module_name ps) ≡ stands module_name modules.Ldterm ps
+pub ldterm_stands : (ps : List (Module ℕ)) → list_any is_ldterm (map module_name ps) ≡ stands module_name modules.Ldterm ps
 ldterm_stands [] = refl
 ldterm_stands (OfLdterm l ∷ ps) = refl
 ldterm_stands (OfPtem p ∷ ps) = ldterm_stands ps

@@ -78,7 +78,7 @@ same_name names.Ptem = refl
 same_name names.Pckt = refl
 
 -- how often a name stands among others
-pub names_count : ModuleName → List ModuleName → ℕ
+unfoldable pub names_count : ModuleName → List ModuleName → ℕ
 names_count name ns = times_there name ns (length ns)
 
 pub is_names_count : IsCount same_module names_count

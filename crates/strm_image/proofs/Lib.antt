@@ -11,6 +11,10 @@ pub mod FitQueues
 pub mod EachOnce
 pub mod FitStreams
 pub mod FitImages
+pub mod Fitted
+pub mod FittedQueues
+pub mod FittedStreams
+pub mod FittedImages
 pub mod TextLengths
 pub mod BlockRows
 pub mod ShortRows

@@ -18,3 +18,4 @@ pub mod StreamTexts
 pub mod AccountTexts
 pub mod ImageTexts
 pub mod Written
+pub mod Traces

@@ -7,9 +7,10 @@ ghost use Rattle.strm_types.specs.Message.{Message};
 ghost use Rattle.strm_laws.specs.Bases.{IsBase};
 ghost use Rattle.strm_laws.specs.State.{State, messages_in};
 ghost use Rattle.strm_image.specs.declared.lengths.TheConstants.{IMAGE_BLOCK, IMAGE_FIXED, MESSAGE_FIXED};
+ghost use Rattle.strm_image.specs.declared.versions.Version.{Version};
 ghost use Rattle.strm_image.specs.declared.versions.Version.TheVariants.{Second};
 ghost use Rattle.strm_image.specs.Format.{IsBytes, whole};
-ghost use Rattle.strm_image.specs.HasImage.{AreBanded, AreCounts, AreNumbers, AreShort, HasImage, bytes_in, imaged, new_imaged};
+ghost use Rattle.strm_image.specs.HasImage.{AreBanded, AreCounts, AreNumbers, AreShort, HasImage, bytes_in, counts_of, imaged, new_imaged};
 ghost use Rattle.strm_image.specs.Image.{Imaged, image};
 ghost use Rattle.strm_image.specs.InBlocks.{IsMessageInBlocks};
 ghost use Rattle.strm_image.specs.Loads.{blocks_of};
@@ -24,6 +25,13 @@ pub fn states_have_images()
 /// The base of a journal has an image where its numbers have their widths.
 pub fn bases_have_images()
     ensures { (s : State ℕ) (fates : Fates) → IsBase s fates → AreCounts fates → AreShort s → AreBanded s → AreNumbers s → HasImage (imaged s fates) }
+{}
+
+/// The other way round: what has a text of either version has all that an image asks, and its state is the base of a journal, with the fates
+/// that the text says have gone. So what was read of bytes may become a pair, and that pair has an image of version 2.
+pub fn images_are_bases()
+    ensures images { (v : Version) (x : Imaged) → image.fits (v, x) ≡ true → HasImage x }
+    ensures bases { (v : Version) (x : Imaged) (fates : Fates) → image.fits (v, x) ≡ true → counts_of fates ≡ x.fates → IsBase x.state fates }
 {}
 
 /// An image of version 2 is no longer than what the messages say: [`IMAGE_FIXED`] bytes, and for each message its own and [`MESSAGE_FIXED`];

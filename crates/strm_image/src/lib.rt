@@ -19,6 +19,7 @@ mod passed;
 mod queues;
 mod sink;
 mod streams;
+mod trace;
 mod versions;
 pub mod writing;
 
@@ -33,4 +34,5 @@ pub use passed::MessagesText;
 pub use queues::QueueText;
 pub use sink::Sink;
 pub use streams::{HeadBits, StreamText};
+pub use trace::Trace;
 pub use versions::{FIRST_BANDS, Load, QueueKind, SlotKind, Version};

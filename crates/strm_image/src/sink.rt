@@ -92,11 +92,12 @@ impl Sink {
         self.count.min(u64::MAX as u128) as usize
     }
 
-    /// The text that it was given, where it had room for it.
+    /// The text that it was given, where it had room for it, in its memory.
     pub fn whole(self) -> Option<Vec<u8>>
         ensures text { (text : List ℕ) (room : ℕ) → self ≡ put text (nothing_given room) → IfSome result (λ v. v.items ≡ text) }
         ensures none { (text : List ℕ) (room : ℕ) → self ≡ put text (nothing_given room) → IfNone result (room < length text) }
         ensures room { IfSome result (λ _. self.count ≤ self.room) }
+        ensures memory { IfSome result (λ v. self.room ≤ vec_capacity v) }
     {
         if self.count > self.room as u128 {
             return None;

@@ -1,8 +1,11 @@
--- A turn under the lock, and what a visit tells of it.
-use Rattle.std.specs.Prelude.{◌≡◌, List, [], ◌∷◌, Option, None, Some, Err, IsOk, IfOk, MatchOption, slice_get}
+-- What is done to a pair under its lock beside calls, and what a visit tells of it.
+use Rattle.std.specs.Prelude.{◌≡◌, List, [], ◌∷◌, Option, None, Some, Result, Err, IsOk, IfOk, MatchOption, MatchResult, slice_get}
 use Rattle.atomic_table.specs.Seated.{TableId}
 use Rattle.strm_types.specs.declared.entries.Entry.TheVariants.{Turned}
+use Rattle.strm_types.specs.declared.refusals.NoMemory.{NoMemory}
 use Rattle.strm_laws.specs.Pair.{PairState, AddsEntry, queue_refused, restarted}
+use Rattle.strm_image.specs.declared.trace.Trace.{Trace}
+use Rattle.strm_image.specs.Traces.{IsTrace}
 use Rattle.strm_locks.specs.declared.held.Made.{Made}
 
 -- The pair p makes this turn and becomes q: of the queue that was enabled first, with the pair's own answer. The turn is an entry of the journal then; a refused one leaves the pair
@@ -28,3 +31,11 @@ IsVisit lock v = (v.table ≡ lock) × (p : PairState) × (q : PairState) × (v.
 -- the visit was made under this lock, and the pair that it found begins its journal anew; it made no turn
 abbrev pub IsRestart : TableId → Visited → Type 0
 IsRestart lock v = (v.table ≡ lock) × (p : PairState) × (v.met ≡ p ∷ restarted p ∷ []) × (v.made ≡ None)
+
+-- The pair p hands out this trace of itself, and begins its journal anew; or memory is refused, and it stays
+abbrev pub Cuts : PairState → Result Trace NoMemory → PairState → Type 0
+Cuts p r q = MatchResult r (λ t. IsTrace p t × (q ≡ restarted p)) (λ _. q ≡ p)
+
+-- the visit was made under this lock, and cut the pair that it found; it made no turn
+abbrev pub IsCut : TableId → Visited → Result Trace NoMemory → Type 0
+IsCut lock v r = (v.table ≡ lock) × (p : PairState) × (q : PairState) × (v.met ≡ p ∷ q ∷ []) × Cuts p r q × (v.made ≡ None)

@@ -8,7 +8,7 @@ ghost use Rattle.strm_locks.specs.Rules.{fresh};
 ghost use Rattle.strm_locks.specs.Settles.{IsClosed, IsSettled, Settles};
 ghost use Rattle.strm_locks.specs.Shares.{IsSame, IsSeated, HasPair, Became, Applied, Opened};
 ghost use Rattle.strm_laws.specs.Pair.{restarted};
-ghost use Rattle.strm_locks.specs.Turns.{IsRestart, IsVisit, Visits};
+ghost use Rattle.strm_locks.specs.Turns.{Cuts, IsCut, IsRestart, IsVisit, Visits};
 
 use crate::end::{ALL_PARTS, End, StillShared};
 use crate::gate::{Gate, NoGate};
@@ -17,9 +17,11 @@ use crate::lock::Lock;
 use crate::object::Object;
 use crate::rule::Place;
 use crate::told::Told;
-use crate::visit::Visit;
+use crate::visit::{Cut, Visit};
+use std::alloc::Global;
 use std::sync::Wait;
-use strm_types::{Answer, Caller, Content, Event, Refusal, Side};
+use strm_image::Trace;
+use strm_types::{Answer, Caller, Content, Event, NoMemory, Refusal, Side};
 
 impl<P: Object> Lock<P> {
     // What the holder of the lock does is done on the pair in its slot, which is lent in place.
@@ -72,6 +74,16 @@ impl<P: Object> Lock<P> {
     {
         let held = seat.slot_mut(&self.table.shared, 0);
         held.restart();
+    }
+
+    fn cut_held(&self, seat: &mut Place<P>, alloc: Global) -> Result<Trace, NoMemory>
+        requires own { seat.old.table_id ≡ self.now }
+        requires lock { HasPair seat.old }
+        ensures same { IsSame seat.old seat.new × (seat.new.me.0 ≡ seat.old.me.0) }
+        ensures did { Became (λ k k'. (k'.book ≡ k.book) × Cuts k.pair result k'.pair) seat.old.me.1 seat.new.me.1 }
+    {
+        let held = seat.slot_mut(&self.table.shared, 0);
+        held.cut(alloc)
     }
 
     fn close_held(&self, seat: &mut Place<P>) -> Settled
@@ -259,6 +271,20 @@ impl<P: Object> Lock<P> {
         self.restart_held(&mut seat);
         self.pass(&mut seat);
         Visit { seat, made: None }
+    }
+
+    /// Cuts the pair: it hands out the base at which the journal began and all entries since, and begins the journal anew, as `restart` does.
+    /// The trace is of the pair as the visit found it. It takes the memory of the trace while it has the lock; where memory is refused, the pair
+    /// stays. No end is told of it, and the book keeps the calls of the entries that go.
+    pub fn cut<R: Wait>(&self, rt: &R, alloc: Global) -> Cut<P>
+        ensures { IsCut self.now result.visit result.trace }
+    {
+        let mut seat = self.sit();
+        self.take(rt, &mut seat);
+        let trace = self.cut_held(&mut seat, alloc);
+        self.pass(&mut seat);
+        let visit = Visit { seat, made: None };
+        Cut { visit, trace }
     }
 
     /// Makes one turn of the queue that was enabled first, if any. The visit tells which queue it was and what the pair answered: so the pair

@@ -9,8 +9,12 @@ ghost use Rattle.strm_laws.specs.Pair.{AddsEntry, call_refused, queue_refused, r
 use crate::end::ALL_PARTS;
 use crate::object::Object;
 use crate::told::{Each, Told};
+use std::alloc::Global;
 use std::marker::Model;
-use strm_types::{Answer, Caller, Content, Dir, Event, Ledger, QueueName, Refusal, Side, Turn};
+use strm_image::Trace;
+use strm_types::{
+    Answer, Caller, Content, Dir, Event, Ledger, NoMemory, QueueName, Refusal, Side, Turn,
+};
 
 /// A pair with its book, which a thread has while it holds the lock. Contracts see the pair, and the book: what all ends were told since the
 /// pair was opened, as the history the calls since, of which those of the journal are the last, and the parts that no end has.
@@ -53,7 +57,7 @@ impl<P: Object> Held<P> {
     ghost use Rattle.strm_locks.specs.Books.{closed_book, Adds, IsBelow, IsNew, Fits, minus};
     ghost use Rattle.strm_locks.specs.Settles.{IsClosed};
     ghost use Rattle.strm_locks.specs.Shares.{entry_of, Did, Opens};
-    ghost use Rattle.strm_locks.specs.Turns.{Visits};
+    ghost use Rattle.strm_locks.specs.Turns.{Cuts, Visits};
 
     /// A pair that nobody opened, with a closed book.
     pub fn new(pair: P) -> Held<P>
@@ -108,6 +112,15 @@ impl<P: Object> Held<P> {
         ensures book { self.new.book ≡ self.old.book }
     {
         self.pair.restart();
+    }
+
+    /// Cuts the pair: it hands out the base at which the journal began and all entries since, and begins the journal anew, as `restart` does.
+    /// Where memory is refused the pair stays. The book stays in either case: its history has the calls of the entries that go.
+    pub fn cut(&mut self, alloc: Global) -> Result<Trace, NoMemory>
+        ensures pair { Cuts self.old.pair result self.new.pair }
+        ensures book { self.new.book ≡ self.old.book }
+    {
+        self.pair.cut(alloc)
     }
 
     /// What all ends were told together.

@@ -22,5 +22,5 @@ pub use lock::Lock;
 pub use object::Object;
 pub use system::{PairEnd, System};
 pub use told::{Each, Told};
-pub use visit::Visit;
+pub use visit::{Cut, Visit};
 pub use workers::{Report, Round, work};

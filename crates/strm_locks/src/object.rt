@@ -10,8 +10,11 @@ ghost use Rattle.strm_laws.specs.Pair.{PairState, AddsEntry, call_refused, new_p
 ghost use Rattle.strm_laws.specs.State.{book};
 ghost use Rattle.strm_laws.specs.Step.{IsLegal, replay};
 ghost use Rattle.strm_locks.specs.Tallies.{Tallies, bytes_read};
+ghost use Rattle.strm_locks.specs.Turns.{Cuts};
 
-use strm_types::{Answer, Caller, Content, Dir, Event, Ledger, QueueName, Refusal, Turn};
+use std::alloc::Global;
+use strm_image::Trace;
+use strm_types::{Answer, Caller, Content, Dir, Event, Ledger, NoMemory, QueueName, Refusal, Turn};
 
 /// A pair, to its lock: a call or a turn is refused by name and changes nothing, or it adds one entry to the journal; and the pair can be
 /// made as new in place.
@@ -65,6 +68,11 @@ pub trait Object: Drop {
     /// Begins the journal anew, at the state that the pair has, in place. It takes no memory.
     fn restart(&mut self)
         ensures { pair_of self.new ≡ restarted (pair_of self.old) };
+
+    /// Hands out a trace of the pair, the base at which its journal begins and all entries since, and begins the journal anew at the state that
+    /// the pair has. It is refused for want of memory alone, and the pair stays then.
+    fn cut(&mut self, alloc: Global) -> Result<Trace, NoMemory>
+        ensures { Cuts (pair_of self.old) result (pair_of self.new) };
 
     /// Makes the pair as new, in place: nobody opened it. It takes no memory.
     fn reset(&mut self)

@@ -7,14 +7,14 @@ ghost use Rattle.strm_locks.specs.Books.{IsNew};
 ghost use Rattle.strm_locks.specs.Ends.{Calls, CallsSlave, IsOpened, OpensNoMaster, Splits, grouped_end, joined_end};
 ghost use Rattle.strm_locks.specs.Settles.{Settles};
 ghost use Rattle.strm_locks.specs.Systems.{IsOne, numbered};
-ghost use Rattle.strm_locks.specs.Turns.{IsRestart, IsVisit};
+ghost use Rattle.strm_locks.specs.Turns.{IsCut, IsRestart, IsVisit};
 
 use crate::end::{ALL_PARTS, End, StillShared};
 use crate::gate::Gate;
 use crate::held::{Held, Settled};
 use crate::lock::Lock;
 use crate::object::Object;
-use crate::visit::Visit;
+use crate::visit::{Cut, Visit};
 use std::alloc::{AllocError, Global};
 use std::marker::Model;
 use std::sync::Wait;
@@ -232,6 +232,15 @@ impl<P: Object> System<P> {
         ensures made { IsRestart result.table result }
     {
         self.lock(end.pair).restart(rt)
+    }
+
+    /// Cuts an end's pair, as [`Lock::cut`] does. What the end was told stays.
+    pub fn cut<R: Wait>(&self, rt: &R, alloc: Global, end: &PairEnd<P>) -> Cut<P>
+        requires { IsOne self.now end.now }
+        ensures pair { slice_get self.now.locks end.now.pair ≡ Some result.visit.table }
+        ensures made { IsCut result.visit.table result.visit result.trace }
+    {
+        self.lock(end.pair).cut(rt, alloc)
     }
 
     /// Makes a turn of the queue of a pair that was enabled first, as [`Lock::turn`] does.

@@ -1,4 +1,4 @@
-//! A visit to a pair, which makes a turn under its lock or begins its journal anew.
+//! A visit to a pair, which makes a turn under its lock, begins its journal anew, or cuts it.
 
 ghost use Rattle.std.specs.Prelude.{◌≡◌};
 
@@ -6,9 +6,11 @@ use crate::held::Made;
 use crate::object::Object;
 use crate::rule::Place;
 use std::marker::Model;
+use strm_image::Trace;
+use strm_types::NoMemory;
 
 /// What a visit to a pair was: the seat that had the lock, and the turn that it made there, if it made one. No end was told of it: a turn writes
-/// and reads nothing, and nor does who begins the journal anew.
+/// and reads nothing, and nor does who begins the journal anew or cuts it.
 ///
 /// Contracts see which lock it had, the pair as it found it and as it left it, and the turn. No program reads the two pairs.
 #[derive(Drop)]
@@ -32,4 +34,11 @@ impl<P: Object> Visit<P> {
     {
         self.made
     }
+}
+
+/// A cut of a pair: the visit that made it, and the trace that the pair handed out, unless memory was refused.
+#[derive(Drop)]
+pub struct Cut<P: Object> {
+    pub visit: Visit<P>,
+    pub trace: Result<Trace, NoMemory>,
 }

@@ -22,7 +22,7 @@ unfolding sum_from
 sum-all f [] = refl
 sum-all f (q ∷ lists) = omega (arith, sum_by-cons f q lists, sum-all f lists, sum-shifts f q lists 0 (length lists))
 
-eight-lists : (f : List (List Block) → ℕ) (s : StoreValue) → length s.lists ≡ 8
+pub eight-lists : (f : List (List Block) → ℕ) (s : StoreValue) → length s.lists ≡ 8
     → sum_by f s.lists ≡ f (list_at s 0) + (f (list_at s 1) + (f (list_at s 2) + (f (list_at s 3) + (f (list_at s 4) + (f (list_at s 5) + (f (list_at s 6) + f (list_at s 7)))))))
 unfolding sum_from
 eight-lists f s eight = let counted = sum-all f s.lists in let all = ap (λ n. sum_from f s.lists 0 n) eight in omega arith

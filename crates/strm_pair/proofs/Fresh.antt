@@ -1,7 +1,11 @@
 -- A pair over a store with nothing in it, with an empty journal, is as new.
 use Rattle.std.proofs.Common.{ℕ, ◌≡◌, List, [], ap, sym, subst, refl, ◌∙◌}
-use Rattle.std.specs.Prelude.{replicate}
+use Rattle.std.specs.Prelude.{◌≤◌, length, replicate}
 use Rattle.strm_types.specs.declared.limits.Config.{Config}
+use Rattle.strm_image.specs.declared.versions.Version.TheVariants.{Second}
+use Rattle.strm_image.specs.HasImage.{HasImage, imaged}
+use Rattle.strm_image.specs.Image.{image}
+use Rattle.strm_types.specs.Journal.{PlainEntry}
 use Rattle.strm_laws.specs.State.{opening}
 use Rattle.strm_types.specs.Cells.{plain}
 use Rattle.strm_types.specs.declared.rules.Fates.{Fates}
@@ -18,8 +22,10 @@ use Rattle.strm_laws.specs.Ledgers.{FewBooked}
 use Rattle.strm_laws.specs.Restorable.{AreWithinEntries}
 use Rattle.strm_laws.proofs.BaseSteps.{opening-base}
 use Rattle.strm_pair.specs.PairViews.{pair_of, IsKept}
+use Rattle.strm_pair.specs.BaseTexts.{begun_at, image_room}
 use Rattle.strm_pair.specs.Starts.{Start, new_start}
 use Rattle.strm_pair.proofs.Shown.{free-empty}
+use Rattle.strm_pair.proofs.BaseRows.{new-has-image, new-room}
 use Rattle.strm_pair.proofs.Steps.{led-nowhere}
 
 -- streams as new, beside a store with nothing in it
@@ -42,6 +48,23 @@ fresh-kept s p j b limits fates is blank fresh empty events bytes none = record 
   events = events;
   bytes = bytes;
 }
+
+-- a base at such streams is that of a new pair
+pub fresh-start : (s : StoreValue) (p : Streams) (b : Start) (past : List PlainEntry) (fates : Fates) (mblks dblks : ℕ) → s ≡ empty_store mblks dblks → AreFresh mblks dblks p → fates ≡ no_fates → past ≡ []
+    → b ≡ begun_at (state_in s p) fates past → b ≡ new_start
+fresh-start s p b past fates mblks dblks blank fresh none first is =
+    is ∙ ap (λ t. begun_at t fates past) (ap (λ v. state_in v p) blank ∙ fresh.state) ∙ ap (λ f. begun_at opening f past) none ∙ ap (λ es. begun_at opening no_fates es) first
+
+-- and they have the image of one, in its room
+pub fresh-has-image : (s : StoreValue) (p : Streams) (fates : Fates) (mblks dblks : ℕ) → s ≡ empty_store mblks dblks → AreFresh mblks dblks p → fates ≡ no_fates → HasImage (imaged (state_in s p) fates)
+fresh-has-image s p fates mblks dblks blank fresh none =
+    subst (λ f. HasImage (imaged (state_in s p) f)) (sym none) (subst (λ t. HasImage (imaged t no_fates)) (sym (ap (λ v. state_in v p) blank ∙ fresh.state)) new-has-image)
+
+pub fresh-room : (s : StoreValue) (p : Streams) (fates : Fates) (mblks dblks : ℕ) → s ≡ empty_store mblks dblks → AreFresh mblks dblks p → fates ≡ no_fates
+    → length (image.text (Second, imaged (state_in s p) fates)) ≤ image_room mblks
+fresh-room s p fates mblks dblks blank fresh none =
+    subst (λ f. length (image.text (Second, imaged (state_in s p) f)) ≤ image_room mblks) (sym none)
+    (subst (λ t. length (image.text (Second, imaged t no_fates)) ≤ image_room mblks) (sym (ap (λ v. state_in v p) blank ∙ fresh.state)) (new-room mblks))
 
 pub fresh-shown : (s : StoreValue) (p : Streams) (j : Journal) (b : Start) (limits : Config) (fates : Fates) → b ≡ new_start → s ≡ empty_store limits.mblks limits.dblks → AreFresh limits.mblks limits.dblks p → journal_of j ≡ [] → fates ≡ no_fates → pair_of s p j b limits fates ≡ new_pair limits
 fresh-shown s p j b limits fates is blank fresh empty none =

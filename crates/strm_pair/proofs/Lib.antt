@@ -37,6 +37,8 @@ mod Tried
 pub mod Balanced
 mod WideQueues
 mod PairImages
+mod UsedBytes
+mod BaseRows
 pub mod ChainTexts
 pub mod ListTexts
 pub mod RestTexts
@@ -47,3 +49,10 @@ mod PutBehind
 pub mod Refilled
 pub mod FlowsSet
 pub mod LdtermsMade
+mod StacksMade
+mod OnceMore
+mod EndsMade
+mod TextsTold
+mod PairsMade
+mod RestoredPairs
+mod ImagesBack

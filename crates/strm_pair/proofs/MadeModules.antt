@@ -15,7 +15,7 @@ use Rattle.strm_pair.specs.AnyModules.{IsMade}
 use Rattle.strm_pair.proofs.ModuleTaken.{once-is}
 
 -- two names are never one
-once-two : (a b k : ℕ) → a ≢ b → once a k + once b k ≤ 1
+pub once-two : (a b k : ℕ) → a ≢ b → once a k + once b k ≤ 1
 unfolding once
 once-two a b k apart = by (a == k) (b == k) refl refl
   where

@@ -17,6 +17,7 @@ use Rattle.strm_laws.proofs.Replay.{kept-legal, replay-append}
 use Rattle.strm_blocks.specs.Blocks.{StoreValue}
 use Rattle.strm_pair.specs.declared.streams.Streams.{Streams}
 use Rattle.strm_pair.specs.declared.journal.Journal.{Journal}
+use Rattle.strm_pair.specs.BaseTexts.{begun_at}
 use Rattle.strm_pair.specs.Pairs.{state_in, journal_of, AreHeld, SamePool}
 use Rattle.strm_pair.specs.PairViews.{IsKept, led_to, pair_of}
 use Rattle.strm_pair.specs.Starts.{Start, led_on}
@@ -76,6 +77,12 @@ kept-base s p j b limits fates kept =
 -- nothing of a turn is under way at any module between calls
 pub led-idle : (s : StoreValue) (p : Streams) (j : Journal) (b : Start) (limits : Config) (fates : Fates) → IsKept s p j b limits fates → AreIdle (state_in s p)
 led-idle s p j b limits fates kept = (kept-base s p j b limits fates kept).restorable.idle
+
+-- what the blocks stand for, with what has gone, is where the journal leads
+pub on-told : (s : StoreValue) (p : Streams) (j : Journal) (b : Start) (limits : Config) (fates : Fates) (past : List PlainEntry) → IsKept s p j b limits fates
+    → past ≡ b.past ++ journal_of j → begun_at (state_in s p) fates past ≡ led_on (journal_of j) b
+on-told s p j b limits fates past kept is =
+    ap (λ t. begun_at t fates past) kept.replayed ∙ ap (λ f. begun_at (led_to b j) f past) kept.told ∙ ap (λ es. begun_at (led_to b j) (told_by plain b.state (journal_of j) b.fates) es) is
 
 -- a base that has gone on to where the journal led, and an empty journal
 module _ (s : StoreValue) (p : Streams) (j k : Journal) (b c : Start) (limits : Config) (fates : Fates) (kept : IsKept s p j b limits fates)

@@ -21,8 +21,12 @@ pub mod Parts
 pub mod ModuleTurned
 pub mod ModuleServed
 pub mod Starts
+pub mod BaseTexts
 pub mod Writings
 pub mod Imaging
 pub mod Runs
 pub mod Standing
 pub mod Placing
+pub mod Laying
+pub mod Restored
+pub mod Reserved

@@ -42,7 +42,7 @@ ordered-map [] o = tt
 ordered-map (chain ∷ q) o = (ranks-map chain q o.0, ordered-map q o.1)
 
 -- one of two numbers that follow one another
-either-once : (a k : ℕ) → a ≤ k → k < a + 2 → once a k + once (a + 1) k ≡ 1
+pub either-once : (a k : ℕ) → a ≤ k → k < a + 2 → once a k + once (a + 1) k ≡ 1
 unfolding once
 either-once a k low high = at (a == k) refl
   where

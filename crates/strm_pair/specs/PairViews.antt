@@ -12,7 +12,9 @@ use Rattle.strm_laws.specs.State.{State}
 use Rattle.strm_laws.specs.Step.{replay, IsLegal}
 use Rattle.strm_blocks.specs.Blocks.{StoreValue}
 use Rattle.strm_pair.specs.declared.streams.Streams.{Streams}
+use Rattle.strm_pair.specs.declared.base.Base.{Base}
 use Rattle.strm_pair.specs.declared.journal.Journal.{Journal}
+use Rattle.strm_pair.specs.BaseTexts.{IsWritten, start_in}
 use Rattle.strm_pair.specs.Pairs.{state_in, free_in, journal_of, AreHeld}
 use Rattle.strm_pair.specs.Starts.{Start}
 
@@ -52,3 +54,8 @@ pub record IsKept (s : StoreValue) (streams : Streams) (journal : Journal) (base
   pub dblks : s.dblks ≡ limits.dblks
   pub events : journal.most_entries ≡ limits.journal_events
   pub bytes : journal.most_bytes ≡ limits.journal_bytes
+
+-- So it is of each pair from the base of its journal, whose text is written.
+pub record IsWhole (s : StoreValue) (streams : Streams) (journal : Journal) (base : Base) (limits : Config) (fates : Fates) : Type 0 where
+  pub kept : IsKept s streams journal (start_in base) limits fates
+  pub written : IsWritten base limits

@@ -1,8 +1,19 @@
 -- Modules of a text in a store.
-use Rattle.std.specs.Prelude.{ℕ}
+use Rattle.std.specs.Prelude.{ℕ, ◌≡◌, ◌≤◌, ◌+◌, true, List, [], Option, is_some, length, map, sum_by}
+use Rattle.std.specs.List.{AllByRecursion}
+use Rattle.strm_types.specs.declared.limits.TheConstants.{MODULES}
+use Rattle.strm_laws.specs.StackCosts.{EachOnce}
+use Rattle.strm_blocks.specs.Blocks.{StoreValue, list_at}
+use Rattle.strm_frame.specs.Hands.{once}
+use Rattle.strm_frame.specs.Stacks.{all_of, AreHeld}
 use Rattle.strm_image.specs.declared.modules.ModuleText.{ModuleText}
 use Rattle.strm_image.specs.declared.modules.ModuleText.TheVariants as texts
-use Rattle.strm_pair.specs.Standing.{IsLdtermText, ldterm_blocks}
+use Rattle.strm_image.specs.ModuleTexts.{module_now, modules_now, names_now}
+use Rattle.strm_ldterm.specs.declared.ldterm.Tables.{Tables}
+use Rattle.strm_pair.specs.declared.modules.AnyModule.{AnyModule}
+use Rattle.strm_pair.specs.AnyModules.{IsHeld, keeps, module_in, owns}
+use Rattle.strm_pair.specs.Runs.{Spent}
+use Rattle.strm_pair.specs.Standing.{FillsTwo, IsLdtermText, ldterm_blocks}
 
 -- how many blocks the messages of a module take
 abbrev pub module_blocks : ModuleText → ℕ
@@ -15,3 +26,41 @@ abbrev pub IsModuleText : ModuleText → Type 0
 IsModuleText (texts.Ldterm l) = IsLdtermText l
 IsModuleText (texts.Ptem p) = Unit {0}
 IsModuleText texts.Pckt = Unit {0}
+
+-- 1 for each list that is a module's own, of two from a number on: an ldterm has both
+abbrev pub own_of : ℕ → ℕ → ModuleText → ℕ
+own_of first k (texts.Ldterm l) = once first k + once (first + 1) k
+own_of first k (texts.Ptem p) = 0
+own_of first k texts.Pckt = 0
+
+-- an ldterm finds nothing on its lists, and its tables on the shelf
+abbrev pub IsFreeFor : StoreValue → ℕ → Option Tables → ModuleText → Type 0
+IsFreeFor s first shelf (texts.Ldterm l) = (list_at s first ≡ []) × ((list_at s (first + 1) ≡ []) × (is_some shelf ≡ true))
+IsFreeFor s first shelf (texts.Ptem p) = Unit {0}
+IsFreeFor s first shelf texts.Pckt = Unit {0}
+
+-- A module stands as a text has it. It keeps nothing in hand. Where it has no list of its own, the store and the shelf are as they were.
+pub record IsPlaced (old new : StoreValue) (first : ℕ) (was is : Option Tables) (text : ModuleText) (x : AnyModule) : Type 0 where
+  pub state : module_in new x ≡ module_now text
+  pub held : IsHeld new x
+  pub rests : (i : ℕ) → keeps x i ≡ 0
+  pub own : (k : ℕ) → owns x k ≡ own_of first k text
+  pub stays : owns x first ≡ 0 → (new ≡ old) × (is ≡ was)
+  pub fills : FillsTwo old new first
+  pub spent : Spent old new (module_blocks text)
+
+-- what the text of the modules of a stream has as its format says: three at most, each name once
+pub record AreModuleTexts (ms : List ModuleText) : Type 0 where
+  pub few : length ms ≤ MODULES
+  pub each : AllByRecursion IsModuleText ms
+  pub names : EachOnce (names_now ms)
+
+-- Modules stand as a text has them, the one on top first. While none has queues, the lists for these are empty, and their tables are on the shelf.
+pub record AreStacked (old new : StoreValue) (first : ℕ) (ms : List ModuleText) (xs : List AnyModule) (shelf : Option Tables) : Type 0 where
+  pub state : map (module_in new) xs ≡ modules_now ms
+  pub held : AreHeld IsHeld owns new xs
+  pub rests : (i : ℕ) → all_of keeps xs i ≡ 0
+  pub own : (k : ℕ) → all_of owns xs k ≡ sum_by (own_of first k) ms
+  pub free : all_of owns xs first ≡ 0 → (list_at new first ≡ []) × ((list_at new (first + 1) ≡ []) × (is_some shelf ≡ true))
+  pub fills : FillsTwo old new first
+  pub spent : Spent old new (sum_by module_blocks ms)

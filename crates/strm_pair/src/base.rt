@@ -1,40 +1,83 @@
-//! Where a pair's journal begins, as proofs alone know it.
+//! Where a pair's journal begins: the image of the state that it had there.
 
-ghost use Rattle.std.specs.Prelude.{◌≡◌};
-ghost use Rattle.std.specs.Borrow.{ftrue};
-ghost use Rattle.strm_pair.specs.Starts.{Start, led_on, new_start};
+ghost use Rattle.std.specs.Prelude.{◌≡◌, ◌≤◌, [], length, vec_capacity};
+ghost use Rattle.strm_image.specs.HasImage.{HasImage, imaged};
+ghost use Rattle.strm_image.specs.Image.{image};
+ghost use Rattle.strm_image.specs.declared.versions.Version.TheVariants.{Second};
+ghost use Rattle.strm_pair.specs.BaseTexts.{start_in, begun_at, made_of};
+ghost use Rattle.strm_pair.specs.Pairs.{AreHeld, state_in};
 
-use crate::journal::Journal;
-use std::marker::{Model, PhantomData, Send};
+use crate::images::whole::put_image;
+use crate::past::Past;
+use crate::streams::Streams;
+use std::mem;
+use strm_blocks::Blocks;
+use strm_image::Sink;
+use strm_types::{Both, Fates};
 
-/// The base of a journal: the plain state at which it begins, and how many bytes had gone by each rule there. It has no bytes, and its
-/// calls do nothing when they run.
+/// The base of a journal: the image, in version 2, of the state and of what had gone by each rule where it begins, in memory that was
+/// reserved for it; how many bytes had been made on the way in each direction, which an image doesn't tell; and the entries before,
+/// as proofs know them.
 #[derive(Drop)]
 pub(crate) struct Base {
-    marker: PhantomData<u8>,
-    pub(crate) ghost start: { Start },
+    pub text: Vec<u8>,
+    pub made: Both<u64>,
+    pub past: Past,
 }
 
-impl Model for Base {
-    ghost also_owns = { λ _. ftrue };
+// The image of streams over their store, in memory that takes it.
+fn text_of<B: Blocks>(store: &B, streams: &Streams, fates: &Fates, memory: Vec<u8>) -> Vec<u8>
+    requires held { AreHeld (B.value store.now) streams.now }
+    requires room { length (image.text (Second, imaged (state_in (B.value store.now) streams.now) fates.now)) ≤ vec_capacity memory }
+    ensures text { result.items ≡ image.text (Second, imaged (state_in (B.value store.now) streams.now) fates.now) }
+    ensures memory { vec_capacity memory ≤ vec_capacity result }
+{
+    match put_image(store, streams, fates, Sink::new(memory)).whole() {
+        Some(text) => text,
+        None => unreachable!(),
+    }
 }
 
-unsafe impl Send for Base {}
+// How many bytes were made on the way.
+fn made_of(fates: &Fates) -> Both<u64>
+    ensures { result ≡ made_of fates.now }
+{
+    Both {
+        master: fates.made_from_master,
+        slave: fates.made_from_slave,
+    }
+}
 
 impl Base {
-    ghost use Rattle.strm_pair.specs.Pairs.{journal_of};
-
-    /// The base of a pair as it is made.
-    pub(crate) fn new() -> Base
-        ensures { result.start ≡ new_start }
+    /// A base at what streams over their store stand for, with what has gone by each rule; no entry led to it. The cost is that of the image.
+    pub fn at<B: Blocks>(store: &B, streams: &Streams, fates: &Fates, memory: Vec<u8>) -> Base
+        requires held { AreHeld (B.value store.now) streams.now }
+        requires has { HasImage (imaged (state_in (B.value store.now) streams.now) fates.now) }
+        requires room { length (image.text (Second, imaged (state_in (B.value store.now) streams.now) fates.now)) ≤ vec_capacity memory }
+        ensures start { start_in result ≡ begun_at (state_in (B.value store.now) streams.now) fates.now [] }
+        ensures text { result.text.items ≡ image.text (Second, imaged (state_in (B.value store.now) streams.now) fates.now) }
+        ensures memory { vec_capacity memory ≤ vec_capacity result.text }
     {
         Base {
-            marker: PhantomData,
+            text: text_of(store, streams, fates, memory),
+            made: made_of(fates),
+            past: Past::none(),
         }
     }
 
-    /// Goes on to where a journal leads that begins there.
-    pub(crate) fn go_on(&mut self, _journal: &Journal)
-        ensures { self.new.start ≡ led_on (journal_of _journal.now) self.old.start }
-    {}
+    /// Goes to what streams over their store stand for, with what has gone by each rule. The memory stays, and the entries before. The cost is
+    /// that of the image.
+    pub fn write<B: Blocks>(&mut self, store: &B, streams: &Streams, fates: &Fates)
+        requires held { AreHeld (B.value store.now) streams.now }
+        requires has { HasImage (imaged (state_in (B.value store.now) streams.now) fates.now) }
+        requires room { length (image.text (Second, imaged (state_in (B.value store.now) streams.now) fates.now)) ≤ vec_capacity self.old.text }
+        ensures start { start_in self.new ≡ begun_at (state_in (B.value store.now) streams.now) fates.now self.old.past.entries }
+        ensures text { self.new.text.items ≡ image.text (Second, imaged (state_in (B.value store.now) streams.now) fates.now) }
+        ensures memory { vec_capacity self.old.text ≤ vec_capacity self.new.text }
+    {
+        let empty = Vec::new(*self.text.allocator());
+        let memory = mem::replace(&mut self.text, empty);
+        self.text = text_of(store, streams, fates, memory);
+        self.made = made_of(fates);
+    }
 }

@@ -1,14 +1,14 @@
 //! The pair: calls, turns, and the journal of what was carried out.
 
-ghost use Rattle.std.specs.Prelude.{◌≡◌, ◌≤◌, ◌<◌, ◌+◌, true, if◌then◌else◌, sum_by, [], length, replicate, MatchResult, MatchOption, IsOk, Err, IfOk, is_some, slice_get, vec_capacity};
+ghost use Rattle.std.specs.Prelude.{◌≡◌, ◌≤◌, ◌<◌, ◌+◌, true, if◌then◌else◌, sum_by, [], length, replicate, MatchResult, MatchOption, IsOk, Err, IfOk, is_some, slice_get};
 ghost use Rattle.strm_types.specs.Events.{request, map_answer};
 ghost use Rattle.strm_types.specs.Cells.{Origin, plain, tagged};
 ghost use Rattle.strm_types.specs.declared.entries.Entry.TheVariants.{Called, Turned};
 ghost use Rattle.strm_laws.specs.Earlier.{modules_on};
 ghost use Rattle.strm_types.specs.declared.job_control.Verdict.TheVariants.{Allowed, Stopped};
 ghost use Rattle.strm_laws.specs.Based.{based};
-ghost use Rattle.strm_laws.specs.Pair.{new_pair, restarted, call_refused, call_verdict, queue_refused, AddsEntry};
-ghost use Rattle.strm_types.specs.Journal.{entries_in, reply_in, answer_len};
+ghost use Rattle.strm_laws.specs.Pair.{new_pair, call_refused, call_verdict, queue_refused, AddsEntry};
+ghost use Rattle.strm_types.specs.Journal.{entries_in, entry_len, reply_in, answer_len};
 ghost use Rattle.strm_laws.specs.Refusals.{enough, has_room};
 ghost use Rattle.strm_laws.specs.Step.{replay, IsLegal};
 ghost use Rattle.strm_laws.specs.Kept.{told_by};
@@ -22,22 +22,20 @@ ghost use Rattle.strm_pair.specs.Parts.{longest_part};
 ghost use Rattle.strm_pair.specs.Pool.{IsPoolOf};
 ghost use Rattle.strm_image.specs.HasImage.{imaged};
 ghost use Rattle.strm_image.specs.Image.{image};
-ghost use Rattle.strm_image.specs.Sinks.{nothing_given, put};
 ghost use Rattle.strm_image.specs.declared.versions.Version.TheVariants.{Second};
 ghost use Rattle.strm_pair.specs.PairViews.{sizes_over};
 
 use crate::answers::own;
 use crate::base::Base;
-use crate::images::whole::put_image;
-use crate::images::widths::{know_fates, know_streams};
 use crate::journal::Journal;
 use crate::ledgers::sum;
+use crate::past::Past;
 use crate::refusals::or_else;
 use crate::streams::{Streams, queue_tables};
 use std::alloc::Global;
 use std::marker::Model;
 use strm_blocks::Blocks;
-use strm_image::Sink;
+use strm_image::{IMAGE_BLOCK, IMAGE_FIXED};
 use strm_types::{
     Answer, Band, Caller, Config, Content, Dir, Entry, Event, Fates, LISTS, Ledger, NoMemory,
     Place, QueueName, READ_MAX, ReadBytes, Refusal, Side, StopSignal, Turn, Verdict, turn_blocks,
@@ -56,9 +54,10 @@ pub struct Pair<B: Blocks + Drop> {
     fates: Fates,
 }
 
-/// What a pair's journal holds: its entries, and their bytes in order.
+/// What a pair's journal holds: the base at which it begins, as an image of version 2, its entries, and their bytes in order.
 #[derive(Clone, Copy)]
 pub struct Recorded<'a> {
+    pub base: &'a [u8],
     pub entries: &'a [Entry<u32>],
     pub bytes: &'a [u8],
 }
@@ -68,17 +67,19 @@ impl<B: Blocks + Drop> Model for Pair<B> {
 
     ghost Value = { PairState };
 
-    ghost use Rattle.strm_pair.specs.PairViews.{pair_of, IsKept};
+    ghost use Rattle.strm_pair.specs.BaseTexts.{start_in};
+    ghost use Rattle.strm_pair.specs.PairViews.{pair_of, IsWhole};
 
-    ghost view = { λ p. pair_of (B.value p.store) p.streams p.journal p.base.start p.limits p.fates };
+    ghost view = { λ p. pair_of (B.value p.store) p.streams p.journal (start_in p.base) p.limits p.fates };
 
-    ghost invariant = { λ p. IsKept (B.value p.store) p.streams p.journal p.base.start p.limits p.fates };
+    ghost invariant = { λ p. IsWhole (B.value p.store) p.streams p.journal p.base p.limits p.fates };
 }
 
 impl<B: Blocks + Drop> Pair<B> {
     /// A pair which nobody opened, over a store that holds nothing: its lists are empty, and nothing is in hand. The
-    /// sizes of its journal are those of `sizes`, its numbers of blocks are the store's. The memory of the journal
-    /// and of the queues' bands is reserved here, and no later call takes any; where that is refused, the store comes back.
+    /// sizes of its journal are those of `sizes`, its numbers of blocks are the store's. The memory of the journal with its base, which is
+    /// [`IMAGE_FIXED`] bytes and [`IMAGE_BLOCK`] for each message block, and of the queues' bands is reserved here, and no later call takes
+    /// any to keep; where that is refused, the store comes back.
     pub fn new(alloc: Global, sizes: Config, store: B) -> Result<Pair<B>, (NoMemory, B)>
         requires lists { (B.value store).lists ≡ replicate LISTS [] }
         requires hand { (B.value store).hand ≡ [] }
@@ -92,7 +93,14 @@ impl<B: Blocks + Drop> Pair<B> {
         let Ok(journal) = Journal::new(alloc, sizes.journal_events, sizes.journal_bytes) else {
             return Err((NoMemory, store));
         };
+        store.audit();
         let (mblks, dblks) = store.free_blocks();
+        let Ok(memory) = Vec::with_capacity(alloc, IMAGE_FIXED + IMAGE_BLOCK * mblks) else {
+            return Err((NoMemory, store));
+        };
+        let streams = Streams::new(tables);
+        let fates = Fates::none();
+        let base = Base::at(&store, &streams, &fates, memory);
         let limits = Config {
             mblks,
             dblks,
@@ -100,33 +108,25 @@ impl<B: Blocks + Drop> Pair<B> {
         };
         Ok(Pair {
             store,
-            streams: Streams::new(tables),
+            streams,
             journal,
-            base: Base::new(),
+            base,
             limits,
-            fates: Fates::none(),
+            fates,
         })
     }
 
     /// Makes the pair as new, in place: nobody opened it, and its store and its journal are empty. It takes no
-    /// memory. The cost is a step for each message block in use.
+    /// memory. The cost is a step for each message block in use, and that of the image of a new pair.
     pub fn reset(&mut self)
         ensures { self.new ≡ new_pair self.old.limits }
     {
         self.store.reset();
         self.streams.renew();
         self.journal.clear();
-        self.base = Base::new();
         self.fates = Fates::none();
-    }
-
-    /// Begins the journal anew, in place: it is empty, and the state and the fates that the pair has are those at which it begins. All
-    /// else stays, so a pair whose journal is full goes on. It takes no memory.
-    pub fn restart(&mut self)
-        ensures { self.new ≡ restarted self.old }
-    {
-        self.base.go_on(&self.journal);
-        self.journal.clear();
+        self.base.past = Past::none();
+        self.base.write(&self.store, &self.streams, &self.fates);
     }
 
     /// The queues that are enabled, in order of enabling.
@@ -199,32 +199,6 @@ impl<B: Blocks + Drop> Pair<B> {
             queued: book.written + book.made - elsewhere,
             inline,
             fates: *fates,
-        }
-    }
-
-    // The image, as far as a vector has room for it.
-    fn text_in(&self, memory: Vec<u8>) -> Sink
-        ensures { result ≡ put (image.text (Second, imaged self.now.state self.now.fates)) (nothing_given (vec_capacity memory)) }
-    {
-        put_image(&self.store, &self.streams, &self.fates, Sink::new(memory))
-    }
-
-    /// The image of the pair in version 2 (docs/IMAGES.md): its plain state, and how many bytes have gone by each rule. It asks for the memory
-    /// of the image, once, and the pair stays as it is. The cost is in proportion to the bytes, and a step for each band of each queue.
-    pub fn image(&self, alloc: Global) -> Result<Vec<u8>, NoMemory>
-        ensures text { IfOk result (λ text. text.items ≡ image.text (Second, imaged self.now.state self.now.fates)) }
-        ensures fits { image.fits (Second, imaged self.now.state self.now.fates) ≡ true }
-    {
-        self.store.audit();
-        know_streams(&self.streams);
-        know_fates(&self.fates);
-        let wanted = self.text_in(Vec::new(alloc)).count();
-        let Ok(memory) = Vec::with_capacity(alloc, wanted) else {
-            return Err(NoMemory);
-        };
-        match self.text_in(memory).whole() {
-            Some(text) => Ok(text),
-            None => unreachable!(),
         }
     }
 
@@ -468,7 +442,9 @@ impl<B: Blocks + Drop> Pair<B> {
     /// it began at, each entry is a legal step with the answer that it stores, each queue is in order of rank, each
     /// message has a message block at least, and all blocks are free where there is no message.
     pub fn journal(&self) -> Recorded<'_>
+        ensures base { result.base.now ≡ image.text (Second, imaged self.now.base self.now.base_fates) }
         ensures entries { entries_in result.entries.now result.bytes.now ≡ self.now.journal }
+        ensures lengths { sum_by entry_len result.entries.now ≡ length result.bytes.now }
         ensures replayed { self.now.state ≡ replay plain self.now.base self.now.journal }
         ensures legal { IsLegal plain self.now.base self.now.journal }
         ensures told { self.now.fates ≡ told_by plain self.now.base self.now.journal self.now.base_fates }
@@ -477,6 +453,7 @@ impl<B: Blocks + Drop> Pair<B> {
     {
         self.store.audit();
         Recorded {
+            base: self.base.text.as_slice(),
             entries: self.journal.entries.as_slice(),
             bytes: self.journal.bytes.as_slice(),
         }
@@ -485,3 +462,5 @@ impl<B: Blocks + Drop> Pair<B> {
 
 #[cfg(test)]
 pub(crate) mod kept;
+mod restoring;
+mod tracing;

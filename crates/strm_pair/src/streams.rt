@@ -48,9 +48,9 @@ pub(crate) struct Streams {
 /// The tables of all queues that one side may have.
 #[derive(Drop)]
 pub(crate) struct SideTables {
-    head: Table,
-    driver: Table,
-    modules: Tables,
+    pub head: Table,
+    pub driver: Table,
+    pub modules: Tables,
 }
 
 impl SideTables {

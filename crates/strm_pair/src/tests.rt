@@ -1,5 +1,6 @@
 //! Calls and turns on a pair, with answers worked out by hand.
 
+mod cuts;
 mod filling;
 mod imaging;
 mod ioctls;
@@ -7,6 +8,7 @@ mod ledgers;
 mod messages;
 mod recount;
 mod restarts;
+mod restoring;
 mod running;
 mod walk;
 

@@ -1,6 +1,5 @@
 -- Bytes that are written behind a block, where it alone names its data block.
 use Rattle.std.proofs.Common.{ℕ, ◌≡◌, ◌≢◌, ◌≤◌, ◌<◌, ◌+◌, ◌-◌, Bool, true, false, cond, eqb, ltb, min, List, ◌++◌, length, get_or, take, drop, refl, sym, ap, ◌∙◌, arith}
-use Rattle.std.proofs.Math.ListN.{length-set}
 use Rattle.std.specs.Prelude.{Option, slice_range}
 use Rattle.std.proofs.lemmas.Bool.Decides.{nat_tests}
 use Rattle.std.proofs.lemmas.List.{get_or-set_same, get_or-set_other}
@@ -93,6 +92,6 @@ module _ {v : Nodes} {b : Roster} {first_m : Option MsgLink} {first_d : Option D
         let hits : 0 < cond {A = ℕ} (eqb (row_at t v.rows).number d) 1 0 = (let e = ap (λ (y : Row). y.number) row-is in grind (arith, nat_tests)) in
         let raw = row-raw (writing.written-raw is d there bytes) t t-there x (ap (λ (y : Row). y.next) row-is) (ap (λ (y : Row). y.number) row-is) (let o = straight in omega arith) in
         row-becomes listed _ _ _ _ v2-is refl raw refl t t-there x (ap (λ (y : Row). y.ahead) row-is) (ap (λ (y : Row). y.behind) row-is) refl refl _
-        (one-changed is l here at (inside is view l here name at within link number) (λ j. cond (eqb (row_at j v.rows).number d) 1 0) hits (omega arith) v2 (length-set v.rows t x) (length-set v.datas d _) block-other
+        (one-changed is l here at (inside is view l here name at within link number) (λ j. cond (eqb (row_at j v.rows).number d) 1 0) hits (omega arith) v2 refl refl block-other
         ∙ (λ j. changed (view j) (name j) (with_block at ((block-new ∙ ap (λ (y : Block). written new y) (sym shows)) j) (in_hand (view j) (name j)))))
         (sym (ap (λ (z : StoreValue). z.lists) view))

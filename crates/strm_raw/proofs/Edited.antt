@@ -94,6 +94,8 @@ module _ {v : Nodes} {b : Roster} {first_m : Option MsgLink} {first_d : Option D
           same = is.same;
           same_d = is.same_d;
           eight = is.eight;
+          most_m = is.most_m;
+          most_d = is.most_d;
           few_m = rw len is.few_m;
           few_d = is.few_d;
           counted_m = is.counted_m ∙ sym len;
@@ -107,7 +109,7 @@ module _ {v : Nodes} {b : Roster} {first_m : Option MsgLink} {first_d : Option D
           linked_d = is.linked_d;
           chained = ap (λ (f : ℕ → Option ℕ). weigh (λ m. breaks f (f m.head) m.tail) b.lists b.hand) next-same ∙ is.chained;
           straight = straight-all;
-          count_m = is.count_m;
+          count_m = rw len is.count_m;
           count_d = is.count_d;
           there_m = rw len is.there_m;
           there_d = is.there_d;
@@ -123,9 +125,9 @@ module _ {v : Nodes} {b : Roster} {first_m : Option MsgLink} {first_d : Option D
 
     -- all blocks that count are this one, and the others show the same
     pub one-changed : (hit : ℕ → ℕ) → 0 < hit block → weigh (λ m. sum_by hit (ids m)) b.lists b.hand ≤ 1
-        → (v' : Nodes) → length v'.rows ≡ length v.rows → length v'.datas ≡ length v.datas → ((j : ℕ) → hit j ≡ 0 → block_no v' j ≡ block_no v j)
+        → (v' : Nodes) → v'.mblks ≡ v.mblks → v'.dblks ≡ v.dblks → ((j : ℕ) → hit j ≡ 0 → block_no v' j ≡ block_no v j)
         → value_of v' b ≡ changed (value_of v b) i (with_block at (block_no v' block) (in_hand (value_of v b) i))
-    one-changed hit hits few v' rows datas same =
+    one-changed hit hits few v' mblks dblks same =
         let h : Msg → ℕ = λ m. sum_by hit (ids m) in
         let m = found is l here in
         let w = sum-without i h b.hand (found-some is l here) in
@@ -136,8 +138,8 @@ module _ {v : Nodes} {b : Roster} {first_m : Option MsgLink} {first_d : Option D
         λ k. record {
           lists = lists-apart h (chain_of v') (chain_of v) chains b.lists (omega arith) k;
           hand = (hand-changed h v v' chains i b.hand (found-some is l here) (omega arith) ∙ ap (λ c. with_chain i c (map (held_of v) b.hand)) chain) k;
-          mblks = rows k;
-          dblks = datas k;
+          mblks = mblks k;
+          dblks = dblks k;
         }
 
     once : 0 < times block (ids (found is l here))
@@ -154,7 +156,7 @@ module _ {v : Nodes} {b : Roster} {first_m : Option MsgLink} {first_d : Option D
         let o = is.owned_m block in let p = block-there in let e = once in
         let few : weigh (λ m. times block (ids m)) b.lists b.hand ≤ 1 = grind (arith, nat_tests) in
         let hits : 0 < cond {A = ℕ} (eqb block block) 1 0 = grind (arith, nat_tests) in
-        one-changed (λ j. cond (eqb j block) 1 0) hits few (with_row block r v) (length-set v.rows block r) refl
+        one-changed (λ j. cond (eqb j block) 1 0) hits few (with_row block r v) refl refl
         (λ j z. ap (λ (x : Row). shown v.datas x) (get_or-set_other v.rows block j r no_row (apart j z)))
         ∙ ap (λ (x : Row). changed (value_of v b) i (with_block at (shown v.datas x) (in_hand (value_of v b) i))) (get_or-set_same v.rows block r no_row block-there)
 

@@ -112,6 +112,8 @@ module _ {v : Nodes} {b : Roster} {first_m : Option MsgLink} {first_d : Option D
         same = is.same;
         same_d = is.same_d;
         eight = is.eight;
+        most_m = is.most_m;
+        most_d = is.most_d;
         few_m = rw len is.few_m;
         few_d = rw drops.stock.len is.few_d;
         counted_m = let c = is.counted_m in let s = split is l here (λ m. length (ids m)) in let n = ap length no-tail in omega arith;
@@ -126,7 +128,7 @@ module _ {v : Nodes} {b : Roster} {first_m : Option MsgLink} {first_d : Option D
         linked_d = drops.stock.linked;
         chained = let c = is.chained in let s = split is l here (broken v.rows) in let a = weigh-apart i (broken (set v.rows i r)) (broken v.rows) (relinking.broken-old v i inside (option_map (msg_number v.mat) first_m)) b.lists others (out-others is l here) in omega arith;
         straight = λ k. row-keeps askew v.rows i r inside refl k ∙ is.straight k;
-        count_m = let c = is.count_m in omega arith;
+        count_m = let c = is.count_m in let o = len in omega arith;
         count_d = drops.stock.count;
         there_m = (subst (λ n. i < n) (sym len) inside, (here.0).1);
         there_d = drops.stock.there;
@@ -136,8 +138,8 @@ module _ {v : Nodes} {b : Roster} {first_m : Option MsgLink} {first_d : Option D
   given-value = λ k. record {
     lists = maps-same (chain_of given_nodes) (chain_of v) (relinking.chain-same v i inside (option_map (msg_number v.mat) first_m) datas drops.stock.bytes) b.lists k;
     hand = (map-same (held_of given_nodes) (held_of v) (relinking.held-same v i inside (option_map (msg_number v.mat) first_m) datas drops.stock.bytes) others ∙ sym (without-value v i b.hand)) k;
-    mblks = length-set v.rows i r k;
-    dblks = drops.stock.len k;
+    mblks = v.mblks;
+    dblks = v.dblks;
   }
 
 -- what giving up a reference leaves

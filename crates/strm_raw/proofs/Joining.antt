@@ -147,6 +147,8 @@ module _ {v : Nodes} {b : Roster} {first_m : Option MsgLink} {first_d : Option D
         same = is.same;
         same_d = is.same_d;
         eight = is.eight;
+        most_m = is.most_m;
+        most_d = is.most_d;
         few_m = rw len is.few_m;
         few_d = is.few_d;
         counted_m = let c = is.counted_m in let s = parts (λ m. length (ids m)) in let w = parts-joined (λ m. length (ids m)) in let a = length-append (ids m) (ids p) in omega arith;
@@ -164,7 +166,7 @@ module _ {v : Nodes} {b : Roster} {first_m : Option MsgLink} {first_d : Option D
             let a = weigh-apart t (broken (set v.rows t r)) (broken v.rows) (relinking.broken-old v t within (Some j)) b.lists rest out-rest in
             let x = broken-whole in omega arith;
         straight = λ k. row-keeps askew v.rows t r within refl k ∙ is.straight k;
-        count_m = is.count_m;
+        count_m = rw len is.count_m;
         count_d = is.count_d;
         there_m = rw len is.there_m;
         there_d = is.there_d;
@@ -183,6 +185,6 @@ module _ {v : Nodes} {b : Roster} {first_m : Option MsgLink} {first_d : Option D
       λ k. record {
         lists = maps-same (chain_of joined_nodes) (chain_of v) chain-same b.lists k;
         hand = (map-same (held_of joined_nodes) (held_of v) (relinking.held-same v t within (Some j) v.datas (λ e. refl)) joined_hand ∙ hand) k;
-        mblks = length-set v.rows t r k;
-        dblks = length v.datas;
+        mblks = v.mblks;
+        dblks = v.dblks;
       }

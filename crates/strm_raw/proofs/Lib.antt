@@ -18,11 +18,11 @@ pub mod Popping
 pub mod Flushed
 pub mod Sound
 pub mod Stocking
+pub mod Supplying
 pub mod Taking
 pub mod Parting
 pub mod Giving
 pub mod Walks
-pub mod Threads
 pub mod Fresh
 pub mod Freeing
 pub mod Joining

@@ -1,66 +1,94 @@
--- The nodes of a memory as it is made.
-use Rattle.std.proofs.Common.{ℕ, zero, suc, ◌≡◌, List, [], ◌∷◌, ◌++◌, length, map, refl, sym, ap, ◌∙◌, subst}
-use Rattle.std.specs.Prelude.{Some, None, replicate, slice_get, Result, Ok, Err, IfOk}
-use Rattle.std.proofs.lemmas.List.{length-replicate}
+-- A node that is made behind the others.
+use Rattle.std.proofs.Common.{ℕ, zero, suc, ◌≡◌, ◌≤◌, ◌+◌, List, [], ◌∷◌, ◌++◌, length, map, get_or, refl, sym, ap, ◌∙◌, subst, arith}
+use Rattle.std.specs.Prelude.{Option, Some, None, replicate, slice_get}
+use Rattle.std.proofs.lemmas.List.{length-append, length-replicate}
 use denote.RawPtr.{Ptr}
-use Rattle.strm_raw.specs.Numbered.{rows, AreLinked, IsRow, IsData, IsDataOrNone, row_of, data_of, data_number, no_row, new_data}
-use Rattle.strm_raw.specs.Made.{new_node, first_data, AreNew}
+use Rattle.strm_raw.specs.Links.{IsPlace}
+use Rattle.strm_raw.specs.Numbered.{Rows, rows, AreLinked, IsRow, IsMsgOrNone, IsData, IsDataOrNone, row_of, data_of, nodes_of, Row, DataRow, no_row, no_data}
 use Rattle.strm_raw.specs.declared.msg_nodes.MsgNode.{MsgNode}
+use Rattle.strm_raw.specs.declared.msg_nodes.MsgLink.{MsgLink}
 use Rattle.strm_raw.specs.declared.data_nodes.DataNode.{DataNode}
 use Rattle.strm_raw.specs.declared.data_nodes.DataLink.{DataLink}
 
--- what each member is by its place, the next one is too
-each-pushed : {X : Type 0} (f : ℕ → X) (xs : List X) → ((i : ℕ) (x : X) → slice_get xs i ≡ Some x → x ≡ f i) → (i : ℕ) (x : X) → slice_get (xs ++ f (length xs) ∷ []) i ≡ Some x → x ≡ f i
-each-pushed f [] all zero x e = cc
-each-pushed f [] all (suc i) x e = absurd (let no : None ≡ Some x = e in cc)
-each-pushed f (z ∷ xs) all zero x e = all 0 x e
-each-pushed f (z ∷ xs) all (suc i) x e = each-pushed (λ k. f (suc k)) xs (λ k y h. all (suc k) y h) i x e
+-- what counts where nothing lies is there as well once it is written behind the others
+pub more-same : {X : Type 0} (xs : List X) (d : X) (i : ℕ) → get_or (xs ++ d ∷ []) i d ≡ get_or xs i d
+more-same [] d zero = refl
+more-same [] d (suc i) = refl
+more-same (x ∷ xs) d zero = refl
+more-same (x ∷ xs) d (suc i) = more-same xs d i
 
-pub new-pushed : (l : DataLink) (nodes : List MsgNode) → AreNew l nodes → AreNew l (nodes ++ new_node l (length nodes) ∷ [])
-new-pushed l nodes all = each-pushed (new_node l) nodes all
+pub more-len : {X : Type 0} (xs : List X) (d : X) → length (xs ++ d ∷ []) ≡ length xs + 1
+more-len xs d = length-append xs (d ∷ [])
 
-pub new-none : (l : DataLink) → AreNew l []
-new-none l i n e = absurd (let no : None ≡ Some n = e in cc)
+-- what holds of each member and its place, and of one more
+each-more : {X : Type 0} (P : ℕ → X → Type 0) (xs : List X) (x : X) → ((i : ℕ) (y : X) → slice_get xs i ≡ Some y → P i y) → P (length xs) x → (i : ℕ) (y : X) → slice_get (xs ++ x ∷ []) i ≡ Some y → P i y
+each-more P [] x all p zero y e = let same : x ≡ y = cc in subst (λ w. P 0 w) same p
+each-more P [] x all p (suc i) y e = absurd (let no : None ≡ Some y = e in cc)
+each-more P (z ∷ xs) x all p zero y e = all 0 y e
+each-more P (z ∷ xs) x all p (suc i) y e = each-more (λ k w. P (suc k) w) xs x (λ k w h. all (suc k) w h) p i y e
 
-map-same : {X Y : Type 0} (f : X → Y) (y : Y) (xs : List X) → ((i : ℕ) (x : X) → slice_get xs i ≡ Some x → f x ≡ y) → map f xs ≡ replicate (length xs) y
-map-same f y [] all = refl
-map-same f y (x ∷ xs) all = (λ j. all 0 x refl j ∷ map-same f y xs (λ i z e. all (suc i) z e) j)
+map-more : {X Y : Type 0} (f : X → Y) (xs : List X) (x : X) → map f (xs ++ x ∷ []) ≡ map f xs ++ f x ∷ []
+map-more f [] x = refl
+map-more f (z ∷ xs) x = ap (λ ys. f z ∷ ys) (map-more f xs x)
 
-all-one : {X : Type 0} (n i : ℕ) (x y : X) → slice_get (replicate n x) i ≡ Some y → y ≡ x
-all-one zero i x y e = absurd (let no : None ≡ Some y = e in cc)
-all-one (suc n) zero x y e = cc
-all-one (suc n) (suc i) x y e = all-one n i x y e
+-- a place is one of more nodes too
+pub place-more : (s n m : ℕ) (at p : Ptr) → n ≤ m → IsPlace s at p n → IsPlace s at p m
+place-more s n m at p le is = (let l = is.0 in omega arith, is.1)
 
-map-replicate : {X Y : Type 0} (f : X → Y) (n : ℕ) (x : X) → map f (replicate n x) ≡ replicate n (f x)
-map-replicate f zero x = refl
-map-replicate f (suc n) x = ap (λ ys. f x ∷ ys) (map-replicate f n x)
+module _ (n m : ℕ) (le : n ≤ m) where
+  pub msg-more : (mat : Ptr) (o : Option MsgLink) → IsMsgOrNone mat n o → IsMsgOrNone mat m o
+  msg-more mat None h = tt
+  msg-more mat (Some l) h = place-more _ n m mat l.at le h
 
-module _ (mat dat : Ptr) (ms : List MsgNode) (l : DataLink) (new : AreNew l ms) where
-  pub made-linked : (ds : List DataNode) (d : ℕ) → ds ≡ replicate d first_data → IsData dat d l → AreLinked (rows mat ms) (rows dat ds)
-  made-linked ds d ed there =
-      let len : length ds ≡ d = ap length ed ∙ length-replicate d first_data in
-      let first : (i : ℕ) (n : DataNode) → slice_get ds i ≡ Some n → n ≡ first_data = λ i n e. all-one d i first_data n (ap (λ xs. slice_get xs i) (sym ed) ∙ e) in
+  pub data-more : (dat : Ptr) (o : Option DataLink) → IsDataOrNone dat n o → IsDataOrNone dat m o
+  data-more dat None h = tt
+  data-more dat (Some k) h = place-more _ n m dat k.at le h
+
+module _ (ms : Rows MsgNode) (ds : Rows DataNode) (is : AreLinked ms ds) where
+  -- a message block that names a data block, and is linked to no other
+  module _ (n : MsgNode) (number : IsData ds.at (length ds.items) n.number) (next : n.next ≡ None) (ahead : n.ahead ≡ None) (behind : n.behind ≡ None) (name : n.name ≡ length ms.items) where
+    pub message-linked : AreLinked (rows ms.at ms.room (ms.items ++ n ∷ [])) ds
+    message-linked =
+        let len = more-len ms.items n in
+        let le : length ms.items ≤ length (ms.items ++ n ∷ []) = omega arith in
+        let none : (o : Option MsgLink) → o ≡ None → IsMsgOrNone ms.at (length (ms.items ++ n ∷ [])) o = λ o e. subst (λ (o : Option MsgLink). IsMsgOrNone ms.at (length (ms.items ++ n ∷ [])) o) (sym e) tt in
+        record {
+          rows = each-more (λ i (m : MsgNode). IsRow ms.at ds.at (length (ms.items ++ n ∷ [])) (length ds.items) m) ms.items n (λ i m e. let had = is.rows i m e in record {
+            number = had.number;
+            next = msg-more _ _ le ms.at m.next had.next;
+            ahead = msg-more _ _ le ms.at m.ahead had.ahead;
+            behind = msg-more _ _ le ms.at m.behind had.behind;
+          }) (record { number = number; next = none n.next next; ahead = none n.ahead ahead; behind = none n.behind behind });
+          named = each-more (λ i (m : MsgNode). m.name ≡ i) ms.items n is.named name;
+          datas = is.datas;
+          sized = is.sized;
+        }
+
+  pub message-value : (n : MsgNode) → row_of ms.at ds.at n ≡ no_row → nodes_of (rows ms.at ms.room (ms.items ++ n ∷ [])) ds ≡ record (nodes_of ms ds) { rows = (nodes_of ms ds).rows ++ no_row ∷ [] }
+  message-value n e = ap (λ (rs : List Row). record (nodes_of ms ds) { rows = rs }) (map-more (row_of ms.at ds.at) ms.items n ∙ ap (λ r. (nodes_of ms ds).rows ++ r ∷ []) e)
+
+  abbrev pub first_data : DataNode
+  first_data = record { next = None; references = 0; bytes = replicate 256 0 }
+
+  pub data-linked : AreLinked ms (rows ds.at ds.room (ds.items ++ first_data ∷ []))
+  data-linked =
+      let len = more-len ds.items first_data in
+      let le : length ds.items ≤ length (ds.items ++ first_data ∷ []) = omega arith in
       record {
-        rows = λ i n e. subst (λ (n : MsgNode). IsRow mat dat (length ms) (length ds) n) (sym (new i n e)) (record {
-          number = subst (λ k. IsData dat k l) (sym len) there;
-          next = tt;
-          ahead = tt;
-          behind = tt;
-        });
-        named = λ i n e. ap (λ (n : MsgNode). n.name) (new i n e);
-        datas = λ i n e. subst (λ (n : DataNode). IsDataOrNone dat (length ds) n.next) (sym (first i n e)) tt;
-        sized = λ i n e. ap (λ (n : DataNode). length n.bytes) (first i n e) ∙ (let none : ℕ = 0 in length-replicate 256 none);
+        rows = λ i m e. let had = is.rows i m e in record { number = place-more _ _ _ ds.at m.number.at le had.number; next = had.next; ahead = had.ahead; behind = had.behind };
+        named = is.named;
+        datas = each-more (λ _ (m : DataNode). IsDataOrNone ds.at (length (ds.items ++ first_data ∷ [])) m.next) ds.items first_data (λ i m e. data-more _ _ le ds.at m.next (is.datas i m e)) tt;
+        sized = each-more (λ _ (m : DataNode). length m.bytes ≡ 256) ds.items first_data is.sized (let none : ℕ = 0 in length-replicate 256 none);
       }
 
-  pub made-rows : (m : ℕ) → length ms ≡ m → data_number dat l ≡ 0 → map (row_of mat dat) ms ≡ replicate m no_row
-  made-rows m len first =
-      map-same (row_of mat dat) (record no_row { number = data_number dat l }) ms (λ i n e. ap (row_of mat dat) (new i n e))
-      ∙ ap (λ k. replicate k (record no_row { number = data_number dat l })) len ∙ ap (λ k. replicate m (record no_row { number = k })) first
+  pub data-value : nodes_of ms (rows ds.at ds.room (ds.items ++ first_data ∷ [])) ≡ record (nodes_of ms ds) { datas = (nodes_of ms ds).datas ++ no_data ∷ [] }
+  data-value = ap (λ (rs : List DataRow). record (nodes_of ms ds) { datas = rs }) (map-more (data_of ds.at) ds.items first_data)
 
-pub made-datas : (dat : Ptr) (ds : List DataNode) (d : ℕ) → ds ≡ replicate d first_data → map (data_of dat) ds ≡ replicate d new_data
-made-datas dat ds d ed = ap (λ xs. map (data_of dat) xs) ed ∙ map-replicate (data_of dat) d first_data
-
--- what holds of a result if something does, where that does
-pub ok-by : {X E A : Type 0} (P : X → Type 0) (r : Result X E) → IfOk r (λ v. A → P v) → A → IfOk r P
-ok-by P (Ok v) h a = h a
-ok-by P (Err e) h a = tt
+-- nodes none of which is made
+pub none-linked : (ms : Rows MsgNode) (ds : Rows DataNode) → ms.items ≡ [] → ds.items ≡ [] → AreLinked ms ds
+none-linked ms ds no_ms no_ds = record {
+  rows = λ i n e. absurd (let no : None ≡ Some n = ap (λ xs. slice_get xs i) (sym no_ms) ∙ e in cc);
+  named = λ i n e. absurd (let no : None ≡ Some n = ap (λ xs. slice_get xs i) (sym no_ms) ∙ e in cc);
+  datas = λ i n e. absurd (let no : None ≡ Some n = ap (λ xs. slice_get xs i) (sym no_ds) ∙ e in cc);
+  sized = λ i n e. absurd (let no : None ≡ Some n = ap (λ xs. slice_get xs i) (sym no_ds) ∙ e in cc);
+}

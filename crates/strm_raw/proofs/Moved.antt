@@ -92,6 +92,8 @@ module _ {v : Nodes} {ends : List Ends} {b : Roster} {first_m : Option MsgLink} 
     same = is.same;
     same_d = is.same_d;
     eight = length-set b.lists k q ∙ is.eight;
+    most_m = is.most_m;
+    most_d = is.most_d;
     few_m = rw len is.few_m;
     few_d = is.few_d;
     counted_m = let w = weighs (λ m. length (ids m)) in let c = is.counted_m in omega arith;
@@ -104,7 +106,7 @@ module _ {v : Nodes} {ends : List Ends} {b : Roster} {first_m : Option MsgLink} 
     linked_d = is.linked_d;
     chained = ap (λ (f : ℕ → Option ℕ). weigh (λ m. breaks f (f m.head) m.tail) (set b.lists k q) hand) next-same ∙ weighs (broken v.rows) ∙ is.chained;
     straight = λ i. ap (λ (r : Row). askew r) (same i) ∙ is.straight i;
-    count_m = is.count_m;
+    count_m = rw len is.count_m;
     count_d = is.count_d;
     there_m = rw len is.there_m;
     there_d = is.there_d;
@@ -117,8 +119,8 @@ module _ {v : Nodes} {ends : List Ends} {b : Roster} {first_m : Option MsgLink} 
   moved-value = λ j. record {
     lists = (ap (λ (f : Msg → List Block). map (λ q. map f q) (set b.lists k q)) moved-chains ∙ map-set (λ q. map (chain_of v) q) b.lists k q) j;
     hand = map (λ (m : Msg). record { name = m.head; chain = moved-chains j m }) hand;
-    mblks = len j;
-    dblks = length v.datas;
+    mblks = v.mblks;
+    dblks = v.dblks;
   }
 
   module _ (e : Ends) (first : IsMsgOrNone v.mat (length v.rows) e.first) (last : IsMsgOrNone v.mat (length v.rows) e.last) (tied : IsList moved_nodes e q) (order : ranked.IsOrdered rank_of (map (chain_of v) q))

@@ -1,5 +1,5 @@
 -- Nodes by their numbers, as they are read and written.
-use Rattle.std_alloc.specs.Vec.{vec_ptr, vec_items}
+use Rattle.std_alloc.specs.Vec.{vec_ptr, vec_capacity, vec_items}
 use Rattle.std.proofs.Common.{Vec, Global, ℕ, zero, suc, ◌≡◌, List, [], ◌∷◌, length, map, get_or, refl, sym, ap, ◌∙◌, subst}
 use Rattle.std.proofs.Math.ListN.{set, length-set}
 use Rattle.std.specs.Prelude.{Some, slice_get}
@@ -43,10 +43,10 @@ named-kept ms i n name all = set-placed (λ j (m : MsgNode). m.name ≡ j) ms i 
 
 -- the nodes of a kind, as they lie in their block
 abbrev pub msgs_of : Vec MsgNode Global → Rows MsgNode
-msgs_of v = rows (vec_ptr v) (vec_items v)
+msgs_of v = rows (vec_ptr v) (vec_capacity v) (vec_items v)
 
 abbrev pub datas_of : Vec DataNode Global → Rows DataNode
-datas_of v = rows (vec_ptr v) (vec_items v)
+datas_of v = rows (vec_ptr v) (vec_capacity v) (vec_items v)
 
 module _ (ms : Rows MsgNode) (ds : Rows DataNode) (is : AreLinked ms ds) where
   pub msgs-len : length (nodes_of ms ds).rows ≡ length ms.items
@@ -55,7 +55,7 @@ module _ (ms : Rows MsgNode) (ds : Rows DataNode) (is : AreLinked ms ds) where
   pub datas-len : length (nodes_of ms ds).datas ≡ length ds.items
   datas-len = length-map ds.items (data_of ds.at)
 
-  pub row-set : (i : ℕ) (n : MsgNode) → IsRow ms.at ds.at (length ms.items) (length ds.items) n → n.name ≡ i → AreLinked (rows ms.at (set ms.items i n)) ds
+  pub row-set : (i : ℕ) (n : MsgNode) → IsRow ms.at ds.at (length ms.items) (length ds.items) n → n.name ≡ i → AreLinked (rows ms.at ms.room (set ms.items i n)) ds
   row-set i n ok name =
       let len = length-set ms.items i n in
       record {
@@ -65,7 +65,7 @@ module _ (ms : Rows MsgNode) (ds : Rows DataNode) (is : AreLinked ms ds) where
         sized = is.sized;
       }
 
-  pub row-set-value : (i : ℕ) (n : MsgNode) → nodes_of (rows ms.at (set ms.items i n)) ds ≡ with_row i (row_of ms.at ds.at n) (nodes_of ms ds)
+  pub row-set-value : (i : ℕ) (n : MsgNode) → nodes_of (rows ms.at ms.room (set ms.items i n)) ds ≡ with_row i (row_of ms.at ds.at n) (nodes_of ms ds)
   row-set-value i n = ap (λ (rs : List Row). record (nodes_of ms ds) { rows = rs }) (map-set (row_of ms.at ds.at) ms.items i n)
 
   -- another node in the place of the one that lies there, with its name
@@ -73,13 +73,13 @@ module _ (ms : Rows MsgNode) (ds : Rows DataNode) (is : AreLinked ms ds) where
     pub was : IsRow ms.at ds.at (length ms.items) (length ds.items) old
     was = is.rows i old there
 
-    pub row-kept : IsRow ms.at ds.at (length ms.items) (length ds.items) n → AreLinked (rows ms.at (set ms.items i n)) ds
+    pub row-kept : IsRow ms.at ds.at (length ms.items) (length ds.items) n → AreLinked (rows ms.at ms.room (set ms.items i n)) ds
     row-kept ok = row-set i n ok (name ∙ is.named i old there)
 
-    pub row-edited : (f : Row → Row) → row_of ms.at ds.at n ≡ f (row_of ms.at ds.at old) → nodes_of (rows ms.at (set ms.items i n)) ds ≡ with_row i (f (row_at i (nodes_of ms ds).rows)) (nodes_of ms ds)
+    pub row-edited : (f : Row → Row) → row_of ms.at ds.at n ≡ f (row_of ms.at ds.at old) → nodes_of (rows ms.at ms.room (set ms.items i n)) ds ≡ with_row i (f (row_at i (nodes_of ms ds).rows)) (nodes_of ms ds)
     row-edited f edits = row-set-value i n ∙ ap (λ r. with_row i r (nodes_of ms ds)) (edits ∙ ap f (sym (map-at (row_of ms.at ds.at) ms.items i old no_row there)))
 
-  pub data-set : (i : ℕ) (n : DataNode) → IsDataOrNone ds.at (length ds.items) n.next → length n.bytes ≡ 256 → AreLinked ms (rows ds.at (set ds.items i n))
+  pub data-set : (i : ℕ) (n : DataNode) → IsDataOrNone ds.at (length ds.items) n.next → length n.bytes ≡ 256 → AreLinked ms (rows ds.at ds.room (set ds.items i n))
   data-set i n ok sized =
       let len = length-set ds.items i n in
       record {
@@ -89,5 +89,5 @@ module _ (ms : Rows MsgNode) (ds : Rows DataNode) (is : AreLinked ms ds) where
         sized = set-each (λ (m : DataNode). length m.bytes ≡ 256) ds.items i n is.sized sized;
       }
 
-  pub data-set-value : (i : ℕ) (n : DataNode) → nodes_of ms (rows ds.at (set ds.items i n)) ≡ with_data i (data_of ds.at n) (nodes_of ms ds)
+  pub data-set-value : (i : ℕ) (n : DataNode) → nodes_of ms (rows ds.at ds.room (set ds.items i n)) ≡ with_data i (data_of ds.at n) (nodes_of ms ds)
   data-set-value i n = ap (λ (rs : List DataRow). record (nodes_of ms ds) { datas = rs }) (map-set (data_of ds.at) ds.items i n)

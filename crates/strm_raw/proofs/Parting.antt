@@ -117,6 +117,8 @@ module _ {v : Nodes} {b : Roster} {first_m : Option MsgLink} {first_d : Option D
           same = is.same;
           same_d = is.same_d;
           eight = is.eight;
+          most_m = is.most_m;
+          most_d = is.most_d;
           few_m = rw len is.few_m;
           few_d = is.few_d;
           counted_m =
@@ -136,7 +138,7 @@ module _ {v : Nodes} {b : Roster} {first_m : Option MsgLink} {first_d : Option D
               let a = weigh-apart i (broken (set v.rows i r)) (broken v.rows) (relinking.broken-old v i within None) b.lists others out-others in
               let x = broken-rest in let y = broken-alone in omega arith;
           straight = λ k. row-keeps askew v.rows i r within refl k ∙ is.straight k;
-          count_m = is.count_m;
+          count_m = rw len is.count_m;
           count_d = is.count_d;
           there_m = rw len is.there_m;
           there_d = is.there_d;
@@ -153,8 +155,8 @@ module _ {v : Nodes} {b : Roster} {first_m : Option MsgLink} {first_d : Option D
         λ k. record {
           lists = maps-same (chain_of parted_nodes) (chain_of v) (relinking.chain-same v i within None v.datas (λ e. refl)) b.lists k;
           hand = record { name = name k; chain = relinking.chain-same v i within None v.datas (λ e. refl) (rest_of m) k } ∷ (map-same (held_of parted_nodes) (held_of v) (relinking.held-same v i within None v.datas (λ e. refl)) (with_in i (alone i) b.hand) ∙ hand) k;
-          mblks = length-set v.rows i r k;
-          dblks = length v.datas;
+          mblks = v.mblks;
+          dblks = v.dblks;
         }
 
     -- the rest is named as no message in hand is

@@ -55,10 +55,10 @@ module _ {v : Nodes} {ends : List Ends} {b : Roster} {first_m : Option MsgLink} 
   pub store-holds : IsStore (value_of v b)
   store-holds = record {
     eight = length-map b.lists (λ q. map (chain_of v) q) ∙ is.eight;
-    few_mblks = is.few_m;
-    few_dblks = is.few_d;
-    enough = let u = used-value v b in let c = is.counted_m in omega arith;
-    numbered = λ d past. stored v b is d ∙ ap (λ (r : DataRow). r.references) (get_or_past v.datas d no_data past);
+    few_mblks = is.most_m;
+    few_dblks = is.most_d;
+    enough = let u = used-value v b in let c = is.counted_m in let f = is.few_m in omega arith;
+    numbered = λ d past. stored v b is d ∙ ap (λ (r : DataRow). r.references) (get_or_past v.datas d no_data (let f = is.few_d in omega arith));
     shared = λ d. (let s = stored v b is d in let o = is.bounded d in omega arith);
     filled = total-value v b missing ∙ filled;
     apart = λ i. (let t = times-heads v i b.hand in let o = once-hand is i in omega arith);

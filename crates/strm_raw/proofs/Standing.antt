@@ -1,8 +1,8 @@
 -- What the value of a raw store is, by its ledger.
-use Rattle.std.proofs.Common.{ℕ, zero, suc, ◌≡◌, ◌≤◌, ◌+◌, cond, eqb, List, [], ◌∷◌, length, take, map, refl, sym, ap, ◌∙◌, arith}
+use Rattle.std.proofs.Common.{ℕ, zero, suc, ◌≡◌, ◌≤◌, ◌+◌, ◌-◌, cond, eqb, List, [], ◌∷◌, length, take, map, refl, sym, ap, ◌∙◌, arith}
 use Rattle.std.specs.Prelude.{sum_by, count_by, Option, None, Some, option_map}
 use Rattle.std.proofs.lemmas.Bool.Decides.{nat_tests}
-use Rattle.std.proofs.lemmas.List.{length-map, take_all}
+use Rattle.std.proofs.lemmas.List.{length-map, take_all, get_or_past}
 use Rattle.std.proofs.lemmas.List.Sums.{sum_by-cons, sum_by_more}
 use Rattle.strm_blocks.specs.Blocks.{Block, total, names_of, references, used, free_m, free_d, zeros_below}
 use Rattle.strm_raw.specs.Numbered.{Nodes, DataRow, data_at, no_data, msg_number, data_number}
@@ -27,6 +27,14 @@ zeros-take f datas same (suc n) le =
     let step = ap (λ k. count_by (λ (r : DataRow). eqb r.references 0) (take k datas)) at in
     let here : cond {A = ℕ} (eqb (f n) 0) 1 0 ≡ cond {A = ℕ} (eqb (data_at n datas).references 0) 1 0 = ap (λ (r : ℕ). cond {A = ℕ} (eqb r 0) 1 0) (sym (same n)) in
     omega arith
+
+-- so many numbers behind those that count add as many zeros
+zeros-past : (f : ℕ → ℕ) (n : ℕ) → ((d : ℕ) → n ≤ d → f d ≡ 0) → (k : ℕ) → zeros_below f (k + n) ≡ zeros_below f n + k
+unfolding zeros_below
+zeros-past f n none zero = let e : 0 + n ≡ n = omega arith in let z = ap (zeros_below f) e in omega arith
+zeros-past f n none (suc k) =
+    let e : suc k + n ≡ suc (k + n) = omega arith in let whole = ap (zeros_below f) e in
+    let ih = zeros-past f n none k in let z = none (k + n) (omega arith) in grind (arith, nat_tests)
 
 pub empty : {A : Type 0} (xs : List A) → length xs ≡ 0 → xs ≡ []
 empty [] z = refl
@@ -65,20 +73,30 @@ module _ (v : Nodes) (b : Roster) where
   references-value d = total-value (names_of d) ∙ weigh-same (λ m. names_of d (chain_of v m)) (naming v.rows d) (λ m. sum_by-map (λ x. cond (eqb x.number d) 1 0) (block_no v) (ids m)) b.lists b.hand
 
   module _ {first_m : Option MsgLink} {first_d : Option DataLink} {spare_m spare_d : ℕ} (is : IsRaw v first_m first_d spare_m spare_d b) where
-    pub free_m-value : free_m (value_of v b) ≡ length b.free_m
+    pub free_m-value : free_m (value_of v b) ≡ spare_m
     unfolding free_m
-    free_m-value = let u = used-value in let c = is.counted_m in omega arith
+    free_m-value = let u = used-value in let c = is.counted_m in let n = is.count_m in omega arith
 
     pub stored : (d : ℕ) → references (value_of v b) d ≡ (data_at d v.datas).references
     stored d = references-value d ∙ sym (is.referenced d)
 
-    pub free_d-value : free_d (value_of v b) ≡ length b.free_d
+    unnamed-past : (d : ℕ) → length v.datas ≤ d → references (value_of v b) d ≡ 0
+    unnamed-past d past = stored d ∙ ap (λ (r : DataRow). r.references) (get_or_past v.datas d no_data past)
+
+    pub free_d-value : free_d (value_of v b) ≡ spare_d
     unfolding free_d
-    free_d-value = zeros-take (references (value_of v b)) v.datas (λ d. sym (stored d)) (length v.datas) (omega arith) ∙ ap (λ xs. count_by (λ (r : DataRow). eqb r.references 0) xs) (take_all (length v.datas) v.datas (omega arith)) ∙ sym is.counted_d
+    free_d-value =
+        let f = references (value_of v b) in let n = length v.datas in
+        let made = zeros-take f v.datas (λ d. sym (stored d)) n (omega arith) ∙ ap (λ xs. count_by (λ (r : DataRow). eqb r.references 0) xs) (take_all n v.datas (omega arith)) ∙ sym is.counted_d in
+        let le = is.few_d in let c = is.count_d in
+        let others = zeros-past f n unnamed-past (v.dblks - n) in
+        let all : v.dblks - n + n ≡ v.dblks = omega arith in
+        let whole = ap (zeros_below f) all in
+        omega arith
 
-    -- where the first link is none, none is free
-    pub none-m : first_m ≡ None → free_m (value_of v b) ≡ 0
-    none-m e = free_m-value ∙ ended (next_of v.rows) b.free_m (ap (λ (o : Option MsgLink). breaks (next_of v.rows) (option_map (msg_number v.mat) o) b.free_m) (sym e) ∙ is.linked_m)
+    -- where the first link is none, none that is made is free
+    pub none-m : first_m ≡ None → length b.free_m ≡ 0
+    none-m e = ended (next_of v.rows) b.free_m (ap (λ (o : Option MsgLink). breaks (next_of v.rows) (option_map (msg_number v.mat) o) b.free_m) (sym e) ∙ is.linked_m)
 
-    pub none-d : first_d ≡ None → free_d (value_of v b) ≡ 0
-    none-d e = free_d-value ∙ ended (free_after v.datas) b.free_d (ap (λ (o : Option DataLink). breaks (free_after v.datas) (option_map (data_number v.dat) o) b.free_d) (sym e) ∙ is.linked_d)
+    pub none-d : first_d ≡ None → length b.free_d ≡ 0
+    none-d e = ended (free_after v.datas) b.free_d (ap (λ (o : Option DataLink). breaks (free_after v.datas) (option_map (data_number v.dat) o) b.free_d) (sym e) ∙ is.linked_d)

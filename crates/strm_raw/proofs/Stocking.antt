@@ -35,7 +35,7 @@ pub record Stocked (v : Nodes) (datas : List DataRow) (first_d : Option DataLink
   pub counted : length free_d ≡ count_by (λ (r : DataRow). eqb r.references 0) datas
   pub owned : (e : ℕ) → times e free_d + is_named e datas ≡ is_there e (length datas)
   pub linked : breaks (free_after datas) (option_map (data_number v.dat) first_d) free_d ≡ 0
-  pub count : spare_d ≡ length free_d
+  pub count : spare_d + length datas ≡ length free_d + v.dblks
   pub there : IsDataOrNone v.dat (length datas) first_d
 
 module _ {v : Nodes} {b : Roster} {first_m : Option MsgLink} {first_d : Option DataLink} {spare_m spare_d : ℕ} (is : IsRaw v first_m first_d spare_m spare_d b)
@@ -64,7 +64,7 @@ module _ {v : Nodes} {b : Roster} {first_m : Option MsgLink} {first_d : Option D
 
   -- where the free ones are the same but for this one
   pub stocked : (p q : ℕ) → named x ≡ p → named old ≡ q → (first' : Option DataLink) (spare' : ℕ) (free : List ℕ) → times d free + p ≡ times d b.free_d + q → ((e : ℕ) → e ≢ d → times e free ≡ times e b.free_d) → length free + p ≡ length b.free_d + q
-      → breaks (free_after datas) (option_map (data_number v.dat) first') free ≡ 0 → spare' ≡ length free → IsDataOrNone v.dat (length v.datas) first' → Stocked v datas first' spare' free
+      → breaks (free_after datas) (option_map (data_number v.dat) first') free ≡ 0 → spare' + length v.datas ≡ length free + v.dblks → IsDataOrNone v.dat (length v.datas) first' → Stocked v datas first' spare' free
   stocked p q x_is old_is first' spare' free here others long linked count there =
       let len = length-set v.datas d x in
       let now : times d free + is_named d datas ≡ is_there d (length datas) = (let o = is.owned_d d in let n = ap (λ (r : DataRow). named r) datum-new in let l = ap (λ n. is_there d n) len in omega arith) in
@@ -81,6 +81,6 @@ module _ {v : Nodes} {b : Roster} {first_m : Option MsgLink} {first_d : Option D
           | inr n ↦ (let o = is.owned_d e in let s = others e n in let k = ap (λ (r : DataRow). named r) (datum-old e n) in let l = ap (λ n. is_there e n) len in omega arith)
         ];
         linked = linked;
-        count = count;
+        count = rw len count;
         there = rw len there;
       }

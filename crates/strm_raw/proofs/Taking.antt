@@ -156,6 +156,8 @@ module _ {v : Nodes} {b : Roster} {first_m : Option MsgLink} {first_d : Option D
         same = is.same;
         same_d = is.same_d;
         eight = is.eight;
+        most_m = is.most_m;
+        most_d = is.most_d;
         few_m = rw len is.few_m;
         few_d = rw refers.stock.len is.few_d;
         counted_m = let c = is.counted_m in let w = weigh-more (λ m. length (ids m)) in let a = ap length free in let o = ap length others-are in omega arith;
@@ -181,7 +183,7 @@ module _ {v : Nodes} {b : Roster} {first_m : Option MsgLink} {first_d : Option D
         linked_d = refers.stock.linked;
         chained = let c = is.chained in let w = weigh-more (broken (set v.rows n r)) in let x = broken-new in let s = weigh-apart n (broken (set v.rows n r)) (broken v.rows) broken-old b.lists b.hand (alone-m is l eq).1 in omega arith;
         straight = straight-all;
-        count_m = let c = is.count_m in let a = ap length free in let o = ap length others-are in omega arith;
+        count_m = let c = is.count_m in let le = is.few_m in let l = len in let a = ap length free in let o = ap length others-are in omega arith;
         count_d = refers.stock.count;
         there_m = rw len next_there;
         there_d = refers.stock.there;
@@ -194,8 +196,8 @@ module _ {v : Nodes} {b : Roster} {first_m : Option MsgLink} {first_d : Option D
       λ j. record {
         lists = lists-apart (λ m. times n (ids m)) (chain_of with_new) (chain_of v) chain-old b.lists zero-lists j;
         hand = record { name = name j; chain = block j ∷ [] } ∷ hand-apart (λ m. times n (ids m)) (held_of with_new) (held_of v) held-old b.hand zero-hand j;
-        mblks = length-set v.rows n r j;
-        dblks = refers.stock.len j;
+        mblks = v.mblks;
+        dblks = v.dblks;
       }
 
   pub added-becomes : {ends : List Ends} (old : List DataRow) → AreListed (record v { datas = old }) ends b → (value_of v b).lists ≡ (value_of (record v { datas = old }) b).lists → (v' : Nodes) (b' : Roster) → v' ≡ with_new → b' ≡ roster_new → r.ahead ≡ (row_at n v.rows).ahead → r.behind ≡ (row_at n v.rows).behind
@@ -206,7 +208,7 @@ module _ {v : Nodes} {b : Roster} {first_m : Option MsgLink} {first_d : Option D
   added-fresh = fresh-name v n b.hand zero-hand
 
   pub added-room : 0 < free_m (value_of v b)
-  added-room = let f = free_m-value v b is in let a = ap length (first-m is l eq).1.0 in omega arith
+  added-room = let f = free_m-value v b is in let c = is.count_m in let le = is.few_m in let a = ap length (first-m is l eq).1.0 in omega arith
 
 -- a free data block gets its first reference
 module _ {v : Nodes} {b : Roster} {first_m : Option MsgLink} {first_d : Option DataLink} {spare_m spare_d : ℕ} (is : IsRaw v first_m first_d spare_m spare_d b)
@@ -228,7 +230,7 @@ module _ {v : Nodes} {b : Roster} {first_m : Option MsgLink} {first_d : Option D
       record {
         stock = stocked is dn within x same 1 0 (grind (arith, nat_tests)) (grind (arith, nat_tests)) next_d (spare_d - 1) (drop 1 b.free_d) (let c = counts dn in omega arith) (λ e other. (let c = counts e in grind (arith, nat_tests))) (omega arith)
             ((λ j. breaks (free_after (set v.datas dn x)) (next_is j) (others j)) ∙ free-kept is dn within x same (free_after v.datas dn) rest (alone-d is k eq).0 ∙ (first-d is k eq).1.1)
-            (let c = is.count_d in omega arith) next_there;
+            (let c = is.count_d in let le = is.few_d in omega arith) next_there;
         more = λ e. (let r = references-at is dn within x same e in elim (cases_eq e dn) [
           | inl i ↦ (let o = ap (λ j. (data_at j v.datas).references) i ∙ none in grind (arith, nat_tests))
           | inr n ↦ grind (arith, nat_tests)
@@ -240,7 +242,7 @@ module _ {v : Nodes} {b : Roster} {first_m : Option MsgLink} {first_d : Option D
   fresh-number = stored v b is dn ∙ (alone-d is k eq).1
 
   pub room-d : 0 < free_d (value_of v b)
-  room-d = let f = free_d-value v b is in let a = ap length (first-d is k eq).1.0 in omega arith
+  room-d = let f = free_d-value v b is in let c = is.count_d in let le = is.few_d in let a = ap length (first-d is k eq).1.0 in omega arith
 
 -- a data block that has references gets one more
 module _ {v : Nodes} {b : Roster} {first_m : Option MsgLink} {first_d : Option DataLink} {spare_m spare_d : ℕ} (is : IsRaw v first_m first_d spare_m spare_d b)

@@ -40,6 +40,8 @@ module _ {v : Nodes} {b : Roster} {first_m : Option MsgLink} {first_d : Option D
         same = is.same;
         same_d = is.same_d;
         eight = is.eight;
+        most_m = is.most_m;
+        most_d = is.most_d;
         few_m = is.few_m;
         few_d = rw len is.few_d;
         counted_m = is.counted_m;
@@ -53,7 +55,7 @@ module _ {v : Nodes} {b : Roster} {first_m : Option MsgLink} {first_d : Option D
         chained = is.chained;
         straight = is.straight;
         count_m = is.count_m;
-        count_d = is.count_d;
+        count_d = rw len is.count_d;
         there_m = is.there_m;
         there_d = rw len is.there_d;
       }
@@ -80,6 +82,6 @@ module _ {v : Nodes} {b : Roster} {first_m : Option MsgLink} {first_d : Option D
         λ k. record {
           lists = lists-apart (naming v.rows d) (chain_of written) (chain_of v) chain-kept b.lists (omega arith) k;
           hand = hand-apart (naming v.rows d) (held_of written) (held_of v) held-kept b.hand (omega arith) k;
-          mblks = length v.rows;
-          dblks = length-set v.datas d x k;
+          mblks = v.mblks;
+          dblks = v.dblks;
         }

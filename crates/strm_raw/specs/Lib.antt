@@ -2,9 +2,9 @@ pub mod Links
 pub mod MsgNodes
 pub mod DataNodes
 pub mod Numbered
-pub mod Made
 pub mod Roster
 pub mod Raw
+pub mod Made
 pub mod Lists
 pub mod Places
 pub mod Flushing

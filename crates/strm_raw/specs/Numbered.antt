@@ -1,5 +1,5 @@
 -- The nodes of a store by their numbers: what of them its other parts see.
-use Rattle.std.specs.Prelude.{ℕ, ◌≡◌, List, [], length, map, Option, None, option_map, slice_get, slice_index_or, slice_set, Some, MatchOption, replicate}
+use Rattle.std.specs.Prelude.{ℕ, ◌≡◌, List, length, map, Option, None, option_map, slice_get, slice_index_or, slice_set, Some, MatchOption, replicate}
 use denote.RawPtr.{Ptr}
 use Rattle.strm_types.specs.declared.kinds.MsgKind.{MsgKind}
 use Rattle.strm_types.specs.declared.kinds.MsgKind.TheVariants as kinds
@@ -30,30 +30,31 @@ pub record DataRow : Type 0 where
   pub references : ℕ
   pub bytes : List ℕ
 
--- where the nodes of one kind begin, and the nodes
+-- where the nodes of one kind begin, how many their memory has room for, and those that are made
 pub record Rows (X : Type 0) : Type 0 where
   pub at : Ptr
+  pub room : ℕ
   pub items : List X
 
-abbrev pub rows : {X : Type 0} → Ptr → List X → Rows X
-rows p xs = record { at = p; items = xs }
+abbrev pub rows : {X : Type 0} → Ptr → ℕ → List X → Rows X
+rows p room xs = record { at = p; room = room; items = xs }
 
--- where both kinds of nodes begin, and the nodes
+-- where both kinds of nodes begin, how many there is room for, and those that are made
 pub record Nodes : Type 0 where
   pub mat : Ptr
   pub dat : Ptr
+  pub mblks : ℕ
+  pub dblks : ℕ
   pub rows : List Row
   pub datas : List DataRow
 
+-- a message block as it is made; so one that isn't made counts too
 abbrev pub no_row : Row
 no_row = record { kind = kinds.Data; band = 0; number = 0; start = 0; end = 0; next = None; ahead = None; behind = None }
 
+-- a data block as it is made; so one that isn't made counts too
 abbrev pub no_data : DataRow
-no_data = record { next = None; references = 0; bytes = [] }
-
--- a data block as it is made
-abbrev pub new_data : DataRow
-new_data = record { next = None; references = 0; bytes = replicate 256 0 }
+no_data = record { next = None; references = 0; bytes = replicate 256 0 }
 
 abbrev pub row_at : ℕ → List Row → Row
 row_at i rows = slice_index_or rows i no_row
@@ -107,6 +108,8 @@ abbrev pub nodes_of : Rows MsgNode → Rows DataNode → Nodes
 nodes_of ms ds = record {
   mat = ms.at;
   dat = ds.at;
+  mblks = ms.room;
+  dblks = ds.room;
   rows = map (row_of ms.at ds.at) ms.items;
   datas = map (data_of ds.at) ds.items;
 }

@@ -1,5 +1,5 @@
 -- What a raw store stands for, and what holds of its fields.
-use Rattle.std.specs.Prelude.{◌≢◌, ℕ, zero, suc, ◌≡◌, ◌≤◌, ◌+◌, ◌-◌, ◌==◌, nat_lt, if◌then◌else◌, List, [], ◌∷◌, ◌++◌, length, map, drop, slice_index_or, replicate, sum_by, count_by, slice_range, Option, None, Some, option_map}
+use Rattle.std.specs.Prelude.{◌≢◌, ℕ, ◌≡◌, ◌≤◌, ◌+◌, ◌-◌, ◌==◌, nat_lt, if◌then◌else◌, List, [], ◌∷◌, ◌++◌, length, map, drop, slice_index_or, replicate, sum_by, count_by, slice_range, Option, None, Some, option_map}
 use Rattle.strm_blocks.specs.Blocks.{Block, Held, StoreValue, times_in}
 use Rattle.strm_raw.specs.Numbered.{Nodes, Row, DataRow, row_at, data_at, msg_number, data_number, with_data, IsMsg, IsMsgOrNone, IsDataOrNone}
 use Rattle.strm_raw.specs.Roster.{Msg, Roster}
@@ -32,8 +32,8 @@ abbrev pub value_of : Nodes → Roster → StoreValue
 value_of v b = record {
   lists = map (λ q. map (chain_of v) q) b.lists;
   hand = map (held_of v) b.hand;
-  mblks = length v.rows;
-  dblks = length v.datas;
+  mblks = v.mblks;
+  dblks = v.dblks;
 }
 
 -- the sum of a number over all messages, on the lists and in hand
@@ -81,15 +81,17 @@ is_named d datas = if (data_at d datas).references == 0 then 0 else 1
 abbrev pub askew : Row → ℕ
 askew r = (r.start - r.end) + (r.end - 256)
 
--- Each message block is free, or stands in the chain of one message, on a list or in hand; each is there once. The links
--- of free blocks and of each chain lead through them in order. A data block is free where no message block names it, and
--- its references are the message blocks that name it.
+-- Each message block that is made is free, or stands in the chain of one message, on a list or in hand; each is there once.
+-- The links of free blocks and of each chain lead through them in order. A data block is free where no message block names
+-- it, and its references are the message blocks that name it. Blocks that aren't made are free too, and no link leads to them.
 pub record IsRaw (v : Nodes) (first_m : Option MsgLink) (first_d : Option DataLink) (spare_m spare_d : ℕ) (b : Roster) : Type 0 where
   pub same : b.mat ≡ v.mat
   pub same_d : b.dat ≡ v.dat
   pub eight : length b.lists ≡ 8
-  pub few_m : length v.rows ≤ 65536
-  pub few_d : length v.datas ≤ 65536
+  pub most_m : v.mblks ≤ 65536
+  pub most_d : v.dblks ≤ 65536
+  pub few_m : length v.rows ≤ v.mblks
+  pub few_d : length v.datas ≤ v.dblks
   pub counted_m : length b.free_m + weigh (λ m. length (ids m)) b.lists b.hand ≡ length v.rows
   pub counted_d : length b.free_d ≡ count_by (λ r. r.references == 0) v.datas
   pub owned_m : (i : ℕ) → times i b.free_m + weigh (λ m. times i (ids m)) b.lists b.hand ≡ is_there i (length v.rows)
@@ -100,8 +102,8 @@ pub record IsRaw (v : Nodes) (first_m : Option MsgLink) (first_d : Option DataLi
   pub linked_d : breaks (free_after v.datas) (option_map (data_number v.dat) first_d) b.free_d ≡ 0
   pub chained : weigh (broken v.rows) b.lists b.hand ≡ 0
   pub straight : (i : ℕ) → askew (row_at i v.rows) ≡ 0
-  pub count_m : spare_m ≡ length b.free_m
-  pub count_d : spare_d ≡ length b.free_d
+  pub count_m : spare_m + length v.rows ≡ length b.free_m + v.mblks
+  pub count_d : spare_d + length v.datas ≡ length b.free_d + v.dblks
   pub there_m : IsMsgOrNone v.mat (length v.rows) first_m
   pub there_d : IsDataOrNone v.dat (length v.datas) first_d
 
@@ -186,30 +188,6 @@ pub record GivesOne (old new : Nodes) (b b' : Roster) (k : DataLink) (first firs
   pub first_is : first' ≡ first
   pub spare_is : spare' ≡ spare
 
--- so many numbers, from one on
-abbrev pub numbers : ℕ → ℕ → List ℕ
-numbers i zero = []
-numbers i (suc k) = i ∷ numbers (suc i) k
-
--- the message blocks from a number on are linked as free ones
-pub record ThreadsMessages (old new : Nodes) (first : Option MsgLink) (from : ℕ) : Type 0 where
-  pub same : new ≡ record old { rows = new.rows }
-  pub len : length new.rows ≡ length old.rows
-  pub linked : breaks (next_of new.rows) (option_map (msg_number old.mat) first) (numbers from (length old.rows - from)) ≡ 0
-  pub straight : ((i : ℕ) → askew (row_at i old.rows) ≡ 0) → (i : ℕ) → askew (row_at i new.rows) ≡ 0
-  pub there : IsMsgOrNone old.mat (length old.rows) first
-
-pub record ThreadsData (old new : Nodes) (first : Option DataLink) (from : ℕ) : Type 0 where
-  pub same : new ≡ record old { datas = new.datas }
-  pub len : length new.datas ≡ length old.datas
-  pub linked : breaks (free_after new.datas) (option_map (data_number old.dat) first) (numbers from (length old.datas - from)) ≡ 0
-  pub free : (i : ℕ) → from ≤ i → (data_at i new.datas).references ≡ 0
-  pub there : IsDataOrNone old.dat (length old.datas) first
-
--- the roster of a store of so many blocks with nothing in it
-abbrev pub empty_roster : ℕ → ℕ → MsgLink → DataLink → Roster
-empty_roster m d l k = record { mat = l.at; dat = k.at; free_m = numbers 0 m; free_d = numbers 0 d; lists = replicate 8 []; hand = [] }
-
--- all blocks of a store are free
-abbrev pub emptied : ℕ → ℕ → Roster → Roster
-emptied m d b = record b { free_m = numbers 0 m; free_d = numbers 0 d; lists = replicate 8 []; hand = [] }
+-- the roster of a store with nothing in it, none of whose blocks is made
+abbrev pub empty_roster : MsgLink → DataLink → Roster
+empty_roster l k = record { mat = l.at; dat = k.at; free_m = []; free_d = []; lists = replicate 8 []; hand = [] }

@@ -7,8 +7,8 @@ pub record Msg : Type 0 where
   pub head : ℕ
   pub tail : List ℕ
 
--- where the message blocks and the data blocks begin, the free ones of both kinds in the order of their links, the lists, and the messages
--- in hand, newest first
+-- where the message blocks and the data blocks begin, of both kinds the free ones that are made, in the order of their links, the lists, and
+-- the messages in hand, newest first
 pub record Roster : Type 0 where
   pub mat : Ptr
   pub dat : Ptr

@@ -17,7 +17,6 @@ mod raw;
 mod sending;
 mod store;
 mod tails;
-mod threading;
 mod visiting;
 
 pub use raw::RawStore;

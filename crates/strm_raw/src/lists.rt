@@ -31,7 +31,7 @@ pub(crate) fn unseat(
     ensures unseats { Unseats memory.old memory.new ends.old ends.new ledger.old.roster ledger.new.roster list at }
 {
     let node = memory.message(at);
-    ends[list] = tie(memory, ends[list], node.behind, node.ahead);
+    tie(memory, &mut ends[list], node.behind, node.ahead);
     ledger.note(at.at, null_mut(), list, 0);
     InHand::of(node.name)
 }
@@ -53,7 +53,7 @@ impl RawStore {
         let past = beside(&self.memory, ends, other, stop);
         let after = pick(course, stop, past);
         let before = pick(course, past, stop);
-        self.ends[list] = seat(&mut self.memory, ends, before, at, after);
+        seat(&mut self.memory, &mut self.ends[list], before, at, after);
         let next = after.unwrap_or(at);
         self.ledger
             .note(next.at, null_mut(), list, message.name() as usize);

@@ -1,48 +1,54 @@
-//! The nodes as they are made.
-ghost use Rattle.std.specs.Prelude.{◌≡◌, ◌≤◌, ℕ, length, replicate, slice_get, Some, IfOk};
-ghost use Rattle.strm_raw.specs.Made.{new_node, first_data, AreNew};
+//! The free blocks that are given out next: of each kind the one freed last, or else one that was never used, which is made.
+ghost use Rattle.std.specs.Prelude.{None, ◌≡◌, ◌<◌, ◌≤◌, length};
+ghost use Rattle.strm_raw.specs.Made.{GivesMessage, GivesData};
+ghost use Rattle.strm_raw.specs.Numbered.{IsMsg, IsMsgOrNone, IsData, IsDataOrNone};
 
-use crate::data_nodes::{DataLink, DataNode};
-use crate::msg_nodes::MsgNode;
-use std::alloc::{AllocError, Global};
-use strm_types::MsgKind;
+use crate::data_nodes::DataLink;
+use crate::ledger::Ledger;
+use crate::memory::Memory;
+use crate::msg_nodes::MsgLink;
+use std::ptr::null_mut;
 
-/// So many message blocks, each with its own number. They name the data block that lies there.
-pub(crate) fn message_nodes(
-    alloc: Global,
-    count: usize,
-    number: DataLink,
-) -> Result<Vec<MsgNode>, AllocError>
-    requires { count ≤ 65536 }
-    ensures count { IfOk result (λ v. length v.items ≡ count) }
-    ensures each { IfOk result (λ v. AreNew number v.items) }
+/// The message block that is given out next, where `first` is the one freed last.
+#[inline(always)]
+pub(crate) fn free_message(
+    memory: &mut Memory,
+    ledger: &mut Ledger,
+    first: Option<MsgLink>,
+) -> MsgLink
+    requires first { IsMsgOrNone memory.old.mat (length memory.old.rows) first }
+    requires room { first ≡ None → length memory.old.rows < memory.old.mblks }
+    requires few { memory.old.mblks ≤ 65536 }
+    requires data { 0 < length memory.old.datas }
+    ensures given { GivesMessage memory.old memory.new ledger.old.roster ledger.new.roster first result }
+    ensures there { IsMsg memory.new.mat (length memory.new.rows) result }
+    ensures beside { memory.new ≡ record memory.old { rows = memory.new.rows } }
 {
-    let mut nodes = Vec::with_capacity(alloc, count)?;
-    while nodes.len() < count {
-        let name = nodes.len() as u32;
-        nodes.push(MsgNode {
-            kind: MsgKind::Data,
-            band: 0,
-            name,
-            number,
-            start: 0,
-            end: 0,
-            next: None,
-            ahead: None,
-            behind: None,
-        })?;
-    }
-    Ok(nodes)
+    let Some(at) = first else {
+        let made = memory.make_message();
+        ledger.note(made.at, null_mut(), 0, 0);
+        return made;
+    };
+    at
 }
 
-/// So many data blocks that no message block names.
-pub(crate) fn data_nodes(alloc: Global, count: usize) -> Result<Vec<DataNode>, AllocError>
-    ensures { IfOk result (λ v. v.items ≡ replicate count first_data) }
+/// The data block that is given out next, where `first` is the one freed last.
+#[inline(always)]
+pub(crate) fn free_data(
+    memory: &mut Memory,
+    ledger: &mut Ledger,
+    first: Option<DataLink>,
+) -> DataLink
+    requires first { IsDataOrNone memory.old.dat (length memory.old.datas) first }
+    requires room { first ≡ None → length memory.old.datas < memory.old.dblks }
+    ensures given { GivesData memory.old memory.new ledger.old.roster ledger.new.roster first result }
+    ensures there { IsData memory.new.dat (length memory.new.datas) result }
+    ensures beside { memory.new ≡ record memory.old { datas = memory.new.datas } }
 {
-    let node = DataNode {
-        next: None,
-        references: 0,
-        bytes: [0; 256],
+    let Some(at) = first else {
+        let made = memory.make_data();
+        ledger.note(null_mut(), made.at, 0, 0);
+        return made;
     };
-    Vec::from_elem(alloc, node, count)
+    at
 }

@@ -1,15 +1,16 @@
 //! All nodes of a store. What lies in memory is read and written here alone; a pointer is seen as the number of its node.
-ghost use Rattle.std.specs.Prelude.{◌≡◌, ◌<◌, ◌≤◌, ◌+◌, length, option_map, replicate, IfOk, take, drop, ◌++◌};
-ghost use Rattle.strm_raw.specs.Numbered.{IsMsg, IsMsgOrNone, IsData, IsDataOrNone, Fits, IsRow, row_of, data_of, row_at, data_at, msg_number, data_number, with_row, with_data, no_row, new_data, showing};
+ghost use Rattle.std.specs.Prelude.{◌≡◌, ◌<◌, ◌≤◌, ◌+◌, length, option_map, IfOk, take, drop, ◌++◌, [], ◌∷◌};
+ghost use Rattle.strm_raw.specs.Numbered.{IsMsg, IsMsgOrNone, IsData, IsDataOrNone, Fits, IsRow, row_of, data_of, row_at, data_at, msg_number, data_number, with_row, with_data, no_row, no_data, showing};
 
 use crate::data_nodes::{DataLink, DataNode};
-use crate::making::{data_nodes, message_nodes};
 use crate::msg_nodes::{MsgLink, MsgNode, Shows};
 use crate::nodes::{place_of, reach, reach_mut};
 use std::alloc::{AllocError, Global};
 use std::marker::Model;
+use strm_types::MsgKind;
 
-/// The nodes of message blocks and of data blocks, each kind in one block of memory, which is given back once.
+/// The nodes of message blocks and of data blocks, each kind in one block of memory, which is reserved and given back once.
+/// A node is made when it is first used, behind those that are made, and lies where it is from then on.
 #[derive(Drop)]
 pub(crate) struct Memory {
     msgs: Vec<MsgNode>,
@@ -17,42 +18,115 @@ pub(crate) struct Memory {
 }
 
 impl Model for Memory {
-    ghost use Rattle.std_alloc.specs.Vec.{vec_ptr, vec_items};
+    ghost use Rattle.std_alloc.specs.Vec.{vec_ptr, vec_capacity, vec_items};
     ghost use Rattle.strm_raw.specs.Numbered.{Nodes, rows, nodes_of, AreLinked};
 
     ghost Value = { Nodes };
 
-    ghost view = { λ m. nodes_of (rows (vec_ptr m.msgs) (vec_items m.msgs)) (rows (vec_ptr m.datas) (vec_items m.datas)) };
+    ghost view = { λ m. nodes_of (rows (vec_ptr m.msgs) (vec_capacity m.msgs) (vec_items m.msgs)) (rows (vec_ptr m.datas) (vec_capacity m.datas) (vec_items m.datas)) };
 
-    ghost invariant = { λ m. AreLinked (rows (vec_ptr m.msgs) (vec_items m.msgs)) (rows (vec_ptr m.datas) (vec_items m.datas)) };
+    ghost invariant = { λ m. AreLinked (rows (vec_ptr m.msgs) (vec_capacity m.msgs) (vec_items m.msgs)) (rows (vec_ptr m.datas) (vec_capacity m.datas) (vec_items m.datas)) };
 }
 
 impl Memory {
-    /// So many message blocks and data blocks, none of which is linked to another one.
+    /// Room for so many message blocks and data blocks, none of which is made.
     pub(crate) fn new(alloc: Global, mblks: usize, dblks: usize) -> Result<Memory, AllocError>
-        requires few { mblks ≤ 65536 }
-        requires some { 0 < dblks }
-        ensures rows { IfOk result (λ m. m.rows ≡ replicate mblks no_row) }
-        ensures datas { IfOk result (λ m. m.datas ≡ replicate dblks new_data) }
+        ensures rows { IfOk result (λ m. m.rows ≡ []) }
+        ensures datas { IfOk result (λ m. m.datas ≡ []) }
+        ensures mblks { IfOk result (λ m. m.mblks ≡ mblks) }
+        ensures dblks { IfOk result (λ m. m.dblks ≡ dblks) }
     {
-        let datas = data_nodes(alloc, dblks)?;
-        let at = place_of(&datas, datas.as_ptr(), 0);
-        let msgs = message_nodes(alloc, mblks, DataLink { at })?;
+        let datas = Vec::with_capacity(alloc, dblks)?;
+        let msgs = Vec::with_capacity(alloc, mblks)?;
         Ok(Memory { msgs, datas })
     }
 
-    /// How many message blocks there are.
+    /// Makes the next message block. It names the first data block, and is linked to no other.
+    #[cold]
+    pub(crate) fn make_message(&mut self) -> MsgLink
+        requires room { length self.old.rows < self.old.mblks }
+        requires few { self.old.mblks ≤ 65536 }
+        requires data { 0 < length self.old.datas }
+        ensures made { self.new ≡ record self.old { rows = self.old.rows ++ no_row ∷ [] } }
+        ensures there { IsMsg self.old.mat (length self.old.rows + 1) result }
+        ensures number { msg_number self.old.mat result ≡ length self.old.rows }
+    {
+        let index = self.msgs.len();
+        let number = self.data_link(0);
+        self.msgs.push_reserved(MsgNode {
+            kind: MsgKind::Data,
+            band: 0,
+            name: index as u32,
+            number,
+            start: 0,
+            end: 0,
+            next: None,
+            ahead: None,
+            behind: None,
+        });
+        MsgLink {
+            at: place_of(&self.msgs, self.msgs.as_ptr(), index),
+        }
+    }
+
+    /// Makes the next data block. No message block names it.
+    #[cold]
+    pub(crate) fn make_data(&mut self) -> DataLink
+        requires { length self.old.datas < self.old.dblks }
+        ensures made { self.new ≡ record self.old { datas = self.old.datas ++ no_data ∷ [] } }
+        ensures there { IsData self.old.dat (length self.old.datas + 1) result }
+        ensures number { data_number self.old.dat result ≡ length self.old.datas }
+    {
+        let index = self.datas.len();
+        self.datas.push_reserved(DataNode {
+            next: None,
+            references: 0,
+            bytes: [0; 256],
+        });
+        DataLink {
+            at: place_of(&self.datas, self.datas.as_ptr(), index),
+        }
+    }
+
+    /// Forgets all nodes.
+    pub(crate) fn clear(&mut self)
+        ensures rows { self.new.rows ≡ [] }
+        ensures datas { self.new.datas ≡ [] }
+        ensures mblks { self.new.mblks ≡ self.old.mblks }
+        ensures dblks { self.new.dblks ≡ self.old.dblks }
+    {
+        self.msgs.clear();
+        self.datas.clear();
+    }
+
+    /// Where the message blocks begin, and where the data blocks do.
+    pub(crate) fn begins(&self) -> (MsgLink, DataLink)
+        ensures messages { result.0.at ≡ self.now.mat }
+        ensures data { result.1.at ≡ self.now.dat }
+    {
+        let (message, datum) = (self.msgs.as_ptr(), self.datas.as_ptr());
+        (
+            MsgLink {
+                at: message.cast_mut(),
+            },
+            DataLink {
+                at: datum.cast_mut(),
+            },
+        )
+    }
+
+    /// How many message blocks and how many data blocks there is room for.
+    pub(crate) fn room(&self) -> (usize, usize)
+        ensures { result ≡ (self.now.mblks, self.now.dblks) }
+    {
+        (self.msgs.capacity(), self.datas.capacity())
+    }
+
+    /// How many message blocks are made.
     pub(crate) fn messages(&self) -> usize
         ensures { result ≡ length self.now.rows }
     {
         self.msgs.len()
-    }
-
-    /// How many data blocks there are.
-    pub(crate) fn data_blocks(&self) -> usize
-        ensures { result ≡ length self.now.datas }
-    {
-        self.datas.len()
     }
 
     /// Where a message block lies.
@@ -166,6 +240,16 @@ impl Memory {
         let node = reach_mut(&mut self.datas, at.at);
         node.references = references;
         node.next = next;
+    }
+
+    /// Gives a data block so many references.
+    pub(crate) fn set_references(&mut self, at: DataLink, references: u8)
+        requires { IsData self.old.dat (length self.old.datas) at }
+        ensures { let i = data_number self.old.dat at in
+            self.new ≡ with_data i (record (data_at i self.old.datas) { references = references }) self.old }
+    {
+        let node = reach_mut(&mut self.datas, at.at);
+        node.references = references;
     }
 
     /// Writes bytes into a data block, from a place on.

@@ -38,61 +38,55 @@ pub(crate) fn pick<A: Copy>(course: Course, on: A, back: A) -> A
 }
 
 // Lets a list lead on from a message, or from its outside, to another one.
-fn lead_on(memory: &mut Memory, ends: Ends, from: Option<MsgLink>, to: Option<MsgLink>) -> Ends
+fn lead_on(memory: &mut Memory, ends: &mut Ends, from: Option<MsgLink>, to: Option<MsgLink>)
     requires from { IsMsgOrNone memory.old.mat (length memory.old.rows) from }
     requires to { IsMsgOrNone memory.old.mat (length memory.old.rows) to }
     ensures { let v = memory.old in MatchOption from
-        ((memory.new ≡ v) × (result ≡ record ends { first = to }))
+        ((memory.new ≡ v) × (ends.new ≡ record ends.old { first = to }))
         (λ at. let i = msg_number v.mat at in
-        (memory.new ≡ with_row i (record (row_at i v.rows) { ahead = option_map (msg_number v.mat) to }) v) × (result ≡ ends)) }
+        (memory.new ≡ with_row i (record (row_at i v.rows) { ahead = option_map (msg_number v.mat) to }) v) × (ends.new ≡ ends.old)) }
 {
     match from {
-        None => Ends { first: to, ..ends },
-        Some(at) => {
-            memory.set_ahead(at, to);
-            ends
-        }
+        None => ends.first = to,
+        Some(at) => memory.set_ahead(at, to),
     }
 }
 
 // Lets a list lead back from a message, or from its outside, to another one.
-fn lead_back(memory: &mut Memory, ends: Ends, from: Option<MsgLink>, to: Option<MsgLink>) -> Ends
+fn lead_back(memory: &mut Memory, ends: &mut Ends, from: Option<MsgLink>, to: Option<MsgLink>)
     requires from { IsMsgOrNone memory.old.mat (length memory.old.rows) from }
     requires to { IsMsgOrNone memory.old.mat (length memory.old.rows) to }
     ensures { let v = memory.old in MatchOption from
-        ((memory.new ≡ v) × (result ≡ record ends { last = to }))
+        ((memory.new ≡ v) × (ends.new ≡ record ends.old { last = to }))
         (λ at. let i = msg_number v.mat at in
-        (memory.new ≡ with_row i (record (row_at i v.rows) { behind = option_map (msg_number v.mat) to }) v) × (result ≡ ends)) }
+        (memory.new ≡ with_row i (record (row_at i v.rows) { behind = option_map (msg_number v.mat) to }) v) × (ends.new ≡ ends.old)) }
 {
     match from {
-        None => Ends { last: to, ..ends },
-        Some(at) => {
-            memory.set_behind(at, to);
-            ends
-        }
+        None => ends.last = to,
+        Some(at) => memory.set_behind(at, to),
     }
 }
 
 /// Lets a list lead from one message on to another one, and back. `None` stands for what lies outside the list: it leads
-/// on to the first message and back to the last one. Returns the list's ends.
+/// on to the first message and back to the last one.
 pub(crate) fn tie(
     memory: &mut Memory,
-    ends: Ends,
+    ends: &mut Ends,
     before: Option<MsgLink>,
     after: Option<MsgLink>,
-) -> Ends
+)
     requires before { IsMsgOrNone memory.old.mat (length memory.old.rows) before }
     requires after { IsMsgOrNone memory.old.mat (length memory.old.rows) after }
     ensures nodes { memory.new ≡ record memory.old { rows = memory.new.rows } }
     ensures tied { let v = memory.old in
-        Ties v.mat v.rows memory.new.rows ends result (option_map (msg_number v.mat) before) (option_map (msg_number v.mat) after) }
+        Ties v.mat v.rows memory.new.rows ends.old ends.new (option_map (msg_number v.mat) before) (option_map (msg_number v.mat) after) }
     ensures first { let v = memory.old in
-        IsMsgOrNone v.mat (length v.rows) ends.first → IsMsgOrNone v.mat (length v.rows) result.first }
+        IsMsgOrNone v.mat (length v.rows) ends.old.first → IsMsgOrNone v.mat (length v.rows) ends.new.first }
     ensures last { let v = memory.old in
-        IsMsgOrNone v.mat (length v.rows) ends.last → IsMsgOrNone v.mat (length v.rows) result.last }
+        IsMsgOrNone v.mat (length v.rows) ends.old.last → IsMsgOrNone v.mat (length v.rows) ends.new.last }
 {
-    let led = lead_on(memory, ends, before, after);
-    lead_back(memory, led, after, before)
+    lead_on(memory, ends, before, after);
+    lead_back(memory, ends, after, before);
 }
 
 /// The message to which a list leads in a course from a message, or from its outside.
@@ -117,25 +111,25 @@ pub(crate) fn beside(
     }
 }
 
-/// Puts a message between two places of a list that follow one another. Returns the list's ends.
+/// Puts a message between two places of a list that follow one another.
 pub(crate) fn seat(
     memory: &mut Memory,
-    ends: Ends,
+    ends: &mut Ends,
     before: Option<MsgLink>,
     at: MsgLink,
     after: Option<MsgLink>,
-) -> Ends
+)
     requires before { IsMsgOrNone memory.old.mat (length memory.old.rows) before }
     requires at { IsMsg memory.old.mat (length memory.old.rows) at }
     requires after { IsMsgOrNone memory.old.mat (length memory.old.rows) after }
     ensures nodes { memory.new ≡ record memory.old { rows = memory.new.rows } }
     ensures seats { let v = memory.old in
-        Seats v.mat v.rows memory.new.rows ends result (option_map (msg_number v.mat) before) (msg_number v.mat at) (option_map (msg_number v.mat) after) }
+        Seats v.mat v.rows memory.new.rows ends.old ends.new (option_map (msg_number v.mat) before) (msg_number v.mat at) (option_map (msg_number v.mat) after) }
     ensures first { let v = memory.old in
-        IsMsgOrNone v.mat (length v.rows) ends.first → IsMsgOrNone v.mat (length v.rows) result.first }
+        IsMsgOrNone v.mat (length v.rows) ends.old.first → IsMsgOrNone v.mat (length v.rows) ends.new.first }
     ensures last { let v = memory.old in
-        IsMsgOrNone v.mat (length v.rows) ends.last → IsMsgOrNone v.mat (length v.rows) result.last }
+        IsMsgOrNone v.mat (length v.rows) ends.old.last → IsMsgOrNone v.mat (length v.rows) ends.new.last }
 {
-    let front = tie(memory, ends, before, Some(at));
-    tie(memory, front, Some(at), after)
+    tie(memory, ends, before, Some(at));
+    tie(memory, ends, Some(at), after);
 }

@@ -4,12 +4,11 @@ ghost use Rattle.strm_blocks.specs.Blocks.{IsInHand, token, in_hand, dropped, em
 ghost use Rattle.strm_raw.specs.Raw.{GivesLast, GivesOne};
 ghost use Rattle.strm_raw.specs.Numbered.{IsData, IsDataOrNone, data_at, data_number};
 
-use crate::data_nodes::{DataLink, DataNode};
+use crate::data_nodes::DataLink;
 use crate::ledger::Ledger;
 use crate::memory::Memory;
 use crate::msg_nodes::MsgLink;
 use crate::neighbours::{Ends, NO_ENDS};
-use crate::threading::{thread_data, thread_messages};
 use std::alloc::{AllocError, Global};
 use std::marker::Model;
 use std::ptr::null_mut;
@@ -17,8 +16,9 @@ use strm_blocks::InHand;
 
 /// A store of message blocks and data blocks (STREAMS Programming Guide, "Message Structure"). Each block is a node, in
 /// memory that is reserved when the store is made and given back when it is dropped: a message block leads to the next one
-/// of its message by `b_cont` and to its data block, and a data block keeps `db_ref`, each link being a raw pointer. Free
-/// blocks are linked too, the one freed last first. A message in hand is named by the number of its first block's node.
+/// of its message by `b_cont` and to its data block, and a data block keeps `db_ref`, each link being a raw pointer. Blocks
+/// that were freed are linked too, the one freed last first; where none is, the next node is made that was never used. A
+/// message in hand is named by the number of its first block's node.
 #[derive(Drop)]
 pub struct RawStore {
     pub(crate) memory: Memory,
@@ -44,7 +44,8 @@ impl Model for RawStore {
 
 impl RawStore {
     /// A store of so many message blocks and data blocks, from 1 to 65536 of each, with nothing in it. All memory is
-    /// taken here, and `AllocError` says that it was refused. It takes a step for each block.
+    /// taken here, and `AllocError` says that it was refused. The cost is the same whatever the numbers: no block is made
+    /// before it is used.
     pub fn new(alloc: Global, mblks: usize, dblks: usize) -> Result<RawStore, AllocError>
         requires some_mblks { 0 < mblks }
         requires few_mblks { mblks ≤ 65536 }
@@ -52,17 +53,15 @@ impl RawStore {
         requires few_dblks { dblks ≤ 65536 }
         ensures { IfOk result (λ s. s ≡ empty_store mblks dblks) }
     {
-        let mut memory = Memory::new(alloc, mblks, dblks)?;
-        let free_msg = thread_messages(&mut memory, mblks);
-        let free_data = thread_data(&mut memory, dblks);
+        let memory = Memory::new(alloc, mblks, dblks)?;
         let mut ledger = Ledger::new();
-        let (message, datum) = (memory.message_link(0), memory.data_link(0));
-        ledger.note(message.at, datum.at, mblks, dblks);
+        let (message, datum) = memory.begins();
+        ledger.note(message.at, datum.at, 0, 0);
         Ok(RawStore {
             memory,
             ends: [NO_ENDS; 8],
-            free_msg,
-            free_data,
+            free_msg: None,
+            free_data: None,
             spare_m: mblks,
             spare_d: dblks,
             ledger,
@@ -77,48 +76,42 @@ impl RawStore {
     {
         let at = self.memory.message_link(message.name() as usize);
         let node = self.memory.message(at);
-        let (free_data, spare_d) = release(
+        release(
             &mut self.memory,
             &mut self.ledger,
             node.number,
-            self.free_data,
-            self.spare_d,
+            &mut self.free_data,
+            &mut self.spare_d,
         );
         self.memory.set_next(at, self.free_msg);
         self.free_msg = Some(at);
-        self.free_data = free_data;
-        self.spare_d = spare_d;
         self.spare_m += 1;
         self.ledger.note(at.at, node.number.at, 0, 0);
     }
 }
 
-// Takes a reference away from a data block, which is the first free one where it has no other. Returns the first free one
-// and how many there are.
+// Takes a reference away from a data block, which is the first free one where it has no other.
 fn release(
     memory: &mut Memory,
     ledger: &mut Ledger,
     number: DataLink,
-    first: Option<DataLink>,
-    spare: usize,
-) -> (Option<DataLink>, usize)
+    first: &mut Option<DataLink>,
+    spare: &mut usize,
+)
     requires there { IsData memory.old.dat (length memory.old.datas) number }
-    requires first { IsDataOrNone memory.old.dat (length memory.old.datas) first }
+    requires first { IsDataOrNone memory.old.dat (length memory.old.datas) first.old }
     requires named { 0 < (data_at (data_number memory.old.dat number) memory.old.datas).references }
-    requires few { spare < 2 ^ 63 }
-    ensures { GivesLast memory.old memory.new ledger.old.roster ledger.new.roster number first result.0 spare result.1
-        ⊎ GivesOne memory.old memory.new ledger.old.roster ledger.new.roster number first result.0 spare result.1 }
+    requires few { spare.old < 2 ^ 63 }
+    ensures { GivesLast memory.old memory.new ledger.old.roster ledger.new.roster number first.old first.new spare.old spare.new
+        ⊎ GivesOne memory.old memory.new ledger.old.roster ledger.new.roster number first.old first.new spare.old spare.new }
 {
-    let DataNode {
-        next,
-        references,
-        ..
-    } = *memory.datum(number);
+    let references = memory.datum(number).references;
     if references == 1 {
-        memory.set_datum(number, 0, first);
+        memory.set_datum(number, 0, *first);
         ledger.note(null_mut(), number.at, 0, 0);
-        return (Some(number), spare + 1);
+        *first = Some(number);
+        *spare += 1;
+        return;
     }
-    memory.set_datum(number, references - 1, next);
-    (first, spare)
+    memory.set_references(number, references - 1);
 }

@@ -3,14 +3,13 @@
 use crate::chains::{block_link, chain_bytes, chain_len, last_link};
 use crate::changes::Change;
 use crate::data_nodes::DataNode;
+use crate::making::{free_data, free_message};
 use crate::msg_nodes::{MsgNode, Shows};
 use crate::neighbours::{Course, NO_ENDS};
 use crate::raw::RawStore;
 use crate::tails::hang;
-use crate::threading::{thread_data, thread_messages};
 use crate::visiting::{tell_list, tell_message};
 use std::alloc::{AllocError, Global};
-use std::ptr::null_mut;
 use strm_blocks::{Blocks, FlushWhat, InHand, NoBlocks, Peek, Reserve, Summary, Visitor};
 use strm_types::{Band, MsgKind};
 
@@ -28,16 +27,18 @@ impl Blocks for RawStore {
 
     /// The cost is that of the bytes, whatever the store's size.
     fn alloc_with(&mut self, kind: MsgKind, band: Band, bytes: &[u8]) -> Result<InHand, NoBlocks> {
-        let Some(at) = self.free_msg else {
+        if self.spare_m == 0 {
             return Err(NoBlocks);
-        };
-        let Some(number) = self.free_data else {
+        }
+        if self.spare_d == 0 {
             return Err(NoBlocks);
-        };
+        }
+        let number = free_data(&mut self.memory, &mut self.ledger, self.free_data);
+        let at = free_message(&mut self.memory, &mut self.ledger, self.free_msg);
         let free = self.memory.message(at);
         let next = self.memory.datum(number).next;
         self.memory.write(number, 0, bytes);
-        self.memory.set_datum(number, 1, None);
+        self.memory.set_references(number, 1);
         let shows = Shows {
             kind,
             band: band.0,
@@ -56,22 +57,19 @@ impl Blocks for RawStore {
 
     /// It takes a step for each block before block `at`.
     fn dup(&mut self, message: &InHand, at: usize) -> Result<InHand, NoBlocks> {
-        let Some(free) = self.free_msg else {
+        if self.spare_m == 0 {
             return Err(NoBlocks);
-        };
+        }
         let first = self.memory.message_link(message.name() as usize);
         let link = block_link(&self.memory, first, at);
         let block = self.memory.message(link);
-        let DataNode {
-            next,
-            references,
-            ..
-        } = *self.memory.datum(block.number);
+        let references = self.memory.datum(block.number).references;
         if references == 255 {
             return Err(NoBlocks);
         }
+        let free = free_message(&mut self.memory, &mut self.ledger, self.free_msg);
         let taken = self.memory.message(free);
-        self.memory.set_datum(block.number, references + 1, next);
+        self.memory.set_references(block.number, references + 1);
         let shows = Shows {
             kind: block.kind,
             band: block.band,
@@ -274,18 +272,15 @@ impl Blocks for RawStore {
         (self.spare_m, self.spare_d)
     }
 
-    /// It takes a step for each block of the store.
+    /// The cost is the same whatever the store's size.
     fn reset(&mut self) {
-        let mblks = self.memory.messages();
-        let dblks = self.memory.data_blocks();
-        let free_msg = thread_messages(&mut self.memory, mblks);
-        let free_data = thread_data(&mut self.memory, dblks);
-        self.ledger.note(null_mut(), null_mut(), mblks, dblks);
+        self.memory.clear();
+        let (message, datum) = self.memory.begins();
+        self.ledger.note(message.at, datum.at, 0, 0);
         self.ends = [NO_ENDS; 8];
-        self.free_msg = free_msg;
-        self.free_data = free_data;
-        self.spare_m = mblks;
-        self.spare_d = dblks;
+        self.free_msg = None;
+        self.free_data = None;
+        (self.spare_m, self.spare_d) = self.memory.room();
     }
 }
 

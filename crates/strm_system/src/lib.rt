@@ -3,8 +3,12 @@
 
 mod laws;
 mod locked;
+mod storms;
+mod systems;
 #[cfg(test)]
 mod tests;
 
 pub use laws::entries_are_tallied;
 pub use locked::{Locked, Store, unopened};
+pub use storms::{StormPlan, StormReport, storm};
+pub use systems::system;

@@ -8,12 +8,13 @@ ghost use Rattle.strm_system.specs.Known.{AreCounts, Agrees};
 
 use std::alloc::{AllocError, Global};
 use strm_blocks::{Blocks, Reserve};
+use strm_image::Trace;
 use strm_locks::Object;
 use strm_pair::Pair;
 use strm_raw::RawStore;
 use strm_types::{
-    Answer, Caller, Config, Content, Dir, Event, Ledger, QueueName, RULES, Refusal, Rule, Side,
-    Turn,
+    Answer, Caller, Config, Content, Dir, Event, Ledger, NoMemory, QueueName, RULES, Refusal, Rule,
+    Side, Turn,
 };
 
 /// The store of a system's pairs.
@@ -92,6 +93,10 @@ impl<B: Blocks + Drop> Object for Locked<B> {
 
     fn restart(&mut self) {
         self.pair.restart();
+    }
+
+    fn cut(&mut self, alloc: Global) -> Result<Trace, NoMemory> {
+        self.pair.cut(alloc)
     }
 
     fn reset(&mut self) {

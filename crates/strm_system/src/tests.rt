@@ -3,6 +3,7 @@
 mod journals;
 mod server;
 mod steps;
+mod storms;
 mod systems;
 mod threads;
 mod workers;

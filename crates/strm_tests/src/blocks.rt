@@ -1,10 +1,12 @@
-//! Each call of a store once, through the bound, and how many references a data block can have.
+//! Each call of a store of each kind once, through the bound, and how many references a data block can have.
 ghost use Rattle.std.specs.Prelude.{ℕ, Some, if◌then◌else◌, ◌≡◌, ◌≢◌, ◌<◌, ◌≤◌, ◌+◌, ◌-◌, ◌^◌, min, not, is_some, length, IfOk, IfSome};
 ghost use Rattle.strm_types.specs.Kinds.{is_body_kind};
 ghost use Rattle.strm_blocks.specs.Blocks.{IsInHand, in_hand, token};
 
+use std::process::Abort;
 use std::test::Fail;
 use strm_blocks::{Blocks, FlushWhat, InHand, NoBlocks, Peek, Summary, TableStore, Visitor};
+use strm_raw::RawStore;
 use strm_types::{Band, MsgKind};
 
 // So many more blocks behind a message, which all name the data block of its first one.
@@ -243,18 +245,24 @@ fn finds_data<B: Blocks>(store: &mut B) -> Result<bool, NoBlocks> {
     Ok(empty && !store.is_empty(5) && first.told == 2 && first.body == Some(4))
 }
 
-#[test]
-fn a_data_block_has_at_most_255_references(rt: HostRuntime) -> Result<(), Fail> {
-    let mut store = TableStore::new(rt.alloc(), 300, 300)?;
-    assert_eq!(rt; beside_pile(&mut store, 255)?, ((45, 299), true));
+// 45 of 300 message blocks are free beside a data block of 255 references, which can have no more, and then all.
+fn bounds_references<B: Blocks>(rt: &impl Abort, store: &mut B) -> Result<(), Fail> {
+    assert_eq!(rt; beside_pile(store, 255)?, ((45, 299), true));
     assert_eq!(rt; store.free_blocks(), (300, 300));
     Ok(())
 }
 
 #[test]
-fn each_call_does_its_work(rt: HostRuntime) -> Result<(), Fail> {
-    let mut store = TableStore::new(rt.alloc(), 8, 8)?;
-    assert!(rt; is_seen(&mut store)?);
+fn a_data_block_has_at_most_255_references(rt: HostRuntime) -> Result<(), Fail> {
+    let mut tables = TableStore::new(rt.alloc(), 300, 300)?;
+    bounds_references(&rt, &mut tables)?;
+    let mut nodes = RawStore::new(rt.alloc(), 300, 300)?;
+    bounds_references(&rt, &mut nodes)
+}
+
+// A message is as wanted after each call, in a store of eight blocks of each kind; so are the free blocks.
+fn does_its_work<B: Blocks>(rt: &impl Abort, store: &mut B) -> Result<(), Fail> {
+    assert!(rt; is_seen(store)?);
     assert_eq!(rt; store.free_blocks(), (6, 6));
     store.drop_where(
         7,
@@ -266,15 +274,31 @@ fn each_call_does_its_work(rt: HostRuntime) -> Result<(), Fail> {
     assert_eq!(rt; store.free_blocks(), (7, 7));
     store.reset();
     assert_eq!(rt; store.free_blocks(), (8, 8));
+    assert!(rt; is_seen(store)?);
+    assert_eq!(rt; store.free_blocks(), (6, 6));
+    Ok(())
+}
+
+#[test]
+fn each_call_does_its_work(rt: HostRuntime) -> Result<(), Fail> {
+    let mut tables = TableStore::new(rt.alloc(), 8, 8)?;
+    does_its_work(&rt, &mut tables)?;
+    let mut nodes = RawStore::new(rt.alloc(), 8, 8)?;
+    does_its_work(&rt, &mut nodes)
+}
+
+fn tells_until_it_is_enough<B: Blocks>(rt: &impl Abort, store: &mut B) -> Result<(), Fail> {
+    assert!(rt; finds_data(store)?);
+    assert_eq!(rt; store.free_blocks(), (5, 5));
     Ok(())
 }
 
 #[test]
 fn a_visitor_is_told_until_it_wants_no_more(rt: HostRuntime) -> Result<(), Fail> {
-    let mut store = TableStore::new(rt.alloc(), 8, 8)?;
-    assert!(rt; finds_data(&mut store)?);
-    assert_eq!(rt; store.free_blocks(), (5, 5));
-    Ok(())
+    let mut tables = TableStore::new(rt.alloc(), 8, 8)?;
+    tells_until_it_is_enough(&rt, &mut tables)?;
+    let mut nodes = RawStore::new(rt.alloc(), 8, 8)?;
+    tells_until_it_is_enough(&rt, &mut nodes)
 }
 
 // Takes the last message of list 5, and says whether it shows these bytes.
@@ -288,23 +312,27 @@ fn ends_list<B: Blocks>(store: &mut B, bytes: &[u8]) -> bool {
     same
 }
 
-#[test]
-fn the_last_message_is_taken_first_by_pop_last(rt: HostRuntime) -> Result<(), Fail> {
-    let mut store = TableStore::new(rt.alloc(), 8, 8)?;
-    put_filled(&mut store, MsgKind::Data, b"ab")?;
-    put_filled(&mut store, MsgKind::Data, b"cd")?;
-    put_filled(&mut store, MsgKind::Pcproto, b"ef")?;
-    assert!(rt; ends_list(&mut store, b"cd"));
-    assert!(rt; ends_list(&mut store, b"ab"));
-    assert!(rt; ends_list(&mut store, b"ef"));
-    assert!(rt; !ends_list(&mut store, b""));
+fn is_taken_from_its_end<B: Blocks>(rt: &impl Abort, store: &mut B) -> Result<(), Fail> {
+    put_filled(store, MsgKind::Data, b"ab")?;
+    put_filled(store, MsgKind::Data, b"cd")?;
+    put_filled(store, MsgKind::Pcproto, b"ef")?;
+    assert!(rt; ends_list(store, b"cd"));
+    assert!(rt; ends_list(store, b"ab"));
+    assert!(rt; ends_list(store, b"ef"));
+    assert!(rt; !ends_list(store, b""));
     assert_eq!(rt; store.free_blocks(), (8, 8));
     Ok(())
 }
 
 #[test]
-fn a_message_is_counted_at_once(rt: HostRuntime) -> Result<(), Fail> {
-    let mut store = TableStore::new(rt.alloc(), 8, 8)?;
+fn the_last_message_is_taken_first_by_pop_last(rt: HostRuntime) -> Result<(), Fail> {
+    let mut tables = TableStore::new(rt.alloc(), 8, 8)?;
+    is_taken_from_its_end(&rt, &mut tables)?;
+    let mut nodes = RawStore::new(rt.alloc(), 8, 8)?;
+    is_taken_from_its_end(&rt, &mut nodes)
+}
+
+fn counts_at_once<B: Blocks>(rt: &impl Abort, store: &mut B) -> Result<(), Fail> {
     let turned = Summary {
         kind: MsgKind::Proto,
         band: Band(2),
@@ -315,7 +343,15 @@ fn a_message_is_counted_at_once(rt: HostRuntime) -> Result<(), Fail> {
         band: Band(2),
         bytes: 0,
     };
-    assert_eq!(rt; summed(&mut store)?, [turned, trimmed]);
+    assert_eq!(rt; summed(store)?, [turned, trimmed]);
     assert_eq!(rt; store.free_blocks(), (8, 8));
     Ok(())
+}
+
+#[test]
+fn a_message_is_counted_at_once(rt: HostRuntime) -> Result<(), Fail> {
+    let mut tables = TableStore::new(rt.alloc(), 8, 8)?;
+    counts_at_once(&rt, &mut tables)?;
+    let mut nodes = RawStore::new(rt.alloc(), 8, 8)?;
+    counts_at_once(&rt, &mut nodes)
 }

@@ -1,4 +1,4 @@
-//! Messages in a store of tables, with answers worked out by hand.
+//! Messages in a store of tables and in one of linked nodes, with answers worked out by hand.
 
 mod rows;
 

@@ -1,4 +1,4 @@
-//! Queues over a store of tables, with answers worked out by hand.
+//! Queues over a store of tables and over one of linked nodes, with answers worked out by hand.
 
 mod steps;
 

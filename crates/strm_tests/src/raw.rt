@@ -63,6 +63,28 @@ fn a_message_is_linked_parted_and_freed(rt: HostRuntime) -> Result<(), Fail> {
 }
 
 #[test]
+fn blocks_that_were_freed_come_before_those_never_used(rt: HostRuntime) -> Result<(), Fail> {
+    let mut store = RawStore::new(rt.alloc(), 3, 3)?;
+    let (one, other) = (store.alloc(MsgKind::Data)?, store.alloc(MsgKind::Data)?);
+    let names = (one.name(), other.name());
+    store.free(one);
+    store.free(other);
+    assert_eq!(rt; store.free_blocks(), (3, 3));
+    let last_freed = store.alloc(MsgKind::Data)?;
+    let first_freed = store.alloc(MsgKind::Data)?;
+    let never_used = store.alloc(MsgKind::Data)?;
+    assert_eq!(rt; (first_freed.name(), last_freed.name()), names);
+    assert!(rt; never_used.name() != names.0 && never_used.name() != names.1);
+    assert_eq!(rt; store.free_blocks(), (0, 0));
+    assert!(rt; store.alloc(MsgKind::Data).is_err());
+    store.reset();
+    assert_eq!(rt; store.free_blocks(), (3, 3));
+    let again = store.alloc(MsgKind::Data)?;
+    assert_eq!(rt; again.name(), names.0);
+    Ok(())
+}
+
+#[test]
 fn a_trim_takes_no_more_than_is_shown(rt: HostRuntime) -> Result<(), Fail> {
     let mut store = RawStore::new(rt.alloc(), 2, 2)?;
     let whole = store.alloc_with(MsgKind::Data, Band(1), b"abcdef")?;

@@ -66,11 +66,15 @@ fn put_listed<B: Bands>(out: &mut Sink, bands: &B, first: &Flow)
     }
 }
 
-/// The flow control of a queue's bands.
+/// The flow control of a queue's bands. The cost is a step for each band, and one more where any is listed.
 pub fn put_flows<B: Bands>(out: &mut Sink, bands: &B, at: QueueKind)
     ensures { out.new ≡ put ((flows Second at).text (B.flows bands.now)) out.old }
 {
     let first = at.first_flow();
-    put_u16(out, count_listed(bands, &first) as u16);
+    let count = count_listed(bands, &first);
+    put_u16(out, count as u16);
+    if count == 0 {
+        return;
+    }
     put_listed(out, bands, &first);
 }

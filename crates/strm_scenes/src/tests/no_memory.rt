@@ -223,6 +223,10 @@ fn calls_without_memory<B: Reserve>(rt: &impl Abort, alloc: Global) -> Result<()
     let is_left = taken.len() < MOST_TAKEN && Vec::<u8>::with_capacity(alloc, 1).is_ok();
     let first = first_wrong(&mut pair, &mut out, CALLS.len());
     let entries = pair.journal().entries.len();
+    let is_cut = pair.cut(alloc).is_ok();
+    let kept = pair.journal().entries.len();
+    pair.restart();
+    let is_anew = pair.journal().entries.is_empty();
     pair.reset();
     let second = first_wrong(&mut pair, &mut out, CALLS.len());
     let shown = pair.sizes(SLAVE_HEAD);
@@ -230,6 +234,11 @@ fn calls_without_memory<B: Reserve>(rt: &impl Abort, alloc: Global) -> Result<()
     assert!(rt; !is_left, "all memory is taken");
     assert_eq!(rt; first, None);
     assert!(rt; entries > CALLS.len());
+    assert!(rt;
+        !is_cut && kept == entries,
+        "a cut is refused, and the journal stays"
+    );
+    assert!(rt; is_anew, "it begins anew without memory");
     assert_eq!(rt; second, None, "once more, in a pair as new");
     assert_eq!(rt; shown, (0, 0));
     Ok(())

@@ -1,21 +1,18 @@
 //! Systems of pairs: what their ends are told, and what is refused. What tests do is said for any system; a test makes one of real pairs.
 
-ghost use Rattle.std.specs.Prelude.{◌≡◌, ◌≤◌, IfOk, length};
-ghost use Rattle.strm_minors.specs.Openers.{IsOf, opening};
+ghost use Rattle.strm_minors.specs.Openers.{IsOf};
 ghost use Rattle.strm_locks.specs.Systems.{IsOne};
 
 use super::steps::{call, joined, open_slave, opened, opened_master, settled, split, writes};
-use crate::{Locked, Store, unopened};
-use std::alloc::{AllocError, Global};
+pub(crate) use crate::system;
+use std::alloc::Global;
 use std::process::Abort;
 use std::sync::Wait;
 use std::test::Fail;
 use std::thread::Threads;
-use strm_locks::{NoGate, Object, PairEnd, System};
+use strm_locks::{NoGate, Object, PairEnd, Settled, System};
 use strm_minors::Opener;
 use strm_types::{Answer, Config, Content, Event, Refusal, StopSignal, TIOCSPGRP};
-
-pub(crate) type PairSystem = System<Locked<Store>>;
 
 pub(crate) const SIZES: Config = Config {
     mblks: 128,
@@ -31,22 +28,6 @@ const NO_JOURNAL: Config = Config {
     journal_events: 0,
     journal_bytes: 0,
 };
-
-// So many pairs of these sizes.
-pub(crate) fn system(
-    alloc: Global,
-    pairs: u32,
-    sizes: Config,
-) -> Result<(PairSystem, Opener), AllocError>
-    requires { pairs ≤ 64 }
-    ensures { IfOk result (λ made. (length made.0.locks ≡ pairs) × (made.1 ≡ opening made.0.minors)) }
-{
-    let mut all = Vec::new(alloc);
-    for made in 0..pairs {
-        all.push(unopened::<Store>(alloc, sizes)?)?;
-    }
-    System::new(alloc, all)
-}
 
 fn opens_and_refuses<P: Object, R: Wait + Abort>(rt: &R, system: &System<P>, opener: &mut Opener)
     requires { IsOf system.now.minors opener.old }
@@ -110,7 +91,11 @@ fn carries_and_settles<P: Object + Send, R: Threads + Wait + Sync + Abort>(
     let Err((_, master)) = system.settle(rt, master) else {
         panic!(rt; "settled")
     };
-    let settled = settled(rt, system, master, slave);
+    all_is_told(rt, &settled(rt, system, master, slave));
+}
+
+// What was told of a session in which three bytes were carried.
+fn all_is_told<R: Abort>(rt: &R, settled: &Settled) {
     assert!(rt; settled.told.calls == 5 && settled.told.written.from_master == 3);
     assert!(rt; settled.told.read.from_master == 3 && settled.told.written.from_slave == 0);
     assert!(rt; settled.ms.written == 3 && settled.ms.fates[0] == 3 && settled.sm.written == 0);
@@ -120,6 +105,36 @@ fn carries_and_settles<P: Object + Send, R: Threads + Wait + Sync + Abort>(
 fn what_is_written_is_carried_read_and_told(rt: HostRuntime) -> Result<(), Fail> {
     let (system, mut opener) = system(rt.alloc(), 1, SIZES)?;
     carries_and_settles(&rt, &system, &mut opener);
+    Ok(())
+}
+
+// The same with a cut before the end: what ends were told stays.
+fn carries_and_is_cut<P: Object + Send, R: Threads + Wait + Sync + Abort>(
+    rt: &R,
+    alloc: Global,
+    system: &System<P>,
+    opener: &mut Opener,
+)
+    requires { IsOf system.now.minors opener.old }
+{
+    let (mut master, mut slave) = opened(rt, system, opener);
+    carries(rt, system, &mut master, &mut slave);
+    let (Ok(trace), Ok(rest)) = (
+        system.cut(rt, alloc, &master).trace,
+        system.cut(rt, alloc, &slave).trace,
+    ) else {
+        panic!(rt; "no memory")
+    };
+    assert!(rt; trace.entries.len() == 6 && trace.bytes.as_slice() == b"abcabc".as_slice());
+    assert!(rt; rest.entries.is_empty() && rest.bytes.is_empty());
+    assert!(rt; trace.base.len() < rest.base.len());
+    all_is_told(rt, &settled(rt, system, master, slave));
+}
+
+#[test]
+fn what_ends_were_told_stays_where_a_pair_is_cut(rt: HostRuntime) -> Result<(), Fail> {
+    let (system, mut opener) = system(rt.alloc(), 1, SIZES)?;
+    carries_and_is_cut(&rt, rt.alloc(), &system, &mut opener);
     Ok(())
 }
 

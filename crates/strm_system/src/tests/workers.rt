@@ -6,10 +6,13 @@ ghost use Rattle.strm_types.specs.declared.events.Caller.{Caller};
 ghost use Rattle.strm_laws.specs.Pair.{call_refused};
 ghost use Rattle.strm_system.specs.Shut.{shut};
 
+use std::alloc::Global;
 use std::test::Fail;
+use strm_image::Trace;
 use strm_locks::{End, Lock, Made, NoGate, Object, PairEnd, Round, System, work};
 use strm_types::{
-    Answer, Caller, Content, Dir, Event, Ledger, Place, QueueName, Refusal, Side, Turn, Way,
+    Answer, Caller, Content, Dir, Event, Ledger, NoMemory, Place, QueueName, Refusal, Side, Turn,
+    Way,
 };
 
 // A pair whose journal takes no entry.
@@ -67,6 +70,10 @@ impl Object for Shut {
     fn audit(&self) {}
 
     fn restart(&mut self) {}
+
+    fn cut(&mut self, _alloc: Global) -> Result<Trace, NoMemory> {
+        Err(NoMemory)
+    }
 
     fn reset(&mut self) {}
 }

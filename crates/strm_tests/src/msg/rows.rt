@@ -11,6 +11,7 @@ use strm_msg::{
     NotPulled, adjmsg, control_len, copymsg, data_len, dupmsg, from_bytes, msgdsize, pullup,
     take_data,
 };
+use strm_raw::RawStore;
 use strm_types::{Band, MsgKind, Refusal};
 
 // A block of a message: its kind and its bytes.
@@ -251,7 +252,19 @@ fn first_wrong_of_copy<B: Blocks>(
     Ok((wrong, walk(store, message, case.rows)))
 }
 
-// Plays a case in a store of so many message blocks and data blocks, which has nothing in it before and afterwards.
+// Plays a case in a store, in which so many blocks of each kind are free before and afterwards.
+fn plays_in<B: Blocks>(
+    rt: &impl Abort,
+    store: &mut B,
+    free: Free,
+    case: &Case<'_>,
+) -> Result<(), Fail> {
+    assert_eq!(rt; first_wrong(store, case)?, None);
+    assert_eq!(rt; store.free_blocks(), free);
+    Ok(())
+}
+
+// Plays a case in a store of each kind, of so many message blocks and data blocks.
 pub(crate) fn plays(
     rt: &impl Abort,
     alloc: Global,
@@ -264,24 +277,33 @@ pub(crate) fn plays(
     requires some_dblks { 0 < dblks }
     requires few_dblks { dblks ≤ 65536 }
 {
-    let mut store = TableStore::new(alloc, mblks, dblks)?;
-    assert_eq!(rt; first_wrong(&mut store, case)?, None);
-    assert_eq!(rt; store.free_blocks(), (mblks, dblks));
-    Ok(())
+    let mut tables = TableStore::new(alloc, mblks, dblks)?;
+    plays_in(rt, &mut tables, (mblks, dblks), case)?;
+    let mut nodes = RawStore::new(alloc, mblks, dblks)?;
+    plays_in(rt, &mut nodes, (mblks, dblks), case)
 }
 
 // Plays a case on a copy of another one's message, and then that one, in a store of ten blocks of each kind.
+fn plays_on_a_copy_in<B: Blocks>(
+    rt: &impl Abort,
+    store: &mut B,
+    of_copy: &Case<'_>,
+    case: &Case<'_>,
+) -> Result<(), Fail> {
+    assert_eq!(rt; first_wrong_of_copy(store, of_copy, case)?, (None, None));
+    assert_eq!(rt; store.free_blocks(), (10, 10));
+    Ok(())
+}
+
+// The same in a store of each kind.
 pub(crate) fn plays_on_a_copy(
     rt: &impl Abort,
     alloc: Global,
     of_copy: &Case<'_>,
     case: &Case<'_>,
 ) -> Result<(), Fail> {
-    let mut store = TableStore::new(alloc, 10, 10)?;
-    assert_eq!(rt;
-        first_wrong_of_copy(&mut store, of_copy, case)?,
-        (None, None)
-    );
-    assert_eq!(rt; store.free_blocks(), (10, 10));
-    Ok(())
+    let mut tables = TableStore::new(alloc, 10, 10)?;
+    plays_on_a_copy_in(rt, &mut tables, of_copy, case)?;
+    let mut nodes = RawStore::new(alloc, 10, 10)?;
+    plays_on_a_copy_in(rt, &mut nodes, of_copy, case)
 }

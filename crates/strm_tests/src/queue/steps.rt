@@ -1,4 +1,4 @@
-//! Steps that are taken on a queue over a store of tables, and what is to be seen after each.
+//! Steps that are taken on a queue over a store of each kind, and what is to be seen after each.
 
 ghost use Rattle.std.specs.Prelude.{◌≡◌, ◌<◌, List, [], IfOk};
 ghost use Rattle.strm_blocks.specs.Blocks.{Block, IsInHand, in_hand, list_at, token};
@@ -10,6 +10,7 @@ use std::test::Fail;
 use strm_blocks::{Blocks, InHand, NoBlocks, TableStore};
 use strm_queue::standing::mark_all;
 use strm_queue::{Flush, Queue, Table, are_marks};
+use strm_raw::RawStore;
 use strm_types::{Band, Marks, MsgKind};
 
 // What comes to a queue, and what is to be seen of it then.
@@ -185,7 +186,7 @@ fn all_go<B: Blocks>(
     Ok(())
 }
 
-// Takes steps in turn, which leave nothing in the store.
+// Takes steps in turn over a store of each kind, and leaves nothing in it.
 pub(crate) fn plays(
     rt: &impl Abort,
     alloc: Global,
@@ -194,8 +195,11 @@ pub(crate) fn plays(
 ) -> Result<(), Fail>
     requires { list < 8 }
 {
-    let mut store = TableStore::new(alloc, 10, 10)?;
-    all_go(rt, &mut store, list, Table::new(alloc)?, steps)?;
-    assert_eq!(rt; store.free_blocks(), (10, 10));
+    let mut tables = TableStore::new(alloc, 10, 10)?;
+    all_go(rt, &mut tables, list, Table::new(alloc)?, steps)?;
+    assert_eq!(rt; tables.free_blocks(), (10, 10));
+    let mut nodes = RawStore::new(alloc, 10, 10)?;
+    all_go(rt, &mut nodes, list, Table::new(alloc)?, steps)?;
+    assert_eq!(rt; nodes.free_blocks(), (10, 10));
     Ok(())
 }

@@ -2,10 +2,10 @@ use Rattle.std.proofs.Common.{◌≡◌, ◌++◌, length, drop, refl, sym, subs
 use Rattle.strm_types.specs.declared.entries.Entry.TheVariants.{Called}
 use Rattle.strm_types.specs.declared.needs.Needs.{Needs}
 use Rattle.strm_types.specs.Events.{request}
-use Rattle.strm_types.specs.Journal.{content_max, reply_in}
+use Rattle.strm_types.specs.Journal.{reply_in}
 use Rattle.strm_laws.specs.Pair.{PairState, AddsEntry, call_refused}
 use Rattle.strm_laws.specs.Within.{AreWithin}
-use Rattle.strm_ffi.specs.Outcomes.{Answers, Decided, Stay, refused_within}
+use Rattle.strm_ffi.specs.Outcomes.{Answers, Decided, Stay}
 use Rattle.strm_ffi.proofs.Decisions.{left, stayed, was_done, within}
 use Rattle.strm_ffi.proofs.Fits.{answered, content-small, stays-within}
 use Rattle.strm_ffi.proofs.kept.Kept.call.Goals as goal

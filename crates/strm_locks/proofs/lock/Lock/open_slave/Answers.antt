@@ -1,5 +1,4 @@
 use Rattle.std.proofs.Common.{rules, ◌-◌, ◌/◌, sym, ap, ◌∙◌}
-use Rattle.strm_types.specs.declared.names.Side.TheVariants.{Slave}
 use Rattle.strm_locks.specs.Ends.{Share}
 use Rattle.strm_locks.specs.Rules.{Mine}
 use Rattle.strm_locks.proofs.lock.Lock.open_slave.Goals as goal

@@ -1,14 +1,21 @@
--- An ldterm has the two lists, and a ptem has none.
-use Rattle.std.proofs.Common.{arith}
-use Rattle.strm_frame.proofs.Handing.{once-self}
-use Rattle.strm_pair.proofs.MadeModules.{own-apart, own-within}
+-- An ldterm has the two lists, and no other module has any.
+use Rattle.std.proofs.Common.{ap, refl, sym}
+use Rattle.strm_image.specs.ModuleTexts.{module_now}
+use Rattle.strm_pair.specs.Placing.{module_blocks, own_of}
+use Rattle.strm_pair.proofs.StacksMade.{placed-bare, placed-ldterm}
 use Rattle.strm_pair.proofs.images.placing.module_of.Goals as goal
 
-pub returns-in-Some-clause-owned : goal.returns-in-Some-clause-owned
-returns-in-Some-clause-owned g c = own-within c.args.first c.ldterm_of.result c.ldterm_of.ensures.owns
+pub returns-in-Some : goal.returns-in-Some
+returns-in-Some g c =
+    let made = c.ldterm_of.ensures in
+    placed-ldterm _ _ c.args.first c.args.shelf.now _ c.args.text.now c.in-Ldterm.found c.ldterm_of.result c.in-Ldterm.is made.state made.held made.rests made.owns made.fills made.spent
 
-pub returns-in-Some-clause-apart : goal.returns-in-Some-clause-apart
-returns-in-Some-clause-apart g c = own-apart c.args.first c.ldterm_of.result c.ldterm_of.ensures.owns
+pub returns-in-Ptem : goal.returns-in-Ptem
+returns-in-Ptem g c =
+    let is = c.in-Ptem.is in
+    placed-bare _ c.args.first _ c.args.text.now _ (sym (ap module_now is)) tt (λ i. refl) (λ k. sym (ap (own_of c.args.first k) is)) (ap module_blocks is)
 
-pub returns-in-Some-clause-shelf : goal.returns-in-Some-clause-shelf
-returns-in-Some-clause-shelf g c = λ none. absurd (omega (arith, none, c.ldterm_of.ensures.owns c.args.first, once-self c.args.first))
+pub returns-in-Pckt : goal.returns-in-Pckt
+returns-in-Pckt g c =
+    let is = c.in-Pckt.is in
+    placed-bare _ c.args.first _ c.args.text.now _ (sym (ap module_now is)) tt (λ i. refl) (λ k. sym (ap (own_of c.args.first k) is)) (ap module_blocks is)

@@ -12,6 +12,7 @@ use Rattle.strm_laws.proofs.JournalPlaces.{one-place, own-place}
 use Rattle.strm_laws.proofs.LedgerSums.{sum_of}
 use Rattle.strm_laws.proofs.BaseSteps.{restorable-unread}
 use Rattle.strm_laws.proofs.RefusedForgets.{legal-from}
+use Rattle.strm_pair.specs.BaseTexts.{start_in}
 use Rattle.strm_pair.specs.Pairs.{state_in, journal_of}
 use Rattle.strm_pair.proofs.Balanced.{balance, elsewhere-few}
 use Rattle.strm_pair.proofs.pair.Pair.ledger.Goals as goal
@@ -19,21 +20,21 @@ use Rattle.strm_pair.proofs.pair.Pair.ledger.Goals as goal
 pub sum-requires : goal.sum-requires
 sum-requires g c =
     let p = c.self.inside in
-    let low = elsewhere-few (g.B.Blocks.value p.store) p.streams p.journal p.base.start p.limits p.fates c.self.invariant c.args.direction in
+    let low = elsewhere-few (g.B.Blocks.value p.store) p.streams p.journal (start_in p.base) p.limits p.fates c.self.invariant.kept c.args.direction in
     omega (arith, low, ap (λ counts. sum_of counts) c.of-fates.ensures)
 
 pub overflow_add-elsewhere : goal.overflow_add-elsewhere
 overflow_add-elsewhere g c =
     let p = c.self.inside in
     let s = g.B.Blocks.value p.store in
-    let low = elsewhere-few s p.streams p.journal p.base.start p.limits p.fates c.self.invariant c.args.direction in
+    let low = elsewhere-few s p.streams p.journal (start_in p.base) p.limits p.fates c.self.invariant.kept c.args.direction in
     omega (arith, low, c.sum.ensures, ap (λ counts. sum_of counts) c.of-fates.ensures, c.line_lens-inline.ensures s)
 
 pub overflow_add-result : goal.overflow_add-result
 overflow_add-result g c =
     let p = c.self.inside in
     let s = g.B.Blocks.value p.store in
-    let few = c.self.invariant.few in
+    let few = c.self.invariant.kept.few in
     let written = few.written c.args.direction in
     let made = few.made c.args.direction in
     let is = c.book-book.ensures s in
@@ -44,7 +45,7 @@ overflow_sub-result g c =
     let p = c.self.inside in
     let s = g.B.Blocks.value p.store in
     let dir = c.args.direction in
-    let all = balance s p.streams p.journal p.base.start p.limits p.fates c.self.invariant dir in
+    let all = balance s p.streams p.journal (start_in p.base) p.limits p.fates c.self.invariant.kept dir in
     let gone = c.sum.ensures ∙ ap (λ counts. sum_of counts) c.of-fates.ensures in
     let is = c.book-book.ensures s in
     omega (arith, all, gone, c.line_lens-inline.ensures s, ap (λ (b : Book). b.written) is, ap (λ (b : Book). b.made) is)
@@ -55,7 +56,7 @@ returns-clause-ledger g c =
     let s = g.B.Blocks.value p.store in
     let dir = c.args.direction in
     let st = state_in s p.streams in
-    let all = balance s p.streams p.journal p.base.start p.limits p.fates c.self.invariant dir in
+    let all = balance s p.streams p.journal (start_in p.base) p.limits p.fates c.self.invariant.kept dir in
     let gone = c.sum.ensures ∙ ap (λ counts. sum_of counts) c.of-fates.ensures in
     let is = c.book-book.ensures s in
     let written = ap (λ (b : Book). b.written) is in
@@ -80,7 +81,7 @@ returns-clause-balance g c =
     let p = c.self.inside in
     let s = g.B.Blocks.value p.store in
     let dir = c.args.direction in
-    let all = balance s p.streams p.journal p.base.start p.limits p.fates c.self.invariant dir in
+    let all = balance s p.streams p.journal (start_in p.base) p.limits p.fates c.self.invariant.kept dir in
     let is = c.book-book.ensures s in
     let gone = ap (λ counts. sum_of counts) c.of-fates.ensures in
     omega (arith, all, gone, c.sum.ensures, c.line_lens-inline.ensures s, ap (λ (b : Book). b.written) is, ap (λ (b : Book). b.made) is)
@@ -88,15 +89,15 @@ returns-clause-balance g c =
 pub returns-clause-once : goal.returns-clause-once
 returns-clause-once g c = λ o.
     let p = c.self.inside in
-    let base = p.base.start.state in
-    let is = c.self.invariant.based.restorable in
+    let base = (start_in p.base).state in
+    let is = c.self.invariant.kept.based.restorable in
     subst (λ (v : PairState). places_of o v.base v.journal ≡ (if is_booked o v.base (replay tagged (based v.base) v.journal) then 1 else 0)) c.self.view_is
-    (one-place o base (journal_of p.journal) (restorable-unread base is) is.idle (legal-from base (journal_of p.journal) is.idle c.self.invariant.legal))
+    (one-place o base (journal_of p.journal) (restorable-unread base is) is.idle (legal-from base (journal_of p.journal) is.idle c.self.invariant.kept.legal))
 
 pub returns-clause-own : goal.returns-clause-own
 returns-clause-own g c = λ o.
     let p = c.self.inside in
-    let base = p.base.start.state in
-    let is = c.self.invariant.based.restorable in
+    let base = (start_in p.base).state in
+    let is = c.self.invariant.kept.based.restorable in
     subst (λ (v : PairState). own_places_of o v.base v.journal ≡ (if is_booked o v.base (replay tagged (based v.base) v.journal) then 1 else 0)) c.self.view_is
-    (own-place o base (journal_of p.journal) (restorable-unread base is) is.idle (legal-from base (journal_of p.journal) is.idle c.self.invariant.legal))
+    (own-place o base (journal_of p.journal) (restorable-unread base is) is.idle (legal-from base (journal_of p.journal) is.idle c.self.invariant.kept.legal))

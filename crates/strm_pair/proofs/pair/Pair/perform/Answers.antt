@@ -18,6 +18,7 @@ use Rattle.strm_laws.proofs.StackSpares.{call-low}
 use Rattle.strm_laws.proofs.Replay.{call-allowed, or_else-none}
 use Rattle.strm_blocks.specs.Blocks.{free_m}
 use Rattle.strm_blocks.proofs.Laws.{free_m-is}
+use Rattle.strm_pair.specs.BaseTexts.{start_in}
 use Rattle.strm_pair.specs.Pairs.{state_in, journal_of, free_in}
 use Rattle.strm_pair.specs.PairViews.{pair_of}
 use Rattle.strm_pair.proofs.JournalLemmas.{room-less}
@@ -35,7 +36,7 @@ invariant_of-self g c =
     let out = c.carry_out-answer.new.out.items in
     let old = state_in s p.streams in
     let entry : PlainEntry = Called c.args.caller asked (reply_in c.carry_out-answer.result out) in
-    let allowed : call_refused (pair_of s p.streams p.journal p.base.start p.limits p.fates) c.args.caller asked ≡ None = ap (λ (v : PairState). call_refused v c.args.caller asked) c.self.view_is ∙ (judged-allowed _ (stop_of c.args.self.now.state c.args.caller asked) c.requires).0 in
+    let allowed : call_refused (pair_of s p.streams p.journal (start_in p.base) p.limits p.fates) c.args.caller asked ≡ None = ap (λ (v : PairState). call_refused v c.args.caller asked) c.self.view_is ∙ (judged-allowed _ (stop_of c.args.self.now.state c.args.caller asked) c.requires).0 in
     let free : stop_of old c.args.caller asked ≡ None = ap (λ (v : PairState). stop_of v.state c.args.caller asked) c.self.view_is ∙ (judged-allowed (call_refused c.args.self.now c.args.caller asked) _ c.requires).1 in
     let same = as-performed c.args.caller asked old free in
     let stands = c.carry_out-answer.ensures.state ∙ ap (λ (o : Outcome ℕ). o.state) same in
@@ -46,14 +47,17 @@ invariant_of-self g c =
     let store = c.audit.ensures in
     let less : blocks_asked asked ≤ 65536 = omega (arith, blocks, store.few_mblks, free_m-is s) in
     let left = subst (λ v. OnTrue (delivers asked) (spare old ≤ spare v + 30)) stands c.carry_out-answer.ensures.left in
-    let few = call-few plain c.args.caller asked old may (written-by-blocks asked 65536 (omega arith) less) c.self.invariant.few (λ room. call-low plain c.args.caller asked old room left) in
-    kept-step s new p.streams c.carry_out-answer.new.self p.journal c.add_call.new.self p.base.start p.limits p.fates c.carry_out-answer.new.told entry c.self.invariant
-    (record {
-      allowed = (call-allowed old (journal_of p.journal) p.limits (enough (blocks_asked asked) (free_in s)) c.args.caller asked allowed).0;
-      answered = sym (c.carry_out-answer.ensures.answer ∙ ap (λ (o : Outcome ℕ). o.answer) same);
-      leads = refl;
-    })
-    c.add_call.ensures.within stands c.carry_out-answer.ensures.held c.carry_out-answer.ensures.pool (subst FewBooked (sym stands) few) told added c.add_call.ensures.most_entries c.add_call.ensures.most_bytes
+    let few = call-few plain c.args.caller asked old may (written-by-blocks asked 65536 (omega arith) less) c.self.invariant.kept.few (λ room. call-low plain c.args.caller asked old room left) in
+    record {
+      kept = kept-step s new p.streams c.carry_out-answer.new.self p.journal c.add_call.new.self (start_in p.base) p.limits p.fates c.carry_out-answer.new.told entry c.self.invariant.kept
+          (record {
+            allowed = (call-allowed old (journal_of p.journal) p.limits (enough (blocks_asked asked) (free_in s)) c.args.caller asked allowed).0;
+            answered = sym (c.carry_out-answer.ensures.answer ∙ ap (λ (o : Outcome ℕ). o.answer) same);
+            leads = refl;
+          })
+          c.add_call.ensures.within stands c.carry_out-answer.ensures.held c.carry_out-answer.ensures.pool (subst FewBooked (sym stands) few) told added c.add_call.ensures.most_entries c.add_call.ensures.most_bytes;
+      written = c.self.invariant.written;
+    }
 
 pub returns-clause-adds : goal.returns-clause-adds
 returns-clause-adds g c =
@@ -66,7 +70,7 @@ returns-clause-adds g c =
     let out = c.carry_out-answer.new.out.items in
     let old = state_in s p.streams in
     let entry : PlainEntry = Called c.args.caller asked (reply_in c.carry_out-answer.result out) in
-    let allowed : call_refused (pair_of s p.streams p.journal p.base.start p.limits p.fates) c.args.caller asked ≡ None = ap (λ (v : PairState). call_refused v c.args.caller asked) c.self.view_is ∙ (judged-allowed _ (stop_of c.args.self.now.state c.args.caller asked) c.requires).0 in
+    let allowed : call_refused (pair_of s p.streams p.journal (start_in p.base) p.limits p.fates) c.args.caller asked ≡ None = ap (λ (v : PairState). call_refused v c.args.caller asked) c.self.view_is ∙ (judged-allowed _ (stop_of c.args.self.now.state c.args.caller asked) c.requires).0 in
     let free : stop_of old c.args.caller asked ≡ None = ap (λ (v : PairState). stop_of v.state c.args.caller asked) c.self.view_is ∙ (judged-allowed (call_refused c.args.self.now c.args.caller asked) _ c.requires).1 in
     let same = as-performed c.args.caller asked old free in
     let stands = c.carry_out-answer.ensures.state ∙ ap (λ (o : Outcome ℕ). o.state) same in
@@ -76,7 +80,7 @@ returns-clause-adds g c =
       answered = sym (c.carry_out-answer.ensures.answer ∙ ap (λ (o : Outcome ℕ). o.answer) same);
       leads = refl;
     } in
-    subst (λ (v : PairState). AddsEntry v (pair_of new q k p.base.start p.limits c.carry_out-answer.new.told) entry) c.self.view_is
+    subst (λ (v : PairState). AddsEntry v (pair_of new q k (start_in p.base) p.limits c.carry_out-answer.new.told) entry) c.self.view_is
     (record {
       journal = added;
       step = step-shown s new p.streams q entry stands taken;
@@ -96,7 +100,7 @@ carry_out-answer-requires-clause-allowed g c =
     let s = g.B.Blocks.value p.store in
     let asked = request c.args.event.now in
     let old = state_in s p.streams in
-    let allowed : call_refused (pair_of s p.streams p.journal p.base.start p.limits p.fates) c.args.caller asked ≡ None = ap (λ (v : PairState). call_refused v c.args.caller asked) c.self.view_is ∙ (judged-allowed _ (stop_of c.args.self.now.state c.args.caller asked) c.requires).0 in
+    let allowed : call_refused (pair_of s p.streams p.journal (start_in p.base) p.limits p.fates) c.args.caller asked ≡ None = ap (λ (v : PairState). call_refused v c.args.caller asked) c.self.view_is ∙ (judged-allowed _ (stop_of c.args.self.now.state c.args.caller asked) c.requires).0 in
     (or_else-none (refused_at_once old c.args.caller asked) (refused_by_state old c.args.caller asked) (call-allowed old (journal_of p.journal) p.limits (enough (blocks_asked asked) (free_in s)) c.args.caller asked allowed).0).0
 
 pub carry_out-answer-requires-clause-fits : goal.carry_out-answer-requires-clause-fits
@@ -105,12 +109,12 @@ carry_out-answer-requires-clause-fits g c =
     let s = g.B.Blocks.value p.store in
     let asked = request c.args.event.now in
     let old = state_in s p.streams in
-    let allowed : call_refused (pair_of s p.streams p.journal p.base.start p.limits p.fates) c.args.caller asked ≡ None = ap (λ (v : PairState). call_refused v c.args.caller asked) c.self.view_is ∙ (judged-allowed _ (stop_of c.args.self.now.state c.args.caller asked) c.requires).0 in
+    let allowed : call_refused (pair_of s p.streams p.journal (start_in p.base) p.limits p.fates) c.args.caller asked ≡ None = ap (λ (v : PairState). call_refused v c.args.caller asked) c.self.view_is ∙ (judged-allowed _ (stop_of c.args.self.now.state c.args.caller asked) c.requires).0 in
     let free : stop_of old c.args.caller asked ≡ None = ap (λ (v : PairState). stop_of v.state c.args.caller asked) c.self.view_is ∙ (judged-allowed (call_refused c.args.self.now c.args.caller asked) _ c.requires).1 in
     free-fits (hold old c.args.caller asked) (unfit old c.args.caller asked) (or_else-none (refused_at_once old c.args.caller asked) (refused_by_state old c.args.caller asked) (call-allowed old (journal_of p.journal) p.limits (enough (blocks_asked asked) (free_in s)) c.args.caller asked allowed).0).1 free
 
 pub carry_out-answer-requires-clause-idle : goal.carry_out-answer-requires-clause-idle
-carry_out-answer-requires-clause-idle g c = led-idle (g.B.Blocks.value c.self.inside.store) c.self.inside.streams c.self.inside.journal c.self.inside.base.start c.self.inside.limits c.self.inside.fates c.self.invariant
+carry_out-answer-requires-clause-idle g c = led-idle (g.B.Blocks.value c.self.inside.store) c.self.inside.streams c.self.inside.journal (start_in c.self.inside.base) c.self.inside.limits c.self.inside.fates c.self.invariant.kept
 
 pub carry_out-answer-requires-clause-room_m : goal.carry_out-answer-requires-clause-room_m
 carry_out-answer-requires-clause-room_m g c =
@@ -118,7 +122,7 @@ carry_out-answer-requires-clause-room_m g c =
     let s = g.B.Blocks.value p.store in
     let asked = request c.args.event.now in
     let old = state_in s p.streams in
-    let allowed : call_refused (pair_of s p.streams p.journal p.base.start p.limits p.fates) c.args.caller asked ≡ None = ap (λ (v : PairState). call_refused v c.args.caller asked) c.self.view_is ∙ (judged-allowed _ (stop_of c.args.self.now.state c.args.caller asked) c.requires).0 in
+    let allowed : call_refused (pair_of s p.streams p.journal (start_in p.base) p.limits p.fates) c.args.caller asked ≡ None = ap (λ (v : PairState). call_refused v c.args.caller asked) c.self.view_is ∙ (judged-allowed _ (stop_of c.args.self.now.state c.args.caller asked) c.requires).0 in
     (asked-free (blocks_asked asked) s (call-allowed old (journal_of p.journal) p.limits (enough (blocks_asked asked) (free_in s)) c.args.caller asked allowed).2).0
 
 pub carry_out-answer-requires-clause-room_d : goal.carry_out-answer-requires-clause-room_d
@@ -127,7 +131,7 @@ carry_out-answer-requires-clause-room_d g c =
     let s = g.B.Blocks.value p.store in
     let asked = request c.args.event.now in
     let old = state_in s p.streams in
-    let allowed : call_refused (pair_of s p.streams p.journal p.base.start p.limits p.fates) c.args.caller asked ≡ None = ap (λ (v : PairState). call_refused v c.args.caller asked) c.self.view_is ∙ (judged-allowed _ (stop_of c.args.self.now.state c.args.caller asked) c.requires).0 in
+    let allowed : call_refused (pair_of s p.streams p.journal (start_in p.base) p.limits p.fates) c.args.caller asked ≡ None = ap (λ (v : PairState). call_refused v c.args.caller asked) c.self.view_is ∙ (judged-allowed _ (stop_of c.args.self.now.state c.args.caller asked) c.requires).0 in
     (asked-free (blocks_asked asked) s (call-allowed old (journal_of p.journal) p.limits (enough (blocks_asked asked) (free_in s)) c.args.caller asked allowed).2).1
 
 pub as_slice-requires : goal.as_slice-requires
@@ -142,7 +146,7 @@ add_call-requires-clause-small g c =
     let s = g.B.Blocks.value p.store in
     let asked = request c.args.event.now in
     let old = state_in s p.streams in
-    let allowed : call_refused (pair_of s p.streams p.journal p.base.start p.limits p.fates) c.args.caller asked ≡ None = ap (λ (v : PairState). call_refused v c.args.caller asked) c.self.view_is ∙ (judged-allowed _ (stop_of c.args.self.now.state c.args.caller asked) c.requires).0 in
+    let allowed : call_refused (pair_of s p.streams p.journal (start_in p.base) p.limits p.fates) c.args.caller asked ≡ None = ap (λ (v : PairState). call_refused v c.args.caller asked) c.self.view_is ∙ (judged-allowed _ (stop_of c.args.self.now.state c.args.caller asked) c.requires).0 in
     let parts = call-allowed old (journal_of p.journal) p.limits (enough (blocks_asked asked) (free_in s)) c.args.caller asked allowed in
     let at_once = (or_else-none (refused_at_once old c.args.caller asked) (refused_by_state old c.args.caller asked) parts.0).0 in
     let blocks : blocks_asked asked ≤ free_m s = (asked-free (blocks_asked asked) s parts.2).0 in
@@ -154,7 +158,7 @@ add_call-requires-clause-room g c =
     let s = g.B.Blocks.value p.store in
     let asked = request c.args.event.now in
     let old = state_in s p.streams in
-    let allowed : call_refused (pair_of s p.streams p.journal p.base.start p.limits p.fates) c.args.caller asked ≡ None = ap (λ (v : PairState). call_refused v c.args.caller asked) c.self.view_is ∙ (judged-allowed _ (stop_of c.args.self.now.state c.args.caller asked) c.requires).0 in
+    let allowed : call_refused (pair_of s p.streams p.journal (start_in p.base) p.limits p.fates) c.args.caller asked ≡ None = ap (λ (v : PairState). call_refused v c.args.caller asked) c.self.view_is ∙ (judged-allowed _ (stop_of c.args.self.now.state c.args.caller asked) c.requires).0 in
     let room = (call-allowed old (journal_of p.journal) p.limits (enough (blocks_asked asked) (free_in s)) c.args.caller asked allowed).1 in
     room-less (journal_of p.journal) p.limits p.journal.most_entries p.journal.most_bytes (length (payload_of asked) + content_max asked) (length (payload_of asked) + length c.as_slice.result.now)
-    c.self.invariant.events c.self.invariant.bytes (omega (arith, c.carry_out-answer.ensures.content, ap length c.as_slice.ensures.value)) room
+    c.self.invariant.kept.events c.self.invariant.kept.bytes (omega (arith, c.carry_out-answer.ensures.content, ap length c.as_slice.ensures.value)) room

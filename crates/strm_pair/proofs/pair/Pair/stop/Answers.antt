@@ -14,6 +14,7 @@ use Rattle.strm_laws.specs.Step.{IsCall, after}
 use Rattle.strm_laws.proofs.Replay.{call-allowed, or_else-none}
 use Rattle.strm_blocks.specs.Blocks.{free_m}
 use Rattle.strm_blocks.proofs.Laws.{free_m-is}
+use Rattle.strm_pair.specs.BaseTexts.{start_in}
 use Rattle.strm_pair.specs.Pairs.{free_in, journal_of, state_in}
 use Rattle.strm_pair.specs.PairViews.{pair_of}
 use Rattle.strm_pair.proofs.FewBytes.{few-kept}
@@ -30,17 +31,20 @@ invariant_of-self g c =
     let old = state_in s p.streams in
     let entry : PlainEntry = Called c.args.caller asked (Stop c.args.signal) in
     let verdict = judged-stopped c.args.signal (call_refused c.args.self.now c.args.caller asked) (stop_of c.args.self.now.state c.args.caller asked) c.requires in
-    let allowed : call_refused (pair_of s p.streams p.journal p.base.start p.limits p.fates) c.args.caller asked ≡ None = ap (λ (v : PairState). call_refused v c.args.caller asked) c.self.view_is ∙ verdict.0 in
+    let allowed : call_refused (pair_of s p.streams p.journal (start_in p.base) p.limits p.fates) c.args.caller asked ≡ None = ap (λ (v : PairState). call_refused v c.args.caller asked) c.self.view_is ∙ verdict.0 in
     let stopped : stop_of old c.args.caller asked ≡ Some c.args.signal = ap (λ (v : PairState). stop_of v.state c.args.caller asked) c.self.view_is ∙ verdict.1 in
     let same = as-stopped c.args.caller asked old c.args.signal stopped in
-    kept-step s s p.streams p.streams p.journal c.add_call.new.self p.base.start p.limits p.fates p.fates entry c.self.invariant
-    (record {
-      allowed = (call-allowed old (journal_of p.journal) p.limits (enough (blocks_asked asked) (free_in s)) c.args.caller asked allowed).0;
-      answered = sym (ap (λ (o : Outcome ℕ). o.answer) same);
-      leads = refl;
-    })
-    c.add_call.ensures.within (ap (λ (o : Outcome ℕ). o.state) same) c.self.invariant.held (record { mblks = refl; dblks = refl }) c.self.invariant.few (ap (λ (o : Outcome ℕ). tallied o.gone p.fates) same)
-    c.add_call.ensures.added c.add_call.ensures.most_entries c.add_call.ensures.most_bytes
+    record {
+      kept = kept-step s s p.streams p.streams p.journal c.add_call.new.self (start_in p.base) p.limits p.fates p.fates entry c.self.invariant.kept
+          (record {
+            allowed = (call-allowed old (journal_of p.journal) p.limits (enough (blocks_asked asked) (free_in s)) c.args.caller asked allowed).0;
+            answered = sym (ap (λ (o : Outcome ℕ). o.answer) same);
+            leads = refl;
+          })
+          c.add_call.ensures.within (ap (λ (o : Outcome ℕ). o.state) same) c.self.invariant.kept.held (record { mblks = refl; dblks = refl }) c.self.invariant.kept.few (ap (λ (o : Outcome ℕ). tallied o.gone p.fates) same)
+          c.add_call.ensures.added c.add_call.ensures.most_entries c.add_call.ensures.most_bytes;
+      written = c.self.invariant.written;
+    }
 
 pub returns-clause-adds : goal.returns-clause-adds
 returns-clause-adds g c =
@@ -50,7 +54,7 @@ returns-clause-adds g c =
     let old = state_in s p.streams in
     let entry : PlainEntry = Called c.args.caller asked (Stop c.args.signal) in
     let verdict = judged-stopped c.args.signal (call_refused c.args.self.now c.args.caller asked) (stop_of c.args.self.now.state c.args.caller asked) c.requires in
-    let allowed : call_refused (pair_of s p.streams p.journal p.base.start p.limits p.fates) c.args.caller asked ≡ None = ap (λ (v : PairState). call_refused v c.args.caller asked) c.self.view_is ∙ verdict.0 in
+    let allowed : call_refused (pair_of s p.streams p.journal (start_in p.base) p.limits p.fates) c.args.caller asked ≡ None = ap (λ (v : PairState). call_refused v c.args.caller asked) c.self.view_is ∙ verdict.0 in
     let stopped : stop_of old c.args.caller asked ≡ Some c.args.signal = ap (λ (v : PairState). stop_of v.state c.args.caller asked) c.self.view_is ∙ verdict.1 in
     let same = as-stopped c.args.caller asked old c.args.signal stopped in
     let taken : IsCall plain old c.args.caller asked (Stop c.args.signal) (after plain old entry) = record {
@@ -58,7 +62,7 @@ returns-clause-adds g c =
       answered = sym (ap (λ (o : Outcome ℕ). o.answer) same);
       leads = refl;
     } in
-    subst (λ (v : PairState). AddsEntry v (pair_of s p.streams c.add_call.new.self p.base.start p.limits p.fates) entry) c.self.view_is
+    subst (λ (v : PairState). AddsEntry v (pair_of s p.streams c.add_call.new.self (start_in p.base) p.limits p.fates) entry) c.self.view_is
     (record {
       journal = c.add_call.ensures.added;
       step = step-shown s s p.streams p.streams entry (ap (λ (o : Outcome ℕ). o.state) same) taken;
@@ -75,7 +79,7 @@ add_call-requires-clause-small g c =
     let s = g.B.Blocks.value p.store in
     let asked = request c.args.event.now in
     let old = state_in s p.streams in
-    let allowed : call_refused (pair_of s p.streams p.journal p.base.start p.limits p.fates) c.args.caller asked ≡ None = ap (λ (v : PairState). call_refused v c.args.caller asked) c.self.view_is ∙ (judged-stopped c.args.signal (call_refused c.args.self.now c.args.caller asked) (stop_of c.args.self.now.state c.args.caller asked) c.requires).0 in
+    let allowed : call_refused (pair_of s p.streams p.journal (start_in p.base) p.limits p.fates) c.args.caller asked ≡ None = ap (λ (v : PairState). call_refused v c.args.caller asked) c.self.view_is ∙ (judged-stopped c.args.signal (call_refused c.args.self.now c.args.caller asked) (stop_of c.args.self.now.state c.args.caller asked) c.requires).0 in
     let parts = call-allowed old (journal_of p.journal) p.limits (enough (blocks_asked asked) (free_in s)) c.args.caller asked allowed in
     let at_once = (or_else-none (refused_at_once old c.args.caller asked) (refused_by_state old c.args.caller asked) parts.0).0 in
     let blocks : blocks_asked asked ≤ free_m s = (asked-free (blocks_asked asked) s parts.2).0 in
@@ -87,7 +91,7 @@ add_call-requires-clause-room g c =
     let s = g.B.Blocks.value p.store in
     let asked = request c.args.event.now in
     let old = state_in s p.streams in
-    let allowed : call_refused (pair_of s p.streams p.journal p.base.start p.limits p.fates) c.args.caller asked ≡ None = ap (λ (v : PairState). call_refused v c.args.caller asked) c.self.view_is ∙ (judged-stopped c.args.signal (call_refused c.args.self.now c.args.caller asked) (stop_of c.args.self.now.state c.args.caller asked) c.requires).0 in
+    let allowed : call_refused (pair_of s p.streams p.journal (start_in p.base) p.limits p.fates) c.args.caller asked ≡ None = ap (λ (v : PairState). call_refused v c.args.caller asked) c.self.view_is ∙ (judged-stopped c.args.signal (call_refused c.args.self.now c.args.caller asked) (stop_of c.args.self.now.state c.args.caller asked) c.requires).0 in
     let room = (call-allowed old (journal_of p.journal) p.limits (enough (blocks_asked asked) (free_in s)) c.args.caller asked allowed).1 in
     room-less (journal_of p.journal) p.limits p.journal.most_entries p.journal.most_bytes (length (payload_of asked) + content_max asked) (length (payload_of asked) + 0)
-    c.self.invariant.events c.self.invariant.bytes (omega arith) room
+    c.self.invariant.kept.events c.self.invariant.kept.bytes (omega arith) room

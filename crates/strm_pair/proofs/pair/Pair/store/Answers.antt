@@ -3,6 +3,7 @@ use Rattle.std.proofs.Common.{subst}
 use Rattle.strm_types.specs.declared.names.Side.TheVariants.{Master, Slave}
 use Rattle.strm_types.proofs.BySide.{each-side}
 use Rattle.strm_laws.specs.Pair.{PairState}
+use Rattle.strm_pair.specs.BaseTexts.{start_in}
 use Rattle.strm_pair.specs.Lists.{first_list}
 use Rattle.strm_pair.specs.Pairs.{state_in}
 use Rattle.strm_pair.specs.Shows.{Shows, ShowsStream}
@@ -14,8 +15,8 @@ pub returns : goal.returns
 returns g c =
     let p = c.self.inside in
     let s = g.B.Blocks.value p.store in
-    let kept = c.self.invariant.held in
-    let idle = led-idle s p.streams p.journal p.base.start p.limits p.fates c.self.invariant in
+    let kept = c.self.invariant.kept.held in
+    let idle = led-idle s p.streams p.journal (start_in p.base) p.limits p.fates c.self.invariant.kept in
     subst (λ (v : PairState). Shows s v.state) c.self.view_is (record {
       hand = kept.hand;
       streams = each-side (λ side t. ShowsStream s (first_list side) t) (state_in s p.streams).ends

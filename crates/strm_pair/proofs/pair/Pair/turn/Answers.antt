@@ -9,6 +9,7 @@ use Rattle.strm_laws.specs.Refusals.{enough}
 use Rattle.strm_types.specs.Refused.{turn_blocks}
 use Rattle.strm_laws.specs.Pair.{PairState, AddsEntry, queue_refused}
 use Rattle.strm_laws.proofs.Replay.{turn-allowed}
+use Rattle.strm_pair.specs.BaseTexts.{start_in}
 use Rattle.strm_pair.specs.Pairs.{state_in, journal_of, free_in}
 use Rattle.strm_pair.specs.PairViews.{pair_of}
 use Rattle.strm_pair.proofs.JournalLemmas.{room-less}
@@ -22,15 +23,18 @@ invariant_of-self g c =
     let new = g.B.Blocks.value c.turn-turn.new.store in
     let old = state_in s p.streams in
     let entry : PlainEntry = Turned c.args.name c.turn-turn.result in
-    let allowed : queue_refused (pair_of s p.streams p.journal p.base.start p.limits p.fates) c.args.name ≡ None = ap (λ (v : PairState). queue_refused v c.args.name) c.self.view_is ∙ sym c.turn_refusal.ensures ∙ c.in_default.is in
-    kept-step s new p.streams c.turn-turn.new.self p.journal c.add_turn.new.self p.base.start p.limits p.fates c.turn-turn.new.told entry c.self.invariant
-    (record {
-      enabled = (turn-allowed old (journal_of p.journal) p.limits (enough (turn_blocks c.args.name.place) (free_in s)) c.args.name allowed).0;
-      in_range = (turn-allowed old (journal_of p.journal) p.limits (enough (turn_blocks c.args.name.place) (free_in s)) c.args.name allowed).1;
-      answered = sym c.turn-turn.ensures.turn;
-      leads = refl;
-    })
-    tt c.turn-turn.ensures.state c.turn-turn.ensures.held c.turn-turn.ensures.pool c.turn-turn.ensures.few c.turn-turn.ensures.told c.add_turn.ensures.added c.add_turn.ensures.most_entries c.add_turn.ensures.most_bytes
+    let allowed : queue_refused (pair_of s p.streams p.journal (start_in p.base) p.limits p.fates) c.args.name ≡ None = ap (λ (v : PairState). queue_refused v c.args.name) c.self.view_is ∙ sym c.turn_refusal.ensures ∙ c.in_default.is in
+    record {
+      kept = kept-step s new p.streams c.turn-turn.new.self p.journal c.add_turn.new.self (start_in p.base) p.limits p.fates c.turn-turn.new.told entry c.self.invariant.kept
+          (record {
+            enabled = (turn-allowed old (journal_of p.journal) p.limits (enough (turn_blocks c.args.name.place) (free_in s)) c.args.name allowed).0;
+            in_range = (turn-allowed old (journal_of p.journal) p.limits (enough (turn_blocks c.args.name.place) (free_in s)) c.args.name allowed).1;
+            answered = sym c.turn-turn.ensures.turn;
+            leads = refl;
+          })
+          tt c.turn-turn.ensures.state c.turn-turn.ensures.held c.turn-turn.ensures.pool c.turn-turn.ensures.few c.turn-turn.ensures.told c.add_turn.ensures.added c.add_turn.ensures.most_entries c.add_turn.ensures.most_bytes;
+      written = c.self.invariant.written;
+    }
 
 pub returns-clause-adds : goal.returns-clause-adds
 returns-clause-adds g c =
@@ -41,14 +45,14 @@ returns-clause-adds g c =
     let k = c.add_turn.new.self in
     let old = state_in s p.streams in
     let entry : PlainEntry = Turned c.args.name c.turn-turn.result in
-    let allowed : queue_refused (pair_of s p.streams p.journal p.base.start p.limits p.fates) c.args.name ≡ None = ap (λ (v : PairState). queue_refused v c.args.name) c.self.view_is ∙ sym c.turn_refusal.ensures ∙ c.in_default.is in
+    let allowed : queue_refused (pair_of s p.streams p.journal (start_in p.base) p.limits p.fates) c.args.name ≡ None = ap (λ (v : PairState). queue_refused v c.args.name) c.self.view_is ∙ sym c.turn_refusal.ensures ∙ c.in_default.is in
     let taken : IsTurn plain old c.args.name c.turn-turn.result (after plain old entry) = record {
       enabled = (turn-allowed old (journal_of p.journal) p.limits (enough (turn_blocks c.args.name.place) (free_in s)) c.args.name allowed).0;
       in_range = (turn-allowed old (journal_of p.journal) p.limits (enough (turn_blocks c.args.name.place) (free_in s)) c.args.name allowed).1;
       answered = sym c.turn-turn.ensures.turn;
       leads = refl;
     } in
-    subst (λ (v : PairState). AddsEntry v (pair_of new q k p.base.start p.limits c.turn-turn.new.told) entry) c.self.view_is
+    subst (λ (v : PairState). AddsEntry v (pair_of new q k (start_in p.base) p.limits c.turn-turn.new.told) entry) c.self.view_is
     (record {
       journal = c.add_turn.ensures.added;
       step = step-shown s new p.streams q entry c.turn-turn.ensures.state taken;
@@ -70,20 +74,20 @@ add_turn-requires g c =
     let p = c.self.inside in
     let s = g.B.Blocks.value p.store in
     let old = state_in s p.streams in
-    let allowed : queue_refused (pair_of s p.streams p.journal p.base.start p.limits p.fates) c.args.name ≡ None = ap (λ (v : PairState). queue_refused v c.args.name) c.self.view_is ∙ sym c.turn_refusal.ensures ∙ c.in_default.is in
+    let allowed : queue_refused (pair_of s p.streams p.journal (start_in p.base) p.limits p.fates) c.args.name ≡ None = ap (λ (v : PairState). queue_refused v c.args.name) c.self.view_is ∙ sym c.turn_refusal.ensures ∙ c.in_default.is in
     let room = (turn-allowed old (journal_of p.journal) p.limits (enough (turn_blocks c.args.name.place) (free_in s)) c.args.name allowed).2 in
-    record { room = room-less (journal_of p.journal) p.limits p.journal.most_entries p.journal.most_bytes 0 0 c.self.invariant.events c.self.invariant.bytes (omega arith) room }
+    record { room = room-less (journal_of p.journal) p.limits p.journal.most_entries p.journal.most_bytes 0 0 c.self.invariant.kept.events c.self.invariant.kept.bytes (omega arith) room }
 
 pub returns-clause-refused : goal.returns-clause-refused
 returns-clause-refused g c = search rules steps 1000000
 
 pub turn-turn-requires-clause-idle : goal.turn-turn-requires-clause-idle
-turn-turn-requires-clause-idle g c = led-idle (g.B.Blocks.value c.self.inside.store) c.self.inside.streams c.self.inside.journal c.self.inside.base.start c.self.inside.limits c.self.inside.fates c.self.invariant
+turn-turn-requires-clause-idle g c = led-idle (g.B.Blocks.value c.self.inside.store) c.self.inside.streams c.self.inside.journal (start_in c.self.inside.base) c.self.inside.limits c.self.inside.fates c.self.invariant.kept
 
 pub turn-turn-requires-clause-range : goal.turn-turn-requires-clause-range
 turn-turn-requires-clause-range g c =
     let p = c.self.inside in
     let s = g.B.Blocks.value p.store in
     let old = state_in s p.streams in
-    let allowed : queue_refused (pair_of s p.streams p.journal p.base.start p.limits p.fates) c.args.name ≡ None = ap (λ (v : PairState). queue_refused v c.args.name) c.self.view_is ∙ sym c.turn_refusal.ensures ∙ c.in_default.is in
+    let allowed : queue_refused (pair_of s p.streams p.journal (start_in p.base) p.limits p.fates) c.args.name ≡ None = ap (λ (v : PairState). queue_refused v c.args.name) c.self.view_is ∙ sym c.turn_refusal.ensures ∙ c.in_default.is in
     (turn-allowed old (journal_of p.journal) p.limits (enough (turn_blocks c.args.name.place) (free_in s)) c.args.name allowed).1

@@ -15,7 +15,7 @@ pub message_link-at-requires : goal.message_link-at-requires
 message_link-at-requires c = finding.token-below c.self.invariant.raw _ c.self.view_is (token c.args.message) _ c.name.ensures c.requires.in_hand
 
 done : (c : After-note) → let t = c.self.inside in let s = c.args.self.now in let n = token c.args.message in let k = c.args.list in
-    Becomes c.seat.new.memory (set t.ends k c.seat.result) c.note.new.self.roster t.free_msg t.free_data t.spare_m t.spare_d (placed (dropped s n) k (put_by c.args.course rank_of (in_hand s n) (list_at s k)))
+    Becomes c.seat.new.memory (set t.ends k c.seat.new.ends) c.note.new.self.roster t.free_msg t.free_data t.spare_m t.spare_d (placed (dropped s n) k (put_by c.args.course rank_of (in_hand s n) (list_at s k)))
 done c =
     let t = c.self.inside in let v = t.memory in let b = t.ledger.roster in let is = c.self.invariant.raw in let listed = c.self.invariant.listed in let l = c.message_link-at.result in let n = token c.args.message in let k = c.args.list in
     let here = finding.here-by v b _ c.self.view_is l n _ c.message_link-at.ensures.there c.message_link-at.ensures.number c.name.ensures c.requires.in_hand in
@@ -23,7 +23,7 @@ done c =
     let roster = c.note.ensures ∙ ap (λ (x : MsgLink). seated k c.name-2.result x b) c.unwrap_or-next.ensures in
     let e = c.message_link-at.ensures.number ∙ c.name.ensures in
     becomes-as
-    (inserted is listed k c.requires.list l here _ rank c.pick-before.result c.pick-after.result c.seat.result c.seat.ensures.seats (c.seat.ensures.first (listed.first k)) (c.seat.ensures.last (listed.last k)) c.seat.ensures.nodes refl
+    (inserted is listed k c.requires.list l here _ rank c.pick-before.result c.pick-after.result c.seat.new.ends c.seat.ensures.seats (c.seat.ensures.first (listed.first k)) (c.seat.ensures.last (listed.last k)) c.seat.ensures.nodes refl
     _ (c.name-2.ensures ∙ sym e) roster c.args.course c.pick-other.result c.ranked-stop.result c.beside-past.result c.pick-other.ensures c.pick-before.ensures c.pick-after.ensures c.ranked-stop.ensures.place c.beside-past.ensures.step)
     (λ j. placed (dropped (c.self.view_is j) (e j)) k (put_by c.args.course rank_of (in_hand (c.self.view_is j) (e j)) (list_at (c.self.view_is j) k)))
 

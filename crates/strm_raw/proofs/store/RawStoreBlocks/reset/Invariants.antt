@@ -1,5 +1,5 @@
-use Rattle.strm_raw.specs.Raw.{emptied}
+use Rattle.strm_raw.specs.Raw.{empty_roster}
 use Rattle.strm_raw.proofs.store.RawStoreBlocks.reset.Given as goal
 
 abbrev pub ghost-note : goal.ghost-note
-ghost-note a = emptied a._first a._second
+ghost-note a = λ _. empty_roster (record { at = a._message }) (record { at = a._datum })

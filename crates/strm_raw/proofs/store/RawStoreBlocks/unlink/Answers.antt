@@ -1,8 +1,8 @@
 use Rattle.std.proofs.Common.{ℕ, refl, sym, ap, ◌∙◌, subst, arith, length, [], ◌∷◌}
-use Rattle.std.specs.Prelude.{None, Option, option_map}
+use Rattle.std.specs.Prelude.{Option, option_map}
 use Rattle.strm_blocks.specs.Blocks.{StoreValue, token, in_hand, held, changed}
 use Rattle.strm_blocks.specs.Outcomes.{Unlinked}
-use Rattle.strm_raw.specs.Numbered.{Row, with_row, msg_number}
+use Rattle.strm_raw.specs.Numbered.{Row, msg_number}
 use Rattle.strm_raw.specs.declared.msg_nodes.MsgLink.{MsgLink}
 use Rattle.strm_raw.specs.Raw.{value_of, rest_of, msg_in, with_in, alone, chain_of, block_no}
 use Rattle.strm_raw.proofs.Finding as finding

@@ -1,0 +1,165 @@
+/* Calls of libstrm with any numbers, lengths and buffers: no crash, no byte written that isn't told, and refusals by name alone.
+ *
+ *     cc -O2 -Iinclude bench/hostile.c libstrm.a -o hostile && ./hostile [CALLS [SEED]]
+ *
+ * What strm.h says that a caller owes is kept: a buffer is as long as its length says, and no bool is anything but 0 or 1. Behind each call it is
+ * compared: a refused one changed neither buffer nor reply, another wrote as many bytes as it says, and what lies behind the room stays. */
+#include <stdio.h>
+#include <stdlib.h>
+#include <strm.h>
+
+enum { MOST = 10000, BEHIND = 64 };
+
+static const uint8_t keys[] = { 'a', 'b', ' ', '\r', '\n', '\t', 0x7f, 0x15, 0x17, 0x03, 0x04, 0x11, 0x13, 0x12, 0x16, 0x1a, 0xc3, 0xff };
+
+static uint64_t state;
+static uint8_t bytes[MOST], out[MOST + BEHIND], before[MOST + BEHIND];
+static unsigned long seen[16], stopped_at;
+
+static uint32_t chance(uint32_t n)
+{
+    state = state * 6364136223846793005u + 1442695040888963407u;
+    return (uint32_t)(state >> 33) % n;
+}
+
+static uint32_t number(uint32_t usual)
+{
+    static const uint32_t edges[] = { 0, 1, 2, 3, 11, 12, 16, 17, 64, 65, 255, 256, 257, 258, 4095, 4096, 4097, 8192, 65535, 65536, 0x7fffffff,
+        0xfffffffe, 0xffffffff };
+    switch (chance(12)) {
+    case 0: return edges[chance(sizeof edges / sizeof *edges)];
+    case 1: return chance(0x7fffffff) * 2 + chance(2);
+    default: return chance(usual);
+    }
+}
+
+static size_t length(void)
+{
+    return chance(3) ? chance(40) : chance(MOST);
+}
+
+static void fail(const char *what)
+{
+    printf("call %lu: %s\n", stopped_at, what);
+    exit(1);
+}
+
+/* Whether what a call did to the buffer and to what it tells is what its refusal says. */
+static void judge(strm_refusal e, size_t room, size_t given, int told_stays)
+{
+    if (e > STRM_EIO || e == STRM_NO_MINOR || e == STRM_STILL_SHARED) fail("a refusal without a name");
+    seen[e]++;
+    if (e && !told_stays) fail("a refused call told something");
+    if (!e && given > room) fail("more bytes than there is room for");
+    if (memcmp(out + (e ? 0 : given), before + (e ? 0 : given), sizeof out - (e ? 0 : given)) != 0) fail("bytes were written that aren't told");
+    memcpy(before, out, sizeof out);
+}
+
+static void ask_any(strm_pair *p)
+{
+    strm_ask ask = { 0, 0, 0, 0, 0, 0, false, false };
+    strm_reply reply, same;
+    size_t room = length(), n = length();
+    strm_refusal e;
+    ask.op = number(17), ask.side = number(2), ask.a = number(10), ask.b = number(5), ask.c = number(300);
+    ask.group = chance(3) ? 0 : number(3), ask.ignores = chance(2) != 0, ask.orphaned = chance(2) != 0;
+    if (chance(2)) room = 8192;
+    if (ask.op == STRM_OP_CLOSE && chance(20)) ask.op = STRM_OP_READ; /* sides stay open for a while */
+    memset(&reply, 0x5a, sizeof reply);
+    same = reply;
+    e = strm_call(p, &ask, bytes + chance((uint32_t)(MOST - n)), n, out, room, &reply);
+    judge(e, room, reply.bytes, memcmp(&reply, &same, sizeof reply) == 0);
+}
+
+static void write_or_read(strm_pair *p)
+{
+    strm_reply reply, same;
+    size_t n = length();
+    uint32_t side = number(2);
+    strm_refusal e;
+    memset(&reply, 0x5a, sizeof reply);
+    same = reply;
+    if (chance(2)) {
+        e = strm_write(p, side, bytes + chance((uint32_t)(MOST - n)), n, &reply);
+        judge(e, 0, e ? 0 : reply.bytes, memcmp(&reply, &same, sizeof reply) == 0);
+        if (!e && reply.value > n) fail("more was taken than was brought");
+    } else {
+        e = strm_read(p, side, out, n, &reply);
+        judge(e, n, reply.bytes, memcmp(&reply, &same, sizeof reply) == 0);
+    }
+}
+
+static void look_or_turn(strm_pair *p)
+{
+    strm_went went = { 77, 77 };
+    strm_standing standing = { 77, 77 };
+    strm_books books;
+    size_t told = 77;
+    uint32_t queue = number(14);
+    strm_refusal e;
+    switch (chance(8)) {
+    case 0: judge(e = strm_turn(p, queue, &went), 0, 0, went.kind == 77 && went.moved == 77); break;
+    case 1: judge(e = strm_sizes(p, queue, &standing), 0, 0, standing.messages == 77 && standing.bytes == 77); break;
+    case 2: judge(e = strm_first_size(p, queue, &told), 0, 0, told == 77); break;
+    case 3:
+        e = strm_ledger(p, number(2), &books);
+        judge(e, 0, 0, 1);
+        if (!e) {
+            uint64_t gone = books.queued + books.inlined;
+            for (queue = 0; queue < STRM_RULES; queue++) gone += books.gone[queue];
+            if (books.written + books.made != gone) fail("the books don't balance");
+        }
+        break;
+    case 4: if (strm_enabled(p, (size_t)number(9) * number(9)) > STRM_NO_QUEUE) fail("a queue without a name"); break;
+    default: judge(strm_runqueues(p, &told), 0, 0, 1); break;
+    }
+}
+
+static void take_entry(strm_pair *p)
+{
+    static strm_cursor at = { 0, 0 };
+    strm_entry entry;
+    size_t room = chance(2) ? MOST : length();
+    strm_refusal e;
+    memset(&entry, 0, sizeof entry);
+    if (chance(20) == 0) at.entry = number(100), at.byte = number(1000);
+    e = strm_next_entry(p, &at, &entry, out, room);
+    judge(e, room, entry.kind == STRM_TURNED ? 0 : entry.brings + entry.reply.bytes, 1);
+    if (e == STRM_EAGAIN) at.entry = at.byte = 0;
+}
+
+static void make(strm_pair *p)
+{
+    static const size_t blocks[] = { 0, 1, 40, 64, 256, 65536, 65537, 300 };
+    bool was_open = p->is_open;
+    size_t entries = chance(20) ? number(500) % 5000 : (size_t)-1 >> chance(24);
+    strm_refusal e = strm_new(p, blocks[chance(8)], entries, chance(20) ? number(20000) % 100000 : (size_t)-1 >> chance(24));
+    judge(e, 0, 0, p->is_open == was_open);
+    if (was_open && !e) fail("an open handle was made anew");
+    if (!e && chance(8)) judge(strm_open_terminal(p), 0, 0, 1);
+}
+
+int main(int count, char **words)
+{
+    unsigned long calls = count > 1 ? strtoul(words[1], NULL, 10) : 1000000;
+    strm_pair p = STRM_CLOSED;
+    size_t i;
+    state = count > 2 ? strtoul(words[2], NULL, 10) : 1;
+    for (i = 0; i < MOST; i++) bytes[i] = chance(3) ? keys[chance(sizeof keys)] : (uint8_t)chance(256);
+    for (stopped_at = 0; stopped_at < calls; stopped_at++) {
+        uint32_t which = chance(1000);
+        if (which < 2) strm_free(&p);
+        else if (which < 20 || (!p.is_open && which < 500)) make(&p);
+        else if (which < 500) ask_any(&p);
+        else if (which < 700) write_or_read(&p);
+        else if (which < 950) look_or_turn(&p);
+        else if (which < 990) take_entry(&p);
+        else judge(strm_restart(&p), 0, 0, 1);
+    }
+    strm_free(&p);
+    printf("%lu calls", calls);
+    for (i = 0; i <= STRM_EIO; i++)
+        if (seen[i]) printf(", %s %lu", strm_refusal_name((strm_refusal)i), seen[i]);
+    printf("\n");
+    return 0;
+}

@@ -1,0 +1,177 @@
+-- A stream of a text, on four lists of a store: its queues one after the other, and then its modules.
+use Rattle.std.proofs.Common.{ℕ, ◌≡◌, ◌≢◌, ◌≤◌, ◌<◌, ◌+◌, Bool, true, false, List, [], ◌∷◌, map, refl, sym, ap, subst, ◌∙◌, arith}
+use Rattle.std.specs.Prelude.{◌==◌, is_some, sum_by, Option}
+use Rattle.std.specs.List.{AllByRecursion}
+use Rattle.std.proofs.lemmas.Bool.Decides.{nat_tests}
+use Rattle.std.proofs.lemmas.List.Sums.{sum_by-cons}
+use Rattle.strm_types.specs.declared.kinds.MsgKind.{MsgKind}
+use Rattle.strm_types.specs.declared.kinds.MsgKind.TheVariants as kinds
+use Rattle.strm_types.specs.declared.names.Openness.{Openness}
+use Rattle.strm_types.specs.Flush.{is_data_kind}
+use Rattle.strm_types.specs.Kinds.{is_body_kind, is_control_kind}
+use Rattle.strm_types.specs.Queue as state
+use Rattle.strm_types.specs.Heads as heads
+use Rattle.strm_laws.specs.StackCosts.{EachOnce}
+use Rattle.strm_laws.specs.Stacked.{module_name}
+use Rattle.strm_laws.specs.Restorable.{AreMarks, StandsOn, is_part_kind}
+use Rattle.strm_blocks.specs.Blocks.{Block, StoreValue, block_at, list_at}
+use Rattle.strm_msg.specs.Messages.{message_of}
+use Rattle.strm_msg.proofs.Chains.{kind-is}
+use Rattle.strm_queue.specs.declared.queue.Queue.{Queue}
+use Rattle.strm_queue.specs.Stored.{queue_in, HoldsReadable, IsHeadQueue}
+use Rattle.strm_queue.proofs.Placed.{ready-same}
+use Rattle.strm_head.specs.declared.head.Head.{Head}
+use Rattle.strm_head.specs.Heads.{head_in}
+use Rattle.strm_frame.specs.Stacks.{all_of}
+use Rattle.strm_frame.specs.declared.stack.Stream.{Stream}
+use Rattle.strm_image.specs.declared.flows.Flow.{Flow}
+use Rattle.strm_image.specs.declared.modules.ModuleText.{ModuleText}
+use Rattle.strm_image.specs.declared.modules.ModuleText.TheVariants as texts
+use Rattle.strm_image.specs.declared.streams.StreamText.{StreamText}
+use Rattle.strm_image.specs.Counts as counts
+use Rattle.strm_image.specs.Counts.{laid_blocks, queue_blocks}
+use Rattle.strm_image.specs.FlowTexts.{flow_now}
+use Rattle.strm_image.specs.ModuleTexts.{module_now, modules_now, names_now}
+use Rattle.strm_image.specs.QueueTexts.{queue_now}
+use Rattle.strm_image.specs.StreamTexts.{laid_now}
+use Rattle.strm_ldterm.specs.declared.ldterm.Tables.{Tables}
+use Rattle.strm_pair.specs.declared.ends.StreamEnd.{StreamEnd}
+use Rattle.strm_pair.specs.declared.modules.AnyModule.{AnyModule}
+use Rattle.strm_pair.specs.AnyModules.{module_in, owns}
+use Rattle.strm_pair.specs.Laying.{IsStood, IsStreamText, stream_now}
+use Rattle.strm_pair.specs.Placing.{AreStacked, module_blocks}
+use Rattle.strm_pair.specs.Runs.{Spent}
+use Rattle.strm_pair.specs.Standing.{AreMarked, Fills, FillsTwo}
+use Rattle.strm_pair.specs.Streams.{AreApart}
+use Rattle.strm_pair.proofs.Sides.{queue-same}
+use Rattle.strm_pair.proofs.StacksMade.{own-both, own-within-two}
+
+-- ---- what a text tells
+
+-- marks that an image may hold are marks
+pub marked : (fs : List Flow) → AllByRecursion AreMarks (map flow_now fs) → AreMarked fs
+marked [] all = tt
+marked (f ∷ fs) all = (record { some = all.0.some; order = all.0.order }, marked fs all.1)
+
+part-data : (k : MsgKind) → is_part_kind k ≡ true → is_data_kind k ≡ true
+unfolding is_data_kind is_control_kind is_body_kind
+part-data kinds.Data is = refl
+part-data kinds.Proto is = refl
+part-data kinds.Pcproto is = refl
+part-data _ is = absurd cc
+
+-- what has parts may be read
+readable-each : (q : List (List Block)) → AllByRecursion (λ m. StandsOn is_part_kind m) (map message_of q) → AllByRecursion (λ chain. is_data_kind (block_at 0 chain).kind ≡ true) q
+readable-each [] all = tt
+readable-each (chain ∷ q) all = (part-data (block_at 0 chain).kind (ap is_part_kind (sym (kind-is chain)) ∙ all.0.kind), readable-each q all.1)
+
+-- the blocks of modules, as the text counts them
+pub blocks-same : (ms : List ModuleText) → sum_by counts.module_blocks (modules_now ms) ≡ sum_by module_blocks ms
+blocks-same [] = refl
+blocks-same (m ∷ ms) = omega (arith, sum_by-cons counts.module_blocks (module_now m) (modules_now ms), sum_by-cons module_blocks m ms, one m, blocks-same ms)
+  where
+    one : (m : ModuleText) → counts.module_blocks (module_now m) ≡ module_blocks m
+    one (texts.Ldterm l) = omega arith
+    one (texts.Ptem p) = refl
+    one texts.Pckt = refl
+
+-- ---- the lists
+
+module _ {s a b : StoreValue} {first : ℕ} {q r : Queue} (h : Fills s a first q) (w : Fills a b (first + 1) r) where
+  -- the driver's list is empty till then, and so are those of the modules
+  pub list-free : (k : ℕ) → first + 2 ≤ k → list_at b k ≡ list_at s k
+  list-free k low = w.others k (λ e. absurd (omega (arith, low, e))) ∙ h.others k (λ e. absurd (omega (arith, low, e)))
+
+  module _ {d : StoreValue} (f : FillsTwo b d (first + 2)) where
+    head-list : list_at d q.list ≡ list_at a q.list
+    head-list =
+        f.others q.list (λ e. absurd (omega (arith, e, h.list_is))) (λ e. absurd (omega (arith, e, h.list_is)))
+        ∙ w.others q.list (λ e. absurd (omega (arith, e, h.list_is)))
+
+    driver-list : list_at d r.list ≡ list_at b r.list
+    driver-list = f.others r.list (λ e. absurd (omega (arith, e, w.list_is))) (λ e. absurd (omega (arith, e, w.list_is)))
+
+    outside : (k : ℕ) → (first ≤ k → first + 4 ≤ k) → list_at d k ≡ list_at s k
+    outside k out =
+        f.others k (λ e. absurd (omega (arith, e, out (omega (arith, e))))) (λ e. absurd (omega (arith, e, out (omega (arith, e)))))
+        ∙ w.others k (λ e. absurd (omega (arith, e, out (omega (arith, e)))))
+        ∙ h.others k (λ e. absurd (omega (arith, e, out (omega (arith, e)))))
+
+pub names-same : (ms : List ModuleText) → names_now ms ≡ map module_name (modules_now ms)
+names-same [] = refl
+names-same (m ∷ ms) = ap (λ ns. module_name (module_now m) ∷ ns) (names-same ms)
+
+-- ---- what stands there
+
+module _ {s a b d : StoreValue} {first : ℕ} {q r : Queue} (text : StreamText) (opened : Openness) (good : IsStreamText text)
+    (h : Fills s a first q) (head_is : queue_in a q ≡ queue_now text.head) (head_spent : Spent s a (queue_blocks (queue_now text.head)))
+    (w : Fills a b (first + 1) r) (driver_is : queue_in b r ≡ queue_now text.driver) (driver_spent : Spent a b (queue_blocks (queue_now text.driver)))
+    (stack : Stream AnyModule) (shelf : Option Tables) (stacked : AreStacked b d (first + 2) text.modules.items stack.modules.items shelf)
+    (head : Head) (is : head.queue ≡ q) (shown : (t : StoreValue) → head_in t head ≡ record (laid_now text).head { queue = queue_in t q }) where
+  abbrev made : StreamEnd
+  made = record { opened = opened; head = head; stack = stack; driver = r; shelf = shelf }
+
+  abbrev ms : List ModuleText
+  ms = text.modules.items
+
+  head-same : queue_in d q ≡ queue_now text.head
+  head-same = queue-same a d q (head-list h w stacked.fills) ∙ head_is
+
+  driver-same : queue_in d r ≡ queue_now text.driver
+  driver-same = queue-same b d r (driver-list h w stacked.fills) ∙ driver_is
+
+  readable : HoldsReadable (list_at d q.list)
+  readable = record { each = readable-each (list_at d q.list) (subst (λ (x : state.Queue ℕ). AllByRecursion (λ m. StandsOn is_part_kind m) x.messages) (sym head-same) good.head.messages) }
+
+  head-fits : IsHeadQueue d head.queue
+  head-fits = subst (IsHeadQueue d) (sym is) (record { ready = ready-same a d q (head-list h w stacked.fills) h.ready; readable = readable })
+
+  names-once : AreApart (map (module_in d) stack.modules.items)
+  names-once = subst (λ ps. EachOnce (map module_name ps)) (sym stacked.state) (subst EachOnce (names-same ms) good.modules.names)
+
+  -- the lists of the modules
+  owned-two : (k : ℕ) → 0 < all_of owns stack.modules.items k → (first + 2 ≤ k) × (k < first + 4)
+  owned-two k some = let at = own-within-two (first + 2) k ms (omega (arith, some, stacked.own k)) in (at.0, omega (arith, at.1))
+
+  spare-two : (k : ℕ) → first + 2 ≤ k → k < first + 4 → all_of owns stack.modules.items k ≡ 0 → list_at d k ≡ []
+  spare-two k low high none = by (k == first + 2) refl
+    where
+      free : (list_at d (first + 2) ≡ []) × ((list_at d (first + 2 + 1) ≡ []) × (is_some shelf ≡ true))
+      free = stacked.free (omega (arith, none, stacked.own k, stacked.own (first + 2), own-both (first + 2) k low (omega (arith, high)) ms))
+
+      by : (v : Bool) → (k == first + 2) ≡ v → list_at d k ≡ []
+      by true e = let at : k ≡ first + 2 = grind (arith, nat_tests) in ap (list_at d) at ∙ free.0
+      by false e =
+          let other : k ≢ first + 2 = λ same. grind (arith, nat_tests) in
+          let at : k ≡ first + 2 + 1 = omega (arith, low, high, other) in
+          ap (list_at d) at ∙ free.1.0
+
+  pub stood : IsStood s d first (stream_now opened text) (laid_blocks (laid_now text)) made
+  stood = record {
+    stream =
+        ap (λ (x : heads.Head ℕ). record { opened = opened; head = x; modules = map (module_in d) stack.modules.items; driver = record { queue = queue_in d r } })
+        (shown d ∙ ap (λ (x : state.Queue ℕ). record (laid_now text).head { queue = x }) head-same)
+        ∙ ap (λ ps. record { opened = opened; head = (laid_now text).head; modules = ps; driver = record { queue = queue_in d r } }) stacked.state
+        ∙ ap (λ (x : state.Queue ℕ). record { opened = opened; head = (laid_now text).head; modules = modules_now ms; driver = record { queue = x } }) driver-same;
+    side = record {
+      head_list = ap (λ (x : Queue). x.list) is ∙ h.list_is;
+      driver_list = w.list_is;
+      head = head-fits;
+      driver = ready-same b d r (driver-list h w stacked.fills) w.ready;
+      stack = stacked.held;
+      once = names-once;
+      owned = owned-two;
+      spare = spare-two;
+      shelf = λ none. (stacked.free none).1.1;
+    };
+    rests = stacked.rests;
+    before = λ k low. outside h w stacked.fills k (λ up. absurd (omega (arith, low, up)));
+    behind = λ k high. outside h w stacked.fills k (λ up. high);
+    hand = stacked.fills.hand ∙ w.hand ∙ h.hand;
+    mblks = stacked.fills.mblks ∙ w.mblks ∙ h.mblks;
+    dblks = stacked.fills.dblks ∙ w.dblks ∙ h.dblks;
+    spent = record {
+      mblks = omega (arith, head_spent.mblks, driver_spent.mblks, stacked.spent.mblks, blocks-same ms);
+      dblks = omega (arith, head_spent.dblks, driver_spent.dblks, stacked.spent.dblks, blocks-same ms);
+    };
+  }

@@ -1,0 +1,34 @@
+-- What is restored of an image, and the image of what was restored.
+use Rattle.std.proofs.Common.{ℕ, ◌≡◌, List, sym, ap, ◌∙◌}
+use Rattle.std.specs.Prelude.{IfOk, Result, Ok, Err}
+use Rattle.strm_types.specs.declared.limits.Config.{Config}
+use Rattle.strm_laws.specs.Pair.{PairState}
+use Rattle.strm_image.specs.declared.versions.Version.TheVariants.{Second}
+use Rattle.strm_image.specs.Format.{IsTextOf}
+use Rattle.strm_image.specs.HasImage.{counts_of, imaged}
+use Rattle.strm_image.specs.Image.{Imaged, image}
+use Rattle.strm_image.proofs.ReadRows.{same_images}
+use Rattle.strm_pair.specs.Restored.{IsImageOf, restored}
+
+pub same-image : (bytes : List ℕ) (x y : Imaged) → IsImageOf bytes x → IsImageOf bytes y → x ≡ y
+same-image bytes x y a b = (same_images a.0 b.0 x y a.1.0 b.1.0 (sym a.1.1 ∙ b.1.1)).1
+
+module _ (bytes : List ℕ) (limits : Config) where
+  -- a pair that was made of the bytes
+  abbrev Was : PairState → Type 0
+  Was p = (x : Imaged) × (IsImageOf bytes x × (p ≡ restored limits x))
+
+  module _ (x : Imaged) (is : IsImageOf bytes x) where
+    pub state-back : {E : Type 0} (r : Result PairState E) → IfOk r Was → IfOk r (λ p. p.state ≡ x.state)
+    state-back (Ok p) was = ap (λ (q : PairState). q.state) was.1.1 ∙ ap (λ (y : Imaged). y.state) (same-image bytes was.0 x was.1.0 is)
+    state-back (Err e) was = tt
+
+    pub gone-back : {E : Type 0} (r : Result PairState E) → IfOk r Was → IfOk r (λ p. counts_of p.fates ≡ x.fates)
+    gone-back (Ok p) was = ap (λ (q : PairState). counts_of q.fates) was.1.1 ∙ ap (λ (y : Imaged). y.fates) (same-image bytes was.0 x was.1.0 is)
+    gone-back (Err e) was = tt
+
+  pub image-back : (x : Imaged) (p : PairState) → IsTextOf image bytes (Second, x) → Was p → image.text (Second, imaged p.state p.fates) ≡ bytes
+  image-back x p is was =
+      ap (λ (q : PairState). image.text (Second, imaged q.state q.fates)) was.1.1
+      ∙ ap (λ (y : Imaged). image.text (Second, y)) (same-image bytes was.0 x was.1.0 (Second, is))
+      ∙ sym is.1

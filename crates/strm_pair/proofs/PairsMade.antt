@@ -1,0 +1,63 @@
+-- Both streams of a text, one after the other, in a store that holds nothing.
+use Rattle.std.proofs.Common.{ℕ, ◌≡◌, ◌≤◌, ◌<◌, ◌+◌, List, [], refl, ap, ◌∙◌, arith}
+use Rattle.std.specs.Prelude.{replicate, slice_index_or}
+use Rattle.strm_types.proofs.BySide.{each-side}
+use Rattle.strm_laws.specs.State.{Stream}
+use Rattle.strm_blocks.specs.Blocks.{Block, StoreValue, list_at}
+use Rattle.strm_frame.specs.Hands.{HasRoom}
+use Rattle.strm_pair.specs.declared.ends.StreamEnd.{StreamEnd}
+use Rattle.strm_pair.specs.Framing.{still}
+use Rattle.strm_pair.specs.Laying.{IsStood}
+use Rattle.strm_pair.specs.Lists.{first_list}
+use Rattle.strm_pair.specs.Pairs.{Stays}
+use Rattle.strm_pair.specs.Runs.{Spent}
+use Rattle.strm_pair.specs.Stacks.{stack_keeps}
+use Rattle.strm_pair.specs.Streams.{IsBlank, IsSide, AreSides, stream_in}
+use Rattle.strm_pair.proofs.Sides.{side-stays, stream-stays}
+
+-- each list of such a store is empty
+module _ (s : StoreValue) (lists : s.lists ≡ replicate 8 []) where
+  list-none : (k : ℕ) → slice_index_or (replicate {A = List (List Block)} 8 []) k [] ≡ [] → list_at s k ≡ []
+  list-none k none = ap (λ (ls : List (List (List Block))). slice_index_or ls k []) lists ∙ none
+
+  pub blank-first : IsBlank s 0
+  blank-first = record { head = list-none 0 refl; driver = list-none 1 refl; up = list-none 2 refl; down = list-none 3 refl }
+
+  pub blank-last : IsBlank s 4
+  blank-last = record { head = list-none 4 refl; driver = list-none 5 refl; up = list-none 6 refl; down = list-none 7 refl }
+
+module _ {s t u : StoreValue} {p q : Stream ℕ} {m n : ℕ} {e f : StreamEnd} (master : IsStood s t 0 p m e) (slave : IsStood t u 4 q n f) where
+  -- the master's lists stay
+  stays : Stays t u (stack_keeps e.stack)
+  stays = still t u (stack_keeps e.stack) slave.hand slave.mblks slave.dblks
+
+  stay : (k : ℕ) → 0 ≤ k → k < 0 + 4 → list_at u k ≡ list_at t k
+  stay k low high = slave.before k high
+
+  pub master-stream : stream_in u e ≡ p
+  master-stream = stream-stays t u 0 e master.side stays stay ∙ master.stream
+
+  pub both-sides : AreSides u (record { master = e; slave = f })
+  both-sides = each-side (λ side x. IsSide u (first_list side) x) (record { master = e; slave = f }) (side-stays t u 0 e master.side stays stay) slave.side
+
+  pub both-spent : Spent s u (m + n)
+  both-spent = record {
+    mblks = omega (arith, master.spent.mblks, slave.spent.mblks);
+    dblks = omega (arith, master.spent.dblks, slave.spent.dblks);
+  }
+
+-- the slave's lists are empty till then
+module _ {s t : StoreValue} {p : Stream ℕ} {m : ℕ} {e : StreamEnd} (master : IsStood s t 0 p m e) where
+  pub blank-behind : IsBlank s 4 → IsBlank t 4
+  blank-behind blank = record {
+    head = master.behind 4 (omega arith) ∙ blank.head;
+    driver = master.behind 5 (omega arith) ∙ blank.driver;
+    up = master.behind 6 (omega arith) ∙ blank.up;
+    down = master.behind 7 (omega arith) ∙ blank.down;
+  }
+
+  pub room-behind : (n : ℕ) → HasRoom s (m + n) → HasRoom t n
+  room-behind n room = record {
+    mblks = omega (arith, room.mblks, master.spent.mblks);
+    dblks = omega (arith, room.dblks, master.spent.dblks);
+  }

@@ -1,0 +1,121 @@
+-- A pair that is made of an image: which refusal comes, and what the pair is.
+use Rattle.std.proofs.Common.{ℕ, ◌≡◌, ◌≤◌, ◌-◌, true, false, List, [], refl, sym, ap, subst, ◌∙◌, arith}
+use Rattle.std.specs.Prelude.{◌↔◌, length, replicate, Option, Some}
+use Rattle.std.proofs.lemmas.Bool.{and_from, le-leb}
+use Rattle.strm_types.specs.declared.limits.Config.{Config}
+use Rattle.strm_types.specs.declared.refusals.Refusal.{Refusal}
+use Rattle.strm_types.specs.declared.refusals.Refusal.TheVariants.{Einval, Enosr}
+use Rattle.strm_types.specs.declared.rules.Fates.{Fates}
+use Rattle.strm_types.specs.Cells.{plain}
+use Rattle.strm_laws.specs.Bases.{IsBase}
+use Rattle.strm_laws.specs.Kept.{told_by}
+use Rattle.strm_laws.specs.Ledgers.{FewBooked}
+use Rattle.strm_laws.specs.Refusals.{Free, enough}
+use Rattle.strm_laws.specs.Restorable.{AreWithinEntries}
+use Rattle.strm_laws.specs.Step.{IsLegal}
+use Rattle.strm_blocks.specs.Blocks.{StoreValue, IsStore, free_m, free_d}
+use Rattle.strm_image.specs.declared.image.ImageText.{ImageText}
+use Rattle.strm_image.specs.declared.versions.Version.TheVariants.{Second}
+use Rattle.strm_image.specs.Format.{IsTextOf}
+use Rattle.strm_image.specs.HasImage.{HasImage, imaged}
+use Rattle.strm_image.specs.Image.{Imaged, image}
+use Rattle.strm_image.specs.ImageTexts.{image_now, imaged_now}
+use Rattle.strm_image.proofs.ReadRows.{same_images}
+use Rattle.strm_image.proofs.TextLengths.{image_length_in}
+use Rattle.strm_pair.specs.declared.streams.Streams.{Streams}
+use Rattle.strm_pair.specs.declared.journal.Journal.{Journal}
+use Rattle.strm_pair.specs.BaseTexts.{image_room}
+use Rattle.strm_pair.specs.Pairs.{state_in, AreHeld, free_in, journal_of}
+use Rattle.strm_pair.specs.PairViews.{pair_of, sizes_over, IsKept}
+use Rattle.strm_pair.specs.Restored.{IsImageOf, IsNoImage, fates_in, image_blocks, restored}
+use Rattle.strm_pair.specs.Runs.{Spent}
+use Rattle.strm_pair.specs.Starts.{Start}
+use Rattle.strm_pair.proofs.Fresh.{all-free}
+use Rattle.strm_pair.proofs.Shown.{in-use}
+use Rattle.strm_pair.proofs.Steps.{led-nowhere}
+use Rattle.strm_pair.proofs.UsedBytes.{state-bytes}
+
+-- ---- which state
+
+module _ (bytes : List ℕ) (i : ImageText) (found : IsTextOf image bytes (image_now i)) where
+  -- bytes are the image of one state
+  pub one-state : (x : Imaged) → IsImageOf bytes x → x ≡ imaged_now i.state
+  one-state x is = (same_images is.0 i.version x (imaged_now i.state) is.1.0 found.0 (sym is.1.1 ∙ found.1)).1
+
+  -- and where its blocks are free, no other one asks for more
+  pub has-blocks : (free : Free) (n : ℕ) → n ≡ image_blocks (imaged_now i.state) → n ≤ free.mblks → n ≤ free.dblks → (x : Imaged) × (IsImageOf bytes x × (enough (image_blocks x) free ≡ false)) → ⊥
+  has-blocks free n is m d few =
+      let here : enough (image_blocks few.0) free ≡ true = rw (one-state few.0 few.1.0, ← is) (and_from _ _ (le-leb n free.mblks m) (le-leb n free.dblks d)) in
+      let never = few.1.1 in cc
+
+-- ---- what it is
+
+-- the base at which its journal begins
+abbrev pub start_of : Imaged → Start
+start_of x = record { state = x.state; fates = fates_in x; past = [] }
+
+module _ (s : StoreValue) (p : Streams) (j : Journal) (b : Start) (limits : Config) (fates : Fates) (x : Imaged)
+    (begins : b ≡ start_of x) (state : state_in s p ≡ x.state) (none : journal_of j ≡ []) (gone : fates ≡ fates_in x) where
+  pub restored-kept : IsBase x.state (fates_in x) → AreHeld s p → s.mblks ≡ limits.mblks → s.dblks ≡ limits.dblks → j.most_entries ≡ limits.journal_events → j.most_bytes ≡ limits.journal_bytes → IsKept s p j b limits fates
+  restored-kept based held mblks dblks events bytes = record {
+    based = subst (λ (t : Start). IsBase t.state t.fates) (sym begins) based;
+    replayed = state ∙ sym (ap (λ (t : Start). t.state) begins) ∙ sym (led-nowhere b j none);
+    legal = subst (λ js. IsLegal plain b.state js) (sym none) tt;
+    within = subst AreWithinEntries (sym none) tt;
+    few = subst FewBooked (sym state) based.few;
+    told = gone ∙ sym (ap (λ (t : Start). t.fates) begins) ∙ ap (λ js. told_by plain b.state js b.fates) (sym none);
+    held = held;
+    mblks = mblks;
+    dblks = dblks;
+    events = events;
+    bytes = bytes;
+  }
+
+  pub restored-shown : free_in s ≡ record { mblks = limits.mblks - image_blocks x; dblks = limits.dblks - image_blocks x } → pair_of s p j b limits fates ≡ restored limits x
+  restored-shown free = rw (state, begins, none, free, gone) refl
+
+-- the blocks that are left of those that were free
+pub left-free : (s t : StoreValue) (n m d : ℕ) → free_in s ≡ record { mblks = m; dblks = d } → Spent s t n → free_in t ≡ record { mblks = m - n; dblks = d - n }
+left-free s t n m d all spent =
+    let first : (free_in t).mblks ≡ m - n = omega (arith, ap (λ (f : Free). f.mblks) all, spent.mblks) in
+    let second : (free_in t).dblks ≡ d - n = omega (arith, ap (λ (f : Free). f.dblks) all, spent.dblks) in
+    ap (λ k. record { mblks = k; dblks = (free_in t).dblks }) first ∙ ap (λ k. record { mblks = m - n; dblks = k }) second
+
+-- ---- its image
+
+module _ (s : StoreValue) (p : Streams) (x : Imaged) (fates : Fates) (state : state_in s p ≡ x.state) (gone : fates ≡ fates_in x) (held : AreHeld s p) (has : HasImage x) where
+  imaged-same : imaged (state_in s p) fates ≡ x
+  imaged-same = ap (λ t. imaged t fates) state ∙ ap (λ f. imaged x.state f) gone
+
+  pub restored-has : HasImage (imaged (state_in s p) fates)
+  restored-has = subst HasImage (sym imaged-same) has
+
+  pub restored-room : IsStore s → (n : ℕ) → n ≡ s.mblks → length (image.text (Second, imaged (state_in s p) fates)) ≤ image_room n
+  restored-room is n same =
+      let idle = restored-has.restorable.idle in
+      image_length_in (imaged (state_in s p) fates) n restored-has
+      (omega (arith, same, in-use s p held idle is, is.enough)) (omega (arith, same, state-bytes s p held idle is))
+
+-- the blocks of a store that holds nothing
+pub free-of : (s : StoreValue) (limits : Config) → limits ≡ sizes_over s limits → s.lists ≡ replicate 8 [] → s.hand ≡ [] → free_in s ≡ record { mblks = limits.mblks; dblks = limits.dblks }
+free-of s limits same lists hand = all-free s lists hand ∙ sym (ap (λ (l : Config). record { mblks = l.mblks; dblks = l.dblks }) same)
+
+-- ---- which refusal
+
+module _ (bytes : List ℕ) (i : ImageText) (found : IsTextOf image bytes (image_now i)) (o : Option Refusal) where
+  pub not-einval : (o ≡ Some Einval → ⊥) → (o ≡ Some Einval) ↔ IsNoImage bytes
+  not-einval other = (λ e. absurd (other e), λ none. absurd (none (imaged_now i.state) (i.version, found)))
+
+  pub not-enosr : (free : Free) (n : ℕ) → n ≡ image_blocks (imaged_now i.state) → n ≤ free.mblks → n ≤ free.dblks → (o ≡ Some Enosr → ⊥) → (o ≡ Some Enosr) ↔ ((x : Imaged) × (IsImageOf bytes x × (enough (image_blocks x) free ≡ false)))
+  not-enosr free n is m d other = (λ e. absurd (other e), λ few. absurd (has-blocks bytes i found free n is m d few))
+
+-- ---- the sizes of a pair over such a store
+
+module _ (s : StoreValue) (sizes : Config) (m d : ℕ) (lists : s.lists ≡ replicate 8 []) (hand : s.hand ≡ []) (mblks : m ≡ free_m s) (dblks : d ≡ free_d s) where
+  pub mblks-all : m ≡ s.mblks
+  mblks-all = mblks ∙ ap (λ (f : Free). f.mblks) (all-free s lists hand)
+
+  pub limits-over : record { mblks = m; dblks = d; journal_events = sizes.journal_events; journal_bytes = sizes.journal_bytes } ≡ sizes_over s sizes
+  limits-over =
+      ap (λ n. record { mblks = n; dblks = d; journal_events = sizes.journal_events; journal_bytes = sizes.journal_bytes }) mblks-all
+      ∙ ap (λ n. record { mblks = s.mblks; dblks = n; journal_events = sizes.journal_events; journal_bytes = sizes.journal_bytes }) (dblks ∙ ap (λ (f : Free). f.dblks) (all-free s lists hand))

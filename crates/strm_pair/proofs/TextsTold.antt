@@ -1,0 +1,45 @@
+-- What a text of a restorable state tells of its streams.
+use Rattle.std.proofs.Common.{List, [], ◌∷◌, map, sym, subst}
+use Rattle.std.specs.Prelude.{◌≤◌}
+use Rattle.std.specs.List.{AllByRecursion}
+use Rattle.std.proofs.lemmas.List.{length-map}
+use Rattle.strm_types.specs.declared.limits.TheConstants.{MODULES}
+use Rattle.strm_types.specs.declared.names.Openness.{Openness}
+use Rattle.strm_types.specs.declared.names.Side.{Side}
+use Rattle.strm_laws.specs.Restorable.{GoodModule, GoodStream}
+use Rattle.strm_laws.specs.StackCosts.{EachOnce}
+use Rattle.strm_laws.specs.Within.{IsWithin}
+use Rattle.strm_image.specs.declared.modules.ModuleText.{ModuleText}
+use Rattle.strm_image.specs.declared.modules.ModuleText.TheVariants as texts
+use Rattle.strm_image.specs.declared.streams.StreamText.{StreamText}
+use Rattle.strm_image.specs.ModuleTexts.{module_now}
+use Rattle.strm_pair.specs.Laying.{IsStreamText, stream_now}
+use Rattle.strm_pair.specs.Placing.{IsModuleText}
+use Rattle.strm_pair.proofs.EndsMade.{marked, names-same}
+
+module-told : (m : ModuleText) → GoodModule (module_now m) → IsModuleText m
+module-told (texts.Ldterm l) good = record {
+  reads = marked l.read_queue.flows good.read_queue.marks;
+  writes = marked l.write_queue.flows good.write_queue.marks;
+  column = good.column;
+  line = good.line;
+}
+module-told (texts.Ptem p) good = tt
+module-told texts.Pckt good = tt
+
+each-told : (ms : List ModuleText) → AllByRecursion GoodModule (map module_now ms) → AllByRecursion IsModuleText ms
+each-told [] good = tt
+each-told (m ∷ ms) good = (module-told m good.0, each-told ms good.1)
+
+pub stream-told : (side : Side) (how : Openness) (t : StreamText) → GoodStream side (stream_now how t) → IsWithin (stream_now how t).head → IsStreamText t
+stream-told side how t good within = record {
+  head = good.head.queue;
+  driver = good.driver.marks;
+  modules = record {
+    few = subst (λ n. n ≤ MODULES) (length-map t.modules.items module_now) good.modules.few;
+    each = each-told t.modules.items good.modules.each;
+    names = subst EachOnce (sym (names-same t.modules.items)) good.modules.once;
+  };
+  signals = within.signals;
+  answer = within.answer;
+}

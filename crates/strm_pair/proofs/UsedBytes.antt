@@ -1,0 +1,131 @@
+-- The messages of a pair have 256 bytes at most for each block that a store has.
+use Rattle.std.proofs.Common.{ℕ, ◌≡◌, ◌≤◌, ◌+◌, Bool, true, false, cond, List, [], ◌∷◌, ◌++◌, length, length-append, map, refl, ap, sym, ◌∙◌, arith}
+use Rattle.std.specs.Prelude.{◌*◌, None, sum_by}
+use Rattle.std.proofs.lemmas.Bool.{false≢true}
+use Rattle.std.proofs.lemmas.List.Sums.{sum_by-append, sum_by-cons}
+use Rattle.strm_types.specs.declared.names.Side.TheVariants.{Master, Slave}
+use Rattle.strm_types.specs.declared.names.Way.TheVariants.{Up, Down}
+use Rattle.strm_types.specs.Flush.{is_data_kind}
+use Rattle.strm_types.specs.Kinds.{is_body_kind, is_control_kind}
+use Rattle.strm_types.specs.Message.{Message, cells_of, part, size_of}
+use Rattle.strm_types.specs.Queue.{Queue, bytes_of}
+use Rattle.strm_laws.specs.Kept.{AreIdle}
+use Rattle.strm_laws.specs.Stacked.{Module, OfLdterm, OfPtem, OfPckt, queues_of_modules}
+use Rattle.strm_laws.specs.State.{Stream, stream_queues}
+use Rattle.strm_image.specs.HasImage.{bytes_in}
+use Rattle.strm_blocks.specs.Blocks.{Block, StoreValue, IsStore, block_at, extent, list_at}
+use Rattle.strm_msg.specs.Bytes as chains
+use Rattle.strm_msg.specs.Bytes.{control_blocks, data_blocks}
+use Rattle.strm_msg.specs.Messages.{message_of, part_of}
+use Rattle.strm_msg.proofs.Chains.{bytes-sum, control-body}
+use Rattle.strm_msg.proofs.Parts.{control-blocks-cons}
+use Rattle.strm_queue.specs.Stored.{messages_on}
+use Rattle.strm_queue.proofs.Bounds.{bytes-extent}
+use Rattle.strm_pair.specs.declared.streams.Streams.{Streams}
+use Rattle.strm_pair.specs.Named.{messages_queued}
+use Rattle.strm_pair.specs.Pairs.{state_in, AreHeld}
+use Rattle.strm_pair.specs.Shows.{ShowsStream}
+use Rattle.strm_pair.specs.Streams.{stream_in}
+use Rattle.strm_pair.proofs.FreeBlocks.{eight-lists}
+use Rattle.strm_pair.proofs.Shown.{stream-shown}
+
+abbrev lengths_of : List Block → ℕ
+lengths_of chain = sum_by (λ (b : Block). length b.bytes) chain
+
+one-more : (b : Block) (chain : List Block) → lengths_of (b ∷ chain) ≡ length b.bytes + lengths_of chain
+one-more b chain = sum_by-cons (λ (x : Block). length x.bytes) b chain
+
+-- no block is in both parts
+at-front : (b : Block) (chain : List Block) (v w : Bool) → (v ≡ true → w ≡ false) → lengths_of (control_blocks chain) + lengths_of (data_blocks chain) ≤ lengths_of chain
+    → lengths_of (cond v (b ∷ control_blocks chain) []) + lengths_of (cond w (b ∷ data_blocks chain) (data_blocks chain)) ≤ lengths_of (b ∷ chain)
+at-front b chain true true other ih = absurd (false≢true (sym (other refl)))
+at-front b chain true false other ih = omega (arith, ih, one-more b (control_blocks chain), one-more b chain)
+at-front b chain false true other ih = omega (arith, ih, one-more b (data_blocks chain), one-more b chain)
+at-front b chain false false other ih = omega (arith, ih, one-more b chain)
+
+parts-most : (chain : List Block) → lengths_of (control_blocks chain) + lengths_of (data_blocks chain) ≤ lengths_of chain
+parts-most [] = omega arith
+parts-most (b ∷ chain) =
+    let front : lengths_of (control_blocks (b ∷ chain)) ≡ lengths_of (cond (is_control_kind b.kind) (b ∷ control_blocks chain) []) = ap lengths_of (control-blocks-cons b chain) in
+    omega (arith, front, at-front b chain (is_control_kind b.kind) (is_body_kind b.kind) (control-body b.kind) (parts-most chain))
+
+part-size : (xs : List Block) → length (part (part_of xs)) ≡ lengths_of xs
+part-size [] = refl
+part-size (b ∷ xs) = bytes-sum (b ∷ xs)
+
+-- a message with parts, and one without
+abbrev parted : List Block → Message ℕ
+parted chain = record { kind = (block_at 0 chain).kind; band = (block_at 0 chain).band; control = part_of (control_blocks chain); body = part_of (data_blocks chain); plain = [] }
+
+abbrev unparted : List Block → Message ℕ
+unparted chain = record { kind = (block_at 0 chain).kind; band = (block_at 0 chain).band; control = None; body = None; plain = chains.bytes_of chain }
+
+size-either : (chain : List Block) (v : Bool) → size_of (cond v (parted chain) (unparted chain)) ≤ lengths_of chain
+unfolding size_of cells_of
+size-either chain true =
+    omega (arith, length-append (part (part_of (control_blocks chain))) (part (part_of (data_blocks chain))), part-size (control_blocks chain), part-size (data_blocks chain), parts-most chain)
+size-either chain false = omega (arith, bytes-sum chain)
+
+size-most : (chain : List Block) → size_of (message_of chain) ≤ lengths_of chain
+unfolding message_of
+size-most chain = size-either chain (is_data_kind (block_at 0 chain).kind)
+
+-- so do the messages on a list
+list-most : (q : List (List Block)) → bytes_of (map message_of q) ≤ sum_by extent q
+list-most [] = omega arith
+list-most (chain ∷ q) = omega (arith, size-most chain, bytes-extent chain, list-most q, sum_by-cons size_of (message_of chain) (map message_of q), sum_by-cons extent chain q)
+
+-- what stands on the queues of modules, by ways
+abbrev queue_bytes : Queue ℕ → ℕ
+queue_bytes q = bytes_of q.messages
+
+modules-bytes : (ps : List (Module ℕ)) → sum_by queue_bytes (queues_of_modules ps) ≡ bytes_of (messages_queued Up ps) + bytes_of (messages_queued Down ps)
+modules-bytes [] = refl
+modules-bytes (OfLdterm l ∷ ps) = omega (
+  arith,
+  modules-bytes ps,
+  sum_by-cons queue_bytes l.read_queue (l.write_queue ∷ queues_of_modules ps),
+  sum_by-cons queue_bytes l.write_queue (queues_of_modules ps),
+  sum_by-append (λ (m : Message ℕ). size_of m) l.read_queue.messages (messages_queued Up ps),
+  sum_by-append (λ (m : Message ℕ). size_of m) l.write_queue.messages (messages_queued Down ps),
+)
+modules-bytes (OfPtem p ∷ ps) = modules-bytes ps
+modules-bytes (OfPckt p ∷ ps) = modules-bytes ps
+
+module _ (s : StoreValue) where
+  abbrev on_list : ℕ → ℕ
+  on_list k = sum_by extent (list_at s k)
+
+  stream-bytes : (first : ℕ) (t : Stream ℕ) → ShowsStream s first t
+      → sum_by queue_bytes (stream_queues t) ≤ on_list first + (on_list (first + 1) + (on_list (first + 2) + on_list (first + 3)))
+  stream-bytes first t shows =
+      let qs = queues_of_modules t.modules in
+      omega (
+        arith,
+        sum_by-cons queue_bytes t.head.queue (qs ++ t.driver.queue ∷ []),
+        sum_by-append queue_bytes qs (t.driver.queue ∷ []),
+        sum_by-cons queue_bytes t.driver.queue [],
+        modules-bytes t.modules,
+        list-most (list_at s first),
+        list-most (list_at s (first + 1)),
+        list-most (list_at s (first + 2)),
+        list-most (list_at s (first + 3)),
+        ap bytes_of shows.head,
+        ap bytes_of shows.driver,
+        ap bytes_of shows.up,
+        ap bytes_of shows.down,
+      )
+
+  pub state-bytes : (p : Streams) → AreHeld s p → AreIdle (state_in s p) → IsStore s → bytes_in (state_in s p) ≤ 256 * s.mblks
+  state-bytes p held idle is =
+      let m = stream_in s p.ends.master in
+      let n = stream_in s p.ends.slave in
+      omega (
+        arith,
+        sum_by-append queue_bytes (stream_queues m) (stream_queues n),
+        stream-bytes 0 m (stream-shown s 0 p.ends.master (held.beside Master) (idle Master)),
+        stream-bytes 4 n (stream-shown s 4 p.ends.slave (held.beside Slave) (idle Slave)),
+        eight-lists (λ q. sum_by extent q) s is.eight,
+        is.small,
+        is.enough,
+      )

@@ -1,0 +1,2 @@
+pub mod SpelledRows
+pub mod PairRows

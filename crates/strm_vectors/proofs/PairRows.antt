@@ -1,0 +1,43 @@
+-- Pairs that stand for images.
+use Rattle.std.proofs.Common.{◌≡◌, ◌∙◌, ◌-◌, ℕ, true, leb, sym, ap, subst, List}
+use Rattle.std.specs.Prelude.{Result, Ok, Err, OnOk}
+use Rattle.std.proofs.lemmas.Bool.{and_parts, leb-true}
+use Rattle.strm_types.specs.declared.limits.Config.{Config}
+use Rattle.strm_laws.specs.Pair.{PairState}
+use Rattle.strm_laws.specs.Refusals.{enough}
+use Rattle.strm_blocks.specs.Blocks.{StoreValue, empty_store}
+use Rattle.strm_image.specs.declared.versions.Version.TheVariants.{Second}
+use Rattle.strm_image.specs.Format.{IsTextOf}
+use Rattle.strm_image.specs.HasImage.{imaged}
+use Rattle.strm_image.specs.Image.{Imaged, image}
+use Rattle.strm_image.proofs.ReadRows.{same_images}
+use Rattle.strm_pair.specs.Pairs.{free_in}
+use Rattle.strm_pair.specs.Restored.{IsImageOf, image_blocks, restored}
+use Rattle.strm_pair.proofs.Shown.{free-empty}
+use Rattle.strm_vectors.specs.Told.{IsPairOf}
+
+-- a pair over a store that held nothing and has enough blocks
+pub pair_over : (x : Imaged) (s : StoreValue) (limits : Config) (mblks dblks : ℕ) (p : PairState) → s ≡ empty_store mblks dblks → limits.mblks ≡ s.mblks → limits.dblks ≡ s.dblks
+    → enough (image_blocks x) (free_in s) ≡ true → p ≡ restored limits x → IsPairOf x mblks dblks p
+pair_over x s limits mblks dblks p blank of_m of_d few is =
+    let all = ap free_in blank ∙ free-empty mblks dblks in
+    let low = and_parts (leb (image_blocks x) mblks) (leb (image_blocks x) dblks) (ap (enough (image_blocks x)) (sym all) ∙ few) in
+    record {
+      same = ap (λ (q : PairState). imaged q.state q.fates) is;
+      some_mblks = leb-true (image_blocks x) mblks low.0;
+      some_dblks = leb-true (image_blocks x) dblks low.1;
+      free_mblks = ap (λ (q : PairState). q.free.mblks) is ∙ ap (λ n. n - image_blocks x) (of_m ∙ ap (λ (t : StoreValue). t.mblks) blank);
+      free_dblks = ap (λ (q : PairState). q.free.dblks) is ∙ ap (λ n. n - image_blocks x) (of_d ∙ ap (λ (t : StoreValue). t.dblks) blank);
+    }
+
+pub on_ok : {A E : Type 0} (r : Result A E) (P Q : Type 0) → (P → Q) → OnOk r P → OnOk r Q
+on_ok (Ok x) P Q so p = so p
+on_ok (Err e) P Q so p = tt
+
+-- two texts whose pairs have one and the same image are images of one and the same state
+pub one_state : (text other same : List ℕ) (blocks : ℕ) (y : Imaged) → IsImageOf other y → IsTextOf image same (Second, y)
+    → (x : Imaged) × (IsImageOf text x × (IsTextOf image same (Second, x) × (image_blocks x ≡ blocks))) → (x : Imaged) × (IsImageOf text x × (IsImageOf other x × (image_blocks x ≡ blocks)))
+one_state text other same blocks y of_other of_same found =
+    let x = found.0 in
+    let alike = same_images Second Second x y found.1.1.0.0 of_same.0 (sym found.1.1.0.1 ∙ of_same.1) in
+    (x, (found.1.0, (subst (IsImageOf other) (sym alike.1) of_other, found.1.1.1)))

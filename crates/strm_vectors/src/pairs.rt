@@ -1,0 +1,65 @@
+//! Pairs that are made of images, and by scripts.
+
+ghost use Rattle.std.specs.Prelude.{◌≡◌, ◌<◌, ◌≤◌, IfOk, Err};
+ghost use Rattle.strm_types.specs.declared.refusals.Refusal.TheVariants.{Einval};
+ghost use Rattle.strm_image.specs.declared.versions.Version.TheVariants.{Second};
+ghost use Rattle.strm_image.specs.Format.{IsTextOf};
+ghost use Rattle.strm_image.specs.Image.{Imaged, image};
+ghost use Rattle.strm_pair.specs.Restored.{IsImageOf, IsNoImage};
+ghost use Rattle.strm_vectors.specs.Told.{IsPairOf};
+
+use crate::differences::Difference;
+use std::alloc::Global;
+use strm_pair::Pair;
+use strm_raw::RawStore;
+use strm_script::Session;
+use strm_types::{Config, Refusal};
+
+/// The store of the program's pairs.
+type Store = RawStore;
+
+/// The pair that is made of an image over so many message blocks and data blocks. It is only looked at, so its journal has little room.
+pub fn restored(
+    alloc: Global,
+    text: &[u8],
+    mblks: usize,
+    dblks: usize,
+) -> Result<Pair<Store>, Refusal>
+    requires some_mblks { 0 < mblks }
+    requires few_mblks { mblks ≤ 65536 }
+    requires some_dblks { 0 < dblks }
+    requires few_dblks { dblks ≤ 65536 }
+    ensures einval { result ≡ Err Einval → IsNoImage text.now }
+    ensures ok { IfOk result (λ p. (x : Imaged) × (IsImageOf text.now x × IsPairOf x mblks dblks p)) }
+{
+    let Ok(store) = Store::new(alloc, mblks, dblks) else {
+        return Err(Refusal::NoMemory);
+    };
+    let sizes = Config {
+        mblks,
+        dblks,
+        journal_events: 1,
+        journal_bytes: 1,
+    };
+    match Pair::restore(alloc, sizes, text, store) {
+        Ok(pair) => Ok(pair),
+        Err((why, _store)) => Err(why),
+    }
+}
+
+/// The image of the pair that a script leaves.
+pub fn played(alloc: Global, script: &[u8]) -> Result<Vec<u8>, Difference>
+    ensures { IfOk result (λ text. (x : Imaged) × IsTextOf image text.items (Second, x)) }
+{
+    let mut session: Session<Store> = Session::new(alloc);
+    let Ok(()) = session.take(alloc, script) else {
+        return Err(Difference::Ended);
+    };
+    let Ok(()) = session.finish(alloc) else {
+        return Err(Difference::Ended);
+    };
+    match session.pair() {
+        Some(pair) => Ok(pair.image(alloc)?),
+        None => Err(Difference::NoPair),
+    }
+}

@@ -1,0 +1,425 @@
+"""The pseudoterminal stack of System V Release 4 STREAMS, from Python: libstrm by ctypes, and nothing but the standard library.
+
+    from strm import MASTER, SLAVE, Pair
+
+    with Pair.terminal() as pair:           # both sides open, ptem and ldterm on the slave
+        pair.write(MASTER, b"ls\\r")         # 3: so many bytes were taken
+        pair.runqueues()                    # turns until no queue is enabled
+        pair.read(SLAVE)                    # b"ls\\n"
+        pair.read(MASTER)                   # b"ls\\r\\n"
+
+A call returns at once. One that can't be made raises Refused, whose `name` is the library's ("EAGAIN", "EINVAL" ..), and then nothing has
+changed. Bytes go from side to side by turns alone, so a pair is at rest where `pair.at_rest`: nothing happens until somebody calls.
+
+The journal has an entry for each call and turn. Where it is full it begins anew and the call is made again, so that no session ends by it;
+with `Pair(keeps=True)` the call is refused with "JournalFull" instead. strm_record.py keeps the entries of any session, however long.
+
+The library is found by the argument `library`, else by the environment variable STRM_LIBRARY (each names the shared object), else by the
+loader, pkg-config, and in ~/.local/lib and /usr/local/lib: `tools/library PREFIX` lays it out. include/strm.h is the manual of each call.
+A pair is used by one thread at a time. `python3 -m strm` is a prompt that shows the streams.
+"""
+import ctypes
+import struct
+
+from strm_library import Ask, Counts, Entry, Handle, Library, Place, Reply, Stands, Went
+from strm_words import *
+
+
+class Pair:
+    """A master and a slave. `blocks` of each kind are its pool (a write wants 32 free and one for each begun 256 bytes), `entries` and
+    `journal_bytes` the room of its journal. All memory is taken here; `free`, or the end of a `with`, gives it back. With `image` the pair
+    is made of what Pair.image gave: EINVAL where it is none, ENOSR where it wants more blocks.
+
+    `room` are the three sizes. `before_restart` has what is called, with the pair, before its journal begins anew: recorders take its
+    entries there."""
+
+    def __init__(self, blocks=256, entries=8192, journal_bytes=262144, keeps=False, library=None, image=None):
+        self.library = Library.at(library)
+        self.room, self.keeps, self.before_restart, self.restarts = (blocks, entries, journal_bytes), keeps, [], 0
+        self._handle, self._ask, self._reply, self._went = Handle(), Ask(), Reply(), Went()
+        self._turns, self._room = ctypes.c_size_t(), ctypes.create_string_buffer(ANSWER_MAX)
+        parts = (self._handle, self._ask, self._reply, self._went, self._turns, self._room)
+        self._at, self._ask_at, self._reply_at, self._went_at, self._turns_at, self._room_at = map(ctypes.addressof, parts)
+        if image is None:
+            refused = self.library.new(self._at, *self.room)
+        else:
+            refused = self.library.restore(self._at, *self.room, bytes(image), len(image))
+        if refused:
+            raise Refused(refused, "new" if image is None else "restore")
+        # Bound once: each look-up costs as much as the call itself.
+        self._write, self._read, self._runqueues, self._call = (
+            getattr(self.library, name) for name in ("write", "read", "runqueues", "call")
+        )
+
+    @classmethod
+    def terminal(cls, *sizes, **named):
+        """A pair that is a terminal as a shell expects it."""
+        pair = cls(*sizes, **named)
+        pair.open_terminal()
+        return pair
+
+    def free(self):
+        """Gives the memory back. Any call behind it is refused with EINVAL."""
+        self.library.free(self._at)
+
+    @property
+    def is_open(self):
+        """Whether the pair wasn't freed."""
+        return self._handle.is_open
+
+    def __enter__(self):
+        return self
+
+    def __exit__(self, *_):
+        self.free()
+
+    def __del__(self):
+        if getattr(self, "_at", None) is not None:
+            self.library.free(self._at)
+
+    def __reduce_ex__(self, _):
+        raise TypeError("a pair isn't copied: its image is (Pair.image, Pair(image=..))")
+
+    # ------------------------------------------------------------------------------------------------------------- calls
+
+    def call(self, op, side, a=0, b=0, c=0, data=b"", caller=NOBODY):
+        """Makes any call by its numbers, as strm_call of strm.h has them, and gives its Answer, "stopped" and "nak" too."""
+        ask, reply = self._ask, self._reply
+        ask.op, ask.side, ask.a, ask.b, ask.c = OP[op], side, a, b, c
+        ask.group, ask.ignores, ask.orphaned = caller
+        refused = self._call(self._at, self._ask_at, data, len(data), self._room_at, ANSWER_MAX, self._reply_at)
+        if refused and self._mends(refused):
+            refused = self._call(self._at, self._ask_at, data, len(data), self._room_at, ANSWER_MAX, self._reply_at)
+        if refused:
+            raise Refused(refused, op)
+        return _answer(reply, self._room[: reply.bytes])
+
+    def _told(self, op, side, *numbers, **named):
+        told = self.call(op, side, *numbers, **named)
+        if told.kind == "stopped":
+            raise Stopped(told.value, op)
+        return told
+
+    def _mends(self, refused):
+        """Whether a refused call is to be made again: a full journal begins anew, unless it is empty, and so too small for the call."""
+        if refused != JOURNAL_FULL or self.keeps or not self._has_entries():
+            return False
+        self.restart()
+        return True
+
+    def _has_entries(self):
+        first, told = Place(), Entry()
+        at = ctypes.addressof
+        return REFUSALS[self.library.next_entry(self._at, at(first), at(told), self._room_at, 0)] != "EAGAIN"
+
+    def open_master(self):
+        """open(2) of the master, once in a pair's life."""
+        self.call("open_master", MASTER)
+
+    def unlock(self):
+        """unlockpt(3C)."""
+        self.call("unlock", MASTER)
+
+    def open_slave(self):
+        """open(2) of the slave. EAGAIN before the unlock."""
+        self.call("open_slave", SLAVE)
+
+    def close(self, side):
+        """close(2) of a side."""
+        self.call("close", side)
+
+    def push(self, side, module):
+        """I_PUSH of "ldterm", "ptem" or "pckt". EINVAL: another name, or one that stands there."""
+        self.call("push", side, MODULES.index(module) if module in MODULES[1:] else 0)
+
+    def pop(self, side):
+        """I_POP."""
+        self.call("pop", side)
+
+    def look(self, side):
+        """I_LOOK: the name of the top module. EINVAL: there is none."""
+        return MODULES[self.call("look", side).value]
+
+    def open_terminal(self):
+        """Both sides open, ptem and ldterm on the slave."""
+        self.open_master()
+        self.unlock()
+        self.open_slave()
+        self.push(SLAVE, "ptem")
+        self.push(SLAVE, "ldterm")
+
+    def write(self, side, data, caller=None):
+        """write(2): how many of the bytes were taken, which may be fewer than all. EAGAIN where flow control takes none."""
+        if caller is not None:
+            return self._told("write", side, data=bytes(data), caller=caller).value
+        if type(data) is not bytes:
+            data = bytes(data)
+        refused = self._write(self._at, side, data, len(data), self._reply_at)
+        if refused and self._mends(refused):
+            refused = self._write(self._at, side, data, len(data), self._reply_at)
+        if refused:
+            raise Refused(refused, "write")
+        return self._reply.value
+
+    def read(self, side, most=READ_MAX, caller=None):
+        """read(2) of at most so many bytes, and 4096; a line, where ldterm stands and ICANON is set. b"" is the end of input: a hang-up, or
+        an EOF key. EAGAIN where nothing stands there."""
+        if caller is not None:
+            return self._told("read", side, most, caller=caller).bytes
+        room = most if most < READ_MAX else READ_MAX
+        refused = self._read(self._at, side, self._room_at, room, self._reply_at)
+        if refused and self._mends(refused):
+            refused = self._read(self._at, side, self._room_at, room, self._reply_at)
+        if refused:
+            raise Refused(refused, "read")
+        return self._room[: self._reply.bytes]
+
+    def take(self, side):
+        """All bytes that reads of a side give at once, up to the end of input; b"" where nothing stands there."""
+        parts = []
+        while True:
+            refused = self._read(self._at, side, self._room_at, READ_MAX, self._reply_at)
+            if refused and self._mends(refused):
+                continue
+            if refused and REFUSALS[refused] != "EAGAIN":
+                raise Refused(refused, "read")
+            if refused or not self._reply.bytes:
+                return b"".join(parts)
+            parts.append(self._room[: self._reply.bytes])
+
+    def write_all(self, side, data):
+        """Writes all of the bytes, with turns wherever flow control takes no more. EAGAIN where nothing goes on, as the other side has to
+        read: `args[1]` of it are the bytes that weren't taken."""
+        data = bytes(data)
+        while data:
+            try:
+                data = data[self.write(side, data[: 8 * BLOCK]) :]
+            except Refused as refusal:
+                if refusal.name not in ("EAGAIN", "ENOSR") or self.runqueues() == 0:
+                    refusal.args += (data,)
+                    raise
+
+    def put(self, side, prio=0, control=None, data=None, caller=NOBODY):
+        """putpmsg(2) in a band or HIGH: at most 64 bytes of control, 256 of data; a part that is None is absent."""
+        parts = (control is not None) + 2 * (data is not None)
+        split = len(control) if parts == 3 else 0
+        self._told("put", side, prio, parts, split, (control or b"") + (data or b""), caller)
+
+    def get(self, side, wanted=ANY, control=READ_MAX, data=READ_MAX, caller=NOBODY):
+        """getpmsg(2): the first message, or its front, where it is wanted: any, HIGH, or of at least a band. The sizes are the most bytes."""
+        told = self._told("get", side, wanted, min(control, READ_MAX), min(data, READ_MAX), caller=caller)
+        split = told.size if told.parts == 3 else len(told.bytes) if told.parts == 1 else 0
+        return Message(
+            told.prio,
+            told.bytes[:split] if told.parts & 1 else None,
+            told.bytes[split:] if told.parts & 2 else None,
+            told.more_control,
+            told.more_data,
+        )
+
+    def flush(self, side, read=True, write=True, band=ANY):
+        """I_FLUSH, or I_FLUSHBAND of a band."""
+        self.call("flush", side, bool(read) + 2 * bool(write), band)
+
+    def mode(self, side, mode):
+        """I_SRDOPT: one of MODES."""
+        self.call("mode", side, MODES.index(mode))
+
+    def nread(self, side):
+        """I_NREAD: how many messages stand at the head, and how many bytes of data the first one has."""
+        told = self.call("nread", side)
+        return told.value, told.size
+
+    def signals(self, side):
+        """The signals that came up since they were last asked for, each once, in order."""
+        return [signal_of(number) for number in self.call("signals", side).bytes]
+
+    # ------------------------------------------------------------------------------------------------------------- ioctl
+
+    def ioctl(self, side, command, body=b"", caller=NOBODY):
+        """I_STR, waited for by turns: the bytes of its answer. `command` is a name of COMMANDS or a number. Nak: it was answered so. EAGAIN: it
+        isn't answered where the pair is at rest; `ioctl_result` asks again."""
+        number = COMMANDS.get(command, command)
+        told = self._told("ioctl", side, number, data=body, caller=caller)
+        if told.kind == "pending":
+            self.runqueues()
+            return self.ioctl_result(side, told.value)
+        return _given(told, f"ioctl {command}")
+
+    def ioctl_result(self, side, number):
+        """The bytes that answer the ioctl of a number, given once."""
+        return _given(self.call("ioctl_result", side, number), "ioctl")
+
+    def tcgetattr(self, side=SLAVE):
+        """TCGETS. Nak where no ptem stands."""
+        return Termios.of_wire(self.ioctl(side, "TCGETS"))
+
+    def tcsetattr(self, termios, side=SLAVE, when="TCSETS", caller=NOBODY):
+        """TCSETS at once, TCSETSW behind the output, TCSETSF with the input flushed too."""
+        self.ioctl(side, when, termios.wire(), caller)
+
+    def winsize(self, side=SLAVE):
+        """TIOCGWINSZ."""
+        return Winsize.of_wire(self.ioctl(side, "TIOCGWINSZ"))
+
+    def set_winsize(self, rows, columns, width=0, height=0, side=MASTER):
+        """TIOCSWINSZ: where the size changes, SIGWINCH comes to the slave."""
+        self.ioctl(side, "TIOCSWINSZ", Winsize(rows, columns, width, height).wire())
+
+    # ------------------------------------------------------------------------------------------------------------- turns and looks
+
+    def turn(self, queue):
+        """Makes a turn of a queue's service procedure. EINVAL: it isn't enabled."""
+        number = QUEUES.get(queue, len(QUEUES) + 4)
+        refused = self.library.turn(self._at, number, self._went_at)
+        if refused and self._mends(refused):
+            refused = self.library.turn(self._at, number, self._went_at)
+        if refused:
+            raise Refused(refused, "turn")
+        return _turn(queue, self._went)
+
+    def runqueues(self, most=1_000_000):
+        """Turns, each of the queue that was enabled first, until none is: how many were made. JournalFull, behind so many and more: they
+        don't end, as with an ldterm on each side that echo each other. What was made stays made."""
+        refused = self._runqueues(self._at, self._turns_at)
+        if not refused:
+            return self._turns.value
+        made = 0
+        while refused and made + self._turns.value < most and self._mends(refused):
+            made += self._turns.value
+            refused = self._runqueues(self._at, self._turns_at)
+        if refused:
+            raise Refused(refused, "runqueues")
+        return made + self._turns.value
+
+    @property
+    def enabled(self):
+        """The enabled queues, in the order in which they were enabled."""
+        found = []
+        while (number := self.library.enabled(self._at, len(found))) in QUEUE_NAMES:
+            found.append(QUEUE_NAMES[number])
+        return found
+
+    @property
+    def at_rest(self):
+        """Whether no queue is enabled: nothing happens until somebody calls."""
+        return self.library.enabled(self._at, 0) not in QUEUE_NAMES
+
+    def sizes(self, queue):
+        """How many messages stand on a queue, and how many bytes they have."""
+        told = Stands()
+        self._look(self.library.sizes, "sizes", QUEUES[queue], told)
+        return Standing(told.messages, told.bytes)
+
+    def first_size(self, queue):
+        """How many bytes the first message of a queue has."""
+        told = ctypes.c_size_t()
+        self._look(self.library.first_size, "first_size", QUEUES[queue], told)
+        return told.value
+
+    def ledger(self, side):
+        """Where the bytes are that a side wrote."""
+        told = Counts()
+        self._look(self.library.ledger, "ledger", side, told)
+        gone = {rule: count for rule, count in zip(RULES, told.gone) if count}
+        return Books(told.written, told.made, told.queued, told.inlined, gone)
+
+    def _look(self, function, name, number, told):
+        refused = function(self._at, number, ctypes.addressof(told))
+        if refused:
+            raise Refused(refused, name)
+
+    def image(self):
+        """What the pair is between two calls, as docs/IMAGES.md spells it, for Pair(image=..) at any later time, on any machine."""
+        room, length = 1 << 16, ctypes.c_size_t()
+        while True:
+            out = ctypes.create_string_buffer(room)
+            refused = self.library.image(self._at, ctypes.addressof(out), room, ctypes.addressof(length))
+            if not refused:
+                return out[: length.value]
+            if length.value <= room:
+                raise Refused(refused, "image")
+            room = length.value
+
+    # ------------------------------------------------------------------------------------------------------------- the journal
+
+    def restart(self):
+        """Begins the journal anew, at the state that the pair has. Cursors begin anew too."""
+        for hook in self.before_restart:
+            hook(self)
+        refused = self.library.restart(self._at)
+        if refused:
+            raise Refused(refused, "restart")
+        self.restarts += 1
+
+    def entries(self):
+        """The journal's entries, each a Call or a Turn, from where it last began."""
+        cursor = Cursor(self)
+        while (entry := cursor.next()) is not None:
+            yield entry
+
+    def make(self, entry):
+        """Makes a call or a turn of a journal again: the same entry with the answer that this pair gives."""
+        if isinstance(entry, Turn):
+            return self.turn(entry.queue)
+        told = self.call(entry.op, entry.side, entry.a, entry.b, entry.c, entry.bytes, entry.caller)
+        return entry._replace(answer=told)
+
+
+class Cursor:
+    """A place in a pair's journal: `next` gives the entry there and moves on. Behind a restart it stands at the new beginning."""
+
+    _fields = struct.Struct("@QII 6I?? Q5I?? II")  # strm_entry
+
+    def __init__(self, pair):
+        self._restarts = pair.restarts
+        self.pair, self._place, self._entry = pair, Place(), Entry()
+        self._grow(ANSWER_MAX + 8 * BLOCK)
+
+    def _grow(self, size):
+        self._room = ctypes.create_string_buffer(size)
+        parts = (self._place, self._entry, self._room)
+        self._arguments = (self.pair._at, *map(ctypes.addressof, parts), size)
+
+    def next(self):
+        """The entry, or None where all were taken."""
+        if self._restarts != self.pair.restarts:
+            self._place.entry = self._place.byte = 0
+            self._restarts = self.pair.restarts
+        refused = self.pair.library.next_entry(*self._arguments)
+        if refused:
+            if REFUSALS[refused] == "EAGAIN":
+                return None
+            wanted = self._entry.brings + self._entry.reply.bytes
+            if REFUSALS[refused] != "EINVAL" or wanted <= len(self._room):
+                raise Refused(refused, "next_entry")
+            self._grow(wanted)
+            return self.next()
+        brings, kind, queue, op, side, a, b, c, group, ignores, orphaned, *reply, went, moved = self._fields.unpack_from(self._entry)
+        if kind:
+            return Turn(QUEUE_NAMES[queue], ("idle", "blocked", "moved")[went], moved)
+        room, given = self._room, reply[0]
+        answer = Answer(ANSWERS[reply[1]], *reply[2:], room[brings : brings + given] if given else b"")
+        caller = Caller(group, ignores, orphaned) if group or ignores or orphaned else NOBODY
+        return Call(OPS[op], MASTER if side == 0 else SLAVE, a, b, c, caller, room[:brings] if brings else b"", answer)
+
+
+def _answer(reply, given):
+    kind = ANSWERS[reply.kind]
+    return Answer(kind, reply.value, reply.prio, reply.parts, reply.size, reply.more_control, reply.more_data, given)
+
+
+def _turn(queue, went):
+    return Turn(queue, ("idle", "blocked", "moved")[went.kind], went.moved)
+
+
+def _given(told, what):
+    if told.kind == "nak":
+        raise Nak(told.value, what)
+    return told.bytes
+
+
+if __name__ == "__main__":
+    import strm_prompt
+
+    strm_prompt.main()
