@@ -2,6 +2,8 @@
  *
  *     cc -O2 -Iinclude bench/calls.c libstrm.a -o calls && ./calls          (./calls ROW ROUNDS: rounds of a row, from 0, on the pair alone)
  *
+ * Behind the table it tells what an entry of the journal costs by a cursor, and an image.
+ *
  * A round writes, and reads all that comes of it; the pair's queues are run in between. Each figure is the least of seven runs. */
 #define _GNU_SOURCE
 #include <fcntl.h>
@@ -198,6 +200,27 @@ static void fill(int is_line)
         for (i = 79; i < sizeof text; i += 80) text[i] = '\n';
 }
 
+/* What the entries of a journal cost, taken one by one behind so many lines, and the image of a terminal. */
+static void journal_and_image(void)
+{
+    static uint8_t room[65536];
+    strm_cursor at = { 0, 0 };
+    strm_entry entry;
+    size_t i, length = 0;
+    double began, taken;
+    fill(1);
+    pair_opens(0);
+    done(strm_restart(&pair));
+    for (i = 0; i < 1000; i++) pair_line();
+    began = now(CLOCK_MONOTONIC);
+    while (!strm_next_entry(&pair, &at, &entry, room, sizeof room)) continue;
+    taken = now(CLOCK_MONOTONIC) - began;
+    began = now(CLOCK_MONOTONIC);
+    for (i = 0; i < 1000; i++) done(strm_image(&pair, room, sizeof room, &length));
+    printf("\nAn entry of %u: %.0f ns. An image of %u bytes: %.0f ns.\n", (unsigned)at.entry, taken / (double)at.entry, (unsigned)length,
+        (now(CLOCK_MONOTONIC) - began) / 1000);
+}
+
 /* So many rounds of a row on the pair alone, for callgrind. */
 static int rounds_of(size_t row, size_t rounds)
 {
@@ -220,6 +243,7 @@ int main(int count, char **words)
         system_opens(rows[i].is_raw), least(rows[i].theirs, rows[i].rounds, theirs);
         printf("| %s | %.0f | %.0f | %.0f | %.0f |\n", rows[i].name, ours[0], ours[1], theirs[0], theirs[1]);
     }
+    journal_and_image();
     strm_free(&pair);
     return 0;
 }

@@ -77,10 +77,6 @@ fn go_on(rt: &impl Abort, pair: &mut Pair<TableStore>) {
     follow(rt, pair, &BEHIND);
 }
 
-fn store_of(alloc: Global, blocks: usize) -> Result<TableStore, AllocError> {
-    TableStore::new(alloc, blocks.clamp(1, 65536), blocks.clamp(1, 65536))
-}
-
 fn image_of(rt: &impl Abort, alloc: Global, pair: &Pair<TableStore>) -> Vec<u8> {
     match pair.image(alloc) {
         Ok(image) => image,
@@ -96,7 +92,8 @@ fn filled(rt: &impl Abort, alloc: Global) -> Result<Pair<TableStore>, AllocError
 }
 
 fn restored(alloc: Global, blocks: usize, image: &[u8]) -> Result<Pair<TableStore>, Refusal> {
-    let Ok(store) = store_of(alloc, blocks) else {
+    let blocks = blocks.clamp(1, 65536);
+    let Ok(store) = TableStore::new(alloc, blocks, blocks) else {
         return Err(Refusal::NoMemory);
     };
     Pair::restore(alloc, SIZES, image, store).map_err(|(why, _store)| why)

@@ -17,7 +17,6 @@ fn storms_are_settled(rt: HostRuntime) -> Result<(), Fail> {
         for refused in report.refused {
             all = all.saturating_add(refused);
         }
-        println!(rt; "{} {:?} {}", report.calls, report.refused, report.settled)?;
         assert!(rt; report.settled);
         assert_eq!(rt; all, 4000);
     }
