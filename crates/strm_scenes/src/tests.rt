@@ -1,5 +1,6 @@
 //! Scripts run from memory to memory: tables of titled scenes, and readers, writers and lines that no scene can show.
 
+mod books;
 mod by_line;
 mod echo;
 mod faults;

@@ -12,7 +12,7 @@ use strm_blocks::{Reserve, TableStore};
 use strm_pair::Pair;
 use strm_raw::RawStore;
 use strm_script::{ScriptEnd, run_script};
-use strm_types::{Content, LISTS, NoMemory};
+use strm_types::{Content, LISTS, NoMemory, Refusal};
 
 // A line that is full, a byte that finds no room in it, and its end.
 const FULL_LINE: &[u8] =
@@ -54,12 +54,46 @@ fn pair_of<B: Reserve>(rt: &impl Abort, alloc: Global, store: B) -> Pair<B>
 }
 
 // Makes the image of a pair, which has 300 bytes on a queue.
-fn image_of<B: Reserve>(rt: &impl Abort, alloc: Global, pair: &Pair<B>) {
-    let mut image = pair.image(alloc);
-    if image.is_err() {
-        image = pair.image(alloc);
+fn image_of<B: Reserve>(rt: &impl Abort, alloc: Global, pair: &Pair<B>) -> Vec<u8> {
+    if let Ok(image) = pair.image(alloc) {
+        return image;
     }
-    assert!(rt; matches!(&image, Ok(text) if text.len() > 300));
+    let Ok(image) = pair.image(alloc) else {
+        panic!(rt; "an image is refused twice")
+    };
+    assert!(rt; image.len() > 300);
+    image
+}
+
+// Makes a pair of an image. Where that is refused, the store comes back with all its blocks free.
+fn restored<B: Reserve>(rt: &impl Abort, alloc: Global, store: B, image: &[u8]) -> Pair<B>
+    requires lists { (B.value store).lists ≡ replicate LISTS [] }
+    requires hand { (B.value store).hand ≡ [] }
+{
+    let store = match Pair::restore(alloc, SIZES, image, store) {
+        Ok(pair) => return pair,
+        Err((refusal, store)) => {
+            assert_eq!(rt; refusal, Refusal::NoMemory);
+            store
+        }
+    };
+    assert_eq!(rt; store.free_blocks(), (SIZES.mblks, SIZES.dblks));
+    let Ok(pair) = Pair::restore(alloc, SIZES, image, store) else {
+        panic!(rt; "an image is refused twice")
+    };
+    pair
+}
+
+// Cuts a pair, which has made 4 calls and a turn. Where that is refused, its journal stays.
+fn cuts<B: Reserve>(rt: &impl Abort, alloc: Global, pair: &mut Pair<B>) {
+    let entries = pair.journal().entries.len();
+    let mut trace = pair.cut(alloc);
+    if trace.is_err() {
+        assert_eq!(rt; pair.journal().entries.len(), entries);
+        trace = pair.cut(alloc);
+    }
+    assert!(rt; matches!(&trace, Ok(trace) if trace.entries.len() == entries && entries > 4));
+    assert!(rt; pair.journal().entries.is_empty());
 }
 
 // Looks at a script's answers: all of them, or the front of them behind a fault.
@@ -88,7 +122,10 @@ fn makes_all<B: Reserve>(rt: &impl Abort, alloc: Global) {
     let mut pair = pair_of(rt, alloc, store_of::<B>(rt, alloc));
     let mut out = Content::new();
     assert_eq!(rt; first_wrong(&mut pair, &mut out, 4), None);
-    image_of(rt, alloc, &pair);
+    let image = image_of(rt, alloc, &pair);
+    let again = restored(rt, alloc, store_of::<B>(rt, alloc), image.as_slice());
+    assert!(rt; image_of(rt, alloc, &again) == image);
+    cuts(rt, alloc, &mut pair);
     for (script, wanted) in &SCRIPTS {
         script_goes::<B>(rt, alloc, *script, *wanted);
     }
