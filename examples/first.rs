@@ -66,6 +66,8 @@ fn main() -> Result<(), Refused> {
     session(&mut pair, &mut out)?;
     signals(&mut pair)?;
     books(&mut pair)?;
+    let image = pair.image()?;
+    assert_eq!(Pair::restored(Sizes::default(), &image)?.image()?, image);
     pair.free();
     println!("{:<20}{}", "open", u32::from(pair.is_open()));
     Ok(())

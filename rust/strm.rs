@@ -115,6 +115,8 @@ mod ffi {
         pub fn strm_enabled(p: *mut Handle, place: usize) -> u32;
         pub fn strm_sizes(p: *mut Handle, queue: u32, told: *mut Standing) -> u32;
         pub fn strm_ledger(p: *mut Handle, side: u32, told: *mut Books) -> u32;
+        pub fn strm_image(p: *mut Handle, out: *mut u8, room: usize, length: *mut usize) -> u32;
+        pub fn strm_restore(p: *mut Handle, blocks: usize, entries: usize, bytes: usize, image: *const u8, n: usize) -> u32;
     }
 }
 
@@ -419,13 +421,42 @@ unsafe impl Send for Pair {}
 impl Pair {
     /// A pair that nobody opened. EINVAL: no block, or above 65536. NoMemory.
     pub fn new(sizes: Sizes) -> Result<Pair, Refused> {
-        // SAFETY: no pointer goes with it.
-        let version = unsafe { ffi::strm_version() };
-        assert!(version >> 16 == 1 && version & 0xffff >= 1, "libstrm 1.1 is needed");
-        let mut pair = Pair { handle: ffi::Handle { at: std::ptr::null_mut(), is_open: false }, keeps: false };
+        let mut pair = Pair::closed();
         // SAFETY: the handle is closed.
         told(unsafe { ffi::strm_new(&mut pair.handle, sizes.blocks, sizes.entries, sizes.bytes) })?;
         Ok(pair)
+    }
+
+    fn closed() -> Pair {
+        // SAFETY: no pointer goes with it.
+        let version = unsafe { ffi::strm_version() };
+        assert!(version >> 16 == 1 && version & 0xffff >= 1, "libstrm 1.1 is needed");
+        Pair { handle: ffi::Handle { at: std::ptr::null_mut(), is_open: false }, keeps: false }
+    }
+
+    /// The pair of an image (docs/IMAGES.md), which goes on where that was made; its journal is empty. EINVAL: the bytes are no image, or a
+    /// number of blocks as in `new`. ENOSR: its messages take more blocks. NoMemory.
+    pub fn restored(sizes: Sizes, image: &[u8]) -> Result<Pair, Refused> {
+        let mut pair = Pair::closed();
+        // SAFETY: the handle is closed, and the image has so many bytes.
+        told(unsafe { ffi::strm_restore(&mut pair.handle, sizes.blocks, sizes.entries, sizes.bytes, image.as_ptr(), image.len()) })?;
+        Ok(pair)
+    }
+
+    /// The image of the pair: its state and its ledgers, the same bytes on every machine. NoMemory.
+    pub fn image(&mut self) -> Result<Vec<u8>, Refused> {
+        let (mut text, mut length) = (vec![0; 4096], 0);
+        loop {
+            // SAFETY: the buffer has so many bytes.
+            let refused = unsafe { ffi::strm_image(&mut self.handle, text.as_mut_ptr(), text.len(), &mut length) };
+            if refused == 1 && length > text.len() {
+                text.resize(length, 0);
+                continue;
+            }
+            told(refused)?;
+            text.truncate(length);
+            return Ok(text);
+        }
     }
 
     /// A terminal as a shell expects it: both sides open, ptem and ldterm on the slave.
