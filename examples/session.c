@@ -34,7 +34,8 @@ static strm_refusal reads(strm_pair *p, const char *user, uint32_t side)
     strm_refusal e = strm_read(p, side, buf, sizeof buf, &r);
     if (e) printf("%-6s%-20s%s\n", user, side == STRM_MASTER ? "sees" : "reads", strm_refusal_name(e));
     else show(user, side == STRM_MASTER ? "sees" : "reads", r.bytes);
-    return e == STRM_EAGAIN ? STRM_OK : e;
+    if (e == STRM_EAGAIN) e = STRM_OK;
+    return e;
 }
 
 /* Both type a part of a line, and one of them has a window of another size. */
