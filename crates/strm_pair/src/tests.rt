@@ -8,7 +8,6 @@ mod ledgers;
 mod messages;
 mod recount;
 mod restarts;
-mod restoring;
 mod running;
 mod walk;
 

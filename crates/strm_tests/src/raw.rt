@@ -121,7 +121,7 @@ fn a_copy_shows_what_is_left_of_a_block(rt: HostRuntime) -> Result<(), Fail> {
 }
 
 #[test]
-fn an_append_fills_the_last_block_and_no_shared_one(rt: HostRuntime) -> Result<(), Fail> {
+fn an_append_fills_the_last_block(rt: HostRuntime) -> Result<(), Fail> {
     let mut store = RawStore::new(rt.alloc(), 3, 2)?;
     let (head, tail) = (store.alloc(MsgKind::Proto)?, store.alloc(MsgKind::Data)?);
     let message = store.link(head, tail);
@@ -132,8 +132,14 @@ fn an_append_fills_the_last_block_and_no_shared_one(rt: HostRuntime) -> Result<(
         (store.block_len(&message, 0), store.block_len(&message, 1)),
         (0, 256)
     );
-    store.trim_tail(&message, 1, 200);
-    let _shared = store.dup(&message, 1)?;
+    Ok(())
+}
+
+#[test]
+fn an_append_fills_no_shared_block(rt: HostRuntime) -> Result<(), Fail> {
+    let mut store = RawStore::new(rt.alloc(), 2, 1)?;
+    let message = store.alloc_with(MsgKind::Data, Band(0), b"abcd")?;
+    let _shared = store.dup(&message, 0)?;
     assert_eq!(rt; store.append(&message, b"e"), 0);
     Ok(())
 }
