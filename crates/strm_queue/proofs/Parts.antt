@@ -1,12 +1,13 @@
 -- The flow control of band 0 beside that of the others.
 use Rattle.std.proofs.Common.{ℕ, zero, suc, ◌≡◌, ◌≢◌, ◌<◌, ◌≤◌, ◌+◌, Bool, true, false, List, ◌∷◌, length, refl, sym, ap, subst, ◌∙◌, arith, length-set, get_or-set_same, get_or-set_other}
-use Rattle.std.specs.Prelude.{slice_set, sum_by, ◌==◌, nat_lt}
+use Rattle.std.specs.Prelude.{slice_set, sum_by, ◌==◌, nat_lt, Option, None, Some, MatchOption}
 use Rattle.std.proofs.lemmas.Bool.Decides.{nat_tests}
 use Rattle.std.proofs.lemmas.List.{take_all, get_or_past}
 use Rattle.strm_types.specs.declared.limits.TheConstants.{BANDS}
+use Rattle.strm_types.specs.declared.options.Marks.{Marks}
 use Rattle.strm_queue.specs.declared.flow.Flow.{Flow}
 use Rattle.strm_queue.specs.Flows.{count_in, IsMarked}
-use Rattle.strm_queue.specs.Kept.{flow_at, no_flow, AreFlows, FewBytes}
+use Rattle.strm_queue.specs.Kept.{flow_at, no_flow, AllRest, AreFlows, FewBytes, RestAbove}
 use Rattle.strm_queue.proofs.Passing.{sum-small}
 
 pub others-few : (f : Flow) (fs : List Flow) → AreFlows (f ∷ fs) → FewBytes fs
@@ -47,6 +48,16 @@ module _ (change : Flow → Flow) (f f' : Flow) (fs fs' : List Flow) (first : f'
           let le : 256 ≤ band = grind (arith, nat_tests) in
           let none = ap count_in (get_or_past (f' ∷ fs') band no_flow (omega (arith, le, long, are.eight))) in
           omega (arith, none)
+
+-- the bands above band 0 are at rest where the others are
+rests-above : (marks : Marks) (f : Flow) (fs : List Flow) → AllRest marks fs → RestAbove marks (f ∷ fs)
+rests-above marks f fs rest zero above lt = absurd (omega arith)
+rests-above marks f fs rest (suc band) above lt = rest band (omega (arith, lt))
+
+pub rests-shared : (f : Flow) (fs : List Flow) (shared : Option Marks) → MatchOption shared ((marks : Marks) → AllRest marks fs → ⊥) (λ marks. AllRest marks fs)
+    → MatchOption shared ((marks : Marks) → RestAbove marks (f ∷ fs) → ⊥) (λ marks. RestAbove marks (f ∷ fs))
+rests-shared f fs None none = λ marks rest. none marks (λ at lt. rest (suc at) (omega arith) (omega (arith, lt)))
+rests-shared f fs (Some marks) rest = rests-above marks f fs rest
 
 -- another flow control of one band
 pub set-flows : (flows : List Flow) (band : ℕ) (flow : Flow) → band < BANDS → count_in flow ≤ 16777216 → IsMarked flow → AreFlows flows → AreFlows (slice_set flows band flow)

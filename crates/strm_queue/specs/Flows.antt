@@ -1,6 +1,7 @@
 -- The flow control of one band (STREAMS Programming Guide, "Flow Control").
 use Rattle.std.specs.Prelude.{◌≡◌, ℕ, ◌+◌, ◌-◌, ◌&&◌, Bool, false, nat_le, if◌then◌else◌, List, map}
 use Rattle.strm_types.specs.Queue as plain
+use Rattle.strm_types.specs.declared.options.Marks.{Marks}
 use Rattle.strm_queue.specs.declared.flow.Flow.{Flow}
 
 -- how many bytes stand in a band, by its kept counts
@@ -53,3 +54,7 @@ plain_flow f = record { high = f.high; low = f.low; want_write = f.want_write }
 
 abbrev pub plain_flows : List Flow → List plain.Flow
 plain_flows flows = map plain_flow flows
+
+-- that of a band with these marks for which no writer waits
+abbrev pub at_rest : Marks → plain.Flow
+at_rest marks = record { high = marks.high; low = marks.low; want_write = false }

@@ -1,12 +1,13 @@
 -- How a queue is kept beside its list in a store (queue(9S), STREAMS Programming Guide, "Message Queues").
-use Rattle.std.specs.Prelude.{◌≡◌, ℕ, Bool, false, not, ◌&&◌, ◌||◌, ◌==◌, nat_le, nat_lt, ◌≤◌, ◌<◌, if◌then◌else◌, List, length, sum_by, slice_index_or}
+use Rattle.std.specs.Prelude.{◌≡◌, ℕ, ◌+◌, Bool, false, not, ◌&&◌, ◌||◌, ◌==◌, nat_le, nat_lt, ◌≤◌, ◌<◌, if◌then◌else◌, List, length, sum_by, slice_index_or}
 use Rattle.std.specs.List.{AllByRecursion}
 use Rattle.strm_types.specs.Message.{is_high_priority}
 use Rattle.strm_types.specs.declared.limits.TheConstants.{BANDS}
+use Rattle.strm_types.specs.declared.options.Marks.{Marks}
 use Rattle.strm_types.specs.Flush.{is_data_kind, counted_band}
 use Rattle.strm_blocks.specs.Blocks.{Block, block_at}
 use Rattle.strm_queue.specs.declared.flow.Flow.{Flow}
-use Rattle.strm_queue.specs.Flows.{IsMarked, count_in}
+use Rattle.strm_queue.specs.Flows.{IsMarked, count_in, plain_flow, at_rest}
 
 -- how many bytes a message has, all of them
 abbrev pub bytes_of : List Block → ℕ
@@ -76,3 +77,11 @@ pub record AreFlows (flows : List Flow) : Type 0 where
   pub eight : length flows ≡ BANDS
   pub few : FewBytes flows
   pub marked : IsMarked (flow_at 0 flows)
+
+-- all bands above 0 have these marks, and no writer waits for one of them
+abbrev pub RestAbove : Marks → List Flow → Type 0
+RestAbove marks flows = (band : ℕ) → 0 < band → band < BANDS → plain_flow (flow_at band flows) ≡ at_rest marks
+
+-- the same of a list that has the bands from 1 up
+abbrev pub AllRest : Marks → List Flow → Type 0
+AllRest marks flows = (at : ℕ) → at + 1 < BANDS → plain_flow (flow_at at flows) ≡ at_rest marks

@@ -1,11 +1,12 @@
 //! The flow control of the bands above 0.
 
-ghost use Rattle.std.specs.Prelude.{◌≡◌, ◌<◌, ◌≤◌, ◌+◌, ℕ, false, length, map, replicate, slice_set, sum_by};
+ghost use Rattle.std.specs.Prelude.{◌≡◌, ◌<◌, ◌≤◌, ◌+◌, ℕ, false, MatchOption, length, map, replicate, slice_set, sum_by};
 ghost use Rattle.std.specs.List.{list_any};
 ghost use Rattle.strm_types.specs.declared.limits.TheConstants.{BANDS};
+ghost use Rattle.strm_types.specs.declared.options.Marks.{Marks};
 ghost use Rattle.strm_queue.specs.Flows.{count_in, IsMarked, flushed_of, marked_with, relieves, relieved, kept_bytes};
 ghost use Rattle.strm_queue.specs.Flushes.{takes_all};
-ghost use Rattle.strm_queue.specs.Kept.{FewBytes, flow_at};
+ghost use Rattle.strm_queue.specs.Kept.{AllRest, FewBytes, flow_at};
 ghost use Rattle.strm_queue.specs.Sets.{has};
 
 use crate::bandset::BandSet;
@@ -14,6 +15,7 @@ use crate::flow::Flow;
 use crate::flush::Flush;
 use crate::table::Table;
 use std::marker::Model;
+use strm_types::{BANDS, Marks};
 
 /// The flow control of the bands above 0. Contracts see a list, from band 1 up: place 0 is that of band 1.
 #[derive(Drop)]
@@ -118,6 +120,38 @@ impl Banded {
     {
         let _ = &self.rows;
         self.common.waiting
+    }
+
+    /// The marks of all bands, where they have the same ones and no writer waits for any. The cost is a step where no band has marks
+    /// of its own and no writer waits for one, or else a step for each band at most.
+    pub fn shared(&self) -> Option<Marks>
+        requires { FewBytes self.now }
+        ensures { MatchOption result ((marks : Marks) → AllRest marks self.now → ⊥) (λ marks. AllRest marks self.now) }
+    {
+        if let Some(marks) = self.common.shared() {
+            return Some(marks);
+        }
+        self.same_marks()
+    }
+
+    // What `shared` does where a band has marks of its own or a writer waits. It is apart, since mostly neither holds.
+    #[cold]
+    #[inline(never)]
+    fn same_marks(&self) -> Option<Marks>
+        requires { FewBytes self.now }
+        ensures { MatchOption result ((marks : Marks) → AllRest marks self.now → ⊥) (λ marks. AllRest marks self.now) }
+    {
+        let first = self.at(0);
+        let marks = Marks {
+            high: first.high,
+            low: first.low,
+        };
+        for at in 0..BANDS - 1 {
+            if !self.at(at).is_at_rest(marks) {
+                return None;
+            }
+        }
+        Some(marks)
     }
 
     /// How many bytes stand in these bands, all of them or those of data alone.

@@ -1,8 +1,8 @@
 //! What the bands above 0 of a queue have in common, and what is kept of each.
 
-ghost use Rattle.std.specs.Prelude.{◌≡◌, ◌≢◌, ◌<◌, ◌+◌, ◌^◌, ℕ, false, nat_lt};
+ghost use Rattle.std.specs.Prelude.{◌≡◌, ◌≢◌, ◌<◌, ◌+◌, ◌^◌, ℕ, IfSome, false, nat_lt};
 ghost use Rattle.strm_types.specs.declared.limits.TheConstants.{BANDS};
-ghost use Rattle.strm_queue.specs.Flows.{count_in, marked_with, IsMarked};
+ghost use Rattle.strm_queue.specs.Flows.{count_in, marked_with, plain_flow, at_rest, IsMarked};
 ghost use Rattle.strm_queue.specs.Rows.{counts_of, high_of, low_of, row_flow};
 ghost use Rattle.strm_queue.specs.Sets.{has};
 ghost use Rattle.strm_queue.specs.declared.common.Row.{Row};
@@ -94,6 +94,17 @@ impl Common {
             low: marks.low,
             full: counts.data_bytes + counts.other_bytes >= marks.high,
             want_write: self.waiting.has(at),
+        }
+    }
+
+    /// The marks of all bands, where none has marks of its own and no writer waits for one.
+    pub fn shared(&self) -> Option<Marks>
+        ensures { IfSome result (λ marks. (at : ℕ) (row : Row) → at + 1 < BANDS → plain_flow (row_flow self.now at row) ≡ at_rest marks) }
+    {
+        if self.marked.is_empty() && self.waiting.is_empty() {
+            Some(self.marks)
+        } else {
+            None
         }
     }
 

@@ -1,11 +1,12 @@
 //! Flow control of one band.
 
-ghost use Rattle.std.specs.Prelude.{◌≡◌, ◌+◌, ◌≤◌, ◌<◌, ◌^◌, nat_le, false, if◌then◌else◌};
-ghost use Rattle.strm_queue.specs.Flows.{count_in, kept_bytes, added_to, removed_from, flushed_of, marked_with, relieved, relieves};
+ghost use Rattle.std.specs.Prelude.{◌≡◌, ◌+◌, ◌≤◌, ◌<◌, ◌^◌, ◌↔◌, IsTrue, nat_le, false, if◌then◌else◌};
+ghost use Rattle.strm_queue.specs.Flows.{count_in, kept_bytes, added_to, removed_from, flushed_of, marked_with, plain_flow, at_rest, relieved, relieves};
 ghost use Rattle.strm_queue.specs.Flushes.{takes_all};
 
 use crate::flush::Flush;
 use crate::share::Share;
+use strm_types::Marks;
 
 /// The flow control of one band: how many bytes stand there, in messages of data (M_DATA, M_PROTO, M_PCPROTO) and in
 /// others; the high-water and the low-water mark; whether the band is full, which it is from its high-water mark on;
@@ -117,6 +118,13 @@ impl Flow {
         flow.low = low;
         flow.full = flow.count() >= high;
         flow
+    }
+
+    /// Whether the band has these marks, and no writer waits for it.
+    pub(crate) fn is_at_rest(&self, marks: Marks) -> bool
+        ensures { IsTrue result ↔ plain_flow self.now ≡ at_rest marks }
+    {
+        self.high == marks.high && self.low == marks.low && !self.want_write
     }
 
     /// Whether a waiting writer is let go: the count is at or below the low-water mark.

@@ -1,15 +1,16 @@
 //! The flow control of a queue's bands.
 
-ghost use Rattle.std.specs.Prelude.{◌≡◌, ◌<◌, ◌≤◌, ◌+◌, ℕ, true, false, List, [], length, Some, None, not, ◌||◌, if◌then◌else◌, slice_set, sum_by, replicate, map};
+ghost use Rattle.std.specs.Prelude.{◌≡◌, ◌<◌, ◌≤◌, ◌+◌, ℕ, true, false, List, [], length, Some, None, MatchOption, not, ◌||◌, if◌then◌else◌, slice_set, sum_by, replicate, map};
 ghost use Rattle.std.specs.List.{list_any};
 ghost use Rattle.std.specs.Bool.{OnFalse};
 ghost use Rattle.strm_types.specs.declared.kinds.Band.{Band};
 ghost use Rattle.strm_types.specs.Queue.{with_marks};
 ghost use Rattle.strm_types.specs.declared.limits.TheConstants.{BANDS};
+ghost use Rattle.strm_types.specs.declared.options.Marks.{Marks};
 ghost use Rattle.strm_blocks.specs.Blocks.{Block};
 ghost use Rattle.strm_queue.specs.Flows.{count_in, IsMarked, added_to, removed_from, flushed_of, marked_with, waiting, relieves, relieved, plain_flows};
 ghost use Rattle.strm_queue.specs.Flushes.{takes_all};
-ghost use Rattle.strm_queue.specs.Kept.{AreCounted, bytes_of, data_bytes_of, data_share, flow_at};
+ghost use Rattle.strm_queue.specs.Kept.{AreCounted, bytes_of, data_bytes_of, data_share, flow_at, RestAbove};
 
 use crate::banded::Banded;
 use crate::flow::Flow;
@@ -17,7 +18,7 @@ use crate::flush::Flush;
 use crate::share::Share;
 use crate::table::Table;
 use std::marker::Model;
-use strm_types::Band;
+use strm_types::{Band, Marks};
 
 /// The flow control of the bands of a queue: that of band 0 beside that of all others. Contracts see a list, from band 0 up.
 #[derive(Drop)]
@@ -113,6 +114,14 @@ impl Flows {
         self.get(usize::from(band.0)).full
     }
 
+    /// The marks of all bands above 0, where they have the same ones and no writer waits for any of them. The cost is a step where
+    /// none of them has been given marks of its own and no writer waits for one, or else a step for each band at most.
+    pub fn shared_above(&self) -> Option<Marks>
+        ensures { MatchOption result ((marks : Marks) → RestAbove marks self.now → ⊥) (λ marks. RestAbove marks self.now) }
+    {
+        self.others.shared()
+    }
+
     /// How many bytes stand in all bands. The cost is a step for each band above 0 where some do.
     pub(crate) fn total(&self) -> usize
         ensures { (q : List (List Block)) → AreCounted self.now q → result ≡ sum_by bytes_of q }
@@ -131,8 +140,24 @@ impl Flows {
         self.first.data_bytes as usize + self.others.total(true)
     }
 
-    /// Counts a message in.
+    /// Counts a message in. Band 0 is apart and inlined, since most messages count there.
+    #[inline(always)]
     pub(crate) fn add(&mut self, share: Share)
+        requires few { count_in (flow_at share.band.0 self.old) + share.bytes ≤ 16777216 }
+        ensures { self.new ≡ slice_set self.old share.band.0
+            (added_to share.is_data share.bytes (flow_at share.band.0 self.old)) }
+    {
+        if share.band.0 > 0 {
+            self.add_above(share);
+            return;
+        }
+        let flow = self.get(0);
+        self.set(0, flow.with(share));
+    }
+
+    // Counts a message in, of any band.
+    #[inline(never)]
+    fn add_above(&mut self, share: Share)
         requires few { count_in (flow_at share.band.0 self.old) + share.bytes ≤ 16777216 }
         ensures { self.new ≡ slice_set self.old share.band.0
             (added_to share.is_data share.bytes (flow_at share.band.0 self.old)) }
@@ -142,8 +167,25 @@ impl Flows {
         self.set(at, flow.with(share));
     }
 
-    /// Counts a message out.
+    /// Counts a message out. Band 0 is apart and inlined, as in `add`.
+    #[inline(always)]
     pub(crate) fn remove(&mut self, share: Share)
+        requires has { share.bytes ≤ (if share.is_data then (flow_at share.band.0 self.old).data_bytes
+            else (flow_at share.band.0 self.old).other_bytes) }
+        ensures { self.new ≡ slice_set self.old share.band.0
+            (removed_from share.is_data share.bytes (flow_at share.band.0 self.old)) }
+    {
+        if share.band.0 > 0 {
+            self.remove_above(share);
+            return;
+        }
+        let flow = self.get(0);
+        self.set(0, flow.without(share));
+    }
+
+    // Counts a message out, of any band.
+    #[inline(never)]
+    fn remove_above(&mut self, share: Share)
         requires has { share.bytes ≤ (if share.is_data then (flow_at share.band.0 self.old).data_bytes
             else (flow_at share.band.0 self.old).other_bytes) }
         ensures { self.new ≡ slice_set self.old share.band.0
