@@ -1,6 +1,6 @@
 -- Both ways to list the bands of a queue are exact.
-use Rattle.std.proofs.Common.{◌≡◌, ℕ, zero, suc, ◌+◌, ◌-◌, ◌<◌, ◌≤◌, Bool, true, false, not, cond, eqb, ltb, leb, List, [], ◌∷◌, ◌++◌, length, refl, ap, sym, ◌∙◌, append_assoc, slice_set, Option, Some, None, inl, inr, arith}
-use Rattle.std.specs.Prelude.{replicate}
+use Rattle.std.proofs.Common.{◌≡◌, ℕ, zero, suc, ◌+◌, ◌-◌, ◌<◌, ◌≤◌, Bool, true, false, not, cond, eqb, ltb, leb, List, [], ◌∷◌, ◌++◌, length, refl, ap, sym, ◌∙◌, append_assoc, slice_set, Some, None, inl, inr, arith}
+use Rattle.std.specs.Prelude.{is_some, replicate}
 use Rattle.std.specs.Int.{to_be_bytes, w16}
 use Rattle.std.specs.List.{flat_map}
 use Rattle.std.proofs.lemmas.Bool.{and_parts, and_from, eqb-true, eq-eqb, ne_eqb, leb-true, le-leb, cases_eq, not-true, ltb-true}
@@ -10,11 +10,13 @@ use Rattle.strm_image.specs.declared.versions.QueueKind.{QueueKind}
 use Rattle.strm_image.specs.declared.versions.Version.TheVariants.{Second}
 use Rattle.strm_types.specs.declared.limits.TheConstants.{BANDS}
 use Rattle.strm_image.specs.declared.versions.TheConstants.{FIRST_BANDS}
-use Rattle.strm_image.specs.Format.{IsExact, byte, u16, ◌then◌, fit_from, gathered, gather_from, text_from, IsBytes, Reads}
+use Rattle.strm_image.specs.Format.{IsExact, byte, u16, ◌then◌, ◌>>=◌, fit_from, gathered, gathered_of, gather_from, keep, text_from, IsBytes}
 use Rattle.strm_image.specs.Queues.{are_bands, behind_last, entries, few_flows, first_flow, first_ones, flow, flows, is_listed, is_widened, list_out, listed, listed_behind, next_band, same_flow, same_flows, spread, spread_out, widened}
+use Rattle.strm_image.specs.FlowTexts.{read_flows}
 use Rattle.strm_image.specs.Loads.{set_band}
+use Rattle.strm_image.specs.Texts.{values_read}
 use Rattle.strm_image.proofs.FlowRows.{flow_exact, same_bool_is, same_bool_refl}
-use Rattle.strm_image.proofs.Formats.{IsMade, byte_exact, chain_exact, chain_long, counted_exact, gather_none, gather_some, text_flat, only_exact, then_exact, u16_exact}
+use Rattle.strm_image.proofs.Formats.{IsMade, byte_exact, chain_exact, chain_long, counted_exact, gather_is, gather_none, gather_some, text_flat, only_exact, then_exact, u16_exact}
 
 pub same_flow_is : (f g : Flow) → same_flow f g ≡ true → f ≡ g
 same_flow_is f g e =
@@ -189,16 +191,24 @@ listed_read at bytes count text fs rest is_bytes head told =
     rw read (ap (λ gs. Some (gs, rest)) (sym same))
 
 pub listed_unread : (at : QueueKind) (bytes : List ℕ) (count : ℕ) (text : List ℕ) → u16.read bytes ≡ Some (count, text)
-    → gather_from next_band (listed_behind (first_flow at)) set_band (replicate BANDS (first_flow at)) 0 count text ≡ None → (flows Second at).read bytes ≡ None
+    → gather_from next_band (listed_behind (first_flow at)) keep tt 0 count text ≡ None → (flows Second at).read bytes ≡ None
 unfolding flows
 listed_unread at bytes count text head told =
-    rw (head, gather_none next_band (listed_behind (first_flow at)) set_band (replicate BANDS (first_flow at)) 0 count text told) refl
+    rw (head, gather_none next_band (listed_behind (first_flow at)) keep tt 0 count text told) refl
 
--- what is set, or isn't, is what is read
-pub listed_reads : {R : Type 0} (view : R → List Flow × List ℕ) (result : Option R) (at : QueueKind) (bytes : List ℕ) (count : ℕ) (text : List ℕ) → IsBytes bytes → u16.read bytes ≡ Some (count, text)
-    → Reads view result (gather_from next_band (listed_behind (first_flow at)) set_band (replicate BANDS (first_flow at)) 0 count text) → Reads view result ((flows Second at).read bytes)
-listed_reads view None at bytes count text is_bytes head told = listed_unread at bytes count text head told
-listed_reads view (Some x) at bytes count text is_bytes head told = listed_read at bytes count text (view x).0 (view x).1 is_bytes head told
+-- what is passed can be read again
+module _ (at : QueueKind) (count : ℕ) (text rest : List ℕ) (told : gather_from next_band (listed_behind (first_flow at)) keep tt 0 count text ≡ Some (tt, rest)) where
+  again : (fs : List Flow) × (read_flows Second at count text ≡ Some (fs, rest))
+  again =
+      let a = gather_some next_band (listed_behind (first_flow at)) keep tt 0 count text (tt, rest) told in
+      let first = replicate BANDS (first_flow at) in
+      (gathered set_band first a.0, gather_is next_band (listed_behind (first_flow at)) set_band first 0 count text ∙ ap (λ o. o >>= gathered_of set_band first) a.1)
+
+  pub passed_there : is_some (read_flows Second at count text) ≡ true
+  passed_there = ap is_some again.1
+
+  pub passed_read : (bytes : List ℕ) → IsBytes bytes → u16.read bytes ≡ Some (count, text) → (flows Second at).read bytes ≡ Some (values_read (read_flows Second at count text), rest)
+  passed_read bytes is_bytes head = listed_read at bytes count text again.0 rest is_bytes head again.1 ∙ ap (λ o. Some (values_read o, rest)) (sym again.1)
 
 pub listed_flat : (first : Flow) (from : ℕ) (es : List (ℕ × Flow)) → text_from next_band (listed_behind first) from es ≡ flat_map (byte then flow).text es
 unfolding listed_behind

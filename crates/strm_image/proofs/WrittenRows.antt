@@ -1,11 +1,13 @@
 -- The texts of the formats in pieces, as writers put them.
-use Rattle.std.proofs.Common.{◌≡◌, ◌∙◌, ℕ, suc, ◌+◌, ◌<◌, ◌≤◌, Bool, true, false, cond, List, [], ◌∷◌, ◌++◌, length, drop, get_or, refl, sym, ap, arith, append_assoc}
+use Rattle.std.proofs.Common.{◌≡◌, ◌∙◌, ℕ, suc, ◌+◌, ◌<◌, Bool, true, false, cond, List, [], ◌∷◌, ◌++◌, length, drop, get_or, refl, sym, ap, arith, append_assoc}
 use Rattle.std.specs.List.{flat_map}
 use Rattle.std.proofs.Math.Seq.{drop-cons}
 use Rattle.std.proofs.lemmas.List.{append-nil, drop_all}
 use Rattle.std.proofs.lemmas.List.Concat.{flat_map-cons}
+use Rattle.strm_types.specs.declared.limits.TheConstants.{BANDS}
 use Rattle.strm_types.specs.declared.names.ModuleName.TheVariants as names
 use Rattle.strm_types.specs.declared.names.QueueName.{QueueName}
+use Rattle.strm_types.specs.declared.options.Marks.{Marks}
 use Rattle.strm_types.specs.Ldterms.{Ldterm}
 use Rattle.strm_types.specs.Message.{Message}
 use Rattle.strm_types.specs.Pckts.{Pckt}
@@ -19,10 +21,11 @@ use Rattle.strm_image.specs.Format.{always, byte, keep, u32, u64, ◌then◌}
 use Rattle.strm_image.specs.Image.{Imaged, body, enabled, enabled_behind, image, next_enabled, queue_name, rule_counts}
 use Rattle.strm_image.specs.Messages.{message, message_behind, messages, next_rank}
 use Rattle.strm_image.specs.Modules.{ldterm, module_below, module_format, modules, next_names, ptem}
-use Rattle.strm_image.specs.Queues.{flow, listed, no_flow, queue, same_flow}
+use Rattle.strm_image.specs.Queues.{flow, listed, no_flow, queue, same_flow, IsNoneFrom, RestAbove}
 use Rattle.strm_image.specs.Sinks.{Given, put}
 use Rattle.strm_image.specs.Streams.{Laid, laid}
 use Rattle.strm_image.specs.Written.{image_text, laid_text, ldterm_text, queue_text}
+use Rattle.strm_image.proofs.BandRows.{same_flow_is, same_flow_refl}
 use Rattle.strm_image.proofs.Formats.{text_flat}
 use Rattle.strm_image.proofs.SinkRows.{put_both, put_nothing}
 
@@ -52,8 +55,26 @@ listed_skip first own i fs now lt is same =
     let step : listed first i (drop i fs) ≡ listed first (i + 1) (drop (i + 1) fs) = listed_step first i fs no_flow lt ∙ rw here refl in
     ap (λ es. put (flat_map (byte then flow).text es) now) (sym step)
 
-pub listed_all : (first : Flow) (i : ℕ) (fs : List Flow) (now : Given) → length fs ≤ i → now ≡ put (rest_text first i fs) now
-listed_all first i fs now le = rw (drop_all i fs le) (sym (put_nothing now))
+pub listed_all : (first : Flow) (i : ℕ) (fs : List Flow) (now : Given) → listed first i (drop i fs) ≡ [] → now ≡ put (rest_text first i fs) now
+listed_all first i fs now none = rw none (sym (put_nothing now))
+
+-- None is listed from one on where all are as at first, or where there are no more.
+none_listed : (first : Flow) (i : ℕ) (fs : List Flow) → ((k : ℕ) → k < length fs → get_or fs k no_flow ≡ first) → listed first i fs ≡ []
+none_listed first i [] same = refl
+none_listed first i (f ∷ fs) same =
+    let here : same_flow f first ≡ true = ap (λ g. same_flow g first) (same 0 (omega arith)) ∙ same_flow_refl first in
+    rw here (none_listed first (suc i) fs (λ k lt. same (suc k) (omega (arith, lt))))
+
+pub rests_listed : (marks : Marks) (first : Flow) (fs : List Flow) → length fs ≡ BANDS → RestAbove marks fs → same_flow (record { high = marks.high; low = marks.low; want_write = false }) first ≡ true → IsNoneFrom first 1 fs
+rests_listed marks first [] long rest same = absurd (omega (arith, long))
+rests_listed marks first (f ∷ fs) long rest same = none_listed first 1 fs (λ k lt. rest (suc k) (omega arith) (omega (arith, lt, long)) ∙ same_flow_is _ first same)
+
+pub past_listed : (first : Flow) (fs : List Flow) → length fs ≡ BANDS → IsNoneFrom first BANDS fs
+past_listed first fs long = ap (listed first BANDS) (drop_all BANDS fs (omega (arith, long)))
+
+-- all are listed that are, up to there
+pub listed_end : (first : Flow) (i end : ℕ) (fs : List Flow) → IsNoneFrom first end fs → i ≡ end → listed first i (drop i fs) ≡ []
+listed_end first i end fs none is = ap (λ k. listed first k (drop k fs)) is ∙ none
 
 -- ---- lists
 

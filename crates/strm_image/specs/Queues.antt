@@ -1,6 +1,7 @@
 -- The text of a queue: its flags, the flow control of its bands, and its messages.
-use Rattle.std.specs.Prelude.{ℕ, zero, suc, ◌+◌, ◌-◌, Bool, true, false, not, ◌&&◌, ◌==◌, nat_lt, nat_le, if◌then◌else◌, List, [], ◌∷◌, ◌++◌, length, take, replicate, slice_index_or}
+use Rattle.std.specs.Prelude.{◌≡◌, ◌<◌, ℕ, zero, suc, ◌+◌, ◌-◌, Bool, true, false, not, ◌&&◌, ◌==◌, nat_lt, nat_le, if◌then◌else◌, List, [], ◌∷◌, ◌++◌, length, drop, take, replicate, slice_index_or}
 use Rattle.strm_types.specs.declared.limits.TheConstants.{BANDS}
+use Rattle.strm_types.specs.declared.options.Marks.{Marks}
 use Rattle.strm_types.specs.Message.{Message}
 use Rattle.strm_types.specs.Queue.{Flow, Queue}
 use Rattle.strm_image.specs.declared.versions.QueueKind.{QueueKind}
@@ -34,12 +35,17 @@ same_bool false b = not b
 abbrev pub same_flow : Flow → Flow → Bool
 same_flow f g = f.high == g.high && (f.low == g.low && same_bool f.want_write g.want_write)
 
--- ---- all bands in version 1
-
--- Version 1 lists the first bands. Those behind them have the marks of the last one, and no writer waits for them.
+-- the flow control of a band that there isn't
 abbrev pub no_flow : Flow
 no_flow = record { high = 0; low = 0; want_write = false }
 
+-- all bands above 0 have these marks, and no writer waits for one of them
+abbrev pub RestAbove : Marks → List Flow → Type 0
+RestAbove marks fs = (band : ℕ) → 0 < band → band < BANDS → slice_index_or fs band no_flow ≡ record { high = marks.high; low = marks.low; want_write = false }
+
+-- ---- all bands in version 1
+
+-- Version 1 lists the first bands. Those behind them have the marks of the last one, and no writer waits for them.
 abbrev pub behind_last : List Flow → Flow
 behind_last fs = record (slice_index_or fs (FIRST_BANDS - 1) no_flow) { want_write = false }
 
@@ -77,6 +83,10 @@ spread first i (suc n) (e ∷ es) = if e.0 == i then e.1 ∷ spread first (suc i
 abbrev pub listed : Flow → ℕ → List Flow → List (ℕ × Flow)
 listed first i [] = []
 listed first i (f ∷ fs) = if same_flow f first then listed first (suc i) fs else (i, f) ∷ listed first (suc i) fs
+
+-- none is listed from one on
+abbrev pub IsNoneFrom : Flow → ℕ → List Flow → Type 0
+IsNoneFrom first i fs = listed first i (drop i fs) ≡ []
 
 -- a band from one up, with other flow control than at first
 abbrev pub is_listed : Flow → ℕ → ℕ × Flow → Bool

@@ -2,9 +2,12 @@
 use Rattle.std.specs.Prelude.{◌≡◌, ◌<◌, ◌^◌, ℕ, true, List, [], length, Option, None, Some, option_map}
 use Rattle.strm_types.specs.declared.limits.TheConstants.{HIGH_PRIORITY_RANK}
 use Rattle.strm_types.specs.Message.{Message}
+use Rattle.strm_types.specs.Queue.{Flow}
 use Rattle.strm_image.specs.declared.messages.MessageText.{MessageText}
+use Rattle.strm_image.specs.declared.passed.FlowsText.{FlowsText}
 use Rattle.strm_image.specs.declared.passed.MessagesText.{MessagesText}
 use Rattle.strm_image.specs.declared.versions.Version.{Version}
+use Rattle.strm_image.specs.FlowTexts.{read_flows}
 use Rattle.strm_image.specs.Format.{read_from}
 use Rattle.strm_image.specs.Messages.{Parts, bytes_in, message_behind, message_of, next_rank, parts_fit}
 
@@ -30,3 +33,6 @@ values_read (Some x) = x.0
 
 abbrev pub messages_now : MessagesText → List (Message ℕ)
 messages_now ms = values_read (read_from next_rank (message_behind ms.version ms.queue) HIGH_PRIORITY_RANK ms.count ms.text.now)
+
+abbrev pub flows_now : FlowsText → List Flow
+flows_now fs = values_read (read_flows fs.version fs.queue fs.count fs.text.now)

@@ -24,13 +24,14 @@ mod versions;
 pub mod writing;
 
 pub use accounts::AccountText;
+pub use bands::{band_behind, few_flows_at};
 pub use enabled::NAMES;
 pub use flows::Flow;
 pub use image::{ImageText, StateText, read};
 pub use lengths::{IMAGE_BLOCK, IMAGE_FIXED, MESSAGE_FIXED, QUEUE_FIXED, STREAM_FIXED};
 pub use messages::{MessageText, message_behind};
 pub use modules::{LdtermText, ModuleText, PtemText};
-pub use passed::MessagesText;
+pub use passed::{FlowsText, MessagesText};
 pub use queues::QueueText;
 pub use sink::Sink;
 pub use streams::{HeadBits, StreamText};

@@ -7,18 +7,16 @@ ghost use Rattle.strm_image.specs.QueueTexts.{queue_now};
 
 use crate::bands::flows_at;
 use crate::fields::byte_at;
-use crate::flows::Flow;
 use crate::messages::messages_at;
-use crate::passed::MessagesText;
+use crate::passed::{FlowsText, MessagesText};
 use crate::versions::{QueueKind, Version};
-use strm_types::BANDS;
 
 /// A queue, where it stands in a text: its flags, the flow control of its bands from 0 up, and its messages.
 #[derive(Clone, Copy)]
 pub struct QueueText<'a> {
     pub want_read: bool,
     pub no_enable: bool,
-    pub flows: [Flow; BANDS],
+    pub flows: FlowsText<'a>,
     pub messages: MessagesText<'a>,
 }
 

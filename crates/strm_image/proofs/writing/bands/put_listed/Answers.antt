@@ -2,7 +2,7 @@ use Rattle.std.proofs.Common.{◌∙◌, ◌+◌, ◌<◌, ap, sym, arith, lengt
 use Rattle.strm_image.specs.FlowTexts.{flow_now}
 use Rattle.strm_image.specs.Queues.{flow}
 use Rattle.strm_image.specs.Sinks.{put}
-use Rattle.strm_image.proofs.WrittenRows.{listed_all, listed_put, listed_skip, rest_text}
+use Rattle.strm_image.proofs.WrittenRows.{listed_all, listed_end, listed_put, listed_skip, rest_text}
 use Rattle.strm_image.proofs.writing.bands.put_listed.Goals.{then-not-is, else-not-is}
 use Rattle.strm_image.proofs.writing.bands.put_listed.Goals as goal
 
@@ -21,10 +21,13 @@ loop-i-preserved g c =
             ap (λ out. put (rest_text first (c.loop-i.i + 1) fs) out) w.out-is
             ∙ (listed_skip first (flow_now c.flow-own.result) c.loop-i.i fs c.loop-i.out within c.flow-own.ensures.flow (sym c.is.ensures ∙ w.if-not-is.false) ∙ c.loop-i.invariant.told)
       ];
+      up = omega (arith, c.loop-i-test.true);
       all = λ above. c.flow-own.ensures.all;
     }
 
 pub returns : goal.returns
 returns g c =
-    let all = c.loop-i.invariant.all (omega arith) in
-    listed_all (flow_now c.args.first.now) c.loop-i.i (g.B.Bands.flows c.args.bands.now) c.loop-i.out (omega (arith, all)) ∙ c.loop-i.invariant.told
+    let first = flow_now c.args.first.now in
+    let fs = g.B.Bands.flows c.args.bands.now in
+    let none = listed_end first c.loop-i.i c.args.end fs c.requires.none (omega (arith, c.loop-i.invariant.up, c.loop-i-test.false)) in
+    listed_all first c.loop-i.i fs c.loop-i.out none ∙ c.loop-i.invariant.told
