@@ -18,6 +18,15 @@ pub mod EnabledExist
 pub mod EnabledPuts
 pub mod EnabledCalls
 pub mod RestorableSteps
+pub mod RestCosts
+pub mod RestPuts
+pub mod RestLdterms
+pub mod RestServes
+pub mod RestStates
+pub mod RestTurns
+pub mod RestWork
+pub mod RestRuns
+pub mod RestRows
 pub mod BaseSteps
 pub mod Lanes
 pub mod Forgetting

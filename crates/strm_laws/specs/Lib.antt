@@ -29,3 +29,4 @@ pub mod Past
 pub mod Based
 pub mod Ledgers
 pub mod Bases
+pub mod Rest

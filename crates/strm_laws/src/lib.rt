@@ -11,4 +11,5 @@ pub mod output_laws;
 pub mod pckt_laws;
 pub mod ptem_laws;
 pub mod put_laws;
+pub mod rest_laws;
 pub mod restore_laws;

@@ -1,0 +1,62 @@
+-- Two ldterms that echo each other don't come to rest: six turns carry a byte round, and leave as much work as there was.
+use Rattle.std.proofs.Common.{ℕ, zero, suc, ◌≡◌, false, List, [], ◌∷◌, map, refl}
+use Rattle.strm_types.specs.declared.names.Openness.TheVariants.{Open}
+use Rattle.strm_types.specs.declared.names.QueueName.{QueueName}
+use Rattle.strm_types.specs.declared.names.Side.TheVariants.{Master}
+use Rattle.strm_types.specs.Books.{new_book}
+use Rattle.strm_types.specs.Both.{twice}
+use Rattle.strm_types.specs.Cells.{plain}
+use Rattle.strm_types.specs.Deliver.{carried}
+use Rattle.strm_types.specs.Drivers.{crosses}
+use Rattle.strm_types.specs.Ldterms.{new_ldterm}
+use Rattle.strm_types.specs.Message.{Message, band_of, cells_of, data_message, is_held, is_high_priority, rank_of, size_of}
+use Rattle.strm_types.specs.Names.{driver_of}
+use Rattle.strm_types.specs.Queue.{Queue}
+use Rattle.strm_laws.specs.Rest.{work}
+use Rattle.strm_laws.specs.Stacked.{Module, OfLdterm}
+use Rattle.strm_laws.specs.State.{State, Stream, queues_of}
+use Rattle.strm_laws.specs.Turns.{turned, whole_turn}
+use Rattle.strm_laws.proofs.Samples.{flow, head_with, ordinary, queue}
+
+abbrev roomy : List (Message ℕ) → Queue ℕ
+roomy messages = queue messages (flow 512 128 false ∷ [])
+
+abbrev edited : Module ℕ
+edited = OfLdterm (record new_ldterm { read_queue = roomy []; write_queue = roomy [] })
+
+abbrev end : List (Message ℕ) → Stream ℕ
+end messages = record { opened = Open; head = head_with (roomy []) false; modules = edited ∷ []; driver = record { queue = roomy messages } }
+
+-- "a" stands on the master's driver, which is enabled
+abbrev echoing : State ℕ
+echoing = record {
+  ends = record { master = end (ordinary (97 ∷ []) ∷ []); slave = end [] };
+  locked = false;
+  enabled = driver_of Master ∷ [];
+  next_ioctl = 1;
+  books = twice new_book;
+}
+
+-- so many turns, each of the queue that was enabled first
+abbrev next_turn : List QueueName → State ℕ → State ℕ
+next_turn [] s = s
+next_turn (name ∷ names) s = (turned plain name (whole_turn name s) s).state
+
+abbrev turns : ℕ → State ℕ → State ℕ
+turns zero s = s
+turns (suc n) s = turns n (next_turn s.enabled s)
+
+abbrev standing : State ℕ → List (List (List ℕ))
+standing s = map (λ (q : Queue ℕ). map cells_of q.messages) (queues_of s)
+
+pub comes-round : standing (turns 6 echoing) ≡ standing echoing
+unfolding carried cells_of band_of is_high_priority is_held size_of rank_of data_message crosses
+comes-round = refl
+
+pub enabled-again : (turns 6 echoing).enabled ≡ echoing.enabled
+unfolding carried cells_of band_of is_high_priority is_held size_of rank_of data_message crosses
+enabled-again = refl
+
+pub as-much-work : work (turns 6 echoing) ≡ work echoing
+unfolding carried cells_of band_of is_high_priority is_held size_of rank_of data_message crosses
+as-much-work = refl

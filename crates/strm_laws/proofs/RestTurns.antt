@@ -1,0 +1,405 @@
+-- A turn of a queue leaves fewer moves, or no more of them and only its own queue less enabled.
+use Rattle.std.proofs.Common.{ℕ, zero, suc, ◌≡◌, ◌≤◌, ◌<◌, ◌+◌, ◌-◌, ◌*◌, ◌⊎◌, inl, inr, Bool, true, false, cond, List, [], ◌∷◌, ◌++◌, map, refl, ap, subst, ◌∙◌, arith}
+use Rattle.std.specs.Prelude.{◌&&◌, ◌==◌, not, min, sum_by, slice_index_or, Option, None, Some, is_some}
+use Rattle.std.proofs.lemmas.List.Sums.{sum_by-cons}
+use Rattle.strm_types.specs.declared.answers.Turn.{Turn}
+use Rattle.strm_types.specs.declared.answers.Turn.TheVariants.{Moved, Blocked, Idle}
+use Rattle.strm_types.specs.declared.limits.TheConstants.{HOPS}
+use Rattle.strm_types.specs.declared.names.QueueName.{QueueName}
+use Rattle.strm_types.specs.declared.names.Side.{Side}
+use Rattle.strm_types.specs.declared.names.Way.{Way}
+use Rattle.strm_types.specs.declared.names.Way.TheVariants.{Up, Down}
+use Rattle.strm_types.specs.declared.spots.Asks.{Asks}
+use Rattle.strm_types.specs.declared.spots.Asks.TheVariants as asked
+use Rattle.strm_types.specs.declared.spots.Spot.{Spot}
+use Rattle.strm_types.specs.Asking.{asked_first}
+use Rattle.strm_types.specs.Cells.{Cells}
+use Rattle.strm_types.specs.Deliver.{Acted, carried, in_turn}
+use Rattle.strm_types.specs.Ldterms.{Answered, Begun, Between, Ldterm as TheLdterm, Stage, is_between, queue_at}
+use Rattle.strm_types.specs.Message.{Message, band_of, size_of}
+use Rattle.strm_types.specs.ModuleQueues.{at_place, messages_at, place_past, queue_changed, with_waiting}
+use Rattle.strm_types.specs.Modules.{act_among, change_among}
+use Rattle.strm_types.specs.Names.{is_open, other}
+use Rattle.strm_types.specs.OutputTurns.{output_serves}
+use Rattle.strm_types.specs.Queue.{Queue, first_size, is_none_left, left_with, relieved}
+use Rattle.strm_types.specs.Service.{turn_ended}
+use Rattle.strm_laws.specs.Earlier.{driver_place, modules_on}
+use Rattle.strm_laws.specs.LdtermTurns.{ldterm_rests}
+use Rattle.strm_laws.specs.ModuleTurns.{Calls, again_at, asked_turn, bytes_at, call_at, calls, made_below, module_called, module_turn_ended, moved_on, moved_within, queue_ended, stayed_at, turned_there, waits_there}
+use Rattle.strm_laws.specs.Past.{has_room_past, waits_on, writer_waits}
+use Rattle.strm_laws.specs.Puts.{delivered, put_in}
+use Rattle.strm_laws.specs.Rest.{echoes, module_moves, moves, moves_across, moves_in, moves_out, stream_moves}
+use Rattle.strm_laws.specs.StackCosts.{Stands, stands_of}
+use Rattle.strm_laws.specs.Stacked.{Module, OfLdterm, OfPtem, OfPckt, module_asks, module_name, module_queue, module_rests, module_serves, with_module_queue}
+use Rattle.strm_laws.specs.State.{State, Stream, stream, with_driver_queue, with_stream}
+use Rattle.strm_laws.specs.TurnOutcomes.{TurnOutcome, stayed_put}
+use Rattle.strm_laws.specs.Turns.{driver_serves, held_back, is_stopped_across, moved_across, turned_queue, up_across, with_driver}
+use Rattle.strm_types.proofs.DeliveryHolds.{carried-holds, in_turn-holds}
+use Rattle.strm_types.proofs.LdtermPuts.{either}
+use Rattle.strm_laws.proofs.PutParts.{acted-holds}
+use Rattle.strm_laws.proofs.RestCosts.{up-most}
+use Rattle.strm_laws.proofs.RestPuts.{tolls}
+use Rattle.strm_laws.proofs.RestServes.{first-fewer, later-less}
+use Rattle.strm_laws.proofs.RestStates.{Fit, FitNames, FitsName, acted-moves, delivered-pays, fits-on, same-moves, sent-pays, with-moves}
+use Rattle.strm_laws.proofs.StackStays.{Stand, puts-stand, queue-names, same-names, serve-names}
+use Rattle.strm_laws.proofs.TurnHolds.{any-holds}
+
+-- whether a message waits for its turn
+abbrev pub is_waiting : Asks → Bool
+is_waiting asked.Empty = false
+is_waiting _ = true
+
+-- what holds of the module at a place, where one stands there
+abbrev pub At : {C : Type 0} → (Module C → Type 0) → ℕ → List (Module C) → Type 0
+At P i [] = ◌≡◌ {A = Bool} true false
+At P zero (q ∷ qs) = P q
+At P (suc i) (q ∷ qs) = At P i qs
+
+rests-between : {C : Type 0} (l : TheLdterm C) → ldterm_rests l ≡ true → l.stage ≡ Between
+rests-between {C} l is = at l.stage (last-of (not (is_some l.in_work)) (is_none_left l.gathered) (not l.echoing) (is_between l.stage) is)
+  where
+    last-of : (a b c d : Bool) → (a && (b && (c && d))) ≡ true → d ≡ true
+    last-of true true true d is = is
+    last-of false b c d is = absurd (cc)
+    last-of true false c d is = absurd (cc)
+    last-of true true false d is = absurd (cc)
+
+    at : (stage : Stage C) → is_between stage ≡ true → stage ≡ Between
+    at Between is = refl
+    at (Begun started c) is = absurd (cc)
+    at (Answered echo) is = absurd (cc)
+
+-- a change of queues that leaves the messages leaves the moves
+module _ {C : Type 0} (change : Queue C → Queue C) (same : (q : Queue C) → (change q).messages ≡ q.messages) where
+  changed-moves : (way : Way) (q : Module C) → module_moves (queue_changed module_queue with_module_queue way change q) ≡ module_moves q
+  changed-moves Up (OfLdterm l) = let messages = ap (λ (ms : List (Message C)). sum_by moves_in ms) (same l.read_queue) in omega arith
+  changed-moves Down (OfLdterm l) = let messages = ap (λ (ms : List (Message C)). sum_by moves_out ms) (same l.write_queue) in omega arith
+  changed-moves way (OfPtem q) = refl
+  changed-moves way (OfPckt q) = refl
+
+  changes-moves : (way : Way) (i : ℕ) (ps : List (Module C)) → sum_by module_moves (change_among (queue_changed module_queue with_module_queue way change) i ps) ≡ sum_by module_moves ps
+  changes-moves way i [] = refl
+  changes-moves way zero (q ∷ qs) = omega (arith, changed-moves way q, sum_by-cons module_moves q qs, sum_by-cons module_moves (queue_changed module_queue with_module_queue way change q) qs)
+  changes-moves way (suc i) (q ∷ qs) =
+      let rs = change_among (queue_changed module_queue with_module_queue way change) i qs in
+      omega (arith, changes-moves way i qs, sum_by-cons module_moves q qs, sum_by-cons module_moves q rs)
+
+module _ {C : Type 0} where
+  ended-messages : (took : Bool) (q : Queue C) → (turn_ended took q).messages ≡ q.messages
+  ended-messages true q = refl
+  ended-messages false q = refl
+
+  turned-messages : (went : Bool) (q : Queue C) → (cond went (relieved q) q).messages ≡ q.messages
+  turned-messages true q = refl
+  turned-messages false q = refl
+
+module _ {C : Type 0} (all : Stands) where
+  -- What a turn leaves, of a pair with so many moves and these queues enabled: fewer moves, or no more, and the same queues enabled.
+  abbrev pub Leaves : ℕ → List QueueName → State C → Type 0
+  Leaves n names t = (stands_of t ≡ all) × ((suc (moves all t) ≤ n) ⊎ ((moves all t ≤ n) × (t.enabled ≡ names)))
+
+  either-leaves : (n : ℕ) (names : List QueueName) (b : Bool) (one another : TurnOutcome C) → Leaves n names one.state → Leaves n names another.state → Leaves n names (cond b one another).state
+  either-leaves n names true one another first second = first
+  either-leaves n names false one another first second = second
+
+  stream-stands : (side : Side) (t : Stream C) (s : State C) → map module_name t.modules ≡ map module_name (stream side s).modules → stands_of s ≡ all → stands_of (with_stream side t s) ≡ all
+  stream-stands side t s same is = same-names side t s same ∙ is
+
+  -- the end of a turn, and a writer that waits
+  ended-stands : (here : Spot) (took : Bool) (s : State C) → stands_of s ≡ all → stands_of (with_stream here.side (queue_ended here took (stream here.side s)) s) ≡ all
+  ended-stands here took s is = stream-stands here.side _ s (queue-names here.way (turn_ended took) (here.at - 1) (stream here.side s).modules) is
+
+  ended-same : (here : Spot) (took : Bool) (s : State C) → moves all (with_stream here.side (queue_ended here took (stream here.side s)) s) ≡ moves all s
+  ended-same here took s =
+      let on = stream here.side s in
+      same-moves all here.side (queue_ended here took on) s (let e = changes-moves (turn_ended took) (ended-messages took) here.way (here.at - 1) on.modules in omega (arith, e))
+
+  waits-names : (side : Side) (way : Way) (band : ℕ) (o : Option ℕ) (t : Stream C) → map module_name (waits_on way band o t).modules ≡ map module_name t.modules
+  waits-names side Up band None t = refl
+  waits-names side Down band None t = refl
+  waits-names side way band (Some place) t = queue-names way (with_waiting band) (place - 1) t.modules
+
+  waits-stand : (side : Side) (way : Way) (at band : ℕ) (s : State C) → stands_of s ≡ all → stands_of (writer_waits side way at band s) ≡ all
+  waits-stand side way at band s is =
+      let t = stream side s in
+      let o = place_past module_queue way at t.modules in
+      stream-stands side (waits_on way band o t) s (waits-names side way band o t) is
+
+  waits-moves : (echoed : Bool) (way : Way) (band : ℕ) (o : Option ℕ) (t : Stream C) → stream_moves echoed (waits_on way band o t) ≡ stream_moves echoed t
+  waits-moves echoed Up band None t = refl
+  waits-moves echoed Down band None t = refl
+  waits-moves echoed way band (Some place) t = let e = changes-moves (with_waiting band) (λ q. refl) way (place - 1) t.modules in omega (arith, e)
+
+  waits-same : (side : Side) (way : Way) (at band : ℕ) (s : State C) → moves all (writer_waits side way at band s) ≡ moves all s
+  waits-same side way at band s =
+      let t = stream side s in
+      let o = place_past module_queue way at t.modules in
+      same-moves all side (waits_on way band o t) s (waits-moves (echoes all (other side)) way band o t)
+
+  module _ (cells : Cells C) (posts : Side → ℕ) (fit : Fit all posts) where
+    -- a driver's turn
+    moved-leaves : (side : Side) (m : Message C) (rest : List (Message C)) (s : State C) → stands_of s ≡ all → (stream side s).driver.queue.messages ≡ m ∷ rest
+        → Leaves (moves all s) s.enabled (moved_across cells side m rest s).state
+    moved-leaves side m rest s is first =
+        let from = with_driver side (left_with rest (stream side s).driver.queue) s in
+        let t = (delivered cells (up_across side from) m from).state in
+        let from-stands = stream-stands side (with_driver_queue (left_with rest (stream side s).driver.queue) (stream side s)) s refl is in
+        let went = carried-holds (Stand all) (put_in cells) (puts-stand all cells) HOPS (record { to = up_across side from; message = m }) from from-stands in
+        let q = turned_queue (stream side t).driver.queue in
+        let goes = not (size_of m == 0) in
+        let crossing = moves_across {C = C} (echoes all (other side)) in
+        let last = with_driver_queue (cond goes (relieved q) q) (stream side t) in
+        let same = ap (λ (ms : List (Message C)). sum_by crossing ms) (turned-messages goes q) in
+        let taken = ap (λ (ms : List (Message C)). sum_by crossing ms) first ∙ sum_by-cons crossing m rest in (
+          stream-stands side last t refl went,
+          inl (omega (
+            arith,
+            with-moves all side (with_driver_queue (left_with rest (stream side s).driver.queue) (stream side s)) s,
+            taken,
+            delivered-pays all posts fit cells (up_across side from) m from from-stands,
+            up-most all posts (other side) (modules_on (other side) from) m,
+            with-moves all side last t,
+            same,
+          )),
+        )
+
+    pub driver-leaves : (side : Side) (ms : List (Message C)) (s : State C) → stands_of s ≡ all → (stream side s).driver.queue.messages ≡ ms → Leaves (moves all s) s.enabled (driver_serves cells side ms s).state
+    driver-leaves side [] s is first =
+        let on = with_driver_queue (record (stream side s).driver.queue { want_read = true }) (stream side s) in
+        (stream-stands side on s refl is, inr (omega (arith, same-moves all side on s refl), refl))
+    driver-leaves side (m ∷ rest) s is first =
+        let on = with_driver_queue (held_back (stream side s).driver.queue) (stream side s) in
+        let kept = with_driver side (held_back (stream side s).driver.queue) s in
+        let kept-stands = stream-stands side on s refl is in
+        let kept-same = same-moves all side on s refl in
+        any-holds (λ t. Leaves (moves all s) s.enabled t.state) (is_open (stream (other side) s).opened) (is_stopped_across side m s) _ _ _
+        (kept-stands, inr (omega (arith, kept-same), refl))
+        (waits-stand (other side) Up (driver_place (other side) kept) (band_of m) kept kept-stands, inr (omega (arith, kept-same, waits-same (other side) Up (driver_place (other side) kept) (band_of m) kept), refl))
+        (moved-leaves side m rest s is first)
+
+    module _ (here : Spot) (some : 0 < here.at) where
+      abbrev acts : Bool → ℕ → ℕ → Module C → Acted C (Module C)
+      acts again made left p = (module_serves cells here made again (Some left) p).acted
+
+      abbrev FitsHere : ℕ → List (Module C) → Type 0
+      FitsHere at ps = FitNames (echoes all here.side) (echoes all (other here.side)) (posts here.side) at (map module_name ps)
+
+      -- a module whose turn may begin, and treats so many bytes as its first message has
+      abbrev pub Ready : ℕ → Module C → Type 0
+      Ready left q = (module_rests q ≡ true) × (is_waiting (module_asks here.way q) ≡ true) × (left ≡ first_size (messages_at module_queue here.way q))
+
+      waits-some : (way : Way) (l : TheLdterm C) → is_waiting (module_asks way (OfLdterm l)) ≡ true → is_none_left (queue_at way l).messages ≡ false
+      waits-some way l is = at (queue_at way l).messages is
+        where
+          at : (ms : List (Message C)) → is_waiting (asked_first way l.stopped ms) ≡ true → is_none_left ms ≡ false
+          at [] is = absurd (cc)
+          at (m ∷ ms) is = refl
+
+      module-first : (made left : ℕ) (q : Module C) → FitsName (echoes all here.side) (echoes all (other here.side)) (posts here.side) here.at (module_name q) → Ready left q
+          → let t = acts false made left q in suc (module_moves t.state + tolls all posts t.sent) ≤ module_moves q
+      module-first made left (OfLdterm l) fits ready = first-fewer cells all posts here some fits.0 fits.1 fits.2 here.way made left l (rests-between l ready.0) (waits-some here.way l ready.1) ready.2
+      module-first made left (OfPtem q) fits ready = absurd (cc (ready.1))
+      module-first made left (OfPckt q) fits ready = absurd (cc (ready.1))
+
+      module-later : (made left : ℕ) (q : Module C) → FitsName (echoes all here.side) (echoes all (other here.side)) (posts here.side) here.at (module_name q) → here.way ≡ Up
+          → let t = acts true made left q in module_moves t.state + tolls all posts t.sent ≤ module_moves q
+      module-later made left (OfLdterm l) fits up = later-less cells all posts here some fits.0 fits.1 fits.2 here.way made left l up
+      module-later made left (OfPtem q) fits up = omega arith
+      module-later made left (OfPckt q) fits up = omega arith
+
+      fits-at : (at : ℕ) (q : Module C) → at ≡ here.at → FitsName (echoes all here.side) (echoes all (other here.side)) (posts here.side) at (module_name q) → FitsName (echoes all here.side) (echoes all (other here.side)) (posts here.side) here.at (module_name q)
+      fits-at at q same fits = subst (λ n. FitsName (echoes all here.side) (echoes all (other here.side)) (posts here.side) n (module_name q)) same fits
+
+      among-first : (made left i at : ℕ) (ps : List (Module C)) → at + i ≡ here.at → FitsHere at ps → At (Ready left) i ps
+          → let t = act_among (acts false made left) i ps in suc (sum_by module_moves t.state + tolls all posts t.sent) ≤ sum_by module_moves ps
+      among-first made left i at [] is fits ready = absurd (cc (ready))
+      among-first made left zero at (q ∷ qs) is fits ready =
+          let t = acts false made left q in
+          omega (arith, module-first made left q (fits-at at q (omega (arith, is)) fits.0) ready, sum_by-cons module_moves q qs, sum_by-cons module_moves t.state qs)
+      among-first made left (suc i) at (q ∷ qs) is fits ready =
+          let t = act_among (acts false made left) i qs in
+          omega (arith, among-first made left i (suc at) qs (omega (arith, is)) fits.1 ready, sum_by-cons module_moves q qs, sum_by-cons module_moves q t.state)
+
+      among-later : (made left i at : ℕ) (ps : List (Module C)) → at + i ≡ here.at → FitsHere at ps → here.way ≡ Up
+          → let t = act_among (acts true made left) i ps in sum_by module_moves t.state + tolls all posts t.sent ≤ sum_by module_moves ps
+      among-later made left i at [] is fits up = omega arith
+      among-later made left zero at (q ∷ qs) is fits up =
+          let t = acts true made left q in
+          omega (arith, module-later made left q (fits-at at q (omega (arith, is)) fits.0) up, sum_by-cons module_moves q qs, sum_by-cons module_moves t.state qs)
+      among-later made left (suc i) at (q ∷ qs) is fits up =
+          let t = act_among (acts true made left) i qs in
+          omega (arith, among-later made left i (suc at) qs (omega (arith, is)) fits.1 up, sum_by-cons module_moves q qs, sum_by-cons module_moves q t.state)
+
+      -- a call, with what it sent
+      called-stands : (again : Bool) (left : ℕ) (s : State C) → stands_of s ≡ all → stands_of (module_called cells here again left s).state ≡ all
+      called-stands again left s is =
+          let ps = (stream here.side s).modules in
+          let t = call_at cells here (made_below here.side s) again left ps in
+          acted-holds (Stand all) (λ names s is. is) (λ dir n s is. is) here t s
+          (stream-stands here.side (record (stream here.side s) { modules = t.state }) s (serve-names cells here (made_below here.side s) again (Some left) (here.at - 1) ps) is)
+
+      abbrev sent_on : Bool → ℕ → State C → State C
+      sent_on again left s = let t = module_called cells here again left s in (in_turn (carried (put_in cells) HOPS) t.sent t.state).state
+
+      on-stands : (again : Bool) (left : ℕ) (s : State C) → stands_of s ≡ all → stands_of (sent_on again left s) ≡ all
+      on-stands again left s is =
+          let t = module_called cells here again left s in
+          in_turn-holds (Stand all) (carried (put_in cells) HOPS) (carried-holds (Stand all) (put_in cells) (puts-stand all cells) HOPS) t.sent t.state (called-stands again left s is)
+
+      on-first : (left : ℕ) (s : State C) → stands_of s ≡ all → At (Ready left) (here.at - 1) (stream here.side s).modules → suc (moves all (sent_on false left s)) ≤ moves all s
+      on-first left s is ready =
+          let ps = (stream here.side s).modules in
+          let made = made_below here.side s in
+          let t = module_called cells here false left s in
+          omega (
+            arith,
+            among-first made left (here.at - 1) 1 ps (omega (arith, some)) (fits-on all posts fit here.side s is) ready,
+            acted-moves all here (call_at cells here made false left ps) s,
+            sent-pays all posts fit cells t.sent t.state (called-stands false left s is),
+          )
+
+      on-later : (left : ℕ) (s : State C) → stands_of s ≡ all → here.way ≡ Up → moves all (sent_on true left s) ≤ moves all s
+      on-later left s is up =
+          let ps = (stream here.side s).modules in
+          let made = made_below here.side s in
+          let t = module_called cells here true left s in
+          omega (
+            arith,
+            among-later made left (here.at - 1) 1 ps (omega (arith, some)) (fits-on all posts fit here.side s is) up,
+            acted-moves all here (call_at cells here made true left ps) s,
+            sent-pays all posts fit cells t.sent t.state (called-stands true left s is),
+          )
+
+      -- on the write queue one call is a turn
+      down-once : (made left i : ℕ) (again : Bool) (ps : List (Module C)) → here.way ≡ Down → slice_index_or (map (λ p. (module_serves cells here made again (Some left) p).again) ps) i false ≡ false
+      down-once made left i again [] down = refl
+      down-once made left zero again (q ∷ qs) down = one here.way q down
+        where
+          served : (ms : List (Message C)) (l : TheLdterm C) (spot : Spot) → (output_serves cells spot (Some left) made ms l).again ≡ false
+          served [] l spot = refl
+          served (m ∷ ms) l spot = refl
+
+          one : (way : Way) (q : Module C) → way ≡ Down → (module_serves cells (record here { way = way }) made again (Some left) q).again ≡ false
+          one Down (OfLdterm l) down = served l.write_queue.messages l (record here { way = Down })
+          one Up (OfLdterm l) down = absurd (cc)
+          one way (OfPtem q) down = refl
+          one way (OfPckt q) down = refl
+      down-once made left (suc i) again (q ∷ qs) down = down-once made left i again qs down
+
+      calls-later : (n left : ℕ) (s : State C) → stands_of s ≡ all → here.way ≡ Up → let v = calls cells here n true left s in (stands_of v.state ≡ all) × (moves all v.state ≤ moves all s)
+      calls-later zero left s is up = (is, omega arith)
+      calls-later (suc more) left s is up =
+          let ps = (stream here.side s).modules in
+          let u = sent_on true left s in
+          let less = left - bytes_at cells here (made_below here.side s) true left ps in
+          let behind = calls-later more less u (on-stands true left s is) up in
+          let this = on-later left s is up in
+          either (λ (v : Calls C). (stands_of v.state ≡ all) × (moves all v.state ≤ moves all s)) (again_at cells here (made_below here.side s) true left ps) _ _
+          (behind.0, omega (arith, behind.1, this)) (on-stands true left s is, this)
+
+      calls-fewer : (n left : ℕ) (s : State C) → 0 < n → stands_of s ≡ all → At (Ready left) (here.at - 1) (stream here.side s).modules
+          → let v = calls cells here n false left s in (stands_of v.state ≡ all) × (suc (moves all v.state) ≤ moves all s)
+      calls-fewer zero left s goes is ready = absurd (omega (arith, goes))
+      calls-fewer (suc more) left s goes is ready = at (again_at cells here (made_below here.side s) false left ps) refl here.way refl (on-first left s is ready)
+        where
+          ps : List (Module C)
+          ps = (stream here.side s).modules
+
+          less_left : ℕ
+          less_left = left - bytes_at cells here (made_below here.side s) false left ps
+
+          at : (again : Bool) → again_at cells here (made_below here.side s) false left ps ≡ again → (way : Way) → here.way ≡ way → suc (moves all (sent_on false left s)) ≤ moves all s
+              → (let t = module_called cells here false left s in
+              let u = in_turn (carried (put_in cells) HOPS) t.sent t.state in
+              let bytes = bytes_at cells here (made_below here.side s) false left ps in
+              let v = calls cells here more true (left - bytes) u.state in
+              let w : Calls C = cond again (record { state = v.state; gone = t.gone ++ u.gone ++ v.gone; bytes = bytes + v.bytes; ended = v.ended }) (record { state = u.state; gone = t.gone ++ u.gone; bytes = bytes; ended = true }) in
+              (stands_of w.state ≡ all) × (suc (moves all w.state) ≤ moves all s))
+          at false is-it way is-way this = (on-stands false left s is, this)
+          at true is-it Down is-way this = absurd (cc (is-it, down-once (made_below here.side s) left (here.at - 1) false ps is-way))
+          at true is-it Up is-way this =
+              let behind = calls-later more less_left (sent_on false left s) (on-stands false left s is) is-way in
+              (behind.0, omega (arith, behind.1, this))
+
+      -- a turn that treats so many bytes as the first message has
+      pub moved-leaves-here : (name : QueueName) (bytes : ℕ) (s : State C) → stands_of s ≡ all → At (Ready bytes) (here.at - 1) (stream here.side s).modules → Leaves (moves all s) s.enabled (moved_on cells here name bytes s).state
+      moved-leaves-here name bytes s is ready =
+          let t = calls cells here (3 * bytes + 1) false bytes s in
+          let behind = calls-fewer (3 * bytes + 1) bytes s (omega arith) is ready in
+          let took = not (t.bytes == 0) in
+          either-leaves (moves all s) s.enabled t.ended _ (stayed_put Blocked s)
+          (ended-stands here took t.state behind.0, inl (omega (arith, behind.1, ended-same here took t.state)))
+          (is, inr (omega arith, refl))
+
+      -- one that treats nothing
+      pub stayed-leaves : (turn : Turn) (s : State C) → stands_of s ≡ all → Leaves (moves all s) s.enabled (stayed_at turn here s).state
+      stayed-leaves turn s is = (ended-stands here false s is, inr (omega (arith, ended-same here false s), refl))
+
+      pub waits-leaves : (band : ℕ) (s : State C) → stands_of s ≡ all → Leaves (moves all s) s.enabled (waits_there band here s).state
+      waits-leaves band s is =
+          let waiting = writer_waits here.side here.way here.at band s in
+          (ended-stands here false waiting (waits-stand here.side here.way here.at band s is), inr (omega (arith, waits-same here.side here.way here.at band s, ended-same here false waiting), refl))
+
+      one-ready : (left i : ℕ) (ps : List (Module C)) → slice_index_or (map module_rests ps) i false ≡ true → is_waiting (slice_index_or (map (module_asks here.way) ps) i asked.Empty) ≡ true
+          → left ≡ slice_index_or (map (λ p. first_size (messages_at module_queue here.way p)) ps) i 0 → At (Ready left) i ps
+      one-ready left i [] rests waits size = absurd (cc (rests))
+      one-ready left zero (q ∷ qs) rests waits size = (rests, waits, size)
+      one-ready left (suc i) (q ∷ qs) rests waits size = one-ready left i qs rests waits size
+
+      -- how many bytes the first message of the queue there has
+      abbrev first_there : State C → ℕ
+      first_there s = at_place (λ p. first_size (messages_at module_queue here.way p)) 0 here.at (stream here.side s).modules
+
+      -- A turn that is answered so, and where it moved bytes, as many as its first message has.
+      abbrev pub Answers : Turn → State C → TurnOutcome C → Type 0
+      Answers (Moved bytes) s t = bytes ≡ first_there s
+      Answers Blocked s t = t.turn ≡ Blocked
+      Answers Idle s t = t.turn ≡ Idle
+
+      within-leaves : (name : QueueName) (turn : Turn) (s : State C) → stands_of s ≡ all → at_place module_rests false here.at (stream here.side s).modules ≡ true
+          → is_waiting (at_place (module_asks here.way) asked.Empty here.at (stream here.side s).modules) ≡ true → Answers turn s (moved_within cells here name turn s) → Leaves (moves all s) s.enabled (moved_within cells here name turn s).state
+      within-leaves name (Moved bytes) s is rests waits answers =
+          let most = min bytes (first_there s) in
+          let whole : most ≡ first_there s = omega (arith, answers) in
+          moved-leaves-here name most s is (one-ready most (here.at - 1) (stream here.side s).modules rests waits whole)
+      within-leaves name Blocked s is rests waits answers = blocked (calls cells here (3 * min 0 (first_there s) + 1) false (min 0 (first_there s)) s) answers
+        where
+          blocked : (t : Calls C) → let u : TurnOutcome C = cond t.ended (record { turn = Moved t.bytes; state = module_turn_ended name here (not (t.bytes == 0)) t.state; gone = t.gone }) (stayed_put Blocked s) in u.turn ≡ Blocked → Leaves (moves all s) s.enabled u.state
+          blocked t answers = at t.ended answers
+            where
+              at : (ended : Bool) → let u : TurnOutcome C = cond ended (record { turn = Moved t.bytes; state = module_turn_ended name here (not (t.bytes == 0)) t.state; gone = t.gone }) (stayed_put Blocked s) in u.turn ≡ Blocked → Leaves (moves all s) s.enabled u.state
+              at true answers = absurd (cc)
+              at false answers = (is, inr (omega arith, refl))
+      within-leaves name Idle s is rests waits answers = never (calls cells here (3 * min 0 (first_there s) + 1) false (min 0 (first_there s)) s) answers
+        where
+          never : (t : Calls C) → let u : TurnOutcome C = cond t.ended (record { turn = Moved t.bytes; state = module_turn_ended name here (not (t.bytes == 0)) t.state; gone = t.gone }) (stayed_put Blocked s) in u.turn ≡ Idle → Leaves (moves all s) s.enabled u.state
+          never t answers = at t.ended answers
+            where
+              at : (ended : Bool) → let u : TurnOutcome C = cond ended (record { turn = Moved t.bytes; state = module_turn_ended name here (not (t.bytes == 0)) t.state; gone = t.gone }) (stayed_put Blocked s) in u.turn ≡ Idle → Leaves (moves all s) s.enabled u.state
+              at true answers = absurd (cc)
+              at false answers = (is, inr (omega arith, refl))
+
+      asked-leaves : (asks : Asks) (name : QueueName) (turn : Turn) (s : State C) → stands_of s ≡ all → at_place module_rests false here.at (stream here.side s).modules ≡ true
+          → at_place (module_asks here.way) asked.Empty here.at (stream here.side s).modules ≡ asks → Answers turn s (asked_turn cells here asks name turn s) → Leaves (moves all s) s.enabled (asked_turn cells here asks name turn s).state
+      asked-leaves asked.Empty name turn s is rests asks answers = stayed-leaves Idle s is
+      asked-leaves asked.Held name turn s is rests asks answers = stayed-leaves Blocked s is
+      asked-leaves asked.Free name turn s is rests asks answers = within-leaves name turn s is rests (ap is_waiting asks) answers
+      asked-leaves (asked.Room band) name turn s is rests asks answers = at (has_room_past here.side here.way here.at band.0 s) answers
+        where
+          at : (room : Bool) → Answers turn s (cond room (moved_within cells here name turn s) (waits_there band.0 here s)) → Leaves (moves all s) s.enabled (cond room (moved_within cells here name turn s) (waits_there band.0 here s)).state
+          at true answers = within-leaves name turn s is rests (ap is_waiting asks) answers
+          at false answers = waits-leaves band.0 s is
+
+      pub there-leaves : (name : QueueName) (turn : Turn) (s : State C) → stands_of s ≡ all → Answers turn s (turned_there cells here name turn s) → Leaves (moves all s) s.enabled (turned_there cells here name turn s).state
+      there-leaves name turn s is answers = at (at_place module_rests false here.at ps) refl answers
+        where
+          ps : List (Module C)
+          ps = (stream here.side s).modules
+
+          asks : Asks
+          asks = at_place (module_asks here.way) asked.Empty here.at ps
+
+          at : (rests : Bool) → at_place module_rests false here.at ps ≡ rests → Answers turn s (cond rests (asked_turn cells here asks name turn s) (stayed_put Blocked s))
+              → Leaves (moves all s) s.enabled (cond rests (asked_turn cells here asks name turn s) (stayed_put Blocked s)).state
+          at true rests answers = asked-leaves asks name turn s is rests refl answers
+          at false rests answers = (is, inr (omega arith, refl))

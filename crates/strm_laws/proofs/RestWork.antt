@@ -1,0 +1,268 @@
+-- A turn of an enabled queue leaves less work, and so turns come to rest.
+use Rattle.std.proofs.Common.{ℕ, zero, suc, ◌≡◌, ◌≤◌, ◌<◌, ◌+◌, ◌-◌, ◌⊎◌, inl, inr, Bool, true, false, cond, List, [], ◌∷◌, length, map, take, refl, sym, ap, subst, ◌∙◌, arith}
+use Rattle.std.specs.Prelude.{◌&&◌, ◌||◌, not, nat_le, count_by, Option, None, Some}
+use Rattle.std.specs.List.{list_any}
+use Rattle.std.proofs.lemmas.Bool.Decides.{nat_tests}
+use Rattle.std.proofs.lemmas.List.Sums.{count_by-le-length, sum_by-cons}
+use Rattle.strm_types.specs.declared.answers.Turn.{Turn}
+use Rattle.strm_types.specs.declared.answers.Turn.TheVariants.{Moved, Blocked, Idle}
+use Rattle.strm_types.specs.declared.limits.TheConstants.{MODULES}
+use Rattle.strm_types.specs.declared.names.ModuleName.{ModuleName}
+use Rattle.strm_types.specs.declared.names.ModuleName.TheVariants as names
+use Rattle.strm_types.specs.declared.names.Place.{Place}
+use Rattle.strm_types.specs.declared.names.Place.TheVariants.{Head, Ldterm, Driver}
+use Rattle.strm_types.specs.declared.names.QueueName.{QueueName}
+use Rattle.strm_types.specs.declared.names.Side.{Side}
+use Rattle.strm_types.specs.declared.names.Side.TheVariants.{Master, Slave}
+use Rattle.strm_types.specs.declared.names.Way.{Way}
+use Rattle.strm_types.specs.declared.names.Way.TheVariants.{Up, Down}
+use Rattle.strm_types.specs.declared.spots.Spot.{Spot}
+use Rattle.strm_types.specs.Cells.{Cells}
+use Rattle.strm_types.specs.ModuleQueues.{at_place, messages_at}
+use Rattle.strm_types.specs.Names.{is_enabled, other, same_place, same_queue, without}
+use Rattle.strm_types.specs.Queue.{first_size}
+use Rattle.strm_laws.specs.Earlier.{places_of}
+use Rattle.strm_laws.specs.ModuleTurns.{module_turned, named_from, place_named, turned_named, turned_there, whole_module}
+use Rattle.strm_laws.specs.Rest.{EchoesOnce, IsWholeTurn, NoLdterm, count_enabled, echoes, is_pckt, moves, packs_below, queue_names, work}
+use Rattle.strm_laws.specs.Restorable.{is_ldterm}
+use Rattle.strm_laws.specs.StackCosts.{Stands, stands_of, stands_on}
+use Rattle.strm_laws.specs.Stacked.{Module, OfLdterm, OfPtem, OfPckt, module_name, module_queue}
+use Rattle.strm_laws.specs.State.{State, Stream, stream}
+use Rattle.strm_laws.specs.Step.{IsTurn}
+use Rattle.strm_laws.specs.Turns.{turned, turned_at}
+use Rattle.strm_types.proofs.EnabledNames.{same_queue-sound}
+use Rattle.strm_laws.proofs.RestStates.{Fit, FitNames, names-on}
+use Rattle.strm_laws.proofs.RestTurns.{Answers, Leaves, driver-leaves, there-leaves}
+
+-- Enabled queues: one that is taken off the list is no longer among them, and each other one is there as before.
+gone : (name : QueueName) (names : List QueueName) → is_enabled name (without name names) ≡ false
+gone name [] = refl
+gone name (x ∷ names) = at (same_queue x name) refl (gone name names)
+  where
+    at : (same : Bool) → same_queue x name ≡ same → is_enabled name (without name names) ≡ false → is_enabled name (cond (not same) (x ∷ without name names) (without name names)) ≡ false
+    at true is ih = ih
+    at false is ih = ap (λ b. b || is_enabled name (without name names)) is ∙ ih
+
+kept : (a name : QueueName) (names : List QueueName) → is_enabled a (without name names) ≡ true → is_enabled a names ≡ true
+kept a name [] is = is
+kept a name (x ∷ names) is = at (not (same_queue x name)) (same_queue x a) refl is (kept a name names)
+  where
+    at : (stays same : Bool) → same_queue x a ≡ same → (let ns = without name names in is_enabled a (cond stays (x ∷ ns) ns)) ≡ true → (is_enabled a (without name names) ≡ true → is_enabled a names ≡ true) → (same || is_enabled a names) ≡ true
+    at stays true same is ih = refl
+    at true false same is ih = ih (sym (ap (λ b. b || is_enabled a (without name names)) same) ∙ is)
+    at false false same is ih = ih is
+
+module _ (name : QueueName) (names : List QueueName) (enabled : is_enabled name names ≡ true) where
+  one-less : (a : QueueName) → cond (is_enabled a (without name names)) 1 0 + cond (same_queue name a) 1 0 ≤ cond {A = ℕ} (is_enabled a names) 1 0
+  one-less a = at (same_queue name a) refl (is_enabled a (without name names)) refl (is_enabled a names) refl
+    where
+      at : (same : Bool) → same_queue name a ≡ same → (behind : Bool) → is_enabled a (without name names) ≡ behind → (before : Bool) → is_enabled a names ≡ before
+          → cond behind 1 0 + cond same 1 0 ≤ cond {A = ℕ} before 1 0
+      at true is true behind before was = absurd (cc (subst (λ n. is_enabled n (without name names) ≡ false) (same_queue-sound name a is) (gone name names), behind))
+      at true is false behind true was = omega arith
+      at true is false behind false was = absurd (cc (subst (λ n. is_enabled n names ≡ true) (same_queue-sound name a is) enabled, was))
+      at false is true behind true was = omega arith
+      at false is true behind false was = absurd (cc (kept a name names behind, was))
+      at false is false behind before was = omega arith
+
+  all-less : (among : List QueueName) → count_by (λ a. is_enabled a (without name names)) among + count_by (λ a. same_queue name a) among ≤ count_by (λ a. is_enabled a names) among
+  all-less [] = omega arith
+  all-less (a ∷ among) =
+      omega (
+        arith,
+        all-less among,
+        one-less a,
+        sum_by-cons (λ x. cond (is_enabled x (without name names)) 1 0) a among,
+        sum_by-cons (λ x. cond (same_queue name x) 1 0) a among,
+        sum_by-cons (λ x. cond (is_enabled x names) 1 0) a among,
+      )
+
+-- each name is one of them, once
+named-once : (side : Side) (place : Place) (way : Way) → count_by (λ a. same_queue (record { side = side; place = place; way = way }) a) queue_names ≡ 1
+named-once Master Head Up = refl
+named-once Master Head Down = refl
+named-once Master Ldterm Up = refl
+named-once Master Ldterm Down = refl
+named-once Master Driver Up = refl
+named-once Master Driver Down = refl
+named-once Slave Head Up = refl
+named-once Slave Head Down = refl
+named-once Slave Ldterm Up = refl
+named-once Slave Ldterm Down = refl
+named-once Slave Driver Up = refl
+named-once Slave Driver Down = refl
+
+pub taken-off : (name : QueueName) (names : List QueueName) → is_enabled name names ≡ true → suc (count_enabled (without name names)) ≤ count_enabled names
+taken-off name names enabled = omega (arith, all-less name names enabled queue_names, named-once name.side name.place name.way)
+
+few-enabled : (names : List QueueName) → count_enabled names ≤ 12
+few-enabled names = let twelve : length queue_names ≡ 12 = refl in omega (arith, twelve, count_by-le-length (λ a. is_enabled a names) queue_names)
+
+-- the place of the ldterm on a stream, 0 where none stands
+ldterm_from : ℕ → List ModuleName → ℕ
+ldterm_from at [] = 0
+ldterm_from at (n ∷ ns) = cond (is_ldterm n) at (ldterm_from (suc at) ns)
+
+fits-none : (ns : List ModuleName) (echoed across : Bool) (post at : ℕ) → list_any is_ldterm ns ≡ false → (echoed ≡ false) ⊎ (list_any is_pckt ns ≡ false) → FitNames echoed across post at ns
+fits-none [] echoed across post at none free = tt
+fits-none (names.Ldterm ∷ ns) echoed across post at none free = absurd (cc)
+fits-none (names.Ptem ∷ ns) echoed across post at none free = (tt, fits-none ns echoed across post (suc at) none free)
+fits-none (names.Pckt ∷ ns) echoed across post at none (inl bare) = (ap (λ b. b && nat_le post (at - 1)) bare, fits-none ns echoed across post (suc at) none (inl bare))
+fits-none (names.Pckt ∷ ns) echoed across post at none (inr free) = absurd (cc)
+
+none-counted : (ns : List ModuleName) → count_by is_ldterm ns ≤ 0 → list_any is_ldterm ns ≡ false
+none-counted [] none = refl
+none-counted (names.Ldterm ∷ ns) none = absurd (omega (arith, none, sum_by-cons (λ n. cond (is_ldterm n) 1 0) names.Ldterm ns))
+none-counted (names.Ptem ∷ ns) none = none-counted ns (omega (arith, none, sum_by-cons (λ n. cond (is_ldterm n) 1 0) names.Ptem ns))
+none-counted (names.Pckt ∷ ns) none = none-counted ns (omega (arith, none, sum_by-cons (λ n. cond (is_ldterm n) 1 0) names.Pckt ns))
+
+-- it is at this place or behind it
+ldterm-from : (ns : List ModuleName) (at : ℕ) → list_any is_ldterm ns ≡ true → at ≤ ldterm_from at ns
+unfolding ldterm_from
+ldterm-from [] at is = absurd (cc)
+ldterm-from (names.Ldterm ∷ ns) at is = omega arith
+ldterm-from (names.Ptem ∷ ns) at is = let behind = ldterm-from ns (suc at) is in omega (arith, behind)
+ldterm-from (names.Pckt ∷ ns) at is = let behind = ldterm-from ns (suc at) is in omega (arith, behind)
+
+not-above : (echoed : Bool) (post at : ℕ) → 0 < at → at ≤ post → (echoed && nat_le post (at - 1)) ≡ false
+not-above false post at some less = refl
+not-above true post at some less = let below : at - 1 < post = omega (arith, some, less) in let no_more : nat_le post (at - 1) ≡ false = grind (arith, nat_tests) in no_more
+
+fits-one : (ns : List ModuleName) (echoed across : Bool) (at : ℕ) → 0 < at → echoed ≡ true → across ≡ false → list_any is_ldterm ns ≡ true → count_by is_ldterm ns ≤ 1 → packs_below ns ≡ false
+    → FitNames echoed across (ldterm_from at ns) at ns
+unfolding ldterm_from
+fits-one [] echoed across at some here there stands one free = tt
+fits-one (names.Ldterm ∷ ns) echoed across at some here there stands one free =
+    ((here, there, refl), fits-none ns echoed across at (suc at) (none-counted ns (omega (arith, one, sum_by-cons (λ n. cond (is_ldterm n) 1 0) names.Ldterm ns))) (inr free))
+fits-one (names.Ptem ∷ ns) echoed across at some here there stands one free =
+    (tt, fits-one ns echoed across (suc at) (omega arith) here there stands (omega (arith, one, sum_by-cons (λ n. cond (is_ldterm n) 1 0) names.Ptem ns)) free)
+fits-one (names.Pckt ∷ ns) echoed across at some here there stands one free = (
+  not-above echoed (ldterm_from (suc at) ns) at some (let behind = ldterm-from ns (suc at) stands in omega (arith, behind)),
+  fits-one ns echoed across (suc at) (omega arith) here there stands (omega (arith, one, sum_by-cons (λ n. cond (is_ldterm n) 1 0) names.Pckt ns)) free,
+)
+
+abbrev posts_of : Stands → Side → ℕ
+posts_of all side = ldterm_from 1 (stands_on side all)
+
+fits-once : (all : Stands) → EchoesOnce all → Fit all (posts_of all)
+fits-once all once side = at (echoes all side) refl
+  where
+    at : (echoed : Bool) → echoes all side ≡ echoed → FitNames (echoes all side) (echoes all (other side)) (posts_of all side) 1 (stands_on side all)
+    at true is = fits-one (stands_on side all) (echoes all side) (echoes all (other side)) 1 (omega arith) is (once.one_side side is) is (once.one_there side) (once.no_packets side)
+    at false is = fits-none (stands_on side all) (echoes all side) (echoes all (other side)) (posts_of all side) 1 is (inl is)
+
+-- where none stands
+pub plain-once : (all : Stands) → NoLdterm all → EchoesOnce all
+plain-once all none = record {
+  one_side = λ side is. none (other side);
+  one_there = λ side. few (stands_on side all) (none side);
+  no_packets = λ side. packs (stands_on side all) (none side);
+}
+  where
+    few : (ns : List ModuleName) → list_any is_ldterm ns ≡ false → count_by is_ldterm ns ≤ 1
+    few [] none = omega arith
+    few (names.Ldterm ∷ ns) none = absurd (cc)
+    few (names.Ptem ∷ ns) none = omega (arith, few ns none, sum_by-cons (λ n. cond (is_ldterm n) 1 0) names.Ptem ns)
+    few (names.Pckt ∷ ns) none = omega (arith, few ns none, sum_by-cons (λ n. cond (is_ldterm n) 1 0) names.Pckt ns)
+
+    packs : (ns : List ModuleName) → list_any is_ldterm ns ≡ false → packs_below ns ≡ false
+    packs [] none = refl
+    packs (names.Ldterm ∷ ns) none = absurd (cc)
+    packs (names.Ptem ∷ ns) none = packs ns none
+    packs (names.Pckt ∷ ns) none = packs ns none
+
+-- a module's queue is at a place from 1 on, and where no ldterm stands there is none
+named-least : (place : Place) (from : ℕ) (places : List (Option Place)) (at : ℕ) → named_from place from places ≡ Some at → from ≤ at
+named-least place from [] at is = absurd (cc)
+named-least place from (None ∷ places) at is = let least = named-least place (suc from) places at is in omega (arith, least)
+named-least place from (Some other ∷ places) at is = by (same_place other place) is (λ more. named-least place (suc from) places at more)
+  where
+    by : (same : Bool) → cond same (Some from) (named_from place (suc from) places) ≡ Some at → (named_from place (suc from) places ≡ Some at → suc from ≤ at) → from ≤ at
+    by true is least = let same : from ≡ at = cc in omega (arith, same)
+    by false is least = let more = least is in omega (arith, more)
+
+module _ {C : Type 0} where
+  named-none : (place : Place) (n from : ℕ) (ps : List (Module C)) → list_any is_ldterm (map module_name ps) ≡ false → named_from place from (places_of (take n ps)) ≡ None
+  named-none place zero from ps none = refl
+  named-none place (suc n) from [] none = refl
+  named-none place (suc n) from (OfLdterm l ∷ ps) none = absurd (cc)
+  named-none place (suc n) from (OfPtem q ∷ ps) none = named-none place n (suc from) ps none
+  named-none place (suc n) from (OfPckt q ∷ ps) none = named-none place n (suc from) ps none
+
+  whole-at : (place : Place) (way : Way) (on : Stream C) (at : ℕ) → place_named place on.modules ≡ Some at → whole_module place way on ≡ Moved (at_place (λ p. first_size (messages_at module_queue way p)) 0 at on.modules)
+  whole-at place way on at is = rw is refl
+
+  module _ (cells : Cells C) (name : QueueName) (turn : Turn) where
+    -- a turn of a module's queue
+    module-leaves : (all : Stands) (s : State C) → EchoesOnce all → stands_of s ≡ all → IsWholeTurn (record name { place = Ldterm }) turn s → (module_turned cells (record name { place = Ldterm }) turn s).turn ≡ turn
+        → Leaves all (moves all s) s.enabled (module_turned cells (record name { place = Ldterm }) turn s).state
+    module-leaves all s once is whole answered = named (place_named Ldterm (stream name.side s).modules) refl answered
+      where
+        called : QueueName
+        called = record name { place = Ldterm }
+
+        named : (o : Option ℕ) → place_named Ldterm (stream name.side s).modules ≡ o → (turned_named cells called turn s o).turn ≡ turn → Leaves all (moves all s) s.enabled (turned_named cells called turn s o).state
+        named None none answered = (is, inr (omega arith, refl))
+        named (Some at) there answered =
+            let here : Spot = record { side = name.side; at = at; way = name.way } in
+            there-leaves all cells (posts_of all) (fits-once all once) here (named-least Ldterm 1 (places_of (take MODULES (stream name.side s).modules)) at there) called turn s is (answers turn whole answered)
+          where
+            answers : (turn : Turn) → IsWholeTurn called turn s → (turned_there cells (record { side = name.side; at = at; way = name.way }) called turn s).turn ≡ turn
+                → Answers all cells (posts_of all) (fits-once all once) (record { side = name.side; at = at; way = name.way }) (named-least Ldterm 1 (places_of (take MODULES (stream name.side s).modules)) at there) turn s (turned_there cells (record { side = name.side; at = at; way = name.way }) called turn s)
+            answers (Moved bytes) whole answered = let e = whole ∙ whole-at Ldterm name.way (stream name.side s) at there in cc
+            answers Blocked whole answered = answered
+            answers Idle whole answered = answered
+
+    turned-leaves : (all : Stands) (place : Place) (s : State C) → EchoesOnce all → stands_of s ≡ all → let called = record name { place = place } in
+        IsWholeTurn called turn s → (turned_at cells place called turn s).turn ≡ turn → Leaves all (moves all s) s.enabled (turned_at cells place called turn s).state
+    turned-leaves all Head s once is whole answered = (is, inr (omega arith, refl))
+    turned-leaves all Driver s once is whole answered = driver-leaves all cells (posts_of all) (fits-once all once) name.side (stream name.side s).driver.queue.messages s is refl
+    turned-leaves all Ldterm s once is whole answered = module-leaves all s once is whole answered
+
+    -- where no ldterm stands each turn is a driver's, or does nothing
+    plain-leaves : (all : Stands) (place : Place) (s : State C) → EchoesOnce all → NoLdterm all → stands_of s ≡ all → let called = record name { place = place } in
+        Leaves all (moves all s) s.enabled (turned_at cells place called turn s).state
+    plain-leaves all Head s once none is = (is, inr (omega arith, refl))
+    plain-leaves all Driver s once none is = driver-leaves all cells (posts_of all) (fits-once all once) name.side (stream name.side s).driver.queue.messages s is refl
+    plain-leaves all Ldterm s once none is = named (place_named Ldterm (stream name.side s).modules) nowhere
+      where
+        nowhere : place_named Ldterm (stream name.side s).modules ≡ None
+        nowhere = named-none Ldterm MODULES 1 (stream name.side s).modules (ap (λ (ns : List ModuleName). list_any is_ldterm ns) (names-on all name.side s is) ∙ none name.side)
+
+        named : (o : Option ℕ) → o ≡ None → Leaves all (moves all s) s.enabled (turned_named cells (record name { place = Ldterm }) turn s o).state
+        named None nothing = (is, inr (omega arith, refl))
+        named (Some at) nothing = absurd (cc)
+
+  -- fewer moves, or a queue less enabled, are less work
+  work-less : (name : QueueName) (s t : State C) → is_enabled name s.enabled ≡ true → Leaves (stands_of s) (moves (stands_of s) s) (without name s.enabled) t → work t < work s
+  work-less name s t enabled leaves = elim leaves.1 [
+    | inl fewer ↦ omega (arith, same, fewer, few-enabled t.enabled)
+    | inr stays ↦ (let count = ap (λ (ns : List QueueName). count_enabled ns) stays.1 in let most = stays.0 in omega (arith, same, most, count, taken-off name s.enabled enabled))
+  ]
+    where
+      same : moves (stands_of t) t ≡ moves (stands_of s) t
+      same = ap (λ (all : Stands). moves all t) leaves.0
+
+  plain-behind : (cells : Cells C) (name : QueueName) (turn : Turn) (s : State C) → NoLdterm (stands_of s) → Leaves (stands_of s) (moves (stands_of s) s) (without name s.enabled) (turned cells name turn s).state
+  plain-behind cells name turn s none = plain-leaves cells name turn (stands_of s) name.place (record s { enabled = without name s.enabled }) (plain-once (stands_of s) none) none refl
+
+  pub plain-turn : (cells : Cells C) (name : QueueName) (turn : Turn) (s : State C) → NoLdterm (stands_of s) → is_enabled name s.enabled ≡ true
+      → (stands_of (turned cells name turn s).state ≡ stands_of s) × (work (turned cells name turn s).state < work s)
+  plain-turn cells name turn s none enabled =
+      let behind = plain-behind cells name turn s none in
+      (behind.0, work-less name s (turned cells name turn s).state enabled behind)
+
+  whole-behind : (cells : Cells C) (name : QueueName) (turn : Turn) (s : State C) → EchoesOnce (stands_of s) → IsWholeTurn name turn s → (turned cells name turn s).turn ≡ turn
+      → Leaves (stands_of s) (moves (stands_of s) s) (without name s.enabled) (turned cells name turn s).state
+  whole-behind cells name turn s once whole answered = turned-leaves cells name turn (stands_of s) name.place (record s { enabled = without name s.enabled }) once refl (stays turn whole) answered
+    where
+      stays : (turn : Turn) → IsWholeTurn name turn s → IsWholeTurn name turn (record s { enabled = without name s.enabled })
+      stays (Moved bytes) whole = whole
+      stays Blocked whole = whole
+      stays Idle whole = whole
+
+  pub whole-turn : (cells : Cells C) (old new : State C) (name : QueueName) (turn : Turn) → EchoesOnce (stands_of old) → IsTurn cells old name turn new → IsWholeTurn name turn old
+      → (stands_of new ≡ stands_of old) × (work new < work old)
+  whole-turn cells old new name turn once step whole =
+      let behind = whole-behind cells name turn old once whole step.answered in
+      subst (λ (t : State C). (stands_of t ≡ stands_of old) × (work t < work old)) step.leads (behind.0, work-less name old (turned cells name turn old).state step.enabled behind)

@@ -1,0 +1,130 @@
+-- How much work a pair has before it: how many turns of its queues there are at most, before none of them is enabled and the pair rests
+-- (STREAMS Programming Guide, "Service Procedures"; srv(9E)).
+use Rattle.std.specs.Prelude.{ℕ, zero, suc, ◌≡◌, ◌≤◌, ◌+◌, ◌*◌, Bool, true, false, List, [], ◌∷◌, length, sum_by, count_by, Option, None, Some}
+use Rattle.std.specs.List.{list_any}
+use Rattle.strm_types.specs.declared.answers.Turn.{Turn}
+use Rattle.strm_types.specs.declared.answers.Turn.TheVariants.{Moved, Blocked, Idle}
+use Rattle.strm_types.specs.declared.kinds.MsgKind.{MsgKind}
+use Rattle.strm_types.specs.declared.kinds.MsgKind.TheVariants.{Data, Proto, Ioctl}
+use Rattle.strm_types.specs.declared.names.ModuleName.{ModuleName}
+use Rattle.strm_types.specs.declared.names.ModuleName.TheVariants as names
+use Rattle.strm_types.specs.declared.names.Place.TheVariants.{Head, Ldterm, Driver}
+use Rattle.strm_types.specs.declared.names.QueueName.{QueueName}
+use Rattle.strm_types.specs.declared.names.Side.{Side}
+use Rattle.strm_types.specs.declared.names.Side.TheVariants.{Master, Slave}
+use Rattle.strm_types.specs.declared.names.Way.TheVariants.{Up, Down}
+use Rattle.strm_types.specs.Ldterms.{Ldterm as TheLdterm, Stage, Between, Begun, Answered}
+use Rattle.strm_types.specs.Message.{Message, cells_of}
+use Rattle.strm_types.specs.Names.{is_enabled, other}
+use Rattle.strm_laws.specs.Pair.{PairState, RanTurns}
+use Rattle.strm_laws.specs.Restorable.{is_ldterm}
+use Rattle.strm_laws.specs.StackCosts.{Stands, stands_of, stands_on}
+use Rattle.strm_laws.specs.Stacked.{Module, OfLdterm, OfPtem, OfPckt}
+use Rattle.strm_laws.specs.State.{State, Stream, stream}
+use Rattle.strm_laws.specs.Turns.{whole_turn}
+
+-- whether an ldterm is among the modules of a side's stream
+abbrev pub echoes : Stands → Side → Bool
+echoes all side = list_any is_ldterm (stands_on side all)
+
+-- How often messages move at most that come of one on its way up a stream, of its kind and its bytes. Where an ldterm is ahead, M_DATA waits there
+-- and each of its bytes is echoed, stops or starts output, and M_PROTO waits there too. An M_IOCTL is answered, and its answer crosses.
+abbrev pub moves_above : MsgKind → Bool → ℕ → ℕ
+moves_above Ioctl ahead bytes = 1
+moves_above Data true bytes = 1 + 5 * bytes
+moves_above Proto true bytes = 1
+moves_above kind ahead bytes = 0
+
+-- and of one that stands on ldterm's read queue, with its own move
+abbrev pub moves_within : MsgKind → ℕ → ℕ
+moves_within Data bytes = 1 + 5 * bytes
+moves_within kind bytes = suc (moves_above kind false bytes)
+
+-- how far what ldterm has in its turn still has to go: each byte of the message in work, and the one that has begun
+abbrev pub moves_begun : {C : Type 0} → Stage C → ℕ
+moves_begun Between = 0
+moves_begun (Begun started c) = 3
+moves_begun (Answered echo) = 2
+
+module _ {C : Type 0} where
+  -- how often messages move that come of one on a driver's queue, with its own move: an ldterm is on the other side (true) or isn't
+  abbrev pub moves_across : Bool → Message C → ℕ
+  moves_across echoed m = suc (moves_above m.kind echoed (length (cells_of m)))
+
+  -- of one on ldterm's write queue, which moves on to the driver's queue
+  abbrev pub moves_out : Message C → ℕ
+  moves_out m = suc (moves_across false m)
+
+  -- and of one on its read queue
+  abbrev pub moves_in : Message C → ℕ
+  moves_in m = moves_within m.kind (length (cells_of m))
+
+  abbrev pub moves_in_work : Option (Message C) → ℕ
+  moves_in_work None = 0
+  moves_in_work (Some m) = 1 + 5 * length (cells_of m)
+
+  -- of all that stands at a module
+  abbrev pub ldterm_moves : TheLdterm C → ℕ
+  ldterm_moves l = sum_by moves_in l.read_queue.messages + (sum_by moves_out l.write_queue.messages + (moves_in_work l.in_work + moves_begun l.stage))
+
+  abbrev pub module_moves : Module C → ℕ
+  module_moves (OfLdterm l) = ldterm_moves l
+  module_moves (OfPtem p) = 0
+  module_moves (OfPckt p) = 0
+
+  -- of all that stands on a stream; what a head has is for readers, and moves no more
+  abbrev pub stream_moves : Bool → Stream C → ℕ
+  stream_moves echoed t = sum_by module_moves t.modules + sum_by (moves_across echoed) t.driver.queue.messages
+
+  -- of all that stands on a pair with these modules
+  abbrev pub moves : Stands → State C → ℕ
+  moves all s = stream_moves (echoes all Slave) (stream Master s) + stream_moves (echoes all Master) (stream Slave s)
+
+-- each name that a queue may have
+abbrev pub queue_names : List QueueName
+queue_names =
+    record { side = Master; place = Head; way = Up } ∷ record { side = Master; place = Head; way = Down }
+    ∷ record { side = Master; place = Ldterm; way = Up } ∷ record { side = Master; place = Ldterm; way = Down }
+    ∷ record { side = Master; place = Driver; way = Up } ∷ record { side = Master; place = Driver; way = Down }
+    ∷ record { side = Slave; place = Head; way = Up } ∷ record { side = Slave; place = Head; way = Down }
+    ∷ record { side = Slave; place = Ldterm; way = Up } ∷ record { side = Slave; place = Ldterm; way = Down }
+    ∷ record { side = Slave; place = Driver; way = Up } ∷ record { side = Slave; place = Driver; way = Down } ∷ []
+
+-- how many queues are enabled
+abbrev pub count_enabled : List QueueName → ℕ
+count_enabled names = count_by (λ name. is_enabled name names) queue_names
+
+-- The work of a pair: one for each enabled queue, and for each move of a message 13, as it may enable each of the 12 queues that have a name.
+abbrev pub work : {C : Type 0} → State C → ℕ
+work s = 13 * moves (stands_of s) s + count_enabled s.enabled
+
+-- no ldterm stands on either stream
+abbrev pub NoLdterm : Stands → Type 0
+NoLdterm all = (side : Side) → echoes all side ≡ false
+
+abbrev pub is_pckt : ModuleName → Bool
+is_pckt names.Pckt = true
+is_pckt _ = false
+
+-- whether pckt stands below an ldterm, so that what it makes of a message waits there; the one on top is first
+abbrev pub packs_below : List ModuleName → Bool
+packs_below [] = false
+packs_below (names.Ldterm ∷ ns) = list_any is_pckt ns
+packs_below (n ∷ ns) = packs_below ns
+
+-- At most one ldterm stands on a pair's streams, and pckt doesn't stand below it. One on each side echo each other's echo.
+pub record EchoesOnce (all : Stands) : Type 0 where
+  pub one_side : (side : Side) → echoes all side ≡ true → echoes all (other side) ≡ false
+  pub one_there : (side : Side) → count_by is_ldterm (stands_on side all) ≤ 1
+  pub no_packets : (side : Side) → packs_below (stands_on side all) ≡ false
+
+-- a turn that moves something treats the first message of its queue whole, as each does that isn't short of blocks
+abbrev pub IsWholeTurn : {C : Type 0} → QueueName → Turn → State C → Type 0
+IsWholeTurn name (Moved bytes) s = Moved bytes ≡ whole_turn name s
+IsWholeTurn name Blocked s = Unit {0}
+IsWholeTurn name Idle s = Unit {0}
+
+-- each of so many turns is
+abbrev pub AreWholeTurns : (n : ℕ) (old new : PairState) → RanTurns n old new → Type 0
+AreWholeTurns zero old new ran = Unit {0}
+AreWholeTurns (suc n) old new ran = AreWholeTurns n old ran.0 ran.1.0 × IsWholeTurn ran.1.1.name ran.1.1.turn ran.0.state
