@@ -1,20 +1,20 @@
 -- What a call leaves that takes the message off a list that stands at one of its ends.
 use Rattle.std.proofs.Common.{ℕ, ◌≡◌, ◌<◌, [], List, map, refl, sym, ap, ◌∙◌, subst}
-use Rattle.std.specs.Prelude.{Option, None, Some}
+use Rattle.std.specs.Prelude.{Option, None, Some, option_map}
 use Rattle.std.proofs.lemmas.List.{append-nil}
 use Rattle.strm_blocks.specs.Blocks.{Block, StoreValue, list_at, held, placed}
 use Rattle.strm_blocks.specs.Outcomes.{Popped, PoppedLast}
 use Rattle.strm_raw.specs.Numbered.{Nodes, msg_number}
 use Rattle.strm_raw.specs.Roster.{Msg, Roster}
 use Rattle.strm_raw.specs.Raw.{IsRaw, chain_of, value_of}
-use Rattle.strm_raw.specs.Lists.{AreListed, PoppedBy, Unseats, along, ends_at, queue_at}
+use Rattle.strm_raw.specs.Lists.{AreListed, IsList, PoppedBy, Unseats, along, ahead_of, behind_of, ends_at, pick, queue_at}
 use Rattle.strm_raw.specs.declared.neighbours.Course.{Course}
 use Rattle.strm_raw.specs.declared.neighbours.Course.TheVariants.{On, Back}
 use Rattle.strm_raw.specs.declared.neighbours.Ends.{Ends}
 use Rattle.strm_raw.specs.declared.msg_nodes.MsgLink.{MsgLink}
 use Rattle.strm_raw.specs.declared.data_nodes.DataLink.{DataLink}
 use Rattle.strm_raw.proofs.Becoming.{Becomes, becomes-as}
-use Rattle.strm_raw.proofs.Tied.{list-begin, list-end, no-first, no-last, a-first, a-last}
+use Rattle.strm_raw.proofs.Tied.{list-begin, list-end, list-ahead, list-behind, no-first, no-last, a-first, a-last}
 use Rattle.strm_raw.proofs.Seating.{taken-off, no-queue}
 
 module _ {v : Nodes} {ends : List Ends} {b : Roster} {first_m : Option MsgLink} {first_d : Option DataLink} {spare_m spare_d : ℕ} (is : IsRaw v first_m first_d spare_m spare_d b) (listed : AreListed v ends b)
@@ -28,6 +28,21 @@ module _ {v : Nodes} {ends : List Ends} {b : Roster} {first_m : Option MsgLink} 
 
   pub nothing-there : (c : Course) → along c v (ends_at k ends) None ≡ None → list_at s k ≡ []
   nothing-there c none = ap (λ (s : StoreValue). list_at s k) (sym view) ∙ no-queue v b k (none-at c none)
+
+  -- the message there has none beyond it
+  pub sides-are : (c : Course) (i : ℕ) → along c v (ends_at k ends) None ≡ Some i → (before after ahead behind : Option MsgLink) → before ≡ pick c None behind → after ≡ pick c ahead None
+      → option_map (msg_number v.mat) ahead ≡ ahead_of v.rows i → option_map (msg_number v.mat) behind ≡ behind_of v.rows i
+      → (option_map (msg_number v.mat) before ≡ behind_of v.rows i) × (option_map (msg_number v.mat) after ≡ ahead_of v.rows i)
+  sides-are On i there before after ahead behind before_is after_is ahead_is behind_is =
+      let number = λ (o : Option MsgLink). option_map (msg_number v.mat) o in
+      let at = a-first q i (sym (list-begin v (ends_at k ends) q (listed.tied k)) ∙ there) in
+      let none = list-behind v (ends_at k ends) [] at.0 at.1.0 (subst (λ (q : List Msg). IsList v (ends_at k ends) q) at.1.1.0 (listed.tied k)) in
+      (ap number before_is ∙ sym none ∙ ap (λ i. behind_of v.rows i) at.1.1.1, ap number after_is ∙ ahead_is)
+  sides-are Back i there before after ahead behind before_is after_is ahead_is behind_is =
+      let number = λ (o : Option MsgLink). option_map (msg_number v.mat) o in
+      let at = a-last q i (sym (list-end v (ends_at k ends) q (listed.tied k)) ∙ there) in
+      let none = list-ahead v (ends_at k ends) at.0 at.1.0 [] (subst (λ (q : List Msg). IsList v (ends_at k ends) q) at.1.1.0 (listed.tied k)) in
+      (ap number before_is ∙ behind_is, ap number after_is ∙ sym none ∙ ap (λ i. ahead_of v.rows i) at.1.1.1)
 
   -- where a link leads to the message there
   module _ (within : k < 8) (l : MsgLink) {v' : Nodes} {ends' : List Ends} {b' : Roster} (u : Unseats v v' ends ends' b b' k l) where

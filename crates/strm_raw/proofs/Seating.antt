@@ -255,6 +255,13 @@ taken-off {v = v} {v' = v'} {ends = ends} is listed k within l xs m ys shape nam
 pub no-queue : (v : Nodes) (b : Roster) (k : ℕ) → queue_at k b.lists ≡ [] → list_at (value_of v b) k ≡ []
 no-queue v b k e = queue-value v b.lists k ∙ ap (λ q. map (chain_of v) q) e
 
+no-chain : (f : Msg → List Block) (q : List Msg) → map f q ≡ [] → q ≡ []
+no-chain f [] e = refl
+no-chain f (m ∷ q) e = absurd (let some : f m ∷ map f q ≡ [] = e in cc)
+
+pub queue-none : (v : Nodes) (b : Roster) (k : ℕ) → list_at (value_of v b) k ≡ [] → queue_at k b.lists ≡ []
+queue-none v b k e = no-chain (chain_of v) (queue_at k b.lists) (sym (queue-value v b.lists k) ∙ e)
+
 -- where the roster puts a message
 number-of-next : (f : MsgLink → ℕ) (o : Option MsgLink) (l : MsgLink) → f (unwrap_or o l) ≡ unwrap_or (option_map f o) (f l)
 number-of-next f None l = refl

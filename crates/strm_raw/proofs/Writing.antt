@@ -5,7 +5,7 @@ use Rattle.std.proofs.Math.Seq.{take-append_seam}
 use Rattle.std.specs.Prelude.{Option, option_map, slice_range}
 use Rattle.std.proofs.lemmas.Bool.Decides.{nat_tests}
 use Rattle.std.proofs.lemmas.Bool.{cases_eq}
-use Rattle.std.proofs.lemmas.List.{get_or-set_same, get_or-set_other}
+use Rattle.std.proofs.lemmas.List.{get_or-set_same, get_or-set_other, set-set}
 use Rattle.std.proofs.lemmas.List.Sums.{sum_by-set}
 use Rattle.strm_blocks.specs.Blocks.{Block}
 use Rattle.strm_raw.specs.Numbered.{Nodes, DataRow, row_at, data_at, no_data, data_number, with_data}
@@ -32,6 +32,16 @@ module _ {v : Nodes} {b : Roster} {first_m : Option MsgLink} {first_d : Option D
     | inl i ↦ ap (λ j. f (data_at j (set v.datas d x))) i ∙ ap f (get_or-set_same v.datas d x no_data within) ∙ same ∙ ap (λ j. f (data_at j v.datas)) (sym i)
     | inr other ↦ ap f (get_or-set_other v.datas d e x no_data other)
   ]
+
+  -- references that are set first, and bytes behind them, are set the other way round
+  pub written-last : (fill : List ℕ → List ℕ) → fill (data_at d v.datas).bytes ≡ bytes → (n : ℕ) → let y : DataRow = record (data_at d v.datas) { references = n } in let w = with_data d y v in
+      with_data d (record (data_at d w.datas) { bytes = fill (data_at d w.datas).bytes }) w ≡ with_data d (record (data_at d written.datas) { references = n }) written
+  written-last fill e n =
+      let y : DataRow = record (data_at d v.datas) { references = n } in let z : DataRow = record (data_at d v.datas) { references = n; bytes = bytes } in
+      ap (λ (q : DataRow). with_data d (record q { bytes = fill q.bytes }) (with_data d y v)) (get_or-set_same v.datas d y no_data within)
+      ∙ ap (λ (xs : List ℕ). with_data d (record y { bytes = xs }) (with_data d y v)) e
+      ∙ ap (λ (xs : List DataRow). record v { datas = xs }) (set-set v.datas d y z ∙ sym (set-set v.datas d x z))
+      ∙ ap (λ (q : DataRow). with_data d (record q { references = n }) written) (sym (get_or-set_same v.datas d x no_data within))
 
   pub written-raw : IsRaw written first_m first_d spare_m spare_d b
   written-raw =

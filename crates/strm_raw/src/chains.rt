@@ -32,6 +32,19 @@ pub(crate) fn last_link(memory: &Memory, first: MsgLink, most: usize) -> MsgLink
     ensures number { (is : List ℕ) → IsChain memory.now.rows (msg_number memory.now.mat first) is → length is ≤ most
         → msg_number memory.now.mat result ≡ slice_index_or is (length is - 1) 0 }
 {
+    let Some(_) = memory.message(first).next else {
+        return first;
+    };
+    walk_to_last(memory, first, most)
+}
+
+// The same by a walk.
+fn walk_to_last(memory: &Memory, first: MsgLink, most: usize) -> MsgLink
+    requires { IsMsg memory.now.mat (length memory.now.rows) first }
+    ensures there { IsMsg memory.now.mat (length memory.now.rows) result }
+    ensures number { (is : List ℕ) → IsChain memory.now.rows (msg_number memory.now.mat first) is → length is ≤ most
+        → msg_number memory.now.mat result ≡ slice_index_or is (length is - 1) 0 }
+{
     let mut link = first;
     let mut left = most;
     while left > 0 {
@@ -49,6 +62,17 @@ pub(crate) fn chain_len(memory: &Memory, first: MsgLink, most: usize) -> usize
     requires { IsMsg memory.now.mat (length memory.now.rows) first }
     ensures { (is : List ℕ) → IsChain memory.now.rows (msg_number memory.now.mat first) is → length is ≤ most → result ≡ length is }
 {
+    let Some(_) = memory.message(first).next else {
+        return 1;
+    };
+    walk_len(memory, first, most)
+}
+
+// The same by a walk.
+fn walk_len(memory: &Memory, first: MsgLink, most: usize) -> usize
+    requires { IsMsg memory.now.mat (length memory.now.rows) first }
+    ensures { (is : List ℕ) → IsChain memory.now.rows (msg_number memory.now.mat first) is → length is ≤ most → result ≡ length is }
+{
     let mut link = first;
     let mut left = most;
     while left > 0 {
@@ -63,6 +87,21 @@ pub(crate) fn chain_len(memory: &Memory, first: MsgLink, most: usize) -> usize
 
 /// How many bytes the blocks of a chain of at most so many blocks show.
 pub(crate) fn chain_bytes(memory: &Memory, first: MsgLink, most: usize) -> usize
+    requires there { IsMsg memory.now.mat (length memory.now.rows) first }
+    requires straight { (i : ℕ) → askew (row_at i memory.now.rows) ≡ 0 }
+    requires few { most ≤ 65536 }
+    ensures { (is : List ℕ) → IsChain memory.now.rows (msg_number memory.now.mat first) is → length is ≤ most
+        → result ≡ sum_by (λ i. length (block_no memory.now i).bytes) is }
+{
+    let node = memory.message(first);
+    let Some(_) = node.next else {
+        return memory.datum(node.number).bytes[node.start..node.end].len();
+    };
+    walk_bytes(memory, first, most)
+}
+
+// The same by a walk.
+fn walk_bytes(memory: &Memory, first: MsgLink, most: usize) -> usize
     requires there { IsMsg memory.now.mat (length memory.now.rows) first }
     requires straight { (i : ℕ) → askew (row_at i memory.now.rows) ≡ 0 }
     requires few { most ≤ 65536 }

@@ -1,6 +1,7 @@
 //! Message blocks and data blocks as nodes in raw memory.
 #![tactic(auto)]
 
+mod allocating;
 mod chains;
 mod changes;
 mod data_nodes;

@@ -1,5 +1,5 @@
 //! A message that goes on a list, and one that goes off it.
-ghost use Rattle.std.specs.Prelude.{◌≡◌, ◌<◌, length, MatchOption};
+ghost use Rattle.std.specs.Prelude.{◌≡◌, ◌<◌, [], ◌∷◌, length, MatchOption};
 ghost use Rattle.strm_blocks.specs.Blocks.{IsInHand, dropped, in_hand, list_at, placed, rank_of, token};
 ghost use Rattle.strm_blocks.specs.Outcomes.{Unpopped};
 ghost use Rattle.strm_raw.specs.Numbered.{IsMsg, IsMsgOrNone, msg_number};
@@ -13,7 +13,7 @@ use crate::neighbours::{Course, Ends, beside, pick, seat, tie};
 use crate::ranks::{rank_of, ranked};
 use crate::raw::RawStore;
 use std::ptr::null_mut;
-use strm_blocks::InHand;
+use strm_blocks::{Blocks, InHand};
 
 /// Takes a message off the list on which it stands.
 pub(crate) fn unseat(
@@ -37,6 +37,21 @@ pub(crate) fn unseat(
 }
 
 impl RawStore {
+    // Puts a message on a list with nothing on it.
+    #[inline(always)]
+    fn begin(&mut self, list: usize, message: InHand)
+        requires list { list < 8 }
+        requires none { list_at self.old list ≡ [] }
+        requires in_hand { IsInHand self.old (token message) }
+        ensures { let s = self.old in
+            self.new ≡ placed (dropped s (token message)) list (in_hand s (token message) ∷ []) }
+    {
+        let at = self.memory.message_link(message.name() as usize);
+        seat(&mut self.memory, &mut self.ends[list], None, at, None);
+        self.ledger
+            .note(at.at, null_mut(), list, message.name() as usize);
+    }
+
     /// Puts a message on a list, at the place of its rank to which a walk in a course comes.
     #[inline(always)]
     pub(crate) fn insert(&mut self, list: usize, message: InHand, course: Course)
@@ -45,6 +60,10 @@ impl RawStore {
         ensures { let s = self.old in
             self.new ≡ placed (dropped s (token message)) list (put_by course rank_of (in_hand s (token message)) (list_at s list)) }
     {
+        if self.is_empty(list) {
+            self.begin(list, message);
+            return;
+        }
         let at = self.memory.message_link(message.name() as usize);
         let rank = rank_of(self.memory.message(at));
         let ends = self.ends[list];
@@ -68,7 +87,11 @@ impl RawStore {
         let Some(at) = beside(&self.memory, self.ends[list], course, None) else {
             return None;
         };
-        let message = unseat(&mut self.memory, &mut self.ends, &mut self.ledger, list, at);
-        Some(message)
+        let node = self.memory.message(at);
+        let before = pick(course, None, node.behind);
+        let after = pick(course, node.ahead, None);
+        tie(&mut self.memory, &mut self.ends[list], before, after);
+        self.ledger.note(at.at, null_mut(), list, 0);
+        Some(InHand::of(node.name))
     }
 }

@@ -3,7 +3,7 @@
 use crate::chains::{block_link, chain_bytes, chain_len, last_link};
 use crate::changes::Change;
 use crate::data_nodes::DataNode;
-use crate::making::{free_data, free_message};
+use crate::making::free_message;
 use crate::msg_nodes::{MsgNode, Shows};
 use crate::neighbours::{Course, NO_ENDS};
 use crate::raw::RawStore;
@@ -27,32 +27,10 @@ impl Blocks for RawStore {
 
     /// The cost is that of the bytes, whatever the store's size.
     fn alloc_with(&mut self, kind: MsgKind, band: Band, bytes: &[u8]) -> Result<InHand, NoBlocks> {
-        if self.spare_m == 0 {
-            return Err(NoBlocks);
+        if self.free_msg.is_none() || self.free_data.is_none() {
+            return self.alloc_unlinked(kind, band, bytes);
         }
-        if self.spare_d == 0 {
-            return Err(NoBlocks);
-        }
-        let number = free_data(&mut self.memory, &mut self.ledger, self.free_data);
-        let at = free_message(&mut self.memory, &mut self.ledger, self.free_msg);
-        let free = self.memory.message(at);
-        let next = self.memory.datum(number).next;
-        self.memory.write(number, 0, bytes);
-        self.memory.set_references(number, 1);
-        let shows = Shows {
-            kind,
-            band: band.0,
-            number,
-            start: 0,
-            end: bytes.len(),
-        };
-        self.memory.show(at, shows);
-        self.free_msg = free.next;
-        self.free_data = next;
-        self.spare_m -= 1;
-        self.spare_d -= 1;
-        self.ledger.note(at.at, number.at, 0, 0);
-        Ok(InHand::of(free.name))
+        self.alloc_free(kind, band, bytes)
     }
 
     /// It takes a step for each block before block `at`.

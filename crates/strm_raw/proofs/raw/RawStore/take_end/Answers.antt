@@ -1,13 +1,14 @@
 use Rattle.std.proofs.Common.{ℕ, refl, sym, ap, ◌∙◌, subst}
+use Rattle.std.proofs.Math.ListN.{set}
 use Rattle.std.specs.Prelude.{Option, option_map}
 use Rattle.strm_blocks.specs.Blocks.{StoreValue}
-use Rattle.strm_raw.specs.Lists.{PoppedBy}
-use Rattle.strm_raw.specs.Numbered.{msg_number}
+use Rattle.strm_raw.specs.Lists.{PoppedBy, Ties, Unseats, ends_at}
+use Rattle.strm_raw.specs.Numbered.{Row, msg_number}
 use Rattle.strm_raw.specs.declared.msg_nodes.MsgLink.{MsgLink}
 use Rattle.strm_raw.proofs.Becoming.{Becomes}
-use Rattle.strm_raw.proofs.Popping.{nothing-there, taken-end}
+use Rattle.strm_raw.proofs.Popping.{nothing-there, sides-are, taken-end}
 use Rattle.strm_raw.proofs.raw.RawStore.take_end.Goals as goal
-use Rattle.strm_raw.proofs.raw.RawStore.take_end.Goals.{After-unseat-message}
+use Rattle.strm_raw.proofs.raw.RawStore.take_end.Goals.{After-note}
 
 pub returns-in_default : goal.returns-in_default
 returns-in_default c = record {
@@ -15,14 +16,31 @@ returns-in_default c = record {
   same = refl;
 }
 
-done : (c : After-unseat-message) → let t = c.self.inside in
-    (s : StoreValue) × (Becomes c.unseat-message.new.memory c.unseat-message.new.ends c.unseat-message.new.ledger.roster t.free_msg t.free_data t.spare_m t.spare_d s × PoppedBy c.args.course c.args.self.now s c.args.list (msg_number t.memory.mat c.in-Some.at))
-done c = taken-end c.self.invariant.raw c.self.invariant.listed c.self.view_is c.args.list c.requires c.in-Some.at c.unseat-message.ensures.unseats c.args.course (sym c.beside.ensures.step ∙ ap (λ (o : Option MsgLink). option_map (msg_number c.self.inside.memory.mat) o) c.in-Some.is)
+unseats : (c : After-note) → let t = c.self.inside in Unseats t.memory c.tie.new.memory t.ends (set t.ends c.args.list c.tie.new.ends) t.ledger.roster c.note.new.self.roster c.args.list c.in-Some.at
+unseats c =
+    let t = c.self.inside in let v = t.memory in let k = c.args.list in let listed = c.self.invariant.listed in
+    let there = sym c.beside.ensures.step ∙ ap (λ (o : Option MsgLink). option_map (msg_number v.mat) o) c.in-Some.is in
+    let row = c.message-node.ensures.row in
+    let sides = sides-are c.self.invariant.raw listed c.self.view_is k c.args.course _ there c.pick-before.result c.pick-after.result _ _ c.pick-before.ensures c.pick-after.ensures
+    (ap (λ (r : Row). r.ahead) row) (ap (λ (r : Row). r.behind) row) in
+    record {
+      after = c.tie.new.ends;
+      nodes = c.tie.ensures.nodes;
+      tied = subst (λ (x : Option ℕ × Option ℕ). Ties v.mat v.rows c.tie.new.memory.rows (ends_at k t.ends) c.tie.new.ends x.0 x.1) (λ j. (sides.0 j, sides.1 j)) c.tie.ensures.tied;
+      first = c.tie.ensures.first (listed.first k);
+      last = c.tie.ensures.last (listed.last k);
+      ends_are = refl;
+      roster_is = c.note.ensures;
+    }
+
+done : (c : After-note) → let t = c.self.inside in
+    (s : StoreValue) × (Becomes c.tie.new.memory (set t.ends c.args.list c.tie.new.ends) c.note.new.self.roster t.free_msg t.free_data t.spare_m t.spare_d s × PoppedBy c.args.course c.args.self.now s c.args.list (msg_number t.memory.mat c.in-Some.at))
+done c = taken-end c.self.invariant.raw c.self.invariant.listed c.self.view_is c.args.list c.requires c.in-Some.at (unseats c) c.args.course (sym c.beside.ensures.step ∙ ap (λ (o : Option MsgLink). option_map (msg_number c.self.inside.memory.mat) o) c.in-Some.is)
 
 pub invariant_of-self : goal.invariant_of-self
-invariant_of-self c = let d = (done (goal.at.invariant_of-self c).After-unseat-message).1.0 in record { raw = d.raw; listed = d.listed }
+invariant_of-self c = let d = (done (goal.at.invariant_of-self c).After-note).1.0 in record { raw = d.raw; listed = d.listed }
 
 pub returns : goal.returns
 returns c =
-    let d = done (goal.at.returns c).After-unseat-message in
-    subst (λ (x : StoreValue × ℕ). PoppedBy c.args.course c.args.self.now x.0 c.args.list x.1) (λ j. (sym d.1.0.value j, sym c.unseat-message.ensures.name j)) d.1.1
+    let d = done (goal.at.returns c).After-note in
+    subst (λ (x : StoreValue × ℕ). PoppedBy c.args.course c.args.self.now x.0 c.args.list x.1) (λ j. (sym d.1.0.value j, sym (c.of.ensures ∙ c.message-node.ensures.name) j)) d.1.1

@@ -1,5 +1,5 @@
 use Rattle.strm_raw.proofs.Walks.{Walked}
-use Rattle.strm_raw.proofs.chains.last_link.Given as goal
+use Rattle.strm_raw.proofs.chains.walk_len.Given as goal
 
 abbrev pub invariant-loop-left : goal.invariant-loop-left
 invariant-loop-left l = Walked l.memory l.fn.first l.link l.fn.most l.left

@@ -1,5 +1,5 @@
 use Rattle.strm_raw.specs.Raw.{allocated}
-use Rattle.strm_raw.proofs.store.RawStoreBlocks.alloc_with.Given as goal
+use Rattle.strm_raw.proofs.raw.RawStore.alloc_free.Given as goal
 
 abbrev pub ghost-note : goal.ghost-note
 ghost-note a = allocated

@@ -1,4 +1,4 @@
-use Rattle.std.proofs.Common.{ℕ, ◌≡◌, ◌<◌, ◌+◌, ◌-◌, ◌++◌, List, [], ◌∷◌, drop, refl, sym, ap, ◌∙◌, subst, arith, length, inl, inr}
+use Rattle.std.proofs.Common.{ℕ, ◌≡◌, ◌<◌, ◌+◌, ◌-◌, ◌++◌, List, [], ◌∷◌, drop, take, refl, sym, ap, ◌∙◌, subst, arith, length, inl, inr}
 use Rattle.std.proofs.lemmas.Bool.Decides.{nat_tests}
 use Rattle.std.proofs.Math.ListN.{length-set}
 use Rattle.std.proofs.lemmas.List.{get_or-set_same}
@@ -15,8 +15,8 @@ use Rattle.strm_raw.proofs.Becoming.{Becomes, becomes-as}
 use Rattle.strm_raw.proofs.Stocking.{shown-kept}
 use Rattle.strm_raw.proofs.Taking as taking
 use Rattle.strm_raw.proofs.Writing as writing
-use Rattle.strm_raw.proofs.store.RawStoreBlocks.alloc_with.Goals as goal
-use Rattle.strm_raw.proofs.store.RawStoreBlocks.alloc_with.Goals.{After-note}
+use Rattle.strm_raw.proofs.raw.RawStore.alloc_free.Goals as goal
+use Rattle.strm_raw.proofs.raw.RawStore.alloc_free.Goals.{After-note}
 
 pub returns-then-self-eq0 : goal.returns-then-self-eq0
 returns-then-self-eq0 c =
@@ -41,7 +41,7 @@ free_message-at-requires-clause-room c none =
 -- the new message, beside the store that was
 done : (c : After-note) → let t = c.self.inside in let v = c.free_message-at.new.memory in let s = c.args.self.now in let i = msg_number v.mat c.free_message-at.result in let x = filled_block c.args.kind c.args.band.0 c.args.bytes.now in
     let after = held s i (copy_of (data_number v.dat c.free_data-number.result) x ∷ []) in
-    Becomes c.show.new.self t.ends c.note.new.self.roster c.message-free.result.next c.datum.result.now.next (t.spare_m - 1) (t.spare_d - 1) after × Copied s after i x
+    Becomes c.write.new.self t.ends c.note.new.self.roster c.message-free.result.next c.datum.result.now.next (t.spare_m - 1) (t.spare_d - 1) after × Copied s after i x
 done c =
     let some_m : 0 < c.self.inside.spare_m = let f = c.if-self-eq0.false in grind (arith, nat_tests) in
     let some_d : 0 < c.self.inside.spare_d = let f = c.if-self-eq0-2.false in grind (arith, nat_tests) in
@@ -55,8 +55,11 @@ done c =
     let then : Nodes → Nodes = λ w. with_data (data_number w.dat k) (record (data_at (data_number w.dat k) w.datas) { references = 1 }) w in
     let shows : Shows = record { kind = c.args.kind; band = c.args.band.0; number = k; start = 0; end = length c.args.bytes.now } in
     let written : Nodes → Nodes = λ w. with_row (msg_number w.mat at) (showing w.dat shows (row_at (msg_number w.mat at) w.rows)) w in
-    let memory = c.show.ensures ∙ ap (λ (w : Nodes). written w) c.set_references.ensures
-    ∙ ap (λ (w : Nodes). written (then w)) c.write.ensures ∙ ap (λ (r : Row). with_row (msg_number v.mat at) (showing v.dat shows r) (then V)) (sym c.message-free.ensures.row) in
+    let fill : List ℕ → List ℕ = λ xs. take 0 xs ++ (c.args.bytes.now ++ drop (0 + length c.args.bytes.now) xs) in
+    let fills : Nodes → Nodes = λ w. with_data (data_number w.dat k) (record (data_at (data_number w.dat k) w.datas) { bytes = fill (data_at (data_number w.dat k) w.datas).bytes }) w in
+    let memory = c.write.ensures ∙ ap (λ (w : Nodes). fills w) c.show.ensures ∙ ap (λ (w : Nodes). fills (written w)) c.set_references.ensures
+    ∙ ap (λ (w : Nodes). with_row (msg_number v.mat at) (showing v.dat shows (row_at (msg_number v.mat at) v.rows)) w) (writing.written-last is0 d within filled fill refl 1)
+    ∙ ap (λ (r : Row). with_row (msg_number v.mat at) (showing v.dat shows r) (then V)) (sym c.message-free.ensures.row) in
     let x : DataRow = record (data_at d V.datas) { references = 1 } in
     let next_is = ap (λ (r : DataRow). r.next) c.datum.ensures.row ∙ sym (writing.data-kept is0 d within filled (λ (r : DataRow). r.next) refl d) in
     let len : length V.datas ≡ length v.datas = length-set v.datas d _ in

@@ -1,5 +1,5 @@
 use Rattle.strm_raw.proofs.Walks.{Walked}
-use Rattle.strm_raw.proofs.chains.chain_len.Given as goal
+use Rattle.strm_raw.proofs.chains.walk_to_last.Given as goal
 
 abbrev pub invariant-loop-left : goal.invariant-loop-left
 invariant-loop-left l = Walked l.memory l.fn.first l.link l.fn.most l.left
