@@ -48,6 +48,9 @@ pub fn deliver<B: Blocks, S: Stations<B>>(
 {
     let sent = stations.put_at(store, to, message, told);
     store.audit();
+    if sent.is_empty() {
+        return;
+    }
     deliver_all(store, stations, hops - 1, sent, told);
 }
 

@@ -73,6 +73,55 @@ deliver-returns-clause-takes g t c =
     let then = subst (λ cost. Takes s u (w.spare behind) (w.spare after) (cost_of cost sent) 0) same c.deliver_all.ensures.takes in
     takes-on s0 s u (w.spare before) (w.spare behind) (w.spare after) (w.cost before c.args.to m) (cost_of (w.cost before) sent) e.takes then
 
+-- Nothing is sent on, and all is done.
+pub deliver-returns-then-is_empty-clause-state : goal.deliver-returns-then-is_empty-clause-state
+deliver-returns-then-is_empty-clause-state g t c =
+    let value = g.B.Blocks.value in
+    let s0 = value c.args.store.now in
+    let s = value c.put_at-sent.new.store in
+    let p : Parcel ℕ = record { to = c.args.to; message = message_in s0 (token c.args.message) } in
+    let w = g.S.Stations in
+    let e = c.put_at-sent.ensures in
+    let low = c.requires.low in
+    let next : c.args.hops ≡ suc (c.args.hops - 1) = omega arith in
+    let all = parcels_in s (sent_of c.put_at-sent.result) in
+    let none = no-parts s (sent_of c.put_at-sent.result) (c.if-is_empty.ensures.0 refl) in
+    sym (stops-state (carried w.puts (c.args.hops - 1)) all (w.plain s c.put_at-sent.new.self) none)
+    ∙ begins-state w.puts c.args.hops (c.args.hops - 1) p (w.plain s0 c.args.stations.now) (w.plain s c.put_at-sent.new.self) all next e.state e.sent
+
+pub deliver-returns-then-is_empty-clause-told : goal.deliver-returns-then-is_empty-clause-told
+deliver-returns-then-is_empty-clause-told g t c =
+    let value = g.B.Blocks.value in
+    let s0 = value c.args.store.now in
+    let s = value c.put_at-sent.new.store in
+    let p : Parcel ℕ = record { to = c.args.to; message = message_in s0 (token c.args.message) } in
+    let w = g.S.Stations in
+    let e = c.put_at-sent.ensures in
+    let low = c.requires.low in
+    let next : c.args.hops ≡ suc (c.args.hops - 1) = omega arith in
+    let all = parcels_in s (sent_of c.put_at-sent.result) in
+    let none = no-parts s (sent_of c.put_at-sent.result) (c.if-is_empty.ensures.0 refl) in
+    sym (stops-told (carried w.puts (c.args.hops - 1)) all (w.plain s c.put_at-sent.new.self) c.put_at-sent.new.told none)
+    ∙ begins-told w.puts c.args.hops (c.args.hops - 1) p (w.plain s0 c.args.stations.now) (w.plain s c.put_at-sent.new.self) all c.args.told.now c.put_at-sent.new.told next e.state e.sent e.told
+
+pub deliver-returns-then-is_empty-clause-hands : goal.deliver-returns-then-is_empty-clause-hands
+deliver-returns-then-is_empty-clause-hands g t c =
+    let value = g.B.Blocks.value in
+    let w = g.S.Stations in
+    no-more (value c.args.store.now) (value c.put_at-sent.new.store) (once (token c.args.message)) (w.keeps c.args.stations.now) (w.keeps c.put_at-sent.new.self)
+    (sent_of c.put_at-sent.result) (c.if-is_empty.ensures.0 refl) c.put_at-sent.ensures.hands
+
+pub deliver-returns-then-is_empty-clause-takes : goal.deliver-returns-then-is_empty-clause-takes
+deliver-returns-then-is_empty-clause-takes g t c =
+    let value = g.B.Blocks.value in
+    let w = g.S.Stations in
+    let s0 = value c.args.store.now in
+    let s = value c.put_at-sent.new.store in
+    let m = message_in s0 (token c.args.message) in
+    let before = w.plain s0 c.args.stations.now in
+    no-cost s0 s (w.cost before) (w.cost before c.args.to m) (w.spare before) (w.spare (w.plain s c.put_at-sent.new.self))
+    (sent_of c.put_at-sent.result) (c.if-is_empty.ensures.0 refl) c.put_at-sent.ensures.takes
+
 pub deliver_all-loop-next-init : goal.deliver_all-loop-next-init
 deliver_all-loop-next-init g t c =
     let s = g.B.Blocks.value c.args.store.now in
