@@ -1,5 +1,5 @@
 -- What the text of a base tells, and the room that it takes.
-use Rattle.std.proofs.Common.{ℕ, ◌≡◌, ◌≤◌, List, [], refl, ap, sym, ◌∙◌, arith}
+use Rattle.std.proofs.Common.{ℕ, ◌≡◌, ◌≤◌, List, refl, ap, sym, ◌∙◌, arith}
 use Rattle.std.specs.Prelude.{length, vec_capacity, Some}
 use Rattle.strm_types.specs.declared.limits.Config.{Config}
 use Rattle.strm_types.specs.declared.rules.Fates.{Fates}
@@ -11,7 +11,6 @@ use Rattle.strm_image.specs.declared.versions.Version.TheVariants.{Second}
 use Rattle.strm_image.specs.Format.{whole}
 use Rattle.strm_image.specs.HasImage.{AreCounts, AreNumbers, HasImage, imaged}
 use Rattle.strm_image.specs.Image.{image}
-use Rattle.strm_image.specs.Sinks.{Given, put}
 use Rattle.strm_image.proofs.FitImages.{image_fits, new_has_image}
 use Rattle.strm_image.proofs.Formats.{whole_again}
 use Rattle.strm_image.proofs.ImageRows.{image_exact}
@@ -27,11 +26,6 @@ use Rattle.strm_pair.proofs.PairImages.{has-image}
 use Rattle.strm_pair.proofs.Shown.{in-use}
 use Rattle.strm_pair.proofs.Steps.{led-idle}
 use Rattle.strm_pair.proofs.UsedBytes.{state-bytes}
-
--- what is put into a sink leaves its room
-pub room-stays : (text : List ℕ) (g h : Given) → g ≡ put text h → g.room ≡ h.room
-unfolding put
-room-stays text g h is = ap (λ (x : Given). x.room) is
 
 -- the entries before a base
 pub past-told : (b : Base) → (start_in b).past ≡ b.past.entries

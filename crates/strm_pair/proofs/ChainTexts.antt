@@ -17,7 +17,7 @@ use Rattle.strm_image.proofs.MessageRows.{no_control}
 use Rattle.strm_msg.specs.Bytes.{bytes_of, control_blocks, data_blocks}
 use Rattle.strm_msg.specs.Messages.{message_of, part_of, AreData, IsChain}
 use Rattle.strm_msg.proofs.Chains.{control-body, control-front, control-none, data-all, data-behind, data-control, data-or-control}
-use Rattle.strm_image.specs.Sinks.{Given, patch, put}
+use Rattle.strm_image.specs.Sinks.{Given, patch, place_in, put}
 use Rattle.strm_image.proofs.SinkRows.{patch_put, put_both}
 use Rattle.strm_pair.specs.Writings.{absent, begun, continued, ended, extended, longer, part_begun, written}
 use Rattle.strm_pair.specs.declared.images.texts.Writing.{Writing}
@@ -41,7 +41,7 @@ spelled bytes = to_be_bytes w32 (length bytes) ++ bytes
 -- A part stands at the end, behind the text in front of it: its length is where it is patched.
 pub record IsOpen (front body : List ℕ) (g : Given) (control : Bool) (w : Writing) : Type 0 where
   pub out : w.out ≡ put (front ++ spelled body) g
-  pub at : w.at ≡ length (put front g).kept
+  pub at : w.at ≡ place_in (put front g)
   pub length : w.length ≡ length body
   pub in_control : w.in_control ≡ control
 
@@ -51,7 +51,7 @@ open_begun front g w is =
     let one : put (1 ∷ []) w.out ≡ put (front ++ 1 ∷ []) g = ap (put (1 ∷ [])) is ∙ put_both front (1 ∷ []) g in
     record {
       out = ap (put (0 ∷ 0 ∷ 0 ∷ 0 ∷ [])) one ∙ put_both (front ++ 1 ∷ []) (0 ∷ 0 ∷ 0 ∷ 0 ∷ []) g;
-      at = ap (λ (h : Given). length h.kept) one;
+      at = ap place_in one;
       length = refl;
       in_control = refl;
     }
@@ -67,7 +67,7 @@ open_extended front body bytes g control w is few =
     let out : w.out ≡ put (spelled body) h = is.out ∙ sym (put_both front (spelled body) g) in
     let new = to_be_bytes w32 (length (body ++ bytes)) in
     let patched : patch w.at (to_be_bytes w32 (longer w.length bytes)) w.out ≡ put (new ++ body) h =
-    ap (λ k. patch w.at (to_be_bytes w32 k) w.out) n ∙ ap (λ a. patch a new w.out) is.at ∙ ap (patch (length h.kept) new) out
+    ap (λ k. patch w.at (to_be_bytes w32 k) w.out) n ∙ ap (λ a. patch a new w.out) is.at ∙ ap (patch (place_in h) new) out
     ∙ patch_put (to_be_bytes w32 (length body)) new body h (be_same (length body) (length (body ++ bytes))) in
     record {
       out = ap (put bytes) patched ∙ put_both (new ++ body) bytes h ∙ put_both front ((new ++ body) ++ bytes) g

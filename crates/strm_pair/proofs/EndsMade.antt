@@ -13,7 +13,7 @@ use Rattle.strm_types.specs.Queue as state
 use Rattle.strm_types.specs.Heads as heads
 use Rattle.strm_laws.specs.StackCosts.{EachOnce}
 use Rattle.strm_laws.specs.Stacked.{module_name}
-use Rattle.strm_laws.specs.Restorable.{AreMarks, StandsOn, is_part_kind}
+use Rattle.strm_laws.specs.Restorable.{StandsOn, is_part_kind}
 use Rattle.strm_blocks.specs.Blocks.{Block, StoreValue, block_at, list_at}
 use Rattle.strm_msg.specs.Messages.{message_of}
 use Rattle.strm_msg.proofs.Chains.{kind-is}
@@ -24,13 +24,11 @@ use Rattle.strm_head.specs.declared.head.Head.{Head}
 use Rattle.strm_head.specs.Heads.{head_in}
 use Rattle.strm_frame.specs.Stacks.{all_of}
 use Rattle.strm_frame.specs.declared.stack.Stream.{Stream}
-use Rattle.strm_image.specs.declared.flows.Flow.{Flow}
 use Rattle.strm_image.specs.declared.modules.ModuleText.{ModuleText}
 use Rattle.strm_image.specs.declared.modules.ModuleText.TheVariants as texts
 use Rattle.strm_image.specs.declared.streams.StreamText.{StreamText}
 use Rattle.strm_image.specs.Counts as counts
 use Rattle.strm_image.specs.Counts.{laid_blocks, queue_blocks}
-use Rattle.strm_image.specs.FlowTexts.{flow_now}
 use Rattle.strm_image.specs.ModuleTexts.{module_now, modules_now, names_now}
 use Rattle.strm_image.specs.QueueTexts.{queue_now}
 use Rattle.strm_image.specs.StreamTexts.{laid_now}
@@ -41,17 +39,12 @@ use Rattle.strm_pair.specs.AnyModules.{module_in, owns}
 use Rattle.strm_pair.specs.Laying.{IsStood, IsStreamText, stream_now}
 use Rattle.strm_pair.specs.Placing.{AreStacked, module_blocks}
 use Rattle.strm_pair.specs.Runs.{Spent}
-use Rattle.strm_pair.specs.Standing.{AreMarked, Fills, FillsTwo}
+use Rattle.strm_pair.specs.Standing.{Fills, FillsTwo}
 use Rattle.strm_pair.specs.Streams.{AreApart}
 use Rattle.strm_pair.proofs.Sides.{queue-same}
 use Rattle.strm_pair.proofs.StacksMade.{own-both, own-within-two}
 
 -- ---- what a text tells
-
--- marks that an image may hold are marks
-pub marked : (fs : List Flow) → AllByRecursion AreMarks (map flow_now fs) → AreMarked fs
-marked [] all = tt
-marked (f ∷ fs) all = (record { some = all.0.some; order = all.0.order }, marked fs all.1)
 
 part-data : (k : MsgKind) → is_part_kind k ≡ true → is_data_kind k ≡ true
 unfolding is_data_kind is_control_kind is_body_kind

@@ -14,6 +14,7 @@ pub mod ModuleCosts
 pub mod PlaceCosts
 pub mod PutSteps
 pub mod ModuleSteps
+pub mod NearestStays
 pub mod ServeSteps
 pub mod CallsOn
 pub mod TurnSteps

@@ -15,12 +15,10 @@ use Rattle.strm_image.specs.declared.streams.StreamText.{StreamText}
 use Rattle.strm_image.specs.ModuleTexts.{module_now}
 use Rattle.strm_pair.specs.Laying.{IsStreamText, stream_now}
 use Rattle.strm_pair.specs.Placing.{IsModuleText}
-use Rattle.strm_pair.proofs.EndsMade.{marked, names-same}
+use Rattle.strm_pair.proofs.EndsMade.{names-same}
 
 module-told : (m : ModuleText) → GoodModule (module_now m) → IsModuleText m
 module-told (texts.Ldterm l) good = record {
-  reads = marked l.read_queue.flows good.read_queue.marks;
-  writes = marked l.write_queue.flows good.write_queue.marks;
   column = good.column;
   line = good.line;
 }
@@ -34,7 +32,6 @@ each-told (m ∷ ms) good = (module-told m good.0, each-told ms good.1)
 pub stream-told : (side : Side) (how : Openness) (t : StreamText) → GoodStream side (stream_now how t) → IsWithin (stream_now how t).head → IsStreamText t
 stream-told side how t good within = record {
   head = good.head.queue;
-  driver = good.driver.marks;
   modules = record {
     few = subst (λ n. n ≤ MODULES) (length-map t.modules.items module_now) good.modules.few;
     each = each-told t.modules.items good.modules.each;

@@ -1,11 +1,10 @@
 -- Streams of a text in a store.
 use Rattle.std.specs.Prelude.{ℕ, ◌≡◌, ◌≤◌, ◌<◌, ◌+◌, length}
-use Rattle.std.specs.List.{AllByRecursion}
 use Rattle.strm_types.specs.declared.limits.TheConstants.{IOCTL_MAX}
 use Rattle.strm_types.specs.declared.names.Openness.{Openness}
 use Rattle.strm_types.specs.Signals.{AreSignals}
 use Rattle.strm_types.specs.Slots.{answer_bytes, map_slot}
-use Rattle.strm_laws.specs.Restorable.{AreMarks, GoodQueue, is_part_kind}
+use Rattle.strm_laws.specs.Restorable.{GoodQueue, is_part_kind}
 use Rattle.strm_laws.specs.State.{Stream}
 use Rattle.strm_blocks.specs.Blocks.{StoreValue, list_at}
 use Rattle.strm_image.specs.declared.streams.StreamText.{StreamText}
@@ -18,10 +17,9 @@ use Rattle.strm_pair.specs.Runs.{Spent}
 use Rattle.strm_pair.specs.Stacks.{stack_keeps}
 use Rattle.strm_pair.specs.Streams.{IsSide, stream_in}
 
--- what the text of a stream has as its format says: marks, what readers may read, modules, signals, and the answer of an ioctl
+-- what the text of a stream has as its format says: what readers may read, modules, signals, and the answer of an ioctl
 pub record IsStreamText (t : StreamText) : Type 0 where
   pub head : GoodQueue is_part_kind (queue_now t.head)
-  pub driver : AllByRecursion AreMarks (queue_now t.driver).flows
   pub modules : AreModuleTexts t.modules.items
   pub signals : AreSignals t.signals.now
   pub answer : length (answer_bytes (map_slot (λ b. b.now) t.slot)) ≤ IOCTL_MAX

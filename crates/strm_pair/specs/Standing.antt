@@ -1,24 +1,14 @@
 -- Queues of a text in a store.
 use Rattle.std.specs.Prelude.{ℕ, ◌≡◌, ◌≢◌, ◌≤◌, ◌+◌, Bool, false, List, length, slice_index_or, sum_by}
-use Rattle.std.specs.List.{AllByRecursion}
 use Rattle.strm_types.specs.declared.keys.TheConstants.{LINE_MAX}
 use Rattle.strm_types.specs.declared.output.TheConstants.{COLUMN_MAX}
 use Rattle.strm_types.specs.Queue as plain
 use Rattle.strm_blocks.specs.Blocks.{StoreValue, list_at}
 use Rattle.strm_queue.specs.declared.queue.Queue.{Queue}
 use Rattle.strm_queue.specs.Stored.{IsReady}
-use Rattle.strm_image.specs.declared.flows.Flow.{Flow}
 use Rattle.strm_image.specs.declared.modules.LdtermText.{LdtermText}
 use Rattle.strm_image.specs.Loads.{blocks_of}
 use Rattle.strm_image.specs.Texts.{messages_now}
-
--- a high-water mark above 0, and a low-water mark that isn't above it
-pub record IsMarked (f : Flow) : Type 0 where
-  pub some : 1 ≤ f.high
-  pub order : f.low ≤ f.high
-
-abbrev pub AreMarked : List Flow → Type 0
-AreMarked fs = AllByRecursion IsMarked fs
 
 -- the flow control of a band that there isn't
 abbrev pub no_flow : plain.Flow
@@ -43,10 +33,8 @@ pub record Fills (old new : StoreValue) (list : ℕ) (q : Queue) : Type 0 where
 abbrev pub ldterm_blocks : LdtermText → ℕ
 ldterm_blocks l = sum_by blocks_of (messages_now l.read_queue.messages) + sum_by blocks_of (messages_now l.write_queue.messages)
 
--- what the text of an ldterm has as its format says: marks, a column, a line
+-- what the text of an ldterm has as its format says: a column, a line
 pub record IsLdtermText (l : LdtermText) : Type 0 where
-  pub reads : AreMarked l.read_queue.flows
-  pub writes : AreMarked l.write_queue.flows
   pub column : l.column ≤ COLUMN_MAX
   pub line : length l.line.now ≤ LINE_MAX
 

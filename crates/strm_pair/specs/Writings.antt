@@ -8,7 +8,7 @@ use Rattle.strm_types.specs.Message.{Message}
 use Rattle.strm_blocks.specs.Outcomes.{SeenBlock}
 use Rattle.strm_image.specs.declared.versions.Version.TheVariants.{Second}
 use Rattle.strm_image.specs.Messages.{message}
-use Rattle.strm_image.specs.Sinks.{put, patch}
+use Rattle.strm_image.specs.Sinks.{patch, place_in, put}
 use Rattle.strm_pair.specs.declared.images.texts.Writing.{Writing}
 
 -- the text of a part that is absent
@@ -21,7 +21,7 @@ texts_of ms = flat_map (message Second).text ms
 
 -- a part begins, with no byte: it is there, and its length stands at a place
 unfoldable pub part_begun : Writing → Writing
-part_begun w = record w { out = put (0 ∷ 0 ∷ 0 ∷ 0 ∷ []) (put (1 ∷ []) w.out); at = length (put (1 ∷ []) w.out).kept; length = 0 }
+part_begun w = record w { out = put (0 ∷ 0 ∷ 0 ∷ 0 ∷ []) (put (1 ∷ []) w.out); at = place_in (put (1 ∷ []) w.out); length = 0 }
 
 -- a message ends: a data part that is owed is absent
 abbrev pub ended : Writing → Writing

@@ -7,12 +7,11 @@ ghost use Rattle.strm_image.specs.declared.versions.Version.TheVariants.{Second}
 ghost use Rattle.strm_pair.specs.BaseTexts.{start_in, begun_at, made_of};
 ghost use Rattle.strm_pair.specs.Pairs.{AreHeld, state_in};
 
-use crate::images::whole::put_image;
+use crate::images::whole::image_into;
 use crate::past::Past;
 use crate::streams::Streams;
 use std::mem;
 use strm_blocks::Blocks;
-use strm_image::Sink;
 use strm_types::{Both, Fates};
 
 /// The base of a journal: the image, in version 2, of the state and of what had gone by each rule where it begins, in memory that was
@@ -25,17 +24,21 @@ pub(crate) struct Base {
     pub past: Past,
 }
 
-// The image of streams over their store, in memory that takes it.
+// The image of streams over their store, in memory that takes it. It is written again only where it is longer than what stood there.
 fn text_of<B: Blocks>(store: &B, streams: &Streams, fates: &Fates, memory: Vec<u8>) -> Vec<u8>
     requires held { AreHeld (B.value store.now) streams.now }
     requires room { length (image.text (Second, imaged (state_in (B.value store.now) streams.now) fates.now)) ≤ vec_capacity memory }
     ensures text { result.items ≡ image.text (Second, imaged (state_in (B.value store.now) streams.now) fates.now) }
     ensures memory { vec_capacity memory ≤ vec_capacity result }
 {
-    match put_image(store, streams, fates, Sink::new(memory)).whole() {
-        Some(text) => text,
-        None => unreachable!(),
+    let mut text = memory;
+    let wanted = image_into(store, streams, fates, text.as_mut_slice());
+    if text.len() < wanted {
+        text.resize(wanted, 0).unwrap();
+        image_into(store, streams, fates, text.as_mut_slice());
     }
+    text.truncate(wanted);
+    text
 }
 
 // How many bytes were made on the way.

@@ -13,7 +13,6 @@ ghost use Rattle.strm_frame.specs.Hands.{HasRoom};
 ghost use Rattle.strm_frame.specs.Outboxes.{sent_of};
 ghost use Rattle.strm_pair.specs.ModuleServed.{ActsAs, BookTakes, CallsAs, IsKeptAll, MayBook, StackServes, TreatsAs, between, call_cost, call_of, with_more};
 
-use crate::earlier::note;
 use crate::stacks::place_at;
 use crate::streams::Streams;
 use strm_blocks::Blocks;
@@ -128,17 +127,11 @@ impl Streams {
             (call_of result) (sent_of result.acts.sent) told.old told.new }
     {
         store.audit();
-        let place = place_at(&self.end(here.side).stack, here.at as usize);
-        let earlier = self.earlier(here.side, here.at as usize);
+        let at = here.at as usize;
+        let place = place_at(&self.end(here.side).stack, at);
         let before = Made::of(told);
         let served = self.serve_at(store, here, again, told);
-        note(
-            &mut self.enabled,
-            here.side,
-            place,
-            earlier,
-            served.acts.notes.as_slice(),
-        );
+        self.note(here.side, place, at, served.acts.notes.as_slice());
         self.book_made(before, told);
         served
     }

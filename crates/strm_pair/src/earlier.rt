@@ -42,7 +42,8 @@ impl Earlier {
     }
 }
 
-/// Enables what a put says of the queues of a place, one note after the other.
+/// Enables what is said of the queues of a place, one note after the other, by the nearest earlier queues that it had: those of a module
+/// that has gone.
 pub(crate) fn note(
     enabled: &mut Enabled,
     side: Side,
@@ -129,13 +130,20 @@ impl Streams {
         }
     }
 
-    /// Does what a put says of the queues of a place of a side's stream.
+    /// Does what a put says of the queues of a place of a side's stream, one note after the other. The nearest earlier queue is looked for
+    /// where a note asks for it, and else not.
     pub(crate) fn note(&mut self, side: Side, place: Option<Place>, at: usize, notes: &[Note])
         ensures { (s : StoreValue) → self.new ≡ record self.old {
           enabled = noted side place (earlier_at side at (state_in s self.old)) notes.now self.old.enabled;
         } }
     {
-        let earlier = self.earlier(side, at);
-        note(&mut self.enabled, side, place, earlier, notes);
+        let Some((first, rest)) = notes.split_first() else {
+            return;
+        };
+        match *first {
+            Note::Enable(way) => self.enabled.enable_found(queue_named(side, way, place)),
+            Note::Room(way) => self.let_go(side, way, at, true),
+        }
+        self.note(side, place, at, rest);
     }
 }

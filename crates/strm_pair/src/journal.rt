@@ -23,7 +23,8 @@ pub(crate) struct Journal {
         most_entries most_bytes },
 }
 
-// Adds bytes to a buffer that has room for them.
+// Adds bytes to a buffer that has room for them. Inlined, so that where there are none nothing is called.
+#[inline(always)]
 fn append(buffer: &mut Vec<u8>, bytes: &[u8])
     requires { length buffer.old.items + length bytes.now ≤ vec_capacity buffer.old }
     ensures items { buffer.new.items ≡ buffer.old.items ++ bytes.now }
@@ -50,6 +51,18 @@ fn is_within(event: &Event<&[u8]>)
     } = event
     {
         is_low(band.0);
+    }
+}
+
+// The bytes of a call, in two parts. Inlined, so that where it is known to be a write or a read nothing asks for its kind again.
+#[inline(always)]
+fn parts_of<'a>(event: &Event<&'a [u8]>) -> (&'a [u8], &'a [u8])
+    ensures { result.0.now ++ result.1.now ≡ payload_of (request event.now) }
+{
+    match event {
+        Event::Write { bytes } => (bytes, &[]),
+        Event::Read { .. } => (&[], &[]),
+        _ => event.payload(),
     }
 }
 
@@ -138,7 +151,7 @@ impl Journal {
             event: event.shape(),
             answer,
         };
-        let (first, second) = event.payload();
+        let (first, second) = parts_of(event);
         self.add(entry, first, second, content);
     }
 

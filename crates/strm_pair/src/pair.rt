@@ -151,15 +151,15 @@ impl<B: Blocks + Drop> Pair<B> {
         self.store.free_blocks()
     }
 
-    /// How many bytes have gone in each direction by each rule since the pair was made: what reads gave, and what flushes and
-    /// closes took.
+    /// How many bytes have gone in each direction by each rule: what reads gave, and what flushes and closes took. They are counted
+    /// from where the pair was made; a restored one goes on from what its image tells.
     pub fn fates(&self) -> &Fates
         ensures { result.now ≡ self.now.fates }
     {
         &self.fates
     }
 
-    /// How many bytes were written in a direction, since the pair was made.
+    /// How many bytes were written in a direction, counted as [`Pair::fates`] are.
     pub fn written(&self, direction: Dir) -> u64
         ensures { result ≡ (book direction self.now.state).written }
     {
@@ -174,7 +174,7 @@ impl<B: Blocks + Drop> Pair<B> {
     }
 
     /// The ledger of a direction: how many bytes were written and made there, how many stand on its queues and in its unfinished
-    /// lines, and how many have gone by each rule since the pair was made; so written and made add up to all others. Every byte that stood
+    /// lines, and how many have gone by each rule ([`Pair::fates`]); so written and made add up to all others. Every byte that stood
     /// there where the journal begins, or was booked since, has exactly one place, in its direction: on a queue, in a line, or among what
     /// has gone by one rule; and no other byte has any.
     ///

@@ -26,7 +26,6 @@ ghost use Rattle.strm_laws.specs.StackCosts.{module_leaves, module_takes, stack_
 ghost use Rattle.strm_pair.specs.PutBy.{PutAs, PutBy, CameBy, StackTakes};
 
 use crate::calling::Made;
-use crate::earlier::note;
 use crate::stacks::place_at;
 use crate::streams::Streams;
 use strm_blocks::{Blocks, InHand};
@@ -206,17 +205,11 @@ impl Streams {
             (at_place (module_leaves to m) 0 to.at ms) (sent_of result) told.old told.new (put_at_module plain to m st) }
     {
         store.audit();
-        let place = place_at(&self.end(to.side).stack, to.at as usize);
-        let earlier = self.earlier(to.side, to.at as usize);
+        let at = to.at as usize;
+        let place = place_at(&self.end(to.side).stack, at);
         let before = Made::of(told);
         let acts = self.put_on_stack(store, to, message, told);
-        note(
-            &mut self.enabled,
-            to.side,
-            place,
-            earlier,
-            acts.notes.as_slice(),
-        );
+        self.note(to.side, place, at, acts.notes.as_slice());
         self.book_made(before, told);
         acts.sent
     }

@@ -9,7 +9,7 @@ ghost use Rattle.strm_image.specs.ModuleTexts.{ldterm_now};
 ghost use Rattle.strm_image.specs.Texts.{messages_now};
 ghost use Rattle.strm_ldterm.specs.Stands.{IsHeld, keeps, ldterm_in, owns};
 ghost use Rattle.strm_pair.specs.Runs.{Spent};
-ghost use Rattle.strm_pair.specs.Standing.{AreMarked, IsLdtermText, FillsTwo, ldterm_blocks};
+ghost use Rattle.strm_pair.specs.Standing.{IsLdtermText, FillsTwo, ldterm_blocks};
 
 use crate::images::standing::queue_of;
 use strm_blocks::Blocks;

@@ -38,10 +38,10 @@ fn put_settings(out: &mut Sink, ldterm: &Ldterm)
 }
 
 // An ldterm between two calls: it has nothing in hand.
-fn put_ldterm<B: Blocks>(store: &B, ldterm: &Ldterm, out: Sink) -> Sink
+fn put_ldterm<'a, B: Blocks>(store: &B, ldterm: &Ldterm, out: Sink<'a>) -> Sink<'a>
     requires hand { (B.value store.now).hand ≡ [] }
     requires held { stands.IsHeld (B.value store.now) ldterm.now }
-    ensures { result ≡ put ((module_format Second).text (OfLdterm (ldterm_in (B.value store.now) ldterm.now))) out }
+    ensures { result ≡ put ((module_format Second).text (OfLdterm (ldterm_in (B.value store.now) ldterm.now))) out.entry }
 {
     let mut out = out;
     put_settings(&mut out, ldterm);
@@ -51,10 +51,10 @@ fn put_ldterm<B: Blocks>(store: &B, ldterm: &Ldterm, out: Sink) -> Sink
 
 // A module, behind its name.
 #[tactic(auto, using(strm_image::proofs::SinkRows::put_both, strm_image::proofs::WrittenRows::ptem_told, strm_image::proofs::WrittenRows::pckt_told))]
-fn put_module<B: Blocks>(store: &B, any: &AnyModule, out: Sink) -> Sink
+fn put_module<'a, B: Blocks>(store: &B, any: &AnyModule, out: Sink<'a>) -> Sink<'a>
     requires hand { (B.value store.now).hand ≡ [] }
     requires held { IsHeld (B.value store.now) any.now }
-    ensures { result ≡ put ((module_format Second).text (module_in (B.value store.now) any.now)) out }
+    ensures { result ≡ put ((module_format Second).text (module_in (B.value store.now) any.now)) out.entry }
 {
     let mut out = out;
     match any {
@@ -70,10 +70,10 @@ fn put_module<B: Blocks>(store: &B, any: &AnyModule, out: Sink) -> Sink
 
 // Modules, one behind the other.
 #[tactic(auto, using(strm_image::proofs::SinkRows::put_both, strm_image::proofs::SinkRows::put_nothing))]
-fn put_each<B: Blocks>(store: &B, modules: &[AnyModule], out: Sink) -> Sink
+fn put_each<'a, B: Blocks>(store: &B, modules: &[AnyModule], out: Sink<'a>) -> Sink<'a>
     requires hand { (B.value store.now).hand ≡ [] }
     requires held { AllByRecursion (IsHeld (B.value store.now)) modules.now }
-    ensures { result ≡ put (flat_map (module_format Second).text (map (module_in (B.value store.now)) modules.now)) out }
+    ensures { result ≡ put (flat_map (module_format Second).text (map (module_in (B.value store.now)) modules.now)) out.entry }
 {
     let Some((first, rest)) = modules.split_first() else {
         return out;
@@ -84,10 +84,10 @@ fn put_each<B: Blocks>(store: &B, modules: &[AnyModule], out: Sink) -> Sink
 
 /// Writes the modules of a stream between two calls, with their number in front.
 #[tactic(auto, using(strm_image::proofs::SinkRows::put_both, strm_image::proofs::WrittenRows::modules_told))]
-pub(crate) fn put_modules<B: Blocks>(store: &B, stack: &Stack, out: Sink) -> Sink
+pub(crate) fn put_modules<'a, B: Blocks>(store: &B, stack: &Stack, out: Sink<'a>) -> Sink<'a>
     requires hand { (B.value store.now).hand ≡ [] }
     requires held { IsStackHeld (B.value store.now) stack.now }
-    ensures { result ≡ put ((modules Second).text (modules_in (B.value store.now) stack.now)) out }
+    ensures { result ≡ put ((modules Second).text (modules_in (B.value store.now) stack.now)) out.entry }
 {
     let mut out = out;
     put_u8(&mut out, stack.modules.len() as u8);

@@ -12,7 +12,7 @@ use strm_blocks::Blocks;
 use strm_image::writing::{Bands, put_flows, put_queue_flags};
 use strm_image::{Flow, QueueKind, Sink};
 use strm_queue::{Flows, Queue};
-use strm_types::Band;
+use strm_types::{Band, Marks};
 
 // The bands of a queue, one by one.
 #[derive(Drop)]
@@ -34,13 +34,23 @@ impl<'a> Bands for BandsOf<'a> {
             want_write: own.want_write,
         }
     }
+
+    fn shared_above(&self) -> Option<Marks> {
+        self.flows.shared_above()
+    }
 }
 
-/// Writes a queue, of a kind by its place, in version 2. The cost is two steps for each band, and two for each block of its messages.
+/// Writes a queue, of a kind by its place, in version 2. The cost is two steps for each block of its messages, and, where a band above 0
+/// has marks of its own or a writer waits for one, two for each band.
 #[tactic(auto, using(strm_image::proofs::SinkRows::put_both, strm_image::proofs::WrittenRows::queue_told))]
-pub(crate) fn put_queue<B: Blocks>(store: &B, queue: &Queue, at: QueueKind, out: Sink) -> Sink
+pub(crate) fn put_queue<'a, B: Blocks>(
+    store: &B,
+    queue: &Queue,
+    at: QueueKind,
+    out: Sink<'a>,
+) -> Sink<'a>
     requires { IsReady (B.value store.now) queue.now }
-    ensures { result ≡ put ((formats.queue Second at).text (queue_in (B.value store.now) queue.now)) out }
+    ensures { result ≡ put ((formats.queue Second at).text (queue_in (B.value store.now) queue.now)) out.entry }
 {
     let mut out = out;
     put_queue_flags(&mut out, queue.want_read, queue.no_enable);

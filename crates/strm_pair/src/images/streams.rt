@@ -68,12 +68,12 @@ fn put_head(out: &mut Sink, head: &Head)
 
 /// Writes the stream of a side between two calls.
 #[tactic(auto, using(strm_image::proofs::SinkRows::put_both, strm_image::proofs::WrittenRows::laid_told))]
-pub(crate) fn put_stream<B: Blocks>(store: &B, end: &StreamEnd, out: Sink) -> Sink
+pub(crate) fn put_stream<'a, B: Blocks>(store: &B, end: &StreamEnd, out: Sink<'a>) -> Sink<'a>
     requires hand { (B.value store.now).hand ≡ [] }
     requires head { IsReady (B.value store.now) end.now.head.queue }
     requires driver { IsReady (B.value store.now) end.now.driver }
     requires stack { IsStackHeld (B.value store.now) end.now.stack }
-    ensures { (is_slave : Bool) → result ≡ put ((laid Second is_slave).text (laid_on (stream_in (B.value store.now) end.now))) out }
+    ensures { (is_slave : Bool) → result ≡ put ((laid Second is_slave).text (laid_on (stream_in (B.value store.now) end.now))) out.entry }
 {
     let mut out = out;
     put_head(&mut out, &end.head);

@@ -20,14 +20,14 @@ const ABSENT: [u8; 5] = [0; 5];
 // Writes the text of messages, block by block. The length of the part at the end is at a place, and grows with each block; behind a
 // control part the data part is owed, until a block of it comes or the message ends.
 #[derive(Drop)]
-struct Writing {
-    out: Sink,
+struct Writing<'a> {
+    out: Sink<'a>,
     at: usize,
     length: u32,
     in_control: bool,
 }
 
-impl Writing {
+impl Writing<'_> {
     // Begins a part, where it has no byte.
     #[tactic(auto, unfolding(crate::specs::Writings::part_begun))]
     fn begin_part(&mut self)
@@ -75,7 +75,7 @@ impl Writing {
     }
 }
 
-impl Visitor for Writing {
+impl Visitor for Writing<'_> {
     ghost use Rattle.std.specs.Prelude.{true};
     ghost use Rattle.strm_pair.specs.Writings.{written};
 
@@ -96,9 +96,9 @@ impl Visitor for Writing {
 }
 
 // The messages of a queue, one behind the other.
-fn put_each<B: Blocks>(store: &B, queue: &Queue, out: Sink) -> Sink
+fn put_each<'a, B: Blocks>(store: &B, queue: &Queue, out: Sink<'a>) -> Sink<'a>
     requires { IsReady (B.value store.now) queue.now }
-    ensures { result ≡ put (texts_of (messages_on (B.value store.now) queue.now.list)) out }
+    ensures { result ≡ put (texts_of (messages_on (B.value store.now) queue.now.list)) out.entry }
 {
     store.audit();
     let mut writing = Writing {
@@ -114,9 +114,9 @@ fn put_each<B: Blocks>(store: &B, queue: &Queue, out: Sink) -> Sink
 }
 
 /// Writes the messages of a queue, with their number in front. The cost is two steps for each block of them.
-pub fn put_messages<B: Blocks>(store: &B, queue: &Queue, out: Sink) -> Sink
+pub fn put_messages<'a, B: Blocks>(store: &B, queue: &Queue, out: Sink<'a>) -> Sink<'a>
     requires { IsReady (B.value store.now) queue.now }
-    ensures { (at : QueueKind) → result ≡ put ((messages Second at).text (messages_on (B.value store.now) queue.now.list)) out }
+    ensures { (at : QueueKind) → result ≡ put ((messages Second at).text (messages_on (B.value store.now) queue.now.list)) out.entry }
 {
     store.audit();
     let (count, _) = sizes(store, queue);

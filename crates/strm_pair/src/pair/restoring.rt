@@ -77,7 +77,7 @@ impl<B: Blocks + Drop> Pair<B> {
     ///
     /// It is refused where the text is the image of no state (EINVAL), where the store has fewer free blocks of a kind than the messages
     /// of the image take (ENOSR), and where memory is refused, in this order. Then the store comes back as it was. The memory is that of
-    /// [`Pair::new`], and no later call takes any to keep. The cost is in proportion to the text, and a step for each band of each queue.
+    /// [`Pair::new`], and no later call takes any to keep. The cost is in proportion to the text.
     pub fn restore(
         alloc: Global,
         sizes: Config,

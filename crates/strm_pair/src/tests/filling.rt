@@ -1,10 +1,8 @@
 //! Queues that are filled with the messages of a text.
 
 ghost use Rattle.std.specs.Prelude.{◌≡◌, []};
-ghost use Rattle.std.specs.Bool.{OnTrue};
 ghost use Rattle.strm_blocks.specs.Blocks.{list_at};
 ghost use Rattle.strm_queue.specs.Stored.{IsReady, messages_on};
-ghost use Rattle.strm_pair.specs.Standing.{AreMarked};
 
 use crate::images::filling::fill;
 use crate::images::ldterms::ldterm_of;
@@ -12,7 +10,7 @@ use crate::images::standing::queue_of;
 use std::alloc::{AllocError, Global};
 use std::test::*;
 use strm_blocks::{Blocks, TableStore};
-use strm_image::{Flow, ModuleText, read};
+use strm_image::{ModuleText, read};
 use strm_ldterm::Tables;
 use strm_queue::{OTHER_HIGH, OTHER_LOW, Queue, Table};
 use strm_types::{Band, MsgKind};
@@ -116,16 +114,6 @@ fn messages_stand_as_a_text_has_them(rt: HostRuntime) -> Result<(), Fail> {
     Ok(())
 }
 
-// Whether each band has a high-water mark, and a low-water mark that isn't above it.
-fn are_marked(flows: &[Flow]) -> bool
-    ensures { OnTrue result (AreMarked flows.now) }
-{
-    let Some((first, rest)) = flows.split_first() else {
-        return true;
-    };
-    first.high >= 1 && first.low <= first.high && are_marked(rest)
-}
-
 #[test]
 fn a_queue_is_as_a_text_has_it(rt: HostRuntime) -> Result<(), Fail> {
     let alloc = rt.alloc();
@@ -136,7 +124,6 @@ fn a_queue_is_as_a_text_has_it(rt: HostRuntime) -> Result<(), Fail> {
     let mut store = TableStore::new(alloc, 8, 8)?;
     let (mblks, dblks) = store.free_blocks();
     assert!(rt; found.messages.blocks() <= mblks && found.messages.blocks() <= dblks);
-    assert!(rt; are_marked(&found.flows));
     let mut queue = queue_of(&mut store, 2, Table::new(alloc)?, &found);
     assert!(rt; !queue.want_read && queue.no_enable);
     assert_eq!(rt; queue.count(Band(5)), 5);
@@ -190,7 +177,6 @@ fn an_ldterm_is_as_a_text_has_it(rt: HostRuntime) -> Result<(), Fail> {
     let (mblks, dblks) = store.free_blocks();
     let blocks = found.read_queue.messages.blocks() + found.write_queue.messages.blocks();
     assert!(rt; blocks <= mblks && blocks <= dblks);
-    assert!(rt; are_marked(&found.read_queue.flows) && are_marked(&found.write_queue.flows));
     assert!(rt; found.column <= 65_535 && found.line.len() <= 255);
     let ldterm = ldterm_of(&mut store, 2, Tables::new(alloc)?, found);
     assert!(rt; ldterm.stopped && !ldterm.after_lnext);

@@ -27,6 +27,24 @@ fn an_opened_pair_takes_421_bytes(rt: HostRuntime) -> Result<(), Fail> {
 }
 
 #[test]
+fn an_image_goes_into_a_buffer(rt: HostRuntime) -> Result<(), Fail> {
+    let mut pair = over_tables(rt.alloc(), SIZES)?;
+    follow(&rt, &mut pair, &OPENING);
+    let Ok(image) = pair.image(rt.alloc()) else {
+        panic!(&rt; "no memory")
+    };
+    let mut out = [7; 512];
+    assert_eq!(&rt; pair.image_into(&mut out), 421);
+    assert!(&rt; &out[..421] == image.as_slice());
+    assert!(&rt; out.iter().skip(421).all(|byte| *byte == 7));
+    let mut short = [7; 420];
+    assert_eq!(&rt; pair.image_into(&mut short), 421);
+    assert!(&rt; image.as_slice().starts_with(&short));
+    assert_eq!(&rt; pair.image_into(&mut []), 421);
+    Ok(())
+}
+
+#[test]
 fn the_image_has_what_stands_on_queues(rt: HostRuntime) -> Result<(), Fail> {
     let mut pair = over_tables(rt.alloc(), SIZES)?;
     follow(&rt, &mut pair, &OPENING);

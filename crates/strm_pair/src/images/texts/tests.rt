@@ -67,8 +67,9 @@ fn messages_of_two_blocks_are_whole(rt: HostRuntime) -> Result<(), Fail> {
     let alloc = rt.alloc();
     let mut store = TableStore::new(alloc, 16, 16)?;
     assert!(rt; stand_all(&mut store).is_ok());
+    let mut bytes = [0; 256];
     let mut writing = Writing {
-        out: Sink::new(Vec::with_capacity(alloc, 256)?),
+        out: Sink::new(&mut bytes),
         at: 0,
         length: 0,
         in_control: false,
@@ -76,7 +77,7 @@ fn messages_of_two_blocks_are_whole(rt: HostRuntime) -> Result<(), Fail> {
     store.visit(0, &mut writing);
     writing.end();
     let Writing { out, .. } = writing;
-    let text = out.whole();
-    assert!(rt; text.is_some_and(|bytes| bytes.as_slice() == TEXT));
+    let length = out.count();
+    assert!(rt; length <= 256 && &bytes[..length] == TEXT);
     Ok(())
 }

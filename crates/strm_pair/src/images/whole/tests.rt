@@ -1,18 +1,16 @@
 //! The image of a new pair, by hand.
 
-use super::put_image;
+use super::image_into;
 use crate::streams::{Streams, queue_tables};
 use std::alloc::{AllocError, Global};
 use std::test::Fail;
 use strm_blocks::TableStore;
-use strm_image::Sink;
 use strm_types::Fates;
 
-fn new_text(alloc: Global) -> Result<Option<Vec<u8>>, AllocError> {
+fn new_text(alloc: Global, out: &mut [u8]) -> Result<usize, AllocError> {
     let store = TableStore::new(alloc, 16, 16)?;
     let streams = Streams::new(queue_tables(alloc)?);
-    let out = Sink::new(Vec::with_capacity(alloc, 1024)?);
-    Ok(put_image(&store, &streams, &Fates::none(), out).whole())
+    Ok(image_into(&store, &streams, &Fates::none(), out))
 }
 
 // Nobody opened a side, the slave is locked, and the next ioctl is the first one. No side has a module, and its queues are as they are
@@ -31,7 +29,17 @@ fn is_new(text: &[u8]) -> bool {
 
 #[test]
 fn the_image_of_a_new_pair_has_two_silent_streams(rt: HostRuntime) -> Result<(), Fail> {
-    let text = new_text(rt.alloc())?;
-    assert!(rt; text.is_some_and(|bytes| is_new(bytes.as_slice())));
+    let mut out = [7; 1024];
+    let length = new_text(rt.alloc(), &mut out)?;
+    assert!(rt; length <= 1024 && is_new(&out[..length]));
+    assert!(rt; out.iter().skip(length).all(|byte| *byte == 7));
+    Ok(())
+}
+
+#[test]
+fn a_buffer_that_is_too_small_has_the_first_bytes(rt: HostRuntime) -> Result<(), Fail> {
+    let mut out = [7; 20];
+    let length = new_text(rt.alloc(), &mut out)?;
+    assert!(rt; length == FRONT.len() + 368 && FRONT.starts_with(&out));
     Ok(())
 }

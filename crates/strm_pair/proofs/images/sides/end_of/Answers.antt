@@ -2,14 +2,8 @@
 use Rattle.std.proofs.Common.{◌+◌, ap, arith, subst}
 use Rattle.std.specs.Prelude.{sum_by}
 use Rattle.strm_pair.specs.Placing.{AreStacked, module_blocks}
-use Rattle.strm_pair.proofs.EndsMade.{blocks-same, marked, stood}
+use Rattle.strm_pair.proofs.EndsMade.{blocks-same, stood}
 use Rattle.strm_pair.proofs.images.sides.end_of.Goals as goal
-
-pub queue_of-queue-requires-clause-marked : goal.queue_of-queue-requires-clause-marked
-queue_of-queue-requires-clause-marked g c = marked c.args.text.now.head.flows c.requires.good.head.marks
-
-pub queue_of-driver-requires-clause-marked : goal.queue_of-driver-requires-clause-marked
-queue_of-driver-requires-clause-marked g c = marked c.args.text.now.driver.flows c.requires.good.driver
 
 pub stack_of-stack-requires-clause-room : goal.stack_of-stack-requires-clause-room
 stack_of-stack-requires-clause-room g c =

@@ -18,13 +18,13 @@ unfolding journal_of
 add-requires-clause-room_bytes c =
     let j = c.args.self.now in
     let fits = (room-means j.entries.items j.bytes.items j.most_entries j.most_bytes _ j.stored.lengths c.requires.room).1 in
-    let shown = ap length c.payload.ensures in
-    omega (arith, fits, shown, length-append c.payload.result.0.now c.payload.result.1.now)
+    let shown = ap length c.parts_of.ensures in
+    omega (arith, fits, shown, length-append c.parts_of.result.0.now c.parts_of.result.1.now)
 
 pub add-requires-clause-lengths : goal.add-requires-clause-lengths
 add-requires-clause-lengths c =
     let len = ap event_len (c.shape.ensures c.requires.small) ∙ request-size (request c.args.event.now) in
-    omega (arith, len, c.requires.filled, ap length c.payload.ensures, length-append c.payload.result.0.now c.payload.result.1.now)
+    omega (arith, len, c.requires.filled, ap length c.parts_of.ensures, length-append c.parts_of.result.0.now c.parts_of.result.1.now)
 
 pub returns-clause-added : goal.returns-clause-added
 returns-clause-added c =
@@ -32,6 +32,6 @@ returns-clause-added c =
     let content = c.args.content.now in
     let old = journal_of c.args.self.now in
     c.add.ensures.added
-    ∙ ap (λ e. old ++ entry_in (Called c.args.caller e c.args.answer) ((c.payload.result.0.now ++ c.payload.result.1.now) ++ content) ∷ []) (c.shape.ensures c.requires.small)
-    ∙ ap (λ b. old ++ entry_in (Called c.args.caller (map_event (λ bytes. length bytes) asked) c.args.answer) (b ++ content) ∷ []) c.payload.ensures
+    ∙ ap (λ e. old ++ entry_in (Called c.args.caller e c.args.answer) ((c.parts_of.result.0.now ++ c.parts_of.result.1.now) ++ content) ∷ []) (c.shape.ensures c.requires.small)
+    ∙ ap (λ b. old ++ entry_in (Called c.args.caller (map_event (λ bytes. length bytes) asked) c.args.answer) (b ++ content) ∷ []) c.parts_of.ensures
     ∙ ap (λ e. old ++ e ∷ []) (entry-back c.args.caller asked c.args.answer content)

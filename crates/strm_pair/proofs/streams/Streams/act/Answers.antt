@@ -1,18 +1,21 @@
 -- What was made is told, and fits the books.
-use Rattle.std.proofs.Common.{◌<◌, ◌-◌, length, sym, ap, ◌∙◌, arith}
+use Rattle.std.proofs.Common.{◌<◌, ◌-◌, length, map, sym, ap, ◌∙◌, arith}
 use Rattle.std.specs.Prelude.{slice_index_or, None}
 use Rattle.strm_types.specs.declared.names.Dir.TheVariants.{MasterToSlave, SlaveToMaster}
 use Rattle.strm_types.specs.Deliver.{tallied}
 use Rattle.strm_laws.specs.Earlier.{places_of}
-use Rattle.strm_laws.specs.Puts.{noted}
+use Rattle.strm_types.specs.Cells.{plain}
+use Rattle.strm_laws.specs.Puts.{earlier_at, noted}
+use Rattle.strm_laws.specs.Stacked.{module_name}
+use Rattle.strm_laws.proofs.StackStays.{serve-names}
 use Rattle.strm_laws.specs.State as state
 use Rattle.strm_laws.specs.TurnCalls.{called}
 use Rattle.strm_pair.specs.declared.ends.StreamEnd.{StreamEnd}
 use Rattle.strm_pair.specs.declared.calling.Made.{Made}
 use Rattle.strm_pair.specs.declared.streams.Streams.{Streams}
 use Rattle.strm_pair.specs.ModuleServed.{between, call_of, stop_in, with_more}
-use Rattle.strm_pair.specs.Nearest.{earlier_of}
 use Rattle.strm_pair.specs.Pairs.{end_at, state_in}
+use Rattle.strm_pair.proofs.NearestStays.{before-stays}
 use Rattle.strm_pair.proofs.ServeSteps.{acts-by, made-fits, master-between, slave-between, tells-by, within-any}
 use Rattle.strm_pair.proofs.Sides.{modules-are}
 use Rattle.strm_pair.proofs.streams.Streams.act.Goals as goal
@@ -48,7 +51,7 @@ book_made-requires-clause-master g c =
     let counts = c.of-before.ensures.counts in
     let before = ap (λ (m : Made). m.from_master) counts in
     let made = ap (λ k. between k f'.made_from_master) before ∙ master-between here c.args.again call st tells c.requires.begins low c.requires.books f f' (omega (arith, few, before)) tallies in
-    let book = ap (λ (y : Streams). y.books.master.made) e.streams in
+    let book = ap (λ (y : Streams). y.books.master.made) (c.note.ensures s) ∙ ap (λ (y : Streams). y.books.master.made) e.streams in
     let fits = made-fits here c.args.again call st tells c.requires.begins low c.requires.books MasterToSlave in
     λ some. omega (arith, made, book, fits)
 
@@ -71,7 +74,7 @@ book_made-requires-clause-slave g c =
     let few = c.of-before.ensures.few.1 in
     let before = ap (λ (m : Made). m.from_slave) c.of-before.ensures.counts in
     let made = ap (λ k. between k f'.made_from_slave) before ∙ slave-between here c.args.again call st tells c.requires.begins low c.requires.books f f' (omega (arith, few, before)) tallies in
-    let book = ap (λ (y : Streams). y.books.slave.made) e.streams in
+    let book = ap (λ (y : Streams). y.books.slave.made) (c.note.ensures s) ∙ ap (λ (y : Streams). y.books.slave.made) e.streams in
     let fits = made-fits here c.args.again call st tells c.requires.begins low c.requires.books SlaveToMaster in
     λ some. omega (arith, made, book, fits)
 
@@ -90,7 +93,9 @@ returns g c =
     let e = c.serve_at-served.ensures in
     let x = (end_at here.side y).stack in
     let place = c.place_at-place.result in
-    let earlier = earlier_of c.earlier-earlier.result in
+    let earlier = earlier_at here.side here.at (state_in t y) in
+    let ms = modules_in s (end_at here.side p).stack in
+    let names = ap (λ ls. map module_name ls) e.serves.state ∙ serve-names plain here 0 c.args.again (stop_in call) (here.at - 1) ms in
     let place_is = c.place_at-place.ensures s ∙ ap (λ (on : state.Stream _). slice_index_or (places_of on.modules) (here.at - 1) None) (c.end.ensures.stream s) in
     let tells = tells-by s t p c.book_made.new.self x here c.args.again served f f' e.serves in
     let low = let inside = c.requires.inside in let within = c.requires.within in let l : here.at - 1 < length (state.stream here.side st).modules = omega arith in l in
@@ -105,7 +110,7 @@ returns g c =
     let n = between c.of-before.result.from_slave f'.made_from_slave in
     let at : Streams → Streams = λ z. record z { enabled = noted here.side place earlier served.acts.notes.items z.enabled; books = with_more m n z.books } in
     acts-by s t p c.book_made.new.self x here c.args.again served f f' place earlier m n c.audit.ensures c.requires.hand c.requires.beside
-    place_is (λ way. c.earlier-earlier.ensures s way) e.serves m_is n_is
+    place_is (λ way. before-stays s t p y here.side way here.at names) e.serves m_is n_is
     (c.book_made.ensures
-    ∙ ap (λ ns. record y { enabled = ns; books = with_more m n y.books }) (c.note.ensures ∙ ap (λ ns. noted here.side place earlier ns y.enabled) c.as_slice.ensures.value)
+    ∙ ap (λ (z : Streams). record z { books = with_more m n z.books }) (c.note.ensures t ∙ ap (λ ns. record y { enabled = noted here.side place earlier ns y.enabled }) c.as_slice.ensures.value)
     ∙ ap at e.streams)

@@ -1,19 +1,23 @@
 -- The module takes the message, what it says of its queues is done by how the stream was before, and what it made is told, and fits the books.
-use Rattle.std.proofs.Common.{◌-◌, sym, ap, ◌∙◌, arith}
+use Rattle.std.proofs.Common.{◌-◌, map, sym, ap, ◌∙◌, arith}
 use Rattle.std.specs.Prelude.{slice_index_or, None}
 use Rattle.strm_types.specs.declared.names.Dir.TheVariants.{MasterToSlave, SlaveToMaster}
 use Rattle.strm_types.specs.Deliver.{tallied}
 use Rattle.strm_laws.specs.Earlier.{places_of}
-use Rattle.strm_laws.specs.Puts.{noted}
+use Rattle.strm_types.specs.Cells.{plain}
+use Rattle.strm_laws.specs.Puts.{earlier_at, noted}
+use Rattle.strm_laws.specs.Stacked.{module_name}
 use Rattle.strm_laws.specs.State as state
+use Rattle.strm_laws.proofs.StackStays.{keep-names}
 use Rattle.strm_frame.specs.Outboxes.{message_in}
 use Rattle.strm_pair.specs.declared.calling.Made.{Made}
 use Rattle.strm_pair.specs.declared.streams.Streams.{Streams}
 use Rattle.strm_pair.specs.ModuleServed.{between, with_more}
-use Rattle.strm_pair.specs.Nearest.{earlier_of}
 use Rattle.strm_pair.specs.Pairs.{end_at, state_in}
 use Rattle.strm_pair.specs.PutBy.{taken_at}
+use Rattle.strm_pair.specs.Stacks.{modules_in}
 use Rattle.strm_pair.proofs.ModuleSteps.{module-by, put-between, put-fits}
+use Rattle.strm_pair.proofs.NearestStays.{before-stays}
 use Rattle.strm_pair.proofs.PlaceCosts.{plain-few}
 use Rattle.strm_pair.proofs.Sides.{modules-are}
 use Rattle.strm_pair.proofs.streams.Streams.put_module.Goals as goal
@@ -36,7 +40,7 @@ book_made-requires-clause-master g c =
     let first = ap (λ (b : Made). b.from_master) c.of-before.ensures.counts in
     let second = ap (λ (b : Made). b.from_slave) c.of-before.ensures.counts in
     let made = ap (λ k. between k f'.made_from_master) first ∙ put-between to m st small MasterToSlave f f' (omega (arith, few.0, first)) (omega (arith, few.1, second)) tells in
-    let book = ap (λ (y : Streams). y.books.master.made) e.streams in
+    let book = ap (λ (y : Streams). y.books.master.made) (c.note.ensures s) ∙ ap (λ (y : Streams). y.books.master.made) e.streams in
     λ some. (let fits = put-fits to m st small c.requires.books MasterToSlave (omega (arith, some, made)) in omega (arith, made, book, fits))
 
 pub book_made-requires-clause-slave : goal.book_made-requires-clause-slave
@@ -56,7 +60,7 @@ book_made-requires-clause-slave g c =
     let first = ap (λ (b : Made). b.from_master) c.of-before.ensures.counts in
     let second = ap (λ (b : Made). b.from_slave) c.of-before.ensures.counts in
     let made = ap (λ k. between k f'.made_from_slave) second ∙ put-between to m st small SlaveToMaster f f' (omega (arith, few.0, first)) (omega (arith, few.1, second)) tells in
-    let book = ap (λ (y : Streams). y.books.slave.made) e.streams in
+    let book = ap (λ (y : Streams). y.books.slave.made) (c.note.ensures s) ∙ ap (λ (y : Streams). y.books.slave.made) e.streams in
     λ some. (let fits = put-fits to m st small c.requires.books SlaveToMaster (omega (arith, some, made)) in omega (arith, made, book, fits))
 
 pub returns : goal.returns
@@ -74,7 +78,9 @@ returns g c =
     let e = c.put_on_stack-acts.ensures in
     let x = (end_at to.side y).stack in
     let place = c.place_at-place.result in
-    let earlier = earlier_of c.earlier-earlier.result in
+    let t = g.B.Blocks.value c.put_on_stack-acts.new.store in
+    let earlier = earlier_at to.side to.at (state_in t y) in
+    let names = ap (λ ls. map module_name ls) e.takes.state ∙ keep-names plain 0 (to.at - 1) to m (modules_in s (end_at to.side p).stack) in
     let place_is = c.place_at-place.ensures s ∙ ap (λ (on : state.Stream _). slice_index_or (places_of on.modules) (to.at - 1) None) (c.end.ensures.stream s) in
     let small = plain-few s i c.audit.ensures in
     let tells = e.takes.tells ∙ ap (λ ls. tallied (taken_at to m ls).gone f) (sym (modules-are s p to.side)) in
@@ -86,8 +92,8 @@ returns g c =
     let a_is = ap (λ k. between k f'.made_from_master) first ∙ put-between to m st small MasterToSlave f f' (omega (arith, few.0, first)) (omega (arith, few.1, second)) tells in
     let b_is = ap (λ k. between k f'.made_from_slave) second ∙ put-between to m st small SlaveToMaster f f' (omega (arith, few.0, first)) (omega (arith, few.1, second)) tells in
     let at : Streams → Streams = λ z. record z { enabled = noted to.side place earlier acts.notes.items z.enabled; books = with_more a b z.books } in
-    module-by s (g.B.Blocks.value c.put_on_stack-acts.new.store) p c.book_made.new.self x i to place earlier acts f f' a b
-    c.audit.ensures c.requires.can_put place_is (λ way. c.earlier-earlier.ensures s way) c.requires.beside e.takes a_is b_is
+    module-by s t p c.book_made.new.self x i to place earlier acts f f' a b
+    c.audit.ensures c.requires.can_put place_is (λ way. before-stays s t p y to.side way to.at names) c.requires.beside e.takes a_is b_is
     (c.book_made.ensures
-    ∙ ap (λ ns. record y { enabled = ns; books = with_more a b y.books }) (c.note.ensures ∙ ap (λ ns. noted to.side place earlier ns y.enabled) c.as_slice.ensures.value)
+    ∙ ap (λ (z : Streams). record z { books = with_more a b z.books }) (c.note.ensures t ∙ ap (λ ns. record y { enabled = noted to.side place earlier ns y.enabled }) c.as_slice.ensures.value)
     ∙ ap at e.streams)
