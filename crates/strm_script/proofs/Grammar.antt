@@ -4,7 +4,8 @@ use Rattle.std.proofs.lemmas.Bool.{cond-true, cond-false, eq-eqb, ne_eqb, leb-tr
 use Rattle.std.proofs.lemmas.Bool.Decides.{eqb_tells, leb_tells}
 use Rattle.strm_script.specs.Script.{digit_of, hex_of, escaped, HasValue, IsNumber, IsPiece, Itself, Named, Coded, IsText}
 use Rattle.strm_script.specs.ScriptReading as readings
-use Rattle.strm_script.specs.ScriptReading.{and_then, after, at_end, whole, Front, before, number_from, number_in, Mode, moved_by, with_front, text_from, text_in}
+use Rattle.strm_script.specs.Named.{and_then, after}
+use Rattle.strm_script.specs.ScriptReading.{number_from, number_in, Mode, moved_by, with_front, text_from, text_in}
 use Rattle.strm_script.proofs.Readings.{number_none, number_over, number_more, text_breaks, text_goes, text_gives}
 
 -- what the second step found, behind the first

@@ -10,11 +10,8 @@ pub mod Whole
 pub mod PlainTexts
 pub mod Grammar
 pub mod Fronts
-pub mod MessageSpellings
-pub mod IoctlSpellings
-pub mod GroupSpellings
 pub mod QueueSpellings
-pub mod StreamSpellings
+pub mod WordSpellings
 pub mod Spellings
 mod ScriptRows
 mod RunRows

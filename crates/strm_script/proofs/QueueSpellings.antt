@@ -8,12 +8,13 @@ use Rattle.strm_types.specs.declared.names.Way.{Way}
 use Rattle.strm_types.specs.declared.names.Way.TheVariants.{Up, Down}
 use Rattle.strm_types.specs.declared.names.QueueName.{QueueName}
 use Rattle.strm_script.specs.Script.{side_name, place_name, way_name, queue_name}
-use Rattle.strm_script.specs.ScriptReading.{and_then, after, Front, side_in, place_in, way_in, queue_in, placed_in, sided_in}
+use Rattle.strm_script.specs.Named.{and_then, after}
+use Rattle.strm_script.specs.ScriptReading.{Front, side_at, place_at, way_in, queue_in, placed_in, dotted_in}
 use Rattle.strm_script.proofs.Grammar.{and_then-found, option_map-found, after-found}
 use Rattle.strm_script.proofs.Fronts.{either-found, whole-found, Stands, before-found, side-found}
 
-place-found : (line : List ℕ) (found : Front Place) → place_in line ≡ Some found → Stands place_name line found
-unfolding place_in
+place-found : (line : List ℕ) (found : Front Place) → place_at line ≡ Some found → Stands place_name line found
+unfolding place_at
 place-found line found h = elim (either-found _ _ found h) [
   | inl a ↦ before-found place_name Head line found a
   | inr b ↦ elim (either-found _ _ found b) [
@@ -36,11 +37,11 @@ placed-found side place line name h =
     let way = option_map-found (λ way. record { side = side; place = place; way = way }) (way_in last.value) name last.second in
     (way.value, after-found (codes ".") line last.value last.first ∙ ap (λ k. 46 ∷ k) (way-found last.value way.value way.first), sym way.second)
 
-sided-found : (side : Side) (line : List ℕ) (name : QueueName) → sided_in side line ≡ Some name
+sided-found : (side : Side) (line : List ℕ) (name : QueueName) → dotted_in side line ≡ Some name
     → (place : Place) × (way : Way) × (line ≡ 46 ∷ place_name place ++ 46 ∷ way_name way) × (name ≡ record { side = side; place = place; way = way })
 sided-found side line name h =
-    let dot = and_then-found (λ rest. and_then (λ (place : Front Place). placed_in side place.value place.rest) (place_in rest)) (after (codes ".") line) name h in
-    let place = and_then-found (λ (place : Front Place). placed_in side place.value place.rest) (place_in dot.value) name dot.second in
+    let dot = and_then-found (λ rest. and_then (λ (place : Front Place). placed_in side place.value place.rest) (place_at rest)) (after (codes ".") line) name h in
+    let place = and_then-found (λ (place : Front Place). placed_in side place.value place.rest) (place_at dot.value) name dot.second in
     let last = placed-found side place.value.value place.value.rest name place.second in (
       place.value.value,
       last.0,
@@ -52,14 +53,14 @@ sided-found side line name h =
 pub queue-found : (line : List ℕ) (name : QueueName) → queue_in line ≡ Some name → line ≡ queue_name name
 unfolding queue_in
 queue-found line name h =
-    let side = and_then-found (λ (side : Front Side). sided_in side.value side.rest) (side_in line) name h in
+    let side = and_then-found (λ (side : Front Side). dotted_in side.value side.rest) (side_at line) name h in
     let rest = sided-found side.value.value side.value.rest name side.second in
     (side-found line side.value side.first).line_is ∙ ap (λ k. side_name side.value.value ++ k) rest.2 ∙ ap queue_name (sym rest.3)
 
 -- every name of a queue is read
 parts-only : (side : Side) (place : Place) (way : Way)
     → queue_in (queue_name (record { side = side; place = place; way = way })) ≡ Some (record { side = side; place = place; way = way })
-unfolding queue_in side_in place_in way_in
+unfolding queue_in side_at place_at way_in
 parts-only Master Head Up = refl
 parts-only Master Head Down = refl
 parts-only Master Ldterm Up = refl

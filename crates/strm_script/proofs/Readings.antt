@@ -8,7 +8,8 @@ use Rattle.std.proofs.lemmas.Iterator.Adapters.{position_from-zero}
 use Rattle.std.proofs.lemmas.List.Sums.{prefix_len-le-length}
 use Rattle.std.proofs.lemmas.List.Folds.{length-prefix_len}
 use Rattle.strm_script.specs.Script.{digit_of}
-use Rattle.strm_script.specs.ScriptReading.{after, number_from, Mode, Inside, Escaped, Coded, HalfCoded, Closed, Breaks, Goes, Gives, moved_by, text_from, with_front, is_closed, is_marked, own_len, quoted_len}
+use Rattle.strm_script.specs.Named.{after}
+use Rattle.strm_script.specs.ScriptReading.{number_from, Mode, Inside, Escaped, Coded, HalfCoded, Closed, Breaks, Goes, Gives, moved_by, text_from, with_front, is_closed, is_marked, own_len, quoted_len}
 
 -- a word that stands at the front, and one that doesn't
 pub after_front : (word line : List ℕ) → take (length word) line ≡ word → after word line ≡ Some (drop (length word) line)

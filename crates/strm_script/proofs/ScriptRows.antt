@@ -26,7 +26,7 @@ use Rattle.strm_types.specs.declared.events.Event.TheVariants.{Unlock, OpenSlave
 use Rattle.strm_types.specs.Names.{head_of, driver_of}
 use Rattle.strm_types.specs.Rules.{number_of}
 use Rattle.strm_script.specs.Script.{Open, Call, Flush, Put, Get, Turn, Run, Show, Ledger, Group, queue_name, window_bytes, digit_of, hex_of, escaped, lines_of}
-use Rattle.strm_script.specs.ScriptReading.{Reading, Silent, Malformed, Spoken, number_from, number_in, text_from, text_in, side_in, place_in, way_in, queue_in, side_alone, module_in, is_name, flush_queues_in, band_in, number_at, quoted_len, inside_at, text_at, part_at, prio_at, wanted_at, mode_in, number_to, number_to_at, bare_in, window_in, signal_in, foreground_in, sender_at, sending_in, asked_in, open_in, named_in, write_in, read_in, turn_in, run_in, sided_call_in, push_in, flush_in, show_in, stream_in, put_in, get_in, set_mode_in, message_in, ioctl_in, poll_in, control_in, direction_in, ledger_in, caller_in, group_in, command_in, reading}
+use Rattle.strm_script.specs.ScriptReading.{Reading, Silent, Malformed, Spoken, number_from, number_in, text_from, text_in, way_in, queue_in, is_name, quoted_len, number_to, command_in, reading, token_len, token_in, last_in, part_in, prio_in, wanted_in, side_at, place_at}
 use Rattle.strm_script.specs.ScriptAnswers.{Plain, Named, Number, Text, Message, Waiting, Pending, Denied, Signals, Stopped, Held, Empty, Ran, Sizes, Booked, Refused, Wrong, rule_name, in_order, printed, printed_line, line_text, reply_line, turn_line}
 
 -- the lines of a script: LF ends each, and the last may lack it
@@ -38,54 +38,54 @@ lines-end-with-lf = refl
 -- what lines say
 
 pub commands-are-spelled : map reading (codes "open" ∷ codes "open 16" ∷ codes "unlock" ∷ codes "slave" ∷ codes "write m \"ab\"" ∷ codes "write s \"\"" ∷ codes "read s 10" ∷ codes "read m 0" ∷ codes "run 5" ∷ []) ≡ Spoken (Open None) ∷ Spoken (Open (Some 16)) ∷ Spoken (Call Master Unlock) ∷ Spoken (Call Slave OpenSlave) ∷ Spoken (Call Master (Write (97 ∷ 98 ∷ []))) ∷ Spoken (Call Slave (Write [])) ∷ Spoken (Call Slave (Read 10)) ∷ Spoken (Call Master (Read 0)) ∷ Spoken (Run 5) ∷ []
-unfolding reading command_in open_in named_in write_in read_in turn_in run_in number_in number_from digit_of text_in text_from side_in
+unfolding reading command_in token_len token_in last_in quoted_len number_in number_from digit_of number_to text_in text_from part_in is_name prio_in wanted_in queue_in side_at place_at way_in escaped hex_of
 commands-are-spelled = refl
 
 abbrev turn_of : Place → Way → Reading
 turn_of place way = Spoken (Turn (record { side = Master; place = place; way = way }))
 
 pub queues-are-spelled : map reading (codes "turn m.head.r" ∷ codes "turn m.head.w" ∷ codes "turn m.ldterm.r" ∷ codes "turn m.ldterm.w" ∷ codes "turn m.drv.r" ∷ codes "turn m.drv.w" ∷ codes "turn s.drv.w" ∷ []) ≡ turn_of Head Up ∷ turn_of Head Down ∷ turn_of Ldterm Up ∷ turn_of Ldterm Down ∷ turn_of Driver Up ∷ turn_of Driver Down ∷ Spoken (Turn (record { side = Slave; place = Driver; way = Down })) ∷ []
-unfolding reading command_in open_in named_in write_in read_in turn_in run_in side_in place_in way_in queue_in
+unfolding reading command_in token_len token_in last_in quoted_len number_in number_from digit_of number_to text_in text_from part_in is_name prio_in wanted_in queue_in side_at place_at way_in escaped hex_of
 queues-are-spelled = refl
 
 pub names-of-queues : map queue_name (record { side = Master; place = Driver; way = Down } ∷ record { side = Slave; place = Head; way = Up } ∷ record { side = Slave; place = Ldterm; way = Up } ∷ []) ≡ codes "m.drv.w" ∷ codes "s.head.r" ∷ codes "s.ldterm.r" ∷ []
 names-of-queues = refl
 
 pub malformed-lines : map reading (codes "open " ∷ codes "open 1 " ∷ codes " open" ∷ codes "opens" ∷ codes "unlock " ∷ codes "slaves" ∷ codes "write m ab" ∷ codes "write m \"ab" ∷ codes "write m \"ab\" " ∷ codes "write x \"\"" ∷ codes "read m" ∷ codes "read m 1x" ∷ codes "turn m.drv" ∷ codes "turn m.drv.x" ∷ codes "run" ∷ codes "run -1" ∷ []) ≡ replicate 16 Malformed
-unfolding reading command_in open_in named_in write_in read_in turn_in run_in stream_in sided_call_in push_in flush_in show_in message_in put_in get_in set_mode_in control_in ioctl_in poll_in ledger_in group_in number_in number_from digit_of text_in text_from side_in place_in way_in queue_in escaped hex_of
+unfolding reading command_in token_len token_in last_in quoted_len number_in number_from digit_of number_to text_in text_from part_in is_name prio_in wanted_in queue_in side_at place_at way_in escaped hex_of
 malformed-lines = refl
 
 -- commands on a stream: a name of a module, a name of none, the queues of a flush with and without a band
 pub commands-on-streams-are-spelled : map reading (codes "close m" ∷ codes "close s" ∷ codes "pop m" ∷ codes "look s" ∷ codes "push s ldterm" ∷ codes "push m ptem" ∷ codes "push m pckt" ∷ codes "push s foo" ∷ codes "push s ldter" ∷ codes "push s ldterma" ∷ codes "flush m r" ∷ codes "flush s w" ∷ codes "flush m rw" ∷ codes "flush m rw 0" ∷ codes "flush s r 256" ∷ codes "flush s w 07" ∷ codes "show m" ∷ codes "show s" ∷ []) ≡ Spoken (Call Master Shut) ∷ Spoken (Call Slave Shut) ∷ Spoken (Call Master Pop) ∷ Spoken (Call Slave Look) ∷ Spoken (Call Slave (Push (Some modules.Ldterm))) ∷ Spoken (Call Master (Push (Some modules.Ptem))) ∷ Spoken (Call Master (Push (Some modules.Pckt))) ∷ Spoken (Call Slave (Push None)) ∷ Spoken (Call Slave (Push None)) ∷ Spoken (Call Slave (Push None)) ∷ Spoken (Flush Master queues.Read None) ∷ Spoken (Flush Slave queues.Write None) ∷ Spoken (Flush Master queues.Both None) ∷ Spoken (Flush Master queues.Both (Some 0)) ∷ Spoken (Flush Slave queues.Read (Some 256)) ∷ Spoken (Flush Slave queues.Write (Some 7)) ∷ Spoken (Show Master) ∷ Spoken (Show Slave) ∷ []
-unfolding reading command_in open_in named_in write_in read_in turn_in run_in stream_in sided_call_in push_in flush_in show_in message_in put_in get_in set_mode_in control_in ioctl_in poll_in ledger_in group_in side_alone module_in is_name flush_queues_in band_in number_in number_from digit_of side_in
+unfolding reading command_in token_len token_in last_in quoted_len number_in number_from digit_of number_to text_in text_from part_in is_name prio_in wanted_in queue_in side_at place_at way_in escaped hex_of
 commands-on-streams-are-spelled = refl
 
 pub malformed-commands-on-streams : map reading (codes "close" ∷ codes "close " ∷ codes "close x" ∷ codes "close m " ∷ codes "closem" ∷ codes "push s" ∷ codes "push s " ∷ codes "push s Foo" ∷ codes "push s ld-term" ∷ codes "push s abcdefghi" ∷ codes "push s foo 1" ∷ codes "push x foo" ∷ codes "pop" ∷ codes "pop m 1" ∷ codes "look m x" ∷ codes "flush m" ∷ codes "flush m " ∷ codes "flush m q" ∷ codes "flush m wr" ∷ codes "flush m r " ∷ codes "flush m r x" ∷ codes "flush m r -1" ∷ codes "flush m r 4294967296" ∷ codes "flush m  r" ∷ codes "flush m rw1" ∷ codes "show" ∷ codes "show m 1" ∷ codes "show m.head.r" ∷ []) ≡ replicate 28 Malformed
-unfolding reading command_in open_in named_in write_in read_in turn_in run_in stream_in sided_call_in push_in flush_in show_in message_in put_in get_in set_mode_in control_in ioctl_in poll_in ledger_in group_in side_alone module_in is_name flush_queues_in band_in number_in number_from digit_of side_in
+unfolding reading command_in token_len token_in last_in quoted_len number_in number_from digit_of number_to text_in text_from part_in is_name prio_in wanted_in queue_in side_at place_at way_in escaped hex_of
 malformed-commands-on-streams = refl
 
 -- commands about messages: a put of a priority and of parts that are there, empty or absent; a get of any message and the usual
 -- sizes, or of what it names; each word of a mode
 pub commands-on-messages-are-spelled : map reading (codes "put m 0 - \"a\"" ∷ codes "put s hi \"c\" -" ∷ codes "put m 256 \"\" \"\"" ∷ codes "put s 07 - -" ∷ codes "put m 1 \"a b\" \"\\\"\\\\\\x20\"" ∷ codes "get m" ∷ codes "get s" ∷ codes "get s any 2 3" ∷ codes "get m hi 0 1024" ∷ codes "get m 256 4294967295 07" ∷ codes "mode m norm" ∷ codes "mode s msgn" ∷ codes "mode s msgd" ∷ codes "mode m protnorm" ∷ codes "mode m protdat" ∷ codes "mode s protdis" ∷ []) ≡ Spoken (Put Master (prios.Band 0) None (Some (97 ∷ []))) ∷ Spoken (Put Slave prios.High (Some (99 ∷ [])) None) ∷ Spoken (Put Master (prios.Band 256) (Some []) (Some [])) ∷ Spoken (Put Slave (prios.Band 7) None None) ∷ Spoken (Put Master (prios.Band 1) (Some (97 ∷ 32 ∷ 98 ∷ [])) (Some (34 ∷ 92 ∷ 32 ∷ []))) ∷ Spoken (Get Master wanteds.Any 1024 1024) ∷ Spoken (Get Slave wanteds.Any 1024 1024) ∷ Spoken (Get Slave wanteds.Any 2 3) ∷ Spoken (Get Master wanteds.High 0 1024) ∷ Spoken (Get Master (wanteds.Band 256) 4294967295 7) ∷ Spoken (Call Master (Mode (modes.Read ByteStream))) ∷ Spoken (Call Slave (Mode (modes.Read MessageKeep))) ∷ Spoken (Call Slave (Mode (modes.Read MessageDiscard))) ∷ Spoken (Call Master (Mode (modes.Control Refuse))) ∷ Spoken (Call Master (Mode (modes.Control Data))) ∷ Spoken (Call Slave (Mode (modes.Control Discard))) ∷ []
-unfolding reading command_in open_in named_in write_in read_in turn_in run_in stream_in sided_call_in push_in flush_in show_in message_in put_in get_in set_mode_in control_in ioctl_in poll_in ledger_in group_in number_at quoted_len inside_at text_at part_at prio_at wanted_at mode_in number_in number_from digit_of text_from escaped hex_of side_in
+unfolding reading command_in token_len token_in last_in quoted_len number_in number_from digit_of number_to text_in text_from part_in is_name prio_in wanted_in queue_in side_at place_at way_in escaped hex_of
 commands-on-messages-are-spelled = refl
 
 pub malformed-commands-on-messages : map reading (codes "put" ∷ codes "put m" ∷ codes "put m 0" ∷ codes "put m 0 -" ∷ codes "put m 0 - " ∷ codes "put m 0 - - " ∷ codes "put m 0 - - -" ∷ codes "put m any - \"a\"" ∷ codes "put m high - \"a\"" ∷ codes "put m 0 a \"b\"" ∷ codes "put m 0 -- -" ∷ codes "put m 0 \"a\"\"b\"" ∷ codes "put m 0 \"a\" \"b" ∷ codes "put m 0 \"a\\\" \"b\"" ∷ codes "put m 4294967296 - -" ∷ codes "put x 0 - -" ∷ codes "get" ∷ codes "get " ∷ codes "get x" ∷ codes "get m " ∷ codes "get m any" ∷ codes "get m any 1" ∷ codes "get m any 1 " ∷ codes "get m any 1 2 " ∷ codes "get m any 1 2 3" ∷ codes "get m any -1 2" ∷ codes "get m low 1 2" ∷ codes "get m any 1  2" ∷ codes "mode" ∷ codes "mode m" ∷ codes "mode m " ∷ codes "mode m norm " ∷ codes "mode m NORM" ∷ codes "mode m rnorm" ∷ codes "mode m msg" ∷ codes "mode x norm" ∷ []) ≡ replicate 36 Malformed
-unfolding reading command_in open_in named_in write_in read_in turn_in run_in stream_in sided_call_in push_in flush_in show_in message_in put_in get_in set_mode_in control_in ioctl_in poll_in ledger_in group_in number_at quoted_len inside_at text_at part_at prio_at wanted_at mode_in number_in number_from digit_of text_from escaped hex_of side_in side_alone
+unfolding reading command_in token_len token_in last_in quoted_len number_in number_from digit_of number_to text_in text_from part_in is_name prio_in wanted_in queue_in side_at place_at way_in escaped hex_of
 malformed-commands-on-messages = refl
 
 -- ioctls: each name with what it takes, numbers up to their limits, and any command by its number; and what is asked about them
 pub ioctls-are-spelled : map reading (codes "ioctl m TCGETS" ∷ codes "ioctl s TCSETS \"ab\"" ∷ codes "ioctl s TCSETSW \"\"" ∷ codes "ioctl m TCSETSF \"\\n\"" ∷ codes "ioctl s TIOCGWINSZ" ∷ codes "ioctl m TIOCSWINSZ 1 258 0 65535" ∷ codes "ioctl m TIOCSIGNAL 20" ∷ codes "ioctl m TIOCSIGNAL 0255" ∷ codes "ioctl s raw 0 \"\"" ∷ codes "ioctl s raw 0000000099 \"x y\"" ∷ codes "ioctl m raw 4294967295 \"\\xff\"" ∷ codes "poll m 1" ∷ codes "poll s 4294967295" ∷ codes "signals m" ∷ codes "signals s" ∷ []) ≡ Spoken (Call Master (Ioctl 1 [])) ∷ Spoken (Call Slave (Ioctl 2 (97 ∷ 98 ∷ []))) ∷ Spoken (Call Slave (Ioctl 3 [])) ∷ Spoken (Call Master (Ioctl 4 (10 ∷ []))) ∷ Spoken (Call Slave (Ioctl 5 [])) ∷ Spoken (Call Master (Ioctl 6 (0 ∷ 1 ∷ 1 ∷ 2 ∷ 0 ∷ 0 ∷ 255 ∷ 255 ∷ []))) ∷ Spoken (Call Master (Ioctl 7 (20 ∷ []))) ∷ Spoken (Call Master (Ioctl 7 (255 ∷ []))) ∷ Spoken (Call Slave (Ioctl 0 [])) ∷ Spoken (Call Slave (Ioctl 99 (120 ∷ 32 ∷ 121 ∷ []))) ∷ Spoken (Call Master (Ioctl 4294967295 (255 ∷ []))) ∷ Spoken (Call Master (IoctlResult 1)) ∷ Spoken (Call Slave (IoctlResult 4294967295)) ∷ Spoken (Call Master SignalsOf) ∷ Spoken (Call Slave SignalsOf) ∷ []
-unfolding reading command_in open_in named_in write_in read_in turn_in run_in stream_in sided_call_in push_in flush_in show_in message_in put_in get_in set_mode_in control_in ioctl_in poll_in ledger_in group_in asked_in bare_in window_in signal_in foreground_in sender_at sending_in side_alone number_to number_to_at number_at number_in number_from digit_of text_in text_from escaped hex_of side_in
+unfolding reading command_in token_len token_in last_in quoted_len number_in number_from digit_of number_to text_in text_from part_in is_name prio_in wanted_in queue_in side_at place_at way_in escaped hex_of
 ioctls-are-spelled = refl
 
 pub malformed-ioctls : map reading (codes "ioctl" ∷ codes "ioctl m" ∷ codes "ioctl m " ∷ codes "ioctl x TCGETS" ∷ codes "ioctl m TCGET" ∷ codes "ioctl m tcgets" ∷ codes "ioctl m TCGETS " ∷ codes "ioctl s TCGETS \"x\"" ∷ codes "ioctl m TIOCGWINSZ 1" ∷ codes "ioctl s TCSETS" ∷ codes "ioctl s TCSETS " ∷ codes "ioctl s TCSETS ab" ∷ codes "ioctl s TCSETSW" ∷ codes "ioctl s TCSETSX \"\"" ∷ codes "ioctl s TCSETSF \"a\" " ∷ codes "ioctl s TCSETS \"a\" \"b\"" ∷ codes "ioctl s TIOCSWINSZ" ∷ codes "ioctl s TIOCSWINSZ 1 2 3" ∷ codes "ioctl s TIOCSWINSZ 1 2 3 4 " ∷ codes "ioctl s TIOCSWINSZ 1 2 3 4 5" ∷ codes "ioctl s TIOCSWINSZ 1 2 3 70000" ∷ codes "ioctl s TIOCSWINSZ 65536 2 3 4" ∷ codes "ioctl s TIOCSWINSZ 1 65536 3 4" ∷ codes "ioctl s TIOCSWINSZ 1 2 65536 4" ∷ codes "ioctl s TIOCSWINSZ 1 2  3 4" ∷ codes "ioctl s TIOCSIGNAL" ∷ codes "ioctl s TIOCSIGNAL " ∷ codes "ioctl s TIOCSIGNAL 256" ∷ codes "ioctl s TIOCSIGNAL -1" ∷ codes "ioctl s TIOCSIGNAL 1 2" ∷ codes "ioctl s raw" ∷ codes "ioctl s raw 1" ∷ codes "ioctl s raw 1 " ∷ codes "ioctl s raw 1 x" ∷ codes "ioctl s raw \"x\"" ∷ codes "ioctl s raw 4294967296 \"x\"" ∷ codes "ioctl s raw 00000000001 \"x\"" ∷ codes "ioctl s 1 \"x\"" ∷ codes "poll" ∷ codes "poll m" ∷ codes "poll m " ∷ codes "poll x 1" ∷ codes "poll m 4294967296" ∷ codes "poll m 00000000001" ∷ codes "poll m 1 " ∷ codes "signals" ∷ codes "signals " ∷ codes "signals x" ∷ codes "signals s " ∷ codes "signal s" ∷ []) ≡ replicate 50 Malformed
-unfolding reading command_in open_in named_in write_in read_in turn_in run_in stream_in sided_call_in push_in flush_in show_in message_in put_in get_in set_mode_in control_in ioctl_in poll_in ledger_in group_in asked_in bare_in window_in signal_in foreground_in sender_at sending_in side_alone number_to number_to_at number_at number_in number_from digit_of text_in text_from escaped hex_of side_in
+unfolding reading command_in token_len token_in last_in quoted_len number_in number_from digit_of number_to text_in text_from part_in is_name prio_in wanted_in queue_in side_at place_at way_in escaped hex_of
 malformed-ioctls = refl
 
 -- a look at a ledger, by the word of its direction and no other
 pub ledgers-are-spelled : map reading (codes "ledger ms" ∷ codes "ledger sm" ∷ []) ≡ Spoken (Ledger MasterToSlave) ∷ Spoken (Ledger SlaveToMaster) ∷ []
-unfolding reading command_in open_in named_in write_in read_in turn_in run_in stream_in sided_call_in push_in flush_in show_in message_in put_in get_in set_mode_in control_in ioctl_in poll_in ledger_in group_in direction_in side_alone module_in is_name flush_queues_in band_in number_in number_from digit_of side_in
+unfolding reading command_in token_len token_in last_in quoted_len number_in number_from digit_of number_to text_in text_from part_in is_name prio_in wanted_in queue_in side_at place_at way_in escaped hex_of
 ledgers-are-spelled = refl
 
 abbrev group_of : Side → ℕ → Bool → Bool → Reading
@@ -93,20 +93,20 @@ group_of side group ignores orphaned = Spoken (Group (record { side = side; grou
 
 -- a caller: its side, its process group and its flags
 pub callers-are-spelled : map reading (codes "group s 7 -" ∷ codes "group m 0 i" ∷ codes "group s 4294967295 o" ∷ codes "group s 07 io" ∷ []) ≡ group_of Slave 7 false false ∷ group_of Master 0 true false ∷ group_of Slave 4294967295 false true ∷ group_of Slave 7 true true ∷ []
-unfolding reading command_in open_in named_in write_in read_in turn_in run_in stream_in sided_call_in push_in flush_in show_in message_in put_in get_in set_mode_in control_in ioctl_in poll_in ledger_in group_in caller_in number_at number_in number_from digit_of side_in
+unfolding reading command_in token_len token_in last_in quoted_len number_in number_from digit_of number_to text_in text_from part_in is_name prio_in wanted_in queue_in side_at place_at way_in escaped hex_of
 callers-are-spelled = refl
 
 pub malformed-callers : map reading (codes "group" ∷ codes "group s" ∷ codes "group s 7" ∷ codes "group s 7 " ∷ codes "group s 7 x" ∷ codes "group s 7 oi" ∷ codes "group s 7 ii" ∷ codes "group s 7 - " ∷ codes "group s 7  -" ∷ codes "group s -7 -" ∷ codes "group s 4294967296 -" ∷ codes "group x 7 -" ∷ codes "group s - 7" ∷ codes "groups s 7 -" ∷ []) ≡ replicate 14 Malformed
-unfolding reading command_in open_in named_in write_in read_in turn_in run_in stream_in sided_call_in push_in flush_in show_in message_in put_in get_in set_mode_in control_in ioctl_in poll_in ledger_in group_in caller_in number_at number_in number_from digit_of side_in
+unfolding reading command_in token_len token_in last_in quoted_len number_in number_from digit_of number_to text_in text_from part_in is_name prio_in wanted_in queue_in side_at place_at way_in escaped hex_of
 malformed-callers = refl
 
 -- what is asked about the foreground process group
 pub ioctls-of-groups-are-spelled : map reading (codes "ioctl s TIOCGPGRP" ∷ codes "ioctl s TIOCSPGRP 5" ∷ codes "ioctl m TIOCSPGRP 4294967295" ∷ codes "ioctl s TIOCSPGRP" ∷ codes "ioctl s TIOCGPGRP 5" ∷ codes "ioctl s TIOCSPGRP 4294967296" ∷ codes "ioctl s TIOCSPGRP \"\"" ∷ []) ≡ Spoken (Call Slave (Ioctl 8 [])) ∷ Spoken (Call Slave (Ioctl 9 (0 ∷ 0 ∷ 0 ∷ 5 ∷ []))) ∷ Spoken (Call Master (Ioctl 9 (255 ∷ 255 ∷ 255 ∷ 255 ∷ []))) ∷ Malformed ∷ Malformed ∷ Malformed ∷ Malformed ∷ []
-unfolding reading command_in open_in named_in write_in read_in turn_in run_in stream_in sided_call_in push_in flush_in show_in message_in put_in get_in set_mode_in control_in ioctl_in poll_in ledger_in group_in asked_in bare_in window_in signal_in foreground_in sender_at sending_in number_to number_to_at number_at number_in number_from digit_of side_in text_in text_from
+unfolding reading command_in token_len token_in last_in quoted_len number_in number_from digit_of number_to text_in text_from part_in is_name prio_in wanted_in queue_in side_at place_at way_in escaped hex_of
 ioctls-of-groups-are-spelled = refl
 
 pub malformed-ledgers : map reading (codes "ledger" ∷ codes "ledger " ∷ codes "ledger m" ∷ codes "ledger xx" ∷ codes "ledger ms " ∷ codes "ledger  ms" ∷ codes "ledger MS" ∷ codes "ledger mss" ∷ codes "ledger s" ∷ codes "ledgerms" ∷ []) ≡ replicate 10 Malformed
-unfolding reading command_in open_in named_in write_in read_in turn_in run_in stream_in sided_call_in push_in flush_in show_in message_in put_in get_in set_mode_in control_in ioctl_in poll_in ledger_in group_in direction_in side_alone module_in is_name flush_queues_in band_in number_in number_from digit_of side_in
+unfolding reading command_in token_len token_in last_in quoted_len number_in number_from digit_of number_to text_in text_from part_in is_name prio_in wanted_in queue_in side_at place_at way_in escaped hex_of
 malformed-ledgers = refl
 
 -- the size of a window: rows, columns, width, height, each in two bytes

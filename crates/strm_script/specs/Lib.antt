@@ -1,4 +1,6 @@
 pub mod Script
+pub mod Named
+pub mod Table
 pub mod ScriptReading
 pub mod ScriptAnswers
 pub mod ScriptRun

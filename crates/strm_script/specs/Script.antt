@@ -1,5 +1,5 @@
 -- The commands of a script, and how each is spelled: one command a line, words parted by one space.
-use Rattle.std.specs.Prelude.{◌≡◌, ◌≢◌, ℕ, ◌≤◌, ◌<◌, ◌+◌, ◌-◌, ◌*◌, nat_le, ◌==◌, ◌&&◌, Bool, true, false, if◌then◌else◌, List, [], ◌∷◌, ◌++◌, length, codes, Option, None, Some, ◌⊎◌}
+use Rattle.std.specs.Prelude.{◌≡◌, ◌≢◌, ℕ, ◌≤◌, ◌<◌, ◌+◌, ◌-◌, ◌*◌, nat_le, ◌==◌, ◌&&◌, Bool, true, false, if◌then◌else◌, List, [], ◌∷◌, ◌++◌, length, codes, Option, None, Some}
 use Rattle.std.specs.Int.{w16, w32, to_be_bytes}
 use Rattle.std.specs.List.{AllByRecursion}
 use Rattle.strm_types.specs.declared.events.Caller.{Caller}
@@ -16,13 +16,10 @@ use Rattle.strm_types.specs.declared.names.ModuleName.{ModuleName}
 use Rattle.strm_types.specs.declared.names.ModuleName.TheVariants as modules
 use Rattle.strm_types.specs.declared.events.FlushQueues.{FlushQueues}
 use Rattle.strm_types.specs.declared.events.FlushQueues.TheVariants as queues
-use Rattle.strm_types.specs.declared.events.Event.TheVariants.{OpenMaster, Unlock, OpenSlave, Shut, Push, Pop, Look, Write, Read, Nread, IoctlResult}
-use Rattle.strm_types.specs.declared.events.Event.TheVariants as calls
 use Rattle.strm_types.specs.declared.modes.Mode.{Mode}
 use Rattle.strm_types.specs.declared.modes.Mode.TheVariants as modes
 use Rattle.strm_types.specs.declared.modes.ReadMode.TheVariants.{ByteStream, MessageKeep, MessageDiscard}
 use Rattle.strm_types.specs.declared.modes.ControlMode.TheVariants.{Refuse, Data, Discard}
-use Rattle.strm_types.specs.declared.ioctls.TheConstants.{TCGETS, TCSETS, TCSETSW, TCSETSF, TIOCGPGRP, TIOCSPGRP, TIOCGWINSZ, TIOCSWINSZ, TIOCSIGNAL}
 use Rattle.strm_types.specs.Events.{Request}
 use Rattle.strm_script.specs.declared.commands.NamedPrio.{NamedPrio}
 use Rattle.strm_script.specs.declared.commands.NamedPrio.TheVariants as prios
@@ -169,22 +166,9 @@ abbrev pub IsText : List ℕ → List ℕ → Type 0
 IsText spelled [] = spelled ≡ []
 IsText spelled (b ∷ text) = (piece rest : List ℕ) × IsPiece piece b × (spelled ≡ piece ++ rest) × IsText rest text
 
--- a word, and behind it a number
-abbrev pub IsWithNumber : List ℕ → ℕ → List ℕ → Type 0
-IsWithNumber word n line = (digits : List ℕ) × IsNumber digits n × (line ≡ word ++ digits)
-
--- a word, and behind it a text in quotes
-abbrev pub IsWithText : List ℕ → List ℕ → List ℕ → Type 0
-IsWithText word text line = (spelled : List ℕ) × IsText spelled text × (line ≡ word ++ (codes "\"" ++ (spelled ++ codes "\"")))
-
--- a word, and behind it a side and a space
-abbrev pub with_side : List ℕ → Side → List ℕ
-with_side word side = word ++ (side_name side ++ codes " ")
-
--- a flush of all bands, or of one
-abbrev pub IsFlush : Side → FlushQueues → Option ℕ → List ℕ → Type 0
-IsFlush side what None line = line ≡ with_side (codes "flush ") side ++ flush_name what
-IsFlush side what (Some n) line = IsWithNumber (with_side (codes "flush ") side ++ (flush_name what ++ codes " ")) n line
+-- a text in quotes
+abbrev pub IsQuoted : List ℕ → List ℕ → Type 0
+IsQuoted text word = (spelled : List ℕ) × IsText spelled text × (word ≡ codes "\"" ++ (spelled ++ codes "\""))
 
 -- a priority: `hi`, or the number of a band
 abbrev pub IsPrio : NamedPrio → List ℕ → Type 0
@@ -200,39 +184,12 @@ IsWanted (wanteds.Band n) word = IsNumber word n
 -- a part of a message: `-` where it is absent, else its text in quotes
 abbrev pub IsPart : Option (List ℕ) → List ℕ → Type 0
 IsPart None word = word ≡ codes "-"
-IsPart (Some text) word = IsWithText [] text word
+IsPart (Some text) word = IsQuoted text word
 
--- a put: a priority, a control part and a data part
-pub record IsPut (side : Side) (prio : NamedPrio) (control body : Option (List ℕ)) (line : List ℕ) : Type 0 where
-  pub first : List ℕ
-  pub second : List ℕ
-  pub third : List ℕ
-  pub prio_is : IsPrio prio first
-  pub control_is : IsPart control second
-  pub body_is : IsPart body third
-  pub line_is : line ≡ with_side (codes "put ") side ++ (first ++ (codes " " ++ (second ++ (codes " " ++ third))))
-
--- a get of a message that is named, with a size for each part
-pub record IsGetOf (side : Side) (wanted : NamedWanted) (cmax dmax : ℕ) (line : List ℕ) : Type 0 where
-  pub first : List ℕ
-  pub second : List ℕ
-  pub third : List ℕ
-  pub wanted_is : IsWanted wanted first
-  pub cmax_is : IsNumber second cmax
-  pub dmax_is : IsNumber third dmax
-  pub line_is : line ≡ with_side (codes "get ") side ++ (first ++ (codes " " ++ (second ++ (codes " " ++ third))))
-
--- a get of any message, with the usual sizes
-pub record IsUsualGet (side : Side) (wanted : NamedWanted) (cmax dmax : ℕ) (line : List ℕ) : Type 0 where
-  pub wanted_is : wanted ≡ wanteds.Any
-  pub cmax_is : cmax ≡ usual_size
-  pub dmax_is : dmax ≡ usual_size
-  pub line_is : line ≡ codes "get " ++ side_name side
-
--- a push of a module, or of a name that no module has
-abbrev pub IsPush : Side → Option ModuleName → List ℕ → Type 0
-IsPush side (Some known) line = line ≡ with_side (codes "push ") side ++ module_name known
-IsPush side None line = (name : List ℕ) × IsUnknown name × (line ≡ with_side (codes "push ") side ++ name)
+-- the name of a module, or a name that no module has
+abbrev pub IsModule : Option ModuleName → List ℕ → Type 0
+IsModule (Some known) word = word ≡ module_name known
+IsModule None word = IsUnknown word
 
 -- a number up to a limit
 abbrev pub IsNumberTo : ℕ → ℕ → List ℕ → Type 0
@@ -245,18 +202,6 @@ byte_max = 255
 abbrev pub short_max : ℕ
 short_max = 65535
 
--- the size of a window: four numbers of two bytes
-pub record IsWindow (size : WindowSize) (line : List ℕ) : Type 0 where
-  pub first : List ℕ
-  pub second : List ℕ
-  pub third : List ℕ
-  pub fourth : List ℕ
-  pub rows_is : IsNumberTo short_max size.rows first
-  pub columns_is : IsNumberTo short_max size.columns second
-  pub width_is : IsNumberTo short_max size.width third
-  pub height_is : IsNumberTo short_max size.height fourth
-  pub line_is : line ≡ first ++ (codes " " ++ (second ++ (codes " " ++ (third ++ (codes " " ++ fourth)))))
-
 -- what TIOCSWINSZ sends (termio(7I): struct winsize): each number in two bytes, the most significant first
 abbrev pub window_bytes : WindowSize → List ℕ
 window_bytes size = to_be_bytes w16 size.rows ++ (to_be_bytes w16 size.columns ++ (to_be_bytes w16 size.width ++ to_be_bytes w16 size.height))
@@ -264,69 +209,6 @@ window_bytes size = to_be_bytes w16 size.rows ++ (to_be_bytes w16 size.columns +
 -- what TIOCSPGRP sends (tcsetpgrp(3C)): the process group in four bytes, the most significant first
 abbrev pub group_bytes : ℕ → List ℕ
 group_bytes n = to_be_bytes w32 n
-
--- a command that sends a text: by its name, or by `raw` and its number
-pub data IsSender : ℕ → List ℕ → Type 0 where
-  Sets : IsSender TCSETS (codes "TCSETS")
-  SetsLater : IsSender TCSETSW (codes "TCSETSW")  -- behind what is written already
-  SetsAnew : IsSender TCSETSF (codes "TCSETSF")  -- behind it, and without what is typed already
-  Raw : (n : ℕ) (digits : List ℕ) → IsNumber digits n → IsSender n (codes "raw " ++ digits)
-
--- what an ioctl asks for: its command, and the bytes that it sends (streamio(7I), termio(7I), ptm(7D), tcgetpgrp(3C))
-pub data IsAsked : ℕ → List ℕ → List ℕ → Type 0 where
-  Gets : IsAsked TCGETS [] (codes "TCGETS")
-  GetsWindow : IsAsked TIOCGWINSZ [] (codes "TIOCGWINSZ")
-  GetsGroup : IsAsked TIOCGPGRP [] (codes "TIOCGPGRP")
-  SetsGroup : (n : ℕ) (digits : List ℕ) → IsNumber digits n → IsAsked TIOCSPGRP (group_bytes n) (codes "TIOCSPGRP " ++ digits)
-  SetsWindow : (size : WindowSize) (rest : List ℕ) → IsWindow size rest → IsAsked TIOCSWINSZ (window_bytes size) (codes "TIOCSWINSZ " ++ rest)
-  Signals : (n : ℕ) (digits : List ℕ) → IsNumberTo byte_max n digits → IsAsked TIOCSIGNAL (n ∷ []) (codes "TIOCSIGNAL " ++ digits)
-  Sends : (command : ℕ) (text word part : List ℕ) → IsSender command word → IsPart (Some text) part → IsAsked command text (word ++ (codes " " ++ part))
-
--- an ioctl: what it asks for, behind its side
-abbrev pub IsIoctl : Side → ℕ → List ℕ → List ℕ → Type 0
-IsIoctl side command sent line = (rest : List ℕ) × IsAsked command sent rest × (line ≡ with_side (codes "ioctl ") side ++ rest)
-
--- How a call on a side's stream is spelled. What opens the master is `open`, which also makes the pair; a flush, a put and a
--- get are commands of their own, and nothing spells I_NREAD.
-abbrev pub IsCall : Side → Request → List ℕ → Type 0
-IsCall side OpenMaster line = ⊥
-IsCall side Unlock line = (side ≡ Master) × (line ≡ codes "unlock")
-IsCall side OpenSlave line = (side ≡ Slave) × (line ≡ codes "slave")
-IsCall side Shut line = line ≡ codes "close " ++ side_name side
-IsCall side (Push name) line = IsPush side name line
-IsCall side Pop line = line ≡ codes "pop " ++ side_name side
-IsCall side Look line = line ≡ codes "look " ++ side_name side
-IsCall side (calls.Flush what band) line = ⊥
-IsCall side (Write text) line = IsWithText (with_side (codes "write ") side) text line
-IsCall side (Read n) line = IsWithNumber (with_side (codes "read ") side) n line
-IsCall side (calls.Put prio control body) line = ⊥
-IsCall side (calls.Get wanted cmax dmax) line = ⊥
-IsCall side (calls.Mode mode) line = line ≡ with_side (codes "mode ") side ++ mode_name mode
-IsCall side Nread line = ⊥
-IsCall side (calls.Ioctl command sent) line = IsIoctl side command sent line
-IsCall side (IoctlResult number) line = IsWithNumber (with_side (codes "poll ") side) number line
-IsCall side calls.Signals line = line ≡ codes "signals " ++ side_name side
-
--- the caller of a side: its process group, and how job control treats it
-pub record IsGroup (caller : Caller) (line : List ℕ) : Type 0 where
-  pub digits : List ℕ
-  pub group_is : IsNumber digits caller.group
-  pub line_is : line ≡ with_side (codes "group ") caller.side ++ (digits ++ (codes " " ++ flags_name caller.ignores caller.orphaned))
-
--- how a command is spelled
-abbrev pub IsSpelled : Command → List ℕ → Type 0
-IsSpelled (Open None) line = line ≡ codes "open"
-IsSpelled (Open (Some n)) line = IsWithNumber (codes "open ") n line
-IsSpelled (Call side asked) line = IsCall side asked line
-IsSpelled (Flush side what band) line = IsFlush side what band line
-IsSpelled (Put side prio control body) line = IsPut side prio control body line
-IsSpelled (Get side wanted cmax dmax) line = IsUsualGet side wanted cmax dmax line ⊎ IsGetOf side wanted cmax dmax line
-IsSpelled (Turn name) line = line ≡ codes "turn " ++ queue_name name
-IsSpelled (Run n) line = IsWithNumber (codes "run ") n line
-IsSpelled (Show side) line = line ≡ codes "show " ++ side_name side
-IsSpelled (Ledger direction) line = line ≡ codes "ledger " ++ direction_name direction
-IsSpelled Cut line = line ≡ codes "cut"
-IsSpelled (Group caller) line = IsGroup caller line
 
 -- a line that asks for nothing: an empty one, and a comment
 abbrev pub is_silent : List ℕ → Bool

@@ -1,58 +1,100 @@
-//! What an ioctl of a line asks for: its command, and the bytes that it sends (streamio(7I): I_STR; termio(7I)).
+//! The ioctls of a script (streamio(7I): I_STR; termio(7I)): each is a row of [`IOCTLS`] and an arm of [`ioctl`].
 
-ghost use Rattle.std.specs.Prelude.{◌≡◌, IfOk, option_map};
-ghost use Rattle.strm_types.specs.declared.events.Event.TheVariants.{Ioctl};
-ghost use Rattle.strm_script.specs.Script.{window_bytes, group_bytes};
-ghost use Rattle.strm_script.specs.ScriptReading.{bare_in, size_in, window_in, signal_in, foreground_in};
-ghost use Rattle.strm_script.specs.ScriptReading.{sender_at, sending_in, asked_in};
-ghost use Rattle.strm_script.specs.Commands.{request_of, requests_of};
+ghost use Rattle.std.specs.Prelude.{◌≡◌, [], IfOk, option_map};
+ghost use Rattle.strm_script.specs.Script.{window_bytes};
+ghost use Rattle.strm_script.specs.declared.ioctls.IoctlName.TheVariants as ioctls;
+ghost use Rattle.strm_script.specs.Named.{named};
+ghost use Rattle.strm_script.specs.Table.{AShort, AText, Ends, Last, ioctl_names, ioctl_form, sends};
+ghost use Rattle.strm_script.specs.ScriptReading.{form_in, word_at};
+ghost use Rattle.strm_script.specs.Commands.{command_of, commands_of};
 ghost use Rattle.strm_script.specs.Views.{front_of};
 
-use crate::commands::WindowSize;
-use crate::numbers::{byte, number, number_at, short, short_at};
+use crate::commands::{Command, WindowSize};
+use crate::named::named;
+use crate::numbers::{byte, number, short};
 use crate::texts::text;
-use crate::words::after;
+use crate::words::{last, next, next_number};
 use std::alloc::{AllocError, Global};
 use strm_types::{
-    Event, TCGETS, TCSETS, TCSETSF, TCSETSW, TIOCGPGRP, TIOCGWINSZ, TIOCSIGNAL, TIOCSPGRP,
+    Event, Side, TCGETS, TCSETS, TCSETSF, TCSETSW, TIOCGPGRP, TIOCGWINSZ, TIOCSIGNAL, TIOCSPGRP,
     TIOCSWINSZ,
 };
 
-/// The command of an ioctl that sends nothing: `TCGETS`, `TIOCGWINSZ`, `TIOCGPGRP`.
-#[tactic(auto, unfolding(crate::specs::ScriptReading::bare_in))]
-fn bare(line: &[u8]) -> Option<u32>
-    ensures { result ≡ bare_in line.now }
+/// An ioctl, by its word.
+#[derive(Clone, Copy)]
+pub enum IoctlName {
+    Tcgets,
+    Tiocgwinsz,
+    Tiocgpgrp,
+    Tiocspgrp,
+    Tiocsignal,
+    Tiocswinsz,
+    Tcsets,
+    Tcsetsw,
+    Tcsetsf,
+    Raw,
+}
+
+/// The word of each ioctl.
+const IOCTLS: [(&[u8], IoctlName); 10] = [
+    (b"TCGETS", IoctlName::Tcgets),
+    (b"TIOCGWINSZ", IoctlName::Tiocgwinsz),
+    (b"TIOCGPGRP", IoctlName::Tiocgpgrp),
+    (b"TIOCSPGRP", IoctlName::Tiocspgrp),
+    (b"TIOCSIGNAL", IoctlName::Tiocsignal),
+    (b"TIOCSWINSZ", IoctlName::Tiocswinsz),
+    (b"TCSETS", IoctlName::Tcsets),
+    (b"TCSETSW", IoctlName::Tcsetsw),
+    (b"TCSETSF", IoctlName::Tcsetsf),
+    (b"raw", IoctlName::Raw),
+];
+
+/// An ioctl of this command, which sends these bytes.
+fn sends(alloc: Global, side: Side, command: u32, bytes: &[u8]) -> Result<Command, AllocError>
+    ensures { IfOk result (λ made. command_of made ≡ sends side command bytes.now) }
 {
-    match line {
-        b"TCGETS" => Some(TCGETS),
-        b"TIOCGWINSZ" => Some(TIOCGWINSZ),
-        b"TIOCGPGRP" => Some(TIOCGPGRP),
-        _ => None,
+    let mut body = Vec::new(alloc);
+    body.extend_from_slice(bytes)?;
+    let event = Event::Ioctl { command, body };
+    Ok(Command::Call { side, event })
+}
+
+/// An ioctl that sends nothing.
+fn bare(alloc: Global, side: Side, command: u32, rest: &[u8]) -> Result<Option<Command>, AllocError>
+    ensures { IfOk result (λ found. commands_of found ≡ form_in (Ends (sends side command [])) rest.now) }
+{
+    if !rest.is_empty() {
+        return Ok(None);
     }
+    Ok(Some(sends(alloc, side, command, &[])?))
 }
 
-/// The size of a window: four numbers up to 65535.
-fn size(line: &[u8]) -> Option<WindowSize>
-    ensures { result ≡ size_in line.now }
+/// An ioctl that sends a text.
+fn texted(
+    alloc: Global,
+    side: Side,
+    command: u32,
+    rest: &[u8],
+) -> Result<Option<Command>, AllocError>
+    ensures { IfOk result (λ found. commands_of found ≡ form_in (Last AText (sends side command)) rest.now) }
 {
-    let (rows, rest) = short_at(line)?;
-    let (columns, rest) = short_at(after(rest, b" ")?)?;
-    let (width, rest) = short_at(after(rest, b" ")?)?;
-    let height = short(after(rest, b" ")?)?;
-    Some(WindowSize {
-        rows,
-        columns,
-        width,
-        height,
-    })
+    let Some(word) = last(rest) else {
+        return Ok(None);
+    };
+    let Some(body) = text(alloc, word)? else {
+        return Ok(None);
+    };
+    let event = Event::Ioctl { command, body };
+    Ok(Some(Command::Call { side, event }))
 }
 
-/// The size that `TIOCSWINSZ ROWS COLUMNS WIDTH HEIGHT` sends.
-#[tactic(auto, unfolding(crate::specs::ScriptReading::window_in))]
-fn window(line: &[u8]) -> Option<WindowSize>
-    ensures { result ≡ window_in line.now }
+/// The number up to 65535 behind a space, and what follows it.
+fn next_short(rest: &[u8]) -> Option<(u16, &[u8])>
+    ensures { option_map front_of result ≡ word_at AShort rest.now }
 {
-    size(after(line, b"TIOCSWINSZ ")?)
+    let (word, rest) = next(rest)?;
+    let number = short(word)?;
+    Some((number, rest))
 }
 
 /// The bytes of a size, two for each number.
@@ -68,85 +110,97 @@ fn window_bytes(size: WindowSize) -> [u8; 8]
     ]
 }
 
-/// The signal that `TIOCSIGNAL N` sends.
-#[tactic(auto, unfolding(crate::specs::ScriptReading::signal_in))]
-fn signal(line: &[u8]) -> Option<u8>
-    ensures { result ≡ signal_in line.now }
+/// `TIOCSWINSZ ROWS COLUMNS WIDTH HEIGHT`, behind its word.
+fn window(alloc: Global, side: Side, rest: &[u8]) -> Result<Option<Command>, AllocError>
+    ensures { IfOk result (λ found. commands_of found ≡ form_in (ioctl_form side ioctls.Tiocswinsz) rest.now) }
 {
-    byte(after(line, b"TIOCSIGNAL ")?)
-}
-
-/// The process group that `TIOCSPGRP N` sends.
-#[tactic(auto, unfolding(crate::specs::ScriptReading::foreground_in))]
-fn foreground(line: &[u8]) -> Option<u32>
-    ensures { result ≡ foreground_in line.now }
-{
-    number(after(line, b"TIOCSPGRP ")?)
-}
-
-/// The command of an ioctl that sends a text, at the front, and what follows it: `TCSETS`, `TCSETSW`, `TCSETSF` or `raw N`.
-#[tactic(auto, unfolding(crate::specs::ScriptReading::sender_at))]
-fn sender(line: &[u8]) -> Option<(u32, &[u8])>
-    ensures { option_map front_of result ≡ sender_at line.now }
-{
-    if let Some(rest) = after(line, b"TCSETSW") {
-        return Some((TCSETSW, rest));
-    }
-    if let Some(rest) = after(line, b"TCSETSF") {
-        return Some((TCSETSF, rest));
-    }
-    if let Some(rest) = after(line, b"TCSETS") {
-        return Some((TCSETS, rest));
-    }
-    number_at(after(line, b"raw ")?)
-}
-
-/// An ioctl that sends a text, which stands behind its command.
-#[tactic(auto, unfolding(crate::specs::ScriptReading::sending_in))]
-fn sending(alloc: Global, line: &[u8]) -> Result<Option<Event<Vec<u8>>>, AllocError>
-    ensures { IfOk result (λ found. requests_of found ≡ sending_in line.now) }
-{
-    let Some((command, rest)) = sender(line) else {
+    let Some((rows, rest)) = next_short(rest) else {
         return Ok(None);
     };
-    let Some(rest) = after(rest, b" ") else {
+    let Some((columns, rest)) = next_short(rest) else {
         return Ok(None);
     };
-    match text(alloc, rest)? {
-        Some(body) => Ok(Some(Event::Ioctl { command, body })),
+    let Some((width, rest)) = next_short(rest) else {
+        return Ok(None);
+    };
+    let Some(word) = last(rest) else {
+        return Ok(None);
+    };
+    let Some(height) = short(word) else {
+        return Ok(None);
+    };
+    let size = WindowSize {
+        rows,
+        columns,
+        width,
+        height,
+    };
+    let bytes = window_bytes(size);
+    Ok(Some(sends(alloc, side, TIOCSWINSZ, &bytes)?))
+}
+
+/// `TIOCSIGNAL N`, behind its word.
+fn signal(alloc: Global, side: Side, rest: &[u8]) -> Result<Option<Command>, AllocError>
+    ensures { IfOk result (λ found. commands_of found ≡ form_in (ioctl_form side ioctls.Tiocsignal) rest.now) }
+{
+    let Some(word) = last(rest) else {
+        return Ok(None);
+    };
+    let Some(number) = byte(word) else {
+        return Ok(None);
+    };
+    Ok(Some(sends(alloc, side, TIOCSIGNAL, &[number])?))
+}
+
+/// `TIOCSPGRP N`, behind its word.
+fn foreground(alloc: Global, side: Side, rest: &[u8]) -> Result<Option<Command>, AllocError>
+    ensures { IfOk result (λ found. commands_of found ≡ form_in (ioctl_form side ioctls.Tiocspgrp) rest.now) }
+{
+    let Some(word) = last(rest) else {
+        return Ok(None);
+    };
+    let Some(group) = number(word) else {
+        return Ok(None);
+    };
+    Ok(Some(sends(alloc, side, TIOCSPGRP, &group.to_be_bytes())?))
+}
+
+/// `raw N "TEXT"`, behind its word.
+fn raw(alloc: Global, side: Side, rest: &[u8]) -> Result<Option<Command>, AllocError>
+    ensures { IfOk result (λ found. commands_of found ≡ form_in (ioctl_form side ioctls.Raw) rest.now) }
+{
+    match next_number(rest) {
+        Some((command, rest)) => texted(alloc, side, command, rest),
         None => Ok(None),
     }
 }
 
-/// An ioctl that sends these bytes.
-fn sent(alloc: Global, command: u32, bytes: &[u8]) -> Result<Event<Vec<u8>>, AllocError>
-    ensures { IfOk result (λ event. request_of event ≡ Ioctl command bytes.now) }
+/// The ioctl whose word it is.
+pub fn ioctl_name(word: &[u8]) -> Option<IoctlName>
+    ensures { result ≡ named ioctl_names word.now }
 {
-    let mut body = Vec::new(alloc);
-    body.extend_from_slice(bytes)?;
-    Ok(Event::Ioctl { command, body })
+    named(&IOCTLS, word)
 }
 
-/// What an ioctl asks for, behind its side: an [`Event::Ioctl`]. Only want of memory is an `Err`.
-#[tactic(auto, unfolding(crate::specs::ScriptReading::asked_in))]
-pub fn asked(alloc: Global, line: &[u8]) -> Result<Option<Event<Vec<u8>>>, AllocError>
-    ensures { IfOk result (λ found. requests_of found ≡ asked_in line.now) }
+/// An ioctl of a side, of which its word is read. Only want of memory is an `Err`.
+pub fn ioctl(
+    alloc: Global,
+    side: Side,
+    name: IoctlName,
+    rest: &[u8],
+) -> Result<Option<Command>, AllocError>
+    ensures { IfOk result (λ found. commands_of found ≡ form_in (ioctl_form side name) rest.now) }
 {
-    if let Some(command) = bare(line) {
-        let event = sent(alloc, command, &[])?;
-        return Ok(Some(event));
+    match name {
+        IoctlName::Tcgets => bare(alloc, side, TCGETS, rest),
+        IoctlName::Tiocgwinsz => bare(alloc, side, TIOCGWINSZ, rest),
+        IoctlName::Tiocgpgrp => bare(alloc, side, TIOCGPGRP, rest),
+        IoctlName::Tiocspgrp => foreground(alloc, side, rest),
+        IoctlName::Tiocsignal => signal(alloc, side, rest),
+        IoctlName::Tiocswinsz => window(alloc, side, rest),
+        IoctlName::Tcsets => texted(alloc, side, TCSETS, rest),
+        IoctlName::Tcsetsw => texted(alloc, side, TCSETSW, rest),
+        IoctlName::Tcsetsf => texted(alloc, side, TCSETSF, rest),
+        IoctlName::Raw => raw(alloc, side, rest),
     }
-    if let Some(size) = window(line) {
-        let event = sent(alloc, TIOCSWINSZ, &window_bytes(size))?;
-        return Ok(Some(event));
-    }
-    if let Some(number) = signal(line) {
-        let event = sent(alloc, TIOCSIGNAL, &[number])?;
-        return Ok(Some(event));
-    }
-    if let Some(group) = foreground(line) {
-        let event = sent(alloc, TIOCSPGRP, &group.to_be_bytes())?;
-        return Ok(Some(event));
-    }
-    sending(alloc, line)
 }

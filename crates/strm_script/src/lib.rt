@@ -10,6 +10,7 @@ mod ioctls;
 mod ledgers;
 mod lines;
 mod looks;
+mod named;
 mod numbers;
 mod obeying;
 mod outcomes;
@@ -18,6 +19,7 @@ mod script;
 mod session;
 mod texts;
 mod turns;
+mod verbs;
 mod words;
 
 pub use engine::Stop;

@@ -1,25 +1,23 @@
-//! What a line of a script says. Each command has a reader of its own.
+//! What a line of a script says. A command is a row of `VERBS` in verbs.rt and an arm of [`of_verb`].
 
 ghost use Rattle.std.specs.Prelude.{◌≡◌, ◌≤◌, IfOk, length};
 ghost use Rattle.strm_script.specs.Script as script;
-ghost use Rattle.strm_script.specs.Script.{IsSpelled};
-ghost use Rattle.strm_script.specs.ScriptReading.{open_in, named_in, write_in, read_in, turn_in, run_in};
-ghost use Rattle.strm_script.specs.ScriptReading.{sided_call_in, push_in, flush_in, show_in, stream_in};
-ghost use Rattle.strm_script.specs.ScriptReading.{parts_put, put_in, get_of, get_in, set_mode_in, message_in};
-ghost use Rattle.strm_script.specs.ScriptReading.{ioctl_in, poll_in, control_in, ledger_in, group_in};
-ghost use Rattle.strm_script.specs.ScriptReading.{command_in, reading, Spoken};
-ghost use Rattle.strm_script.specs.Commands.{commands_of, reading_of};
+ghost use Rattle.strm_script.specs.declared.verbs.Verb.TheVariants as verbs;
+ghost use Rattle.strm_script.specs.Table.{ASide, Ends, Last, get_form, form_of, IsSpelled};
+ghost use Rattle.strm_script.specs.ScriptReading.{form_in, command_in, reading, Spoken};
+ghost use Rattle.strm_script.specs.Commands.{command_of, commands_of, request_of, reading_of};
 
-use crate::commands::{Command, NamedPrio, NamedWanted, Reading};
-use crate::ioctls::asked;
-use crate::numbers::{number, number_at};
+use crate::commands::{Command, NamedWanted, Reading};
+use crate::ioctls::{ioctl, ioctl_name};
+use crate::numbers::number;
 use crate::texts::{part, text};
+use crate::verbs::{Verb, of_word};
 use crate::words::{
-    after, band, caller, direction, flush_queues, is_name, mode, module, prio, queue, side,
-    side_behind, wanted,
+    direction, flags, flush_queues, last, mode, name, next, next_number, next_side, prio, queue,
+    side, split, wanted,
 };
 use std::alloc::{AllocError, Global};
-use strm_types::{Event, Side};
+use strm_types::{Caller, Event, Side};
 
 /// The most bytes of a line, without its LF.
 pub const LINE_MAX: usize = 4096;
@@ -27,182 +25,103 @@ pub const LINE_MAX: usize = 4096;
 /// The most bytes of each part that a `get` takes where a script names no sizes.
 const USUAL_SIZE: u32 = 1024;
 
-/// `open`, or `open N`.
-#[tactic(auto, unfolding(crate::specs::ScriptReading::open_in))]
-fn open(line: &[u8]) -> Option<Command>
-    ensures { commands_of result ≡ open_in line.now }
+/// A call on a side's stream.
+fn call(side: Side, event: Event<Vec<u8>>) -> Command
+    ensures { command_of result ≡ script.Call side (request_of event) }
 {
-    match line {
-        b"open" => Some(Command::Open { blocks: None }),
-        _ => {
-            let blocks = number(after(line, b"open ")?)?;
-            Some(Command::Open {
-                blocks: Some(blocks),
-            })
-        }
-    }
+    Command::Call { side, event }
 }
 
-/// A command that is spelled by its name alone: `unlock`, `slave`, `cut`.
-#[tactic(auto, unfolding(crate::specs::ScriptReading::named_in))]
-fn named(line: &[u8]) -> Option<Command>
-    ensures { commands_of result ≡ named_in line.now }
+/// A command behind whose word nothing stands.
+fn alone(command: Command, rest: &[u8]) -> Option<Command>
+    ensures { commands_of result ≡ form_in (Ends (command_of command)) rest.now }
 {
-    let (side, event) = match line {
-        b"unlock" => (Side::Master, Event::Unlock),
-        b"slave" => (Side::Slave, Event::OpenSlave),
-        b"cut" => return Some(Command::Cut),
-        _ => return None,
-    };
+    if rest.is_empty() { Some(command) } else { None }
+}
+
+/// A call behind whose word a side stands.
+fn on_side(event: Event<Vec<u8>>, rest: &[u8]) -> Option<Command>
+    ensures { commands_of result ≡ form_in (Last ASide (λ side. script.Call side (request_of event))) rest.now }
+{
+    let side = side(last(rest)?)?;
+    Some(Command::Call { side, event })
+}
+
+/// `open`, or `open N`: what stands behind its word, as in each of these.
+fn open(rest: &[u8]) -> Option<Command>
+    ensures { commands_of result ≡ form_in (form_of verbs.Open) rest.now }
+{
+    if rest.is_empty() {
+        return Some(Command::Open { blocks: None });
+    }
+    let blocks = number(last(rest)?)?;
+    Some(Command::Open {
+        blocks: Some(blocks),
+    })
+}
+
+/// `push X NAME`.
+fn push(rest: &[u8]) -> Option<Command>
+    ensures { commands_of result ≡ form_in (form_of verbs.Push) rest.now }
+{
+    let (side, rest) = next_side(rest)?;
+    let name = name(last(rest)?)?;
+    let event = Event::Push { name };
     Some(Command::Call { side, event })
 }
 
 /// `write X TEXT`.
-#[tactic(auto, unfolding(crate::specs::ScriptReading::write_in))]
-fn write(alloc: Global, line: &[u8]) -> Result<Option<Command>, AllocError>
-    ensures { IfOk result (λ found. commands_of found ≡ write_in line.now) }
+fn write(alloc: Global, rest: &[u8]) -> Result<Option<Command>, AllocError>
+    ensures { IfOk result (λ found. commands_of found ≡ form_in (form_of verbs.Write) rest.now) }
 {
-    let Some(rest) = after(line, b"write ") else {
+    let Some((side, rest)) = next_side(rest) else {
         return Ok(None);
     };
-    let Some((side, rest)) = side(rest) else {
+    let Some(word) = last(rest) else {
         return Ok(None);
     };
-    let Some(rest) = after(rest, b" ") else {
+    let Some(bytes) = text(alloc, word)? else {
         return Ok(None);
     };
-    match text(alloc, rest)? {
-        Some(bytes) => {
-            let event = Event::Write { bytes };
-            Ok(Some(Command::Call { side, event }))
-        }
-        None => Ok(None),
-    }
+    let event = Event::Write { bytes };
+    Ok(Some(Command::Call { side, event }))
 }
 
 /// `read X N`.
-#[tactic(auto, unfolding(crate::specs::ScriptReading::read_in))]
-fn read(line: &[u8]) -> Option<Command>
-    ensures { commands_of result ≡ read_in line.now }
+fn read(rest: &[u8]) -> Option<Command>
+    ensures { commands_of result ≡ form_in (form_of verbs.Read) rest.now }
 {
-    let (side, rest) = side(after(line, b"read ")?)?;
-    let n = number(after(rest, b" ")?)?;
+    let (side, rest) = next_side(rest)?;
+    let n = number(last(rest)?)?;
     let event = Event::Read { n };
     Some(Command::Call { side, event })
 }
 
-/// `turn QUEUE`.
-#[tactic(auto, unfolding(crate::specs::ScriptReading::turn_in))]
-fn turn(line: &[u8]) -> Option<Command>
-    ensures { commands_of result ≡ turn_in line.now }
+/// `put X PRIO CTL DATA`.
+fn put(alloc: Global, rest: &[u8]) -> Result<Option<Command>, AllocError>
+    ensures { IfOk result (λ found. commands_of found ≡ form_in (form_of verbs.Put) rest.now) }
 {
-    let name = queue(after(line, b"turn ")?)?;
-    Some(Command::Turn { name })
-}
-
-/// `run N`.
-#[tactic(auto, unfolding(crate::specs::ScriptReading::run_in))]
-fn run(line: &[u8]) -> Option<Command>
-    ensures { commands_of result ≡ run_in line.now }
-{
-    let turns = number(after(line, b"run ")?)?;
-    Some(Command::Run { turns })
-}
-
-/// A call that is spelled by its name and a side: `close X`, `pop X`, `look X`, `signals X`.
-#[tactic(auto, unfolding(crate::specs::ScriptReading::sided_call_in))]
-fn sided_call(line: &[u8]) -> Option<Command>
-    ensures { commands_of result ≡ sided_call_in line.now }
-{
-    if let Some(side) = side_behind(line, b"close ") {
-        let event = Event::Shut;
-        return Some(Command::Call { side, event });
-    }
-    if let Some(side) = side_behind(line, b"pop ") {
-        let event = Event::Pop;
-        return Some(Command::Call { side, event });
-    }
-    if let Some(side) = side_behind(line, b"look ") {
-        let event = Event::Look;
-        return Some(Command::Call { side, event });
-    }
-    let side = side_behind(line, b"signals ")?;
-    let event = Event::Signals;
-    Some(Command::Call { side, event })
-}
-
-/// `push X NAME`.
-#[tactic(auto, unfolding(crate::specs::ScriptReading::push_in))]
-fn push(line: &[u8]) -> Option<Command>
-    ensures { commands_of result ≡ push_in line.now }
-{
-    let (side, rest) = side(after(line, b"push ")?)?;
-    let name = after(rest, b" ")?;
-    if !is_name(name) {
-        return None;
-    }
-    let event = Event::Push { name: module(name) };
-    Some(Command::Call { side, event })
-}
-
-/// `flush X QUEUES`, or `flush X QUEUES BAND`.
-#[tactic(auto, unfolding(crate::specs::ScriptReading::flush_in))]
-fn flush(line: &[u8]) -> Option<Command>
-    ensures { commands_of result ≡ flush_in line.now }
-{
-    let (side, rest) = side(after(line, b"flush ")?)?;
-    let (what, rest) = flush_queues(after(rest, b" ")?)?;
-    let band = band(rest)?;
-    Some(Command::Flush { side, what, band })
-}
-
-/// `show X`.
-#[tactic(auto, unfolding(crate::specs::ScriptReading::show_in))]
-fn show(line: &[u8]) -> Option<Command>
-    ensures { commands_of result ≡ show_in line.now }
-{
-    let side = side_behind(line, b"show ")?;
-    Some(Command::Show { side })
-}
-
-/// What a side's stream is asked for as a whole.
-#[tactic(auto, unfolding(crate::specs::ScriptReading::stream_in))]
-fn of_stream(line: &[u8]) -> Option<Command>
-    ensures { commands_of result ≡ stream_in line.now }
-{
-    if let Some(command) = sided_call(line) {
-        return Some(command);
-    }
-    if let Some(command) = push(line) {
-        return Some(command);
-    }
-    if let Some(command) = flush(line) {
-        return Some(command);
-    }
-    show(line)
-}
-
-/// A put of this side and priority, where its parts follow.
-fn put_parts(
-    alloc: Global,
-    side: Side,
-    prio: NamedPrio,
-    line: &[u8],
-) -> Result<Option<Command>, AllocError>
-    ensures { IfOk result (λ found. commands_of found ≡ parts_put side prio line.now) }
-{
-    let Some((control, rest)) = part(alloc, line)? else {
+    let Some((side, rest)) = next_side(rest) else {
         return Ok(None);
     };
-    let Some(rest) = after(rest, b" ") else {
+    let Some((word, rest)) = next(rest) else {
         return Ok(None);
     };
-    let Some((body, rest)) = part(alloc, rest)? else {
+    let Some(prio) = prio(word) else {
         return Ok(None);
     };
-    if !rest.is_empty() {
+    let Some((word, rest)) = next(rest) else {
         return Ok(None);
-    }
+    };
+    let Some(control) = part(alloc, word)? else {
+        return Ok(None);
+    };
+    let Some(word) = last(rest) else {
+        return Ok(None);
+    };
+    let Some(body) = part(alloc, word)? else {
+        return Ok(None);
+    };
     Ok(Some(Command::Put {
         side,
         prio,
@@ -211,36 +130,14 @@ fn put_parts(
     }))
 }
 
-/// `put X PRIO CTL DATA`.
-#[tactic(auto, unfolding(crate::specs::ScriptReading::put_in))]
-fn put(alloc: Global, line: &[u8]) -> Result<Option<Command>, AllocError>
-    ensures { IfOk result (λ found. commands_of found ≡ put_in line.now) }
+/// `WANTED CMAX DMAX` of a get.
+fn sized_get(side: Side, rest: &[u8]) -> Option<Command>
+    ensures { commands_of result ≡ form_in (get_form side) rest.now }
 {
-    let Some(rest) = after(line, b"put ") else {
-        return Ok(None);
-    };
-    let Some((side, rest)) = side(rest) else {
-        return Ok(None);
-    };
-    let Some(rest) = after(rest, b" ") else {
-        return Ok(None);
-    };
-    let Some((prio, rest)) = prio(rest) else {
-        return Ok(None);
-    };
-    let Some(rest) = after(rest, b" ") else {
-        return Ok(None);
-    };
-    put_parts(alloc, side, prio, rest)
-}
-
-/// A get on a side, where what is wanted and the size of each part follow.
-fn sized_get(side: Side, line: &[u8]) -> Option<Command>
-    ensures { commands_of result ≡ get_of side line.now }
-{
-    let (wanted, rest) = wanted(line)?;
-    let (cmax, rest) = number_at(after(rest, b" ")?)?;
-    let dmax = number(after(rest, b" ")?)?;
+    let (word, rest) = next(rest)?;
+    let wanted = wanted(word)?;
+    let (cmax, rest) = next_number(rest)?;
+    let dmax = number(last(rest)?)?;
     Some(Command::Get {
         side,
         wanted,
@@ -250,11 +147,10 @@ fn sized_get(side: Side, line: &[u8]) -> Option<Command>
 }
 
 /// `get X`, or `get X WANTED CMAX DMAX`.
-#[tactic(auto, unfolding(crate::specs::ScriptReading::get_in))]
-fn get(line: &[u8]) -> Option<Command>
-    ensures { commands_of result ≡ get_in line.now }
+fn get(rest: &[u8]) -> Option<Command>
+    ensures { commands_of result ≡ form_in (form_of verbs.Get) rest.now }
 {
-    let (side, rest) = side(after(line, b"get ")?)?;
+    let (side, rest) = next_side(rest)?;
     if rest.is_empty() {
         return Some(Command::Get {
             side,
@@ -263,94 +159,136 @@ fn get(line: &[u8]) -> Option<Command>
             dmax: USUAL_SIZE,
         });
     }
-    sized_get(side, after(rest, b" ")?)
+    sized_get(side, rest)
 }
 
 /// `mode X MODE`.
-#[tactic(auto, unfolding(crate::specs::ScriptReading::set_mode_in))]
-fn set_mode(line: &[u8]) -> Option<Command>
-    ensures { commands_of result ≡ set_mode_in line.now }
+fn set_mode(rest: &[u8]) -> Option<Command>
+    ensures { commands_of result ≡ form_in (form_of verbs.Mode) rest.now }
 {
-    let (side, rest) = side(after(line, b"mode ")?)?;
-    let mode = mode(after(rest, b" ")?)?;
+    let (side, rest) = next_side(rest)?;
+    let mode = mode(last(rest)?)?;
     let event = Event::Mode { mode };
     Some(Command::Call { side, event })
 }
 
-/// What a side's stream is asked for about messages.
-#[tactic(auto, unfolding(crate::specs::ScriptReading::message_in))]
-fn of_message(alloc: Global, line: &[u8]) -> Result<Option<Command>, AllocError>
-    ensures { IfOk result (λ found. commands_of found ≡ message_in line.now) }
+/// `flush X QUEUES`, or `flush X QUEUES BAND`.
+fn flush(rest: &[u8]) -> Option<Command>
+    ensures { commands_of result ≡ form_in (form_of verbs.Flush) rest.now }
 {
-    if let Some(command) = put(alloc, line)? {
-        return Ok(Some(command));
+    let (side, rest) = next_side(rest)?;
+    let (word, rest) = next(rest)?;
+    let what = flush_queues(word)?;
+    if rest.is_empty() {
+        let band = None;
+        return Some(Command::Flush { side, what, band });
     }
-    if let Some(command) = get(line) {
-        return Ok(Some(command));
-    }
-    Ok(set_mode(line))
+    let band = Some(number(last(rest)?)?);
+    Some(Command::Flush { side, what, band })
 }
 
 /// `ioctl X NAME ARGS`.
-#[tactic(auto, unfolding(crate::specs::ScriptReading::ioctl_in))]
-fn ioctl(alloc: Global, line: &[u8]) -> Result<Option<Command>, AllocError>
-    ensures { IfOk result (λ found. commands_of found ≡ ioctl_in line.now) }
+fn on_ioctl(alloc: Global, rest: &[u8]) -> Result<Option<Command>, AllocError>
+    ensures { IfOk result (λ found. commands_of found ≡ form_in (form_of verbs.Ioctl) rest.now) }
 {
-    let Some(rest) = after(line, b"ioctl ") else {
+    let Some((side, rest)) = next_side(rest) else {
         return Ok(None);
     };
-    let Some((side, rest)) = side(rest) else {
+    let Some((word, rest)) = next(rest) else {
         return Ok(None);
     };
-    let Some(rest) = after(rest, b" ") else {
-        return Ok(None);
-    };
-    match asked(alloc, rest)? {
-        Some(event) => Ok(Some(Command::Call { side, event })),
+    match ioctl_name(word) {
+        Some(name) => ioctl(alloc, side, name, rest),
         None => Ok(None),
     }
 }
 
 /// `poll X N`.
-#[tactic(auto, unfolding(crate::specs::ScriptReading::poll_in))]
-fn poll(line: &[u8]) -> Option<Command>
-    ensures { commands_of result ≡ poll_in line.now }
+fn poll(rest: &[u8]) -> Option<Command>
+    ensures { commands_of result ≡ form_in (form_of verbs.Poll) rest.now }
 {
-    let (side, rest) = side(after(line, b"poll ")?)?;
-    let number = number(after(rest, b" ")?)?;
+    let (side, rest) = next_side(rest)?;
+    let number = number(last(rest)?)?;
     let event = Event::IoctlResult { number };
     Some(Command::Call { side, event })
 }
 
-/// What a side's stream is asked for about ioctls.
-#[tactic(auto, unfolding(crate::specs::ScriptReading::control_in))]
-fn of_control(alloc: Global, line: &[u8]) -> Result<Option<Command>, AllocError>
-    ensures { IfOk result (λ found. commands_of found ≡ control_in line.now) }
+/// `group X N FLAGS`.
+fn group(rest: &[u8]) -> Option<Command>
+    ensures { commands_of result ≡ form_in (form_of verbs.Group) rest.now }
 {
-    if let Some(command) = ioctl(alloc, line)? {
-        return Ok(Some(command));
-    }
-    Ok(poll(line))
+    let (side, rest) = next_side(rest)?;
+    let (group, rest) = next_number(rest)?;
+    let (ignores, orphaned) = flags(last(rest)?)?;
+    let caller = Caller {
+        side,
+        group,
+        ignores,
+        orphaned,
+    };
+    Some(Command::Group { caller })
+}
+
+/// `turn QUEUE`.
+fn turn(rest: &[u8]) -> Option<Command>
+    ensures { commands_of result ≡ form_in (form_of verbs.Turn) rest.now }
+{
+    let name = queue(last(rest)?)?;
+    Some(Command::Turn { name })
+}
+
+/// `run N`.
+fn run(rest: &[u8]) -> Option<Command>
+    ensures { commands_of result ≡ form_in (form_of verbs.Run) rest.now }
+{
+    let turns = number(last(rest)?)?;
+    Some(Command::Run { turns })
+}
+
+/// `show X`.
+fn show(rest: &[u8]) -> Option<Command>
+    ensures { commands_of result ≡ form_in (form_of verbs.Show) rest.now }
+{
+    let side = side(last(rest)?)?;
+    Some(Command::Show { side })
 }
 
 /// `ledger D`.
-#[tactic(auto, unfolding(crate::specs::ScriptReading::ledger_in))]
-fn ledger(line: &[u8]) -> Option<Command>
-    ensures { commands_of result ≡ ledger_in line.now }
+fn ledger(rest: &[u8]) -> Option<Command>
+    ensures { commands_of result ≡ form_in (form_of verbs.Ledger) rest.now }
 {
-    let direction = direction(after(line, b"ledger ")?)?;
+    let direction = direction(last(rest)?)?;
     Some(Command::Ledger { direction })
 }
 
-/// `group X N FLAGS`.
-#[tactic(auto, unfolding(crate::specs::ScriptReading::group_in))]
-fn group(line: &[u8]) -> Option<Command>
-    ensures { commands_of result ≡ group_in line.now }
+/// The command of a verb, of which its word is read.
+fn of_verb(alloc: Global, verb: Verb, rest: &[u8]) -> Result<Option<Command>, AllocError>
+    ensures { IfOk result (λ found. commands_of found ≡ form_in (form_of verb) rest.now) }
 {
-    let (side, rest) = side(after(line, b"group ")?)?;
-    let (number, rest) = number_at(after(rest, b" ")?)?;
-    let caller = caller(side, number, after(rest, b" ")?)?;
-    Some(Command::Group { caller })
+    match verb {
+        Verb::Open => Ok(open(rest)),
+        Verb::Unlock => Ok(alone(call(Side::Master, Event::Unlock), rest)),
+        Verb::Slave => Ok(alone(call(Side::Slave, Event::OpenSlave), rest)),
+        Verb::Close => Ok(on_side(Event::Shut, rest)),
+        Verb::Push => Ok(push(rest)),
+        Verb::Pop => Ok(on_side(Event::Pop, rest)),
+        Verb::Look => Ok(on_side(Event::Look, rest)),
+        Verb::Write => write(alloc, rest),
+        Verb::Read => Ok(read(rest)),
+        Verb::Put => put(alloc, rest),
+        Verb::Get => Ok(get(rest)),
+        Verb::Mode => Ok(set_mode(rest)),
+        Verb::Flush => Ok(flush(rest)),
+        Verb::Ioctl => on_ioctl(alloc, rest),
+        Verb::Poll => Ok(poll(rest)),
+        Verb::Signals => Ok(on_side(Event::Signals, rest)),
+        Verb::Group => Ok(group(rest)),
+        Verb::Turn => Ok(turn(rest)),
+        Verb::Run => Ok(run(rest)),
+        Verb::Show => Ok(show(rest)),
+        Verb::Ledger => Ok(ledger(rest)),
+        Verb::Cut => Ok(alone(Command::Cut, rest)),
+    }
 }
 
 /// The command that a line spells.
@@ -358,37 +296,11 @@ fn group(line: &[u8]) -> Option<Command>
 fn command(alloc: Global, line: &[u8]) -> Result<Option<Command>, AllocError>
     ensures { IfOk result (λ found. commands_of found ≡ command_in line.now) }
 {
-    if let Some(command) = open(line) {
-        return Ok(Some(command));
+    let (word, rest) = split(line);
+    match of_word(word) {
+        Some(verb) => of_verb(alloc, verb, rest),
+        None => Ok(None),
     }
-    if let Some(command) = named(line) {
-        return Ok(Some(command));
-    }
-    if let Some(command) = write(alloc, line)? {
-        return Ok(Some(command));
-    }
-    if let Some(command) = read(line) {
-        return Ok(Some(command));
-    }
-    if let Some(command) = turn(line) {
-        return Ok(Some(command));
-    }
-    if let Some(command) = run(line) {
-        return Ok(Some(command));
-    }
-    if let Some(command) = of_stream(line) {
-        return Ok(Some(command));
-    }
-    if let Some(command) = of_message(alloc, line)? {
-        return Ok(Some(command));
-    }
-    if let Some(command) = of_control(alloc, line)? {
-        return Ok(Some(command));
-    }
-    if let Some(command) = ledger(line) {
-        return Ok(Some(command));
-    }
-    Ok(group(line))
 }
 
 /// What a line says, by its length, its first byte and its command.

@@ -1,11 +1,10 @@
 //! Numbers of a line.
 
-ghost use Rattle.std.specs.Prelude.{◌≡◌, ◌≤◌, IfSome, option_map};
+ghost use Rattle.std.specs.Prelude.{◌≡◌, ◌≤◌, IfSome};
 ghost use Rattle.std.specs.List.{position_from, position_or_len};
 ghost use Rattle.strm_script.specs.Script.{digit_of};
 ghost use Rattle.strm_script.specs.Script.{byte_max, short_max};
-ghost use Rattle.strm_script.specs.ScriptReading.{within, number_from, number_in, number_to, number_at, number_to_at, is_space};
-ghost use Rattle.strm_script.specs.Views.{front_of};
+ghost use Rattle.strm_script.specs.ScriptReading.{within, number_from, number_in, number_to, is_space};
 
 /// The value of a decimal digit.
 #[tactic(auto, unfolding(crate::specs::Script::digit_of))]
@@ -62,21 +61,11 @@ fn first_space(text: &[u8]) -> Option<usize>
     text.iter().position(|byte| is_space(*byte))
 }
 
-/// How many bytes the word at the front has, up to a space or the end.
-fn word_len(text: &[u8]) -> usize
+/// How many bytes stand before the first space, or before the end.
+pub fn word_len(text: &[u8]) -> usize
     ensures { result ≡ position_or_len is_space text.now }
 {
     first_space(text).unwrap_or(text.len())
-}
-
-/// The number that the word at the front spells, and what follows it.
-#[tactic(auto, unfolding(crate::specs::ScriptReading::number_at))]
-pub fn number_at(text: &[u8]) -> Option<(u32, &[u8])>
-    ensures { option_map front_of result ≡ number_at text.now }
-{
-    let len = word_len(text);
-    let number = number(&text[..len])?;
-    Some((number, &text[len..]))
 }
 
 /// A number as one of two bytes, if it is at most 65535.
@@ -96,16 +85,6 @@ pub fn short(digits: &[u8]) -> Option<u16>
     ensures { result ≡ number_to short_max digits.now }
 {
     short_of(number(digits)?)
-}
-
-/// The number up to 65535 that the word at the front spells, and what follows it.
-#[tactic(auto, unfolding(crate::specs::ScriptReading::number_to_at))]
-pub fn short_at(text: &[u8]) -> Option<(u16, &[u8])>
-    ensures { option_map front_of result ≡ number_to_at short_max text.now }
-{
-    let (number, rest) = number_at(text)?;
-    let number = short_of(number)?;
-    Some((number, rest))
 }
 
 /// A number as a byte, if it is at most 255.

@@ -5,12 +5,11 @@ ghost use Rattle.std.specs.Option.{option_map};
 ghost use Rattle.strm_script.specs.Script.{hex_of, escaped};
 ghost use Rattle.std.specs.List.{position_from, position_or_len};
 ghost use Rattle.strm_script.specs.ScriptReading.{moved_by, text_in, text_from, is_closed, is_marked, own_len};
-ghost use Rattle.strm_script.specs.ScriptReading.{quoted_len, inside_at, text_at, part_at};
+ghost use Rattle.strm_script.specs.ScriptReading.{quoted_len, part_in};
 ghost use Rattle.strm_script.specs.ScriptReading as readings;
-ghost use Rattle.strm_script.specs.Views.{front_as};
 ghost use Rattle.strm_script.specs.Modes.{mode_of, move_of, IsMode, IsMove};
 
-use crate::words::after;
+use crate::named::after;
 use std::alloc::{AllocError, Global};
 
 /// How far the spelling of a text has come.
@@ -143,7 +142,7 @@ fn unmarked_len(bytes: &[u8]) -> usize
     first_marked(bytes).unwrap_or(bytes.len())
 }
 
-/// How many bytes spell themselves where the spelling has come so far: none within an escape.
+/// How many bytes spell themselves where a spelling stands in this mode: none within an escape.
 fn own_len(mode: Mode, bytes: &[u8]) -> usize
     ensures { result ≡ own_len (mode_of mode) bytes.now }
 {
@@ -197,7 +196,7 @@ pub fn text(alloc: Global, bytes: &[u8]) -> Result<Option<Vec<u8>>, AllocError>
 }
 
 /// How many bytes are left of a text in quotes, up to and with the quote at its end, or all where there is none.
-fn quoted_len(bytes: &[u8]) -> usize
+pub fn quoted_len(bytes: &[u8]) -> usize
     ensures same { result ≡ quoted_len false bytes.now }
     ensures within { result ≤ length bytes.now }
 {
@@ -216,40 +215,16 @@ fn quoted_len(bytes: &[u8]) -> usize
     len
 }
 
-/// The text that bytes spell up to the quote at its end, and what follows it.
-#[tactic(auto, unfolding(crate::specs::ScriptReading::inside_at))]
-fn inside_at(alloc: Global, bytes: &[u8]) -> Result<Option<(Vec<u8>, &[u8])>, AllocError>
-    ensures { IfOk result (λ found. option_map (front_as (λ text. text.items)) found ≡ inside_at bytes.now) }
+/// A part of a message: a text in quotes, or `-` for none.
+#[tactic(auto, unfolding(crate::specs::ScriptReading::part_in))]
+pub fn part(alloc: Global, word: &[u8]) -> Result<Option<Option<Vec<u8>>>, AllocError>
+    ensures { IfOk result (λ found. option_map (λ part. option_map (λ text. text.items) part) found ≡ part_in word.now) }
 {
-    let len = quoted_len(bytes);
-    match spelled(alloc, &bytes[..len])? {
-        Some(text) => Ok(Some((text, &bytes[len..]))),
-        None => Ok(None),
+    if let b"-" = word {
+        return Ok(Some(None));
     }
-}
-
-/// A text in quotes at the front, and what follows it.
-#[tactic(auto, unfolding(crate::specs::ScriptReading::text_at))]
-fn text_at(alloc: Global, bytes: &[u8]) -> Result<Option<(Vec<u8>, &[u8])>, AllocError>
-    ensures { IfOk result (λ found. option_map (front_as (λ text. text.items)) found ≡ text_at bytes.now) }
-{
-    match after(bytes, b"\"") {
-        Some(inside) => inside_at(alloc, inside),
-        None => Ok(None),
-    }
-}
-
-/// A part of a message at the front, a text in quotes or `-` for none, and what follows it.
-#[tactic(auto, unfolding(crate::specs::ScriptReading::part_at))]
-pub fn part(alloc: Global, bytes: &[u8]) -> Result<Option<(Option<Vec<u8>>, &[u8])>, AllocError>
-    ensures { IfOk result (λ found. option_map (front_as (λ part. option_map (λ text. text.items) part)) found
-        ≡ part_at bytes.now) }
-{
-    if let Some(rest) = after(bytes, b"-") {
-        return Ok(Some((None, rest)));
-    }
-    match text_at(alloc, bytes)? {
-        Some((text, rest)) => Ok(Some((Some(text), rest))),
+    match text(alloc, word)? {
+        Some(text) => Ok(Some(Some(text))),
         None => Ok(None),
     }
 }

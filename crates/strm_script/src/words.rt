@@ -1,31 +1,129 @@
-//! Words of a line: each function takes one kind of word from the front of a text, and gives what follows it.
+//! Words of a line: how a line is parted into them, and what each kind of word says.
 
-ghost use Rattle.std.specs.Prelude.{◌≡◌, option_map};
+ghost use Rattle.std.specs.Prelude.{◌≡◌, ◌≤◌, length, option_map};
 ghost use Rattle.std.specs.Option.{option_copied};
 ghost use Rattle.std.specs.List.{list_all};
 ghost use Rattle.strm_script.specs.Script.{is_letter};
-ghost use Rattle.strm_script.specs.ScriptReading.{and_then, after, side_in, place_in, way_in, queue_in};
-ghost use Rattle.strm_script.specs.ScriptReading.{side_alone, module_in, is_name, flush_queues_in, band_in};
-ghost use Rattle.strm_script.specs.ScriptReading.{prio_at, wanted_at, mode_in, direction_in, caller_in};
-ghost use Rattle.strm_script.specs.Views.{front_of};
+ghost use Rattle.strm_script.specs.Named.{named};
+ghost use Rattle.strm_script.specs.Table.{ASide, ANumber};
+ghost use Rattle.strm_script.specs.ScriptReading.{sides, module_names, flushed, mode_names, directions, flag_names};
+ghost use Rattle.strm_script.specs.ScriptReading.{token_len, split, token_in, last_in, side_at, place_at, way_in, queue_in};
+ghost use Rattle.strm_script.specs.ScriptReading.{is_name, name_in, prio_in, wanted_in, word_at};
+ghost use Rattle.strm_script.specs.Views.{front_of, words_of};
 
 use crate::commands::{NamedPrio, NamedWanted};
-use crate::numbers::{number, number_at};
+use crate::named::{after, named};
+use crate::numbers::{number, word_len};
+use crate::texts::quoted_len;
 use strm_types::{
-    Caller, ControlMode, Dir, FlushQueues, Mode, ModuleName, Place, QueueName, ReadMode, Side, Way,
+    ControlMode, Dir, FlushQueues, Mode, ModuleName, Place, QueueName, ReadMode, Side, Way,
 };
 
-/// What follows a word at the front of a text.
-pub fn after<'a>(text: &'a [u8], word: &[u8]) -> Option<&'a [u8]>
-    ensures { option_copied result ≡ after word.now text.now }
+/// The word of each side.
+const SIDES: [(&[u8], Side); 2] = [(b"m", Side::Master), (b"s", Side::Slave)];
+
+/// The name of each module.
+const MODULES: [(&[u8], ModuleName); 3] = [
+    (b"ldterm", ModuleName::Ldterm),
+    (b"ptem", ModuleName::Ptem),
+    (b"pckt", ModuleName::Pckt),
+];
+
+/// Which queues a flush is for.
+const FLUSHED: [(&[u8], FlushQueues); 3] = [
+    (b"r", FlushQueues::Read),
+    (b"w", FlushQueues::Write),
+    (b"rw", FlushQueues::Both),
+];
+
+/// The modes of a stream head.
+const MODES: [(&[u8], Mode); 6] = [
+    (b"norm", Mode::Read(ReadMode::ByteStream)),
+    (b"msgn", Mode::Read(ReadMode::MessageKeep)),
+    (b"msgd", Mode::Read(ReadMode::MessageDiscard)),
+    (b"protnorm", Mode::Control(ControlMode::Refuse)),
+    (b"protdat", Mode::Control(ControlMode::Data)),
+    (b"protdis", Mode::Control(ControlMode::Discard)),
+];
+
+/// The directions: from the master to the slave, and back.
+const DIRECTIONS: [(&[u8], Dir); 2] = [(b"ms", Dir::MasterToSlave), (b"sm", Dir::SlaveToMaster)];
+
+/// The flags of a caller: whether it ignores SIGTTIN and SIGTTOU, and whether its group is orphaned.
+const FLAGS: [(&[u8], (bool, bool)); 4] = [
+    (b"-", (false, false)),
+    (b"i", (true, false)),
+    (b"o", (false, true)),
+    (b"io", (true, true)),
+];
+
+/// How many bytes the word at the front has: a text in quotes up to its end, any other word up to a space.
+#[tactic(auto, unfolding(crate::specs::ScriptReading::token_len))]
+fn token_len(text: &[u8]) -> usize
+    ensures same { result ≡ token_len text.now }
+    ensures within { result ≤ length text.now }
 {
-    text.strip_prefix(word)
+    match after(text, b"\"") {
+        Some(inside) => 1 + quoted_len(inside),
+        None => word_len(text),
+    }
 }
 
-/// A side at the front, `m` or `s`, and what follows it.
-#[tactic(auto, unfolding(crate::specs::ScriptReading::side_in))]
-pub fn side(text: &[u8]) -> Option<(Side, &[u8])>
-    ensures { option_map front_of result ≡ side_in text.now }
+/// The word at the front, and what follows it.
+pub fn split(text: &[u8]) -> (&[u8], &[u8])
+    ensures { words_of result ≡ split text.now }
+{
+    let len = token_len(text);
+    (&text[..len], &text[len..])
+}
+
+/// A word behind a space, and what follows it.
+#[tactic(auto, unfolding(crate::specs::ScriptReading::token_in))]
+pub fn next(rest: &[u8]) -> Option<(&[u8], &[u8])>
+    ensures { option_map words_of result ≡ token_in rest.now }
+{
+    let text = after(rest, b" ")?;
+    Some(split(text))
+}
+
+/// The word behind a space, where nothing follows it.
+#[tactic(auto, unfolding(crate::specs::ScriptReading::last_in))]
+pub fn last(rest: &[u8]) -> Option<&[u8]>
+    ensures { option_copied result ≡ last_in rest.now }
+{
+    let (word, rest) = next(rest)?;
+    if rest.is_empty() { Some(word) } else { None }
+}
+
+/// A side behind a space, and what follows it.
+pub fn next_side(rest: &[u8]) -> Option<(Side, &[u8])>
+    ensures { option_map front_of result ≡ word_at ASide rest.now }
+{
+    let (word, rest) = next(rest)?;
+    let side = side(word)?;
+    Some((side, rest))
+}
+
+/// A number behind a space, and what follows it.
+pub fn next_number(rest: &[u8]) -> Option<(u32, &[u8])>
+    ensures { option_map front_of result ≡ word_at ANumber rest.now }
+{
+    let (word, rest) = next(rest)?;
+    let number = number(word)?;
+    Some((number, rest))
+}
+
+/// The side of a word.
+pub fn side(word: &[u8]) -> Option<Side>
+    ensures { result ≡ named sides word.now }
+{
+    named(&SIDES, word)
+}
+
+/// A side at the front, and what follows it.
+#[tactic(auto, unfolding(crate::specs::ScriptReading::side_at))]
+fn side_at(text: &[u8]) -> Option<(Side, &[u8])>
+    ensures { option_map front_of result ≡ side_at text.now }
 {
     if let Some(rest) = after(text, b"m") {
         return Some((Side::Master, rest));
@@ -37,9 +135,9 @@ pub fn side(text: &[u8]) -> Option<(Side, &[u8])>
 }
 
 /// A place at the front, `head`, `ldterm` or `drv`, and what follows it.
-#[tactic(auto, unfolding(crate::specs::ScriptReading::place_in))]
-fn place(text: &[u8]) -> Option<(Place, &[u8])>
-    ensures { option_map front_of result ≡ place_in text.now }
+#[tactic(auto, unfolding(crate::specs::ScriptReading::place_at))]
+fn place_at(text: &[u8]) -> Option<(Place, &[u8])>
+    ensures { option_map front_of result ≡ place_at text.now }
 {
     if let Some(rest) = after(text, b"head") {
         return Some((Place::Head, rest));
@@ -65,39 +163,24 @@ fn way(text: &[u8]) -> Option<Way>
     }
 }
 
-/// The name of a queue, as `m.drv.w`, where the text is no more.
+/// The name of a queue, as `m.drv.w`.
 #[tactic(auto, unfolding(crate::specs::ScriptReading::queue_in))]
-pub fn queue(text: &[u8]) -> Option<QueueName>
-    ensures { result ≡ queue_in text.now }
+pub fn queue(word: &[u8]) -> Option<QueueName>
+    ensures { result ≡ queue_in word.now }
 {
-    let (side, rest) = side(text)?;
+    let (side, rest) = side_at(word)?;
     let rest = after(rest, b".")?;
-    let (place, rest) = place(rest)?;
+    let (place, rest) = place_at(rest)?;
     let rest = after(rest, b".")?;
     let way = way(rest)?;
     Some(QueueName { side, place, way })
 }
 
-/// A side behind a word, where the text is no more.
-#[tactic(auto, unfolding(crate::specs::ScriptReading::side_alone))]
-pub fn side_behind(text: &[u8], word: &[u8]) -> Option<Side>
-    ensures { result ≡ and_then side_alone (after word.now text.now) }
+/// The module whose name a word is.
+fn module(word: &[u8]) -> Option<ModuleName>
+    ensures { result ≡ named module_names word.now }
 {
-    let (side, rest) = side(after(text, word)?)?;
-    if rest.is_empty() { Some(side) } else { None }
-}
-
-/// The module whose name a text is.
-#[tactic(auto, unfolding(crate::specs::ScriptReading::module_in))]
-pub fn module(text: &[u8]) -> Option<ModuleName>
-    ensures { result ≡ module_in text.now }
-{
-    match text {
-        b"ldterm" => Some(ModuleName::Ldterm),
-        b"ptem" => Some(ModuleName::Ptem),
-        b"pckt" => Some(ModuleName::Pckt),
-        _ => None,
-    }
+    named(&MODULES, word)
 }
 
 /// Whether a byte is a letter from a to z.
@@ -114,118 +197,74 @@ fn are_letters(text: &[u8]) -> bool
     text.iter().all(|byte| is_letter(*byte))
 }
 
-/// Whether a text may be the name of a module: 1 to 8 letters from a to z.
+/// Whether a word may be the name of a module: 1 to 8 letters from a to z.
 #[tactic(auto, unfolding(crate::specs::ScriptReading::is_name))]
-pub fn is_name(text: &[u8]) -> bool
-    ensures { result ≡ is_name text.now }
+fn is_name(word: &[u8]) -> bool
+    ensures { result ≡ is_name word.now }
 {
-    if text.is_empty() || text.len() > 8 {
+    if word.is_empty() || word.len() > 8 {
         return false;
     }
-    are_letters(text)
+    are_letters(word)
 }
 
-/// Which queues a flush is for, `r`, `w` or `rw`, at the front, and what follows it.
-#[tactic(auto, unfolding(crate::specs::ScriptReading::flush_queues_in))]
-pub fn flush_queues(text: &[u8]) -> Option<(FlushQueues, &[u8])>
-    ensures { option_map front_of result ≡ flush_queues_in text.now }
+/// The name of a module, or one that no module has.
+pub fn name(word: &[u8]) -> Option<Option<ModuleName>>
+    ensures { result ≡ name_in word.now }
 {
-    if let Some(rest) = after(text, b"rw") {
-        return Some((FlushQueues::Both, rest));
+    if !is_name(word) {
+        return None;
     }
-    if let Some(rest) = after(text, b"r") {
-        return Some((FlushQueues::Read, rest));
-    }
-    if let Some(rest) = after(text, b"w") {
-        return Some((FlushQueues::Write, rest));
-    }
-    None
+    Some(module(word))
 }
 
-/// The band of a flush, a number behind a space, or none, where the text is no more.
-#[tactic(auto, unfolding(crate::specs::ScriptReading::band_in))]
-pub fn band(text: &[u8]) -> Option<Option<u32>>
-    ensures { result ≡ band_in text.now }
+/// Which queues a word of a flush is for.
+pub fn flush_queues(word: &[u8]) -> Option<FlushQueues>
+    ensures { result ≡ named flushed word.now }
 {
-    if text.is_empty() {
-        return Some(None);
-    }
-    let number = number(after(text, b" ")?)?;
-    Some(Some(number))
+    named(&FLUSHED, word)
 }
 
-/// A priority at the front, `hi` or the number of a band, and what follows it.
-#[tactic(auto, unfolding(crate::specs::ScriptReading::prio_at))]
-pub fn prio(text: &[u8]) -> Option<(NamedPrio, &[u8])>
-    ensures { option_map front_of result ≡ prio_at text.now }
+/// A priority: `hi`, or the number of a band.
+#[tactic(auto, unfolding(crate::specs::ScriptReading::prio_in))]
+pub fn prio(word: &[u8]) -> Option<NamedPrio>
+    ensures { result ≡ prio_in word.now }
 {
-    if let Some(rest) = after(text, b"hi") {
-        return Some((NamedPrio::High, rest));
+    if let b"hi" = word {
+        return Some(NamedPrio::High);
     }
-    let (band, rest) = number_at(text)?;
-    Some((NamedPrio::Band(band), rest))
+    Some(NamedPrio::Band(number(word)?))
 }
 
-/// Which message is wanted, `any`, `hi` or the number of a band, at the front, and what follows it.
-#[tactic(auto, unfolding(crate::specs::ScriptReading::wanted_at))]
-pub fn wanted(text: &[u8]) -> Option<(NamedWanted, &[u8])>
-    ensures { option_map front_of result ≡ wanted_at text.now }
+/// Which message is wanted: `any`, `hi`, or the number of a band.
+#[tactic(auto, unfolding(crate::specs::ScriptReading::wanted_in))]
+pub fn wanted(word: &[u8]) -> Option<NamedWanted>
+    ensures { result ≡ wanted_in word.now }
 {
-    if let Some(rest) = after(text, b"any") {
-        return Some((NamedWanted::Any, rest));
-    }
-    if let Some(rest) = after(text, b"hi") {
-        return Some((NamedWanted::High, rest));
-    }
-    let (band, rest) = number_at(text)?;
-    Some((NamedWanted::Band(band), rest))
-}
-
-/// The mode of a stream head whose word a text is.
-#[tactic(auto, unfolding(crate::specs::ScriptReading::mode_in))]
-pub fn mode(text: &[u8]) -> Option<Mode>
-    ensures { result ≡ mode_in text.now }
-{
-    match text {
-        b"norm" => Some(Mode::Read(ReadMode::ByteStream)),
-        b"msgn" => Some(Mode::Read(ReadMode::MessageKeep)),
-        b"msgd" => Some(Mode::Read(ReadMode::MessageDiscard)),
-        b"protnorm" => Some(Mode::Control(ControlMode::Refuse)),
-        b"protdat" => Some(Mode::Control(ControlMode::Data)),
-        b"protdis" => Some(Mode::Control(ControlMode::Discard)),
-        _ => None,
+    match word {
+        b"any" => Some(NamedWanted::Any),
+        b"hi" => Some(NamedWanted::High),
+        _ => Some(NamedWanted::Band(number(word)?)),
     }
 }
 
-/// The direction whose word a text is: `ms`, from the master to the slave, or `sm`.
-#[tactic(auto, unfolding(crate::specs::ScriptReading::direction_in))]
-pub fn direction(text: &[u8]) -> Option<Dir>
-    ensures { result ≡ direction_in text.now }
+/// The mode of a stream head whose word it is.
+pub fn mode(word: &[u8]) -> Option<Mode>
+    ensures { result ≡ named mode_names word.now }
 {
-    match text {
-        b"ms" => Some(Dir::MasterToSlave),
-        b"sm" => Some(Dir::SlaveToMaster),
-        _ => None,
-    }
+    named(&MODES, word)
 }
 
-/// The caller of a side and of a process group, by the flags that a text has: `-`, `i` where SIGTTIN and SIGTTOU are ignored, `o` where the
-/// group is orphaned, `io`.
-#[tactic(auto, unfolding(crate::specs::ScriptReading::caller_in))]
-pub fn caller(side: Side, group: u32, text: &[u8]) -> Option<Caller>
-    ensures { result ≡ caller_in side group text.now }
+/// The direction whose word it is.
+pub fn direction(word: &[u8]) -> Option<Dir>
+    ensures { result ≡ named directions word.now }
 {
-    let (ignores, orphaned) = match text {
-        b"-" => (false, false),
-        b"i" => (true, false),
-        b"o" => (false, true),
-        b"io" => (true, true),
-        _ => return None,
-    };
-    Some(Caller {
-        side,
-        group,
-        ignores,
-        orphaned,
-    })
+    named(&DIRECTIONS, word)
+}
+
+/// The flags of a caller that a word has.
+pub fn flags(word: &[u8]) -> Option<(bool, bool)>
+    ensures { result ≡ named flag_names word.now }
+{
+    named(&FLAGS, word)
 }

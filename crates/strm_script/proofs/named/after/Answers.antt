@@ -2,9 +2,9 @@ use Rattle.std.proofs.Common.{◌≡◌, ◌+◌, true, false, List, ℕ, Option
 use Rattle.std.specs.Option.{option_copied}
 use Rattle.std.proofs.lemmas.Bool.{both_ways}
 use lib.Pointwise.{bytes_decides, pointwise}
-use Rattle.strm_script.specs.ScriptReading.{after}
+use Rattle.strm_script.specs.Named.{after}
 use Rattle.strm_script.proofs.Readings.{after_front, after_none}
-use Rattle.strm_script.proofs.words.after.Goals as goal
+use Rattle.strm_script.proofs.named.after.Goals as goal
 
 after_stripped : (r : Option (Bor (List ℕ))) (word line : List ℕ)
     → MatchOption r (pointwise nat_eq (take (length word) line) word ≡ false)
