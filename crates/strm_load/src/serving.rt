@@ -1,7 +1,6 @@
 //! How a plan is carried out.
 
-ghost use Rattle.std.specs.Prelude.{◌<◌, ◌≤◌, ◌≡◌, IfOk, length};
-ghost use Rattle.strm_minors.specs.Openers.{IsOf, opening};
+ghost use Rattle.std.specs.Prelude.{◌<◌, length};
 
 use crate::plans::{Plan, Sums};
 use crate::rounds::{Crew, share};
@@ -9,23 +8,11 @@ use std::alloc::{AllocError, Global};
 use std::sync::Wait;
 use std::thread::{Threads, map_indices};
 use strm_locks::{Object, System};
-use strm_minors::{Minor, Opener};
-use strm_system::{Locked, Store, unopened};
+use strm_minors::Minor;
+use strm_system::{Locked, Store, system};
 use strm_types::{Config, Content, Event};
 
 type PairSystem = System<Locked<Store>>;
-
-// So many pairs of these sizes.
-fn system(alloc: Global, pairs: u32, sizes: Config) -> Result<(PairSystem, Opener), AllocError>
-    requires { pairs ≤ 64 }
-    ensures { IfOk result (λ made. (length made.0.locks ≡ pairs) × (made.1 ≡ opening made.0.minors)) }
-{
-    let mut all = Vec::new(alloc);
-    for made in 0..pairs {
-        all.push(unopened::<Store>(alloc, sizes)?)?;
-    }
-    System::new(alloc, all)
-}
 
 // A system of a plan's pairs, and the minor of each.
 fn made(alloc: Global, plan: &Plan) -> Result<(PairSystem, Vec<Minor>), AllocError> {

@@ -63,7 +63,7 @@ module _ (s : Locked) (r : AddsUp s) (vs : List View) where
       → AddsUp record { words = s.words; homes = s.homes; views = vs }
   reseated holders totals history parts found idle = record {
     book = r.book;
-    one_word = r.one_word;
+    has_word = r.has_word;
     bit = r.bit;
     at_home = r.at_home;
     holders = holders ∙ r.holders;
@@ -83,10 +83,10 @@ module _ (s : Locked) (r : AddsUp s) (id n : ℕ) (homes' : List (Option Kept)) 
       → ((h : PlainEntry → ℕ) → weigh h w.made + weigh h r.book.history ≡ weigh h v.made + weigh h c.history)
       → w.parts + c.left ≡ v.parts + r.book.left → Fits c.totals → IsIdle w
       → AddsUp record { words = set s.words 0 n; homes = homes'; views = set s.views id w }
-  moved bit home holds mine others sums entries parts fits idle = let one = r.one_word in
+  moved bit home holds mine others sums entries parts fits idle = let some_word = r.has_word in
       let now : get_or (set s.words 0 n) 0 0 ≡ n = get_or-set_same s.words 0 n 0 (omega arith) in record {
         book = c;
-        one_word = length-set s.words 0 n ∙ one;
+        has_word = omega (arith, length-set s.words 0 n);
         bit = omega arith;
         at_home = λ z. home (sym now ∙ z);
         holders = let a = total-set (λ x. x.holds) s.views id v w at in let b = r.holders in omega arith;
@@ -102,10 +102,10 @@ module _ (s : Locked) (r : AddsUp s) (id n : ℕ) (homes' : List (Option Kept)) 
 unmoved : (s : Locked) → AddsUp s → (id : ℕ) (me : Mine) → get_elem? s.views id ≡ some me.0 → AddsUp (stepped s 0 (word s) id me.1 me.0 keeps)
 unmoved s r id me at = subst (λ (z : List ℕ × List View). AddsUp record { words = z.0; homes = s.homes; views = z.1 }) (λ k. (sym (set-get_or s.words 0 0) k, sym (set_again s.views id me.0 at) k)) r
 
-pub starts : (k : Kept) → k.book ≡ closed_book → AddsUp (opening (0 ∷ []) (k ∷ []) fresh)
-starts k shut = record {
+pub starts : (k : Kept) (unused : List ℕ) → k.book ≡ closed_book → AddsUp (opening (0 ∷ unused) (k ∷ []) fresh)
+starts k unused shut = record {
   book = closed_book;
-  one_word = refl;
+  has_word = omega arith;
   bit = omega arith;
   at_home = λ _. (k, refl, shut);
   holders = refl;

@@ -42,7 +42,7 @@ total f (v ∷ vs) = f v + total f vs
 -- the slot. The views' entries are those of the history, each as often; their parts with those left in the book are all; and a view without a part was told nothing.
 pub record AddsUp (s : State Kept View) : Type 0 where
   pub book : Book
-  pub one_word : length s.words ≡ 1
+  pub has_word : 0 < length s.words
   pub bit : slice_index s.words 0 < 2
   pub at_home : slice_index s.words 0 ≡ 0 → (k : Kept) × (get_elem? s.homes 0 ≡ some (some k)) × (k.book ≡ book)
   pub holders : total (λ v. v.holds) s.views ≡ slice_index s.words 0

@@ -1,4 +1,4 @@
-//! The lock of a pair: a table with one word, which is 1 while a seat has the pair, and one slot, in which the pair lies with its book
+//! The lock of a pair: a table with a word, which is 1 while a seat has the pair, and one slot, in which the pair lies with its book
 //! while the word is 0. Each function but `new` is one kind of step.
 
 ghost use Rattle.std.specs.Prelude.{◌≡◌, ◌≤◌, [], ◌∷◌};
@@ -16,6 +16,10 @@ use std::marker::Model;
 use std::sync::Wait;
 use std::sync::atomic::{AtomicU64, Ordering};
 
+// How many words of 8 bytes a line of the cache has. No more than the first one of a lock is used: so threads that take different locks
+// don't wait for each other's line.
+const LINE: usize = 8;
+
 /// A pair under its lock, which threads share by a `&`. One thread at a time has the pair, and with it the book of what all ends were told.
 ///
 /// A call that takes the lock waits until it is free: it parks, and is woken where the lock is given back. Nothing is said of which thread
@@ -32,12 +36,13 @@ pub struct Lock<P: Object> {
 impl<P: Object> Model for Lock<P> {
     ghost use Rattle.std.specs.Prelude.{◌≡◌};
     ghost use Rattle.atomic_table.specs.Seated.{TableId};
+    ghost use Rattle.strm_locks.specs.declared.lock.TheConstants.{LINE};
 
     ghost Value = { TableId };
 
     ghost view = { λ l. l.table.shared.table_id };
 
-    ghost invariant = { λ l. (l.table.shared.table_id.words ≡ 1) × (l.table.shared.table_id.slots ≡ 1) };
+    ghost invariant = { λ l. (l.table.shared.table_id.words ≡ LINE) × (l.table.shared.table_id.slots ≡ 1) };
 }
 
 impl<P: Object> Lock<P> {
@@ -47,7 +52,7 @@ impl<P: Object> Lock<P> {
     {
         let mut slots = Vec::with_capacity(alloc, 1)?;
         slots.push_reserved(held);
-        match Table::new(alloc, &[0], slots, &()) {
+        match Table::new(alloc, &[0; LINE], slots, &()) {
             Ok((table, _seat)) => Ok(Lock {
                 table,
                 waiting: AtomicU64::new(0),

@@ -1,6 +1,7 @@
 //! Tests. What one does is said for any system, by steps of which it has to know little; it makes a system of real pairs.
 
 mod journals;
+mod minors;
 mod server;
 mod steps;
 mod storms;

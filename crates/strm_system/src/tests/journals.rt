@@ -1,13 +1,16 @@
-//! A journal that is full: the session goes on where it is begun anew, and its ends are told all calls.
+//! A journal that is full, and one that is cut: the session goes on where it is begun anew, and its ends are told all calls.
 
 ghost use Rattle.strm_minors.specs.Openers.{IsOf};
+ghost use Rattle.strm_locks.specs.Systems.{IsOne};
 
 use super::steps::{opened, restart, settled, writes};
 use super::systems::{SIZES, system};
+use std::alloc::Global;
 use std::process::Abort;
 use std::sync::Wait;
 use std::test::Fail;
-use strm_locks::{Object, System};
+use strm_image::Trace;
+use strm_locks::{Object, PairEnd, System};
 use strm_minors::Opener;
 use strm_types::Config;
 
@@ -33,5 +36,74 @@ fn go_on<P: Object, R: Wait + Abort>(rt: &R, system: &System<P>, opener: &mut Op
 fn a_session_goes_on_behind_a_full_journal(rt: HostRuntime) -> Result<(), Fail> {
     let (system, mut opener) = system(rt.alloc(), 1, FOUR)?;
     go_on(&rt, &system, &mut opener);
+    Ok(())
+}
+
+// Cuts the pair of an end, and once more where memory is refused.
+fn cut<P: Object, R: Wait + Abort>(
+    rt: &R,
+    alloc: Global,
+    system: &System<P>,
+    end: &PairEnd<P>,
+) -> Trace
+    requires { IsOne system.now end.now }
+{
+    let trace = system.cut(rt, alloc, end).trace;
+    if let Ok(trace) = trace {
+        return trace;
+    }
+    let again = system.cut(rt, alloc, end).trace;
+    let Ok(trace) = again else {
+        panic!(rt; "a cut is refused twice")
+    };
+    trace
+}
+
+// Cuts a pair behind a write, and again: the base of the second trace is the state that the first cut found.
+fn writes_and_is_cut<P: Object, R: Wait + Abort>(
+    rt: &R,
+    alloc: Global,
+    system: &System<P>,
+    opener: &mut Opener,
+) -> (Trace, Trace)
+    requires { IsOf system.now.minors opener.old }
+    ensures { IsOf system.now.minors opener.new }
+{
+    let (mut master, slave) = opened(rt, system, opener);
+    assert!(rt; writes(rt, system, &mut master, b"abc"));
+    let first = cut(rt, alloc, system, &master);
+    let second = cut(rt, alloc, system, &slave);
+    let settled = settled(rt, system, master, slave);
+    assert!(rt; settled.told.calls == 4 && settled.ms.written == 3);
+    (first, second)
+}
+
+fn same(one: &Trace, two: &Trace) -> bool {
+    one.base.as_slice() == two.base.as_slice()
+        && one.entries.as_slice() == two.entries.as_slice()
+        && one.bytes.as_slice() == two.bytes.as_slice()
+}
+
+// Where a cut of one pair is refused, none of the other is: what both hand out is the same all the same.
+fn two_are_cut<P: Object, R: Wait + Abort>(
+    rt: &R,
+    alloc: Global,
+    system: &System<P>,
+    opener: &mut Opener,
+)
+    requires { IsOf system.now.minors opener.old }
+{
+    let (first, second) = writes_and_is_cut(rt, alloc, system, opener);
+    assert!(rt; first.entries.len() == 4 && first.bytes.as_slice() == b"abc".as_slice());
+    assert!(rt; second.entries.is_empty() && second.base.as_slice() != first.base.as_slice());
+    let other = writes_and_is_cut(rt, alloc, system, opener);
+    assert!(rt; same(&first, &other.0) && same(&second, &other.1));
+}
+
+// `tools/refusals --tests strm_system cut_may_be_refused` refuses each request for memory in turn.
+#[test]
+fn memory_for_a_cut_may_be_refused(rt: HostRuntime) -> Result<(), Fail> {
+    let (system, mut opener) = system(rt.alloc(), 2, SIZES)?;
+    two_are_cut(&rt, rt.alloc(), &system, &mut opener);
     Ok(())
 }

@@ -206,23 +206,35 @@ fn four_threads_are_told_what_the_pair_did(rt: HostRuntime) -> Result<(), Fail> 
     Ok(())
 }
 
-// The gate holds worker 0 before its turn on pair 0 until worker 1's turn on pair 1 is done.
+// The gate holds worker 1 before its turn on pair 1 until worker 0 is at its own on pair 0, and worker 0 there until worker 1's turn is done.
+// Workers that run one after the other, in either order, don't meet.
 #[derive(Drop)]
 struct Meeting {
+    came: AtomicU64,
     done: AtomicU64,
     seen: AtomicU64,
+}
+
+impl Meeting {
+    // Notes it where a flag is set within so many looks.
+    fn see(&self, flag: &AtomicU64) {
+        for _ in 0..10_000_000u32 {
+            if flag.load(Ordering::SeqCst) == 1 {
+                self.seen.fetch_add(1, Ordering::SeqCst);
+                return;
+            }
+            yield_now();
+        }
+    }
 }
 
 impl Gate for Meeting {
     fn before(&self, worker: u32, pair: u32) {
         if worker == 0 && pair == 0 {
-            for _ in 0..10_000_000u32 {
-                if self.done.load(Ordering::SeqCst) == 1 {
-                    self.seen.store(1, Ordering::SeqCst);
-                    break;
-                }
-                yield_now();
-            }
+            self.came.store(1, Ordering::SeqCst);
+            self.see(&self.done);
+        } else if worker == 1 && pair == 1 {
+            self.see(&self.came);
         }
     }
 
@@ -245,16 +257,17 @@ fn workers_meet<P: Object + Send, R: Threads + Wait + Sync + Abort>(
     let _ = writes(rt, system, &mut first, b"x");
     let _ = writes(rt, system, &mut second, b"y");
     let gate = Meeting {
+        came: AtomicU64::new(0),
         done: AtomicU64::new(0),
         seen: AtomicU64::new(0),
     };
     let report = system.run_workers(rt, 2, 1, &gate);
-    assert!(rt; gate.seen.load(Ordering::SeqCst) == 1);
+    assert!(rt; gate.seen.load(Ordering::SeqCst) == 2);
     assert!(rt; report.started == 2 && report.turns == 2);
 }
 
 #[test]
-fn a_worker_waits_for_another_at_its_gate(rt: HostRuntime) -> Result<(), Fail> {
+fn two_workers_wait_for_each_other_at_their_gates(rt: HostRuntime) -> Result<(), Fail> {
     let (system, mut opener) = system(rt.alloc(), 2, SIZES)?;
     workers_meet(&rt, &system, &mut opener);
     Ok(())

@@ -1,10 +1,9 @@
 -- One pair more, which is new.
-use Rattle.std.proofs.Common.{◌≡◌, ◌+◌, List, [], ◌∷◌, ◌++◌, length, ap, sym, subst, ◌∙◌}
+use Rattle.std.proofs.Common.{◌≡◌, ◌+◌, [], ◌∷◌, ◌++◌, length, ap, sym, subst, ◌∙◌}
 use Rattle.std.proofs.lemmas.List.{length-append}
 use Rattle.std.proofs.lemmas.List.Elements.{All-append, All-cons, All-nil}
 use Rattle.std.specs.Prelude.{All}
 use Rattle.strm_locks.specs.Books.{IsNew}
-use Rattle.strm_system.specs.declared.locked.Locked.{Locked}
 use Rattle.strm_system.proofs.systems.system.Goals as goal
 
 pub loop-made-preserved : goal.loop-made-preserved

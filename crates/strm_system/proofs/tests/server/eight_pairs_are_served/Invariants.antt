@@ -1,4 +1,3 @@
-use Rattle.std.proofs.Common.{◌≡◌}
 use Rattle.strm_minors.specs.Openers.{IsOf}
 use Rattle.strm_system.proofs.tests.server.eight_pairs_are_served.Given as goal
 
