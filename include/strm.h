@@ -33,8 +33,7 @@
  *
  * OWNERSHIP
  *   The library keeps no pointer of the caller's behind a call, calls nothing back, and has no state of its own beside the handles.
- *   strm_new and strm_restore take all memory that a pair will use, by malloc, and strm_free gives it back; no other function takes any but strm_image,
- *   which frees it again.
+ *   strm_new and strm_restore take all memory that a pair will use, by malloc, and strm_free gives it back; no other function takes any.
  *   A handle is closed when its bytes are all 0 (STRM_CLOSED). An open one isn't copied and then used or freed twice, as with a FILE.
  *
  * THREADS
@@ -259,8 +258,8 @@ strm_refusal strm_ledger(strm_pair *p, uint32_t side, strm_books *told);
 /* ------------------------------------------------------------------------------------------------------------- images */
 
 /* Puts the image of the pair into a buffer: its state and ledgers as docs/IMAGES.md spells them, the same bytes on every machine. *length is how many
- * they are. EINVAL: `room` is less than *length, which is told also then, or the handle is closed, and *length stays. NO_MEMORY: the
- * image is made by malloc and copied, and that memory is freed again. The buffer stays where refused, and the pair always. */
+ * they are. EINVAL: `room` is less than *length, which is told also then, or the handle is closed, and *length stays. No memory is taken. The
+ * buffer stays where refused, and behind the image; the pair stays always. */
 strm_refusal strm_image(strm_pair *p, void *out, size_t room, size_t *length);
 
 /* Makes the pair of an image in a closed handle, over so many blocks of each kind and so large a journal as strm_new has: it goes on where the

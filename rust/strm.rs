@@ -443,7 +443,7 @@ impl Pair {
         Ok(pair)
     }
 
-    /// The image of the pair: its state and its ledgers, the same bytes on every machine. NoMemory.
+    /// The image of the pair: its state and its ledgers, the same bytes on every machine.
     pub fn image(&mut self) -> Result<Vec<u8>, Refused> {
         let (mut text, mut length) = (vec![0; 4096], 0);
         loop {

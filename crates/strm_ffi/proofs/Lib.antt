@@ -3,6 +3,7 @@ pub mod AtHandles
 pub mod BothParts
 pub mod Decisions
 pub mod Fits
+pub mod ImageRows
 pub mod Opens
 pub mod RestoreRefused
 pub mod RestoredWithin

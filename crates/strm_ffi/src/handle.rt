@@ -17,7 +17,7 @@ pub struct Handle {
     pub ghost told: { is_some held.kept ≡ is_open },
 }
 
-// What goes into a handle may go from thread to thread: each of its parts may.
+// A handle may go from thread to thread, with what it holds.
 fn sent<T: Send>(value: T) -> T
     ensures { result ≡ value }
 {
@@ -36,10 +36,10 @@ impl Handle {
     pub(crate) fn put(&mut self, kept: Box<Kept, Global>)
         ensures { self.new.held.kept ≡ Some kept.value }
     {
-        *self = Handle {
-            held: Held::of_parts(Parts::of(sent(kept))),
+        *self = sent(Handle {
+            held: Held::of_parts(Parts::of(kept)),
             is_open: true,
-        };
+        });
     }
 
     /// Takes the pair out of a handle, which is closed then.

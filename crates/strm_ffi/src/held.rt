@@ -6,7 +6,7 @@ ghost use Rattle.strm_ffi.specs.Held.{held_owns, kept_coded, KeptValue, IsOpen};
 use crate::kept::Kept;
 use crate::parts::Parts;
 use std::alloc::Global;
-use std::marker::Model;
+use std::marker::{Model, Send};
 
 /// A pair behind a pointer, or none, whatever the pointer says.
 #[repr(C)]
@@ -20,6 +20,9 @@ pub struct Held {
 impl Model for Held {
     ghost also_owns = { λ h. held_owns h.alloc h.ptr h.kept };
 }
+
+// What is held may go to another thread, as a box of it may.
+unsafe impl Send for Held {}
 
 impl Held {
     pub(crate) fn of_parts(parts: Parts<Kept, Global>) -> Held

@@ -4,24 +4,23 @@ ghost use Rattle.std.specs.Prelude.{◌≡◌};
 ghost use Rattle.strm_ffi.specs.Images.{ImageInto, Images, image_of};
 
 use crate::handle::Handle;
-use crate::kept::{give, refused};
+use crate::kept::refused;
 use std::alloc::Global;
 use strm_pair::Pair;
 use strm_raw::RawStore;
 use strm_types::Refusal;
 
-// Puts the image of a pair into a buffer, through memory of its own.
-fn put_image(alloc: Global, pair: &Pair<RawStore>, out: &mut [u8], told: &mut usize) -> u32
-    ensures { ImageInto (image_of pair.now) told.old told.new out.old out.new result }
+// Puts the image of a pair into a buffer that takes all of it.
+#[tactic(auto, using(crate::proofs::ImageRows::image_put))]
+fn put_image(pair: &Pair<RawStore>, out: &mut [u8], told: &mut usize) -> u32
+    ensures { ImageInto (image_of pair.now) told.new out.old out.new result }
 {
-    let Ok(text) = pair.image(alloc) else {
-        return refused(Refusal::NoMemory);
-    };
-    *told = text.len();
-    if text.len() > out.len() {
+    let length = pair.image_into(&mut []);
+    *told = length;
+    if length > out.len() {
         return refused(Refusal::Einval);
     }
-    give(text.as_slice(), out);
+    pair.image_into(out);
     0
 }
 
@@ -39,7 +38,7 @@ pub extern "C" fn strm_image(
     let Some(kept) = handle.take(alloc) else {
         return refused(Refusal::Einval);
     };
-    let answered = put_image(alloc, &kept.pair, out, told);
+    let answered = put_image(&kept.pair, out, told);
     handle.put(kept);
     answered
 }
