@@ -7,10 +7,10 @@ ghost use Rattle.strm_image.specs.Written.{IsShortSlot};
 
 use strm_image::writing::*;
 use strm_image::{
-    AccountText, Flow, LdtermText, MessagesText, ModuleText, QueueKind, QueueText, Sink, StateText,
-    StreamText, message_behind,
+    AccountText, FIRST_BANDS, Flow, FlowsText, LdtermText, MessagesText, ModuleText, QueueKind,
+    QueueText, Sink, StateText, StreamText, Version, band_behind, few_flows_at, message_behind,
 };
-use strm_types::{BANDS, Band, Book, HIGH_PRIORITY_RANK, Slot};
+use strm_types::{BANDS, Band, Book, HIGH_PRIORITY_RANK, Marks, Slot};
 
 /// The flow control of all bands.
 #[derive(Clone, Copy)]
@@ -21,6 +21,10 @@ impl Bands for AllBands {
 
     fn flow(&self, band: u8) -> Flow {
         self.0[usize::from(band)]
+    }
+
+    fn shared_above(&self) -> Option<Marks> {
+        None
     }
 }
 
@@ -55,9 +59,48 @@ fn put_messages(out: &mut Sink, messages: &MessagesText<'_>) {
     }
 }
 
+// All bands, where the first ones are listed.
+fn widened(few: &[Flow; FIRST_BANDS]) -> AllBands {
+    let last = Flow {
+        want_write: false,
+        ..few[FIRST_BANDS - 1]
+    };
+    let mut all = [last; BANDS];
+    all[..FIRST_BANDS].copy_from_slice(few);
+    AllBands(all)
+}
+
+// All bands, where those are listed that aren't as at first.
+fn spread(flows: &FlowsText<'_>) -> AllBands {
+    let first = flows.queue.first_flow();
+    let mut all = [first; BANDS];
+    let mut rest = flows.text;
+    let mut from = 0;
+    for _ in 0..flows.count {
+        if let Some(((band, flow), after)) = band_behind(rest, &first, from) {
+            all[usize::from(band)] = flow;
+            from = usize::from(band) + 1;
+            rest = after;
+        }
+    }
+    AllBands(all)
+}
+
+// The flow control of all bands, read again.
+fn bands_of(flows: &FlowsText<'_>) -> AllBands {
+    if matches!(flows.version, Version::First) {
+        if let Some(found) = few_flows_at(flows.text) {
+            let few = found.0;
+            return widened(&few);
+        }
+    }
+    spread(flows)
+}
+
 pub fn put_queue(out: &mut Sink, queue: &QueueText<'_>, at: QueueKind) {
     put_queue_flags(out, queue.want_read, queue.no_enable);
-    put_flows(out, &AllBands(queue.flows), at);
+    let bands = bands_of(&queue.flows);
+    put_flows(out, &bands, at);
     put_messages(out, &queue.messages);
 }
 
