@@ -43,7 +43,7 @@ def crates():
 def lines_of(crate):
     """How many lines its source has, tests left out."""
     paths = glob.glob(f"crates/{crate}/src/**/*.rt", recursive=True)
-    return sum(text_of(path).count("\n") for path in paths if not re.search(r"/strm_(tests|scenes)/|/tests/|tests\.rt$", path))
+    return sum(text_of(path).count("\n") for path in paths if not re.search(r"/strm_(tests|trials|scenes)/|/tests/|tests\.rt$", path))
 
 
 def edits_of(crate):
@@ -130,12 +130,21 @@ def edits_cost(crate, seconds):
 
 
 def row_of(name, lines, proof, tests, count, edits, further):
-    rate = (proof + tests) / 60 / max(lines, 1) * 1000
-    each = edits / count if count else 0
-    return f"| {name} | {lines} | {proof:.0f} | {tests:.0f} | {rate:.1f} | {count} | {edits:.0f} | {each:.0f} | {further:.0f} |"
+    rate = f"{(proof + tests) / 60 / lines * 1000:.1f}" if lines else ""
+    each = f"{edits / count:.0f}" if count else ""
+    return f"| {name} | {lines} | {proof:.0f} | {tests:.0f} | {rate} | {count} | {edits:.0f} | {each} | {further:.0f} |"
+
+
+def together(name, rows):
+    return (name, *(sum(row[at] for row in rows) for at in range(1, 7)))
+
+
+def cost_of(row):
+    return row[2] + row[3] + row[5] + row[6]
 
 
 def table(seen, wall, used, closing):
+    """A row for each crate that takes a twenty-fifth of the whole or more, one for all others, and one for all."""
     parts = collections.defaultdict(list)
     for process in seen:
         parts[process.crate, process.part].append(process.seconds)
@@ -144,7 +153,10 @@ def table(seen, wall, used, closing):
         edits, further = edits_cost(crate, parts[crate, "edits"])
         proof, tests = (sum(parts[crate, part]) for part in ("proof", "tests"))
         rows.append((crate, lines_of(crate), proof, tests, len(edits_of(crate)), edits, further))
-    rows.append(("all", *(sum(row[at] for row in rows) for at in range(1, 7))))
+    whole = together("all", rows)
+    dear = [row for row in rows if cost_of(row) >= cost_of(whole) / 25]
+    rest = [row for row in rows if row not in dear]
+    rows = [*dear, *([together(f"{len(rest)} others", rest)] if rest else []), whole]
     yield "| Crate | Lines without tests | Proof, CPU s | Tests, CPU s | 1000 lines, CPU min | Edits | CPU s | an edit | Further checks, CPU s |"
     yield "|---|---|---|---|---|---|---|---|---|"
     yield from (row_of(*row) for row in rows)
