@@ -163,6 +163,11 @@ pub trait Blocks {
         requires { list < 8 }
         ensures { result ≡ (length (list_at (value self.now) list) == 0) };
 
+    /// How many messages stand on a list: `qsize(9F)`.
+    fn messages(&self, list: usize) -> usize
+        requires { list < 8 }
+        ensures { result ≡ length (list_at (value self.now) list) };
+
     /// Puts a message on a list, behind all of at least its rank: `putq(9F)`. It takes one step where the last message of
     /// the list has at least the new one's rank, and else a step for each message that is passed.
     fn insert_back(&mut self, list: usize, message: InHand)

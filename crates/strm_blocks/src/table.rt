@@ -269,6 +269,10 @@ impl Blocks for TableStore {
         self.lists[list].is_empty()
     }
 
+    fn messages(&self, list: usize) -> usize {
+        self.lists[list].len()
+    }
+
     fn insert_back(&mut self, list: usize, message: InHand) {
         let node = take_named(&mut self.hand, message.name);
         let rank = rank_of_first(&node);

@@ -179,7 +179,8 @@ pub trait Module: Drop {
         requires held { IsHeld (B.value store.now) self.now }
         ensures { result ≡ count_of band.0 (messages_at queue_of way (plain (B.value store.now) self.now)) };
 
-    /// How many messages stand on its queue of a way, and how many bytes they have; nothing without such a queue.
+    /// How many messages stand on its queue of a way, and how many bytes they have; nothing without such a queue. It takes a step for
+    /// each band above 0 where bytes stand, however many messages there are.
     fn sizes<B: Blocks>(&self, store: &B, way: Way) -> (usize, usize)
         requires held { IsHeld (B.value store.now) self.now }
         ensures messages { result.0 ≡ length (messages_at queue_of way (plain (B.value store.now) self.now)) }

@@ -11,7 +11,7 @@ use crate::standing::{finds_none, starts_refused};
 use crate::{reading, standing};
 use strm_blocks::Blocks;
 use strm_queue::lengths::first_data;
-use strm_queue::standing::sizes;
+use strm_queue::standing::messages;
 use strm_queue::{HEAD_HIGH, HEAD_LOW, Queue};
 use strm_types::{
     Access, Caller, Content, ControlMode, Dir, Fates, Mode, READ_MAX, ReadMode, Refusal,
@@ -169,7 +169,7 @@ impl Head {
         standing::get_refusal(store, &self.queue, wanted, at_end)
     }
 
-    /// What waits for readers. The cost is a step for each block on the queue.
+    /// What waits for readers. The cost is a step for each block of the first message, however many messages there are.
     pub fn nread<B: Blocks>(&self, store: &B) -> Waiting
         requires { IsHeadQueue (B.value store.now) self.now.queue }
         ensures first { result.first ≡ first_data (messages_on (B.value store.now) self.now.queue.list) }
@@ -178,7 +178,7 @@ impl Head {
         store.audit();
         Waiting {
             first: first_data(store, &self.queue).unwrap_or(0) as u32,
-            messages: sizes(store, &self.queue).0 as u32,
+            messages: messages(store, &self.queue) as u32,
         }
     }
 

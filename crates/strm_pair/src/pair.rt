@@ -219,7 +219,7 @@ impl<B: Blocks + Drop> Pair<B> {
     }
 
     /// How many messages stand on a queue, and how many bytes they have, all of them: (0, 0) for a queue that doesn't
-    /// exist. The cost is a step for each block of the messages.
+    /// exist. The cost is a step for each band above 0 where bytes stand, however many messages there are.
     pub fn sizes(&self, queue: QueueName) -> (usize, usize)
         ensures messages { result.0 ≡ length (messages_at queue self.now.state) }
         ensures bytes { result.1 ≡ bytes_of (messages_at queue self.now.state) }

@@ -1,7 +1,7 @@
 //! A queue beside its store, as the plain messages that stand there: what is counted and full, and who is let go (STREAMS
 //! Programming Guide, "Flow Control").
 
-ghost use Rattle.std.specs.Prelude.{◌≡◌, ◌<◌, ◌≤◌, ◌+◌, ◌-◌, ◌^◌, ◌&&◌, Bool, min, true, [], length, List, MatchOption};
+ghost use Rattle.std.specs.Prelude.{◌≡◌, ◌<◌, ◌≤◌, ◌&&◌, Bool, true, [], length, List, MatchOption};
 ghost use Rattle.strm_types.specs.declared.kinds.MsgKind.{MsgKind};
 ghost use Rattle.strm_types.specs.Message.{is_held};
 ghost use Rattle.strm_types.specs.Emptied.{cells_gone, of_data};
@@ -26,28 +26,7 @@ pub fn count<B: Blocks>(store: &B, queue: &Queue, band: Band) -> usize
     queue.count(band)
 }
 
-// Counts messages.
-#[derive(Drop)]
-struct MessageCount {
-    messages: usize,
-}
-
-impl Visitor for MessageCount {
-    ghost use Rattle.std.specs.Prelude.{if◌then◌else◌};
-
-    ghost after = { λ v b. if b.first then record { messages = min (v.messages + 1) (2 ^ 64 - 1) } else v };
-
-    ghost goes_on = { λ v. true };
-
-    fn see(&mut self, first: bool, _kind: MsgKind, _band: Band, _bytes: &[u8]) -> bool {
-        if first {
-            self.messages = self.messages.saturating_add(1);
-        }
-        true
-    }
-}
-
-/// How many bytes stand on a queue.
+/// How many bytes stand on a queue. The cost is a step for each band above 0 where some do.
 pub fn total<B: Blocks>(store: &B, queue: &Queue) -> usize
     requires { IsReady (B.value store.now) queue.now }
     ensures { result ≡ bytes_of (messages_on (B.value store.now) queue.now.list) }
@@ -65,16 +44,21 @@ pub fn data_bytes<B: Blocks>(store: &B, queue: &Queue, band: Option<Band>) -> us
     queue.data_bytes(band)
 }
 
-/// How many messages stand on a queue, and how many bytes they have. The cost is a step for each block of them.
+/// How many messages stand on a queue: `qsize(9F)`. The cost is the same whatever stands there.
+pub fn messages<B: Blocks>(store: &B, queue: &Queue) -> usize
+    ensures { result ≡ length (messages_on (B.value store.now) queue.now.list) }
+{
+    store.messages(queue.list)
+}
+
+/// How many messages stand on a queue, and how many bytes they have. The cost is the same however many messages there are, and a
+/// step for each band above 0 where bytes stand.
 pub fn sizes<B: Blocks>(store: &B, queue: &Queue) -> (usize, usize)
     requires ready { IsReady (B.value store.now) queue.now }
     ensures messages { result.0 ≡ length (messages_on (B.value store.now) queue.now.list) }
     ensures bytes { result.1 ≡ bytes_of (messages_on (B.value store.now) queue.now.list) }
 {
-    store.audit();
-    let mut counted = MessageCount { messages: 0 };
-    store.visit(queue.list, &mut counted);
-    (counted.messages, total(store, queue))
+    (messages(store, queue), total(store, queue))
 }
 
 // Sees whether a message that flow control would hold back stands on a list.

@@ -2,7 +2,7 @@
 use Rattle.std.proofs.Common.{ℕ, ◌≡◌, ◌≢◌, ◌≤◌, ◌<◌, ◌+◌, ◌-◌, Bool, true, false, cond, eqb, List, [], ◌∷◌, ◌++◌, length, map, refl, sym, ap, ◌∙◌, subst, arith, inl, inr}
 use Rattle.std.specs.Prelude.{◌⊎◌, Option, None, Some, option_map, not, MatchOption}
 use Rattle.std.proofs.lemmas.Bool.Decides.{nat_tests}
-use Rattle.std.proofs.lemmas.List.{append-nil, append_assoc, map-append, set-set, set-get_or}
+use Rattle.std.proofs.lemmas.List.{append-nil, append_assoc, length-append, map-append, set-set, set-get_or}
 use Rattle.std.proofs.lemmas.List.Sums.{sum_by-cons}
 use denote.RawPtr.{Ptr}
 use Rattle.strm_types.specs.Flush.{is_flushed}
@@ -102,6 +102,10 @@ module _ (s0 : StoreValue) (k : ℕ) (what : FlushWhat) where
 
       shape : queue_at k b.lists ≡ w.front ++ m ∷ ys
       shape = w.joined ∙ ap (λ q. w.front ++ q) first.1.1.0
+
+      -- the list counts it
+      pub some-left : 0 < (ends_at k ends).count
+      some-left = omega (arith, w.listed.counted k, ap length shape, length-append w.front (m ∷ ys))
 
       behind : option_map (msg_number v.mat) next ≡ begin_of ys
       behind = step ∙ ap (λ i. (row_at i v.rows).ahead) (sym first.1.1.1) ∙ list-ahead v (ends_at k ends) w.front m ys (subst (λ (q : List Msg). IsList v (ends_at k ends) q) shape (w.listed.tied k))

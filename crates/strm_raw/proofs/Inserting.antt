@@ -1,5 +1,5 @@
 -- What a message leaves of a store that is put on a list at the place of its rank.
-use Rattle.std.proofs.Common.{ℕ, ◌≡◌, ◌≤◌, ◌<◌, List, ◌++◌, length, map, refl, sym, ap, ◌∙◌, subst}
+use Rattle.std.proofs.Common.{ℕ, ◌≡◌, ◌≤◌, ◌<◌, List, ◌++◌, length, map, refl, sym, ap, ◌∙◌, subst, arith}
 use Rattle.std.proofs.Math.ListN.{set}
 use Rattle.std.specs.Prelude.{Option, None, option_map, unwrap_or}
 use Rattle.strm_types.specs.Ranked as ranked
@@ -20,6 +20,11 @@ use Rattle.strm_raw.proofs.Tied.{list-on, list-back}
 use Rattle.strm_raw.proofs.Moved.{queue-value}
 use Rattle.strm_raw.proofs.Seating.{put-on}
 use Rattle.strm_raw.proofs.Placing.{queue-few, puts-there, order-there}
+
+-- no list counts more messages than a store has blocks
+pub count-few : {v : Nodes} {ends : List Ends} {b : Roster} {first_m : Option MsgLink} {first_d : Option DataLink} {spare_m spare_d : ℕ} → IsRaw v first_m first_d spare_m spare_d b → AreListed v ends b
+    → (k : ℕ) → (ends_at k ends).count < 65537
+count-few is listed k = omega (arith, listed.counted k, queue-few is k, is.few_m, is.most_m)
 
 -- the places before and behind the one at which a walk in a course stops
 places : (v : Nodes) (e : Ends) (c : Course) (front rear : List Msg) → IsList v e (front ++ rear) → (stop past : Option ℕ) → stop ≡ place_in c front rear → past ≡ along (pick c Back On) v e stop

@@ -116,3 +116,10 @@ ties-by v v1 v2 e e1 e2 before after there_b there_a f g =
     let second = leads behinds aheads set_behind (λ o r. refl) (λ o r. refl) (λ o r. refl) lasts firsts set_last (λ o e. refl) (λ o e. refl) v1 v2 e1 e2 before after there g in
     both-ways v.mat v.rows v1.rows v2.rows e e1 e2 _ _ first
     (subst (λ (mat : Ptr). Leads mat behinds aheads lasts firsts v1.rows v2.rows e1 e2 (option_map (msg_number mat) after) (option_map (msg_number mat) before)) mat second)
+
+count-kept : (write : Option ℕ → Row → Row) (put : Option MsgLink → Ends → Ends) → ((o : Option MsgLink) (e : Ends) → (put o e).count ≡ e.count) → (v v' : Nodes) (e e' : Ends) (to from : Option MsgLink) → Writes write put v v' e e' from to → e'.count ≡ e.count
+count-kept write put keeps v v' e e' to None h = ap (λ (x : Ends). x.count) h.1 ∙ keeps to e
+count-kept write put keeps v v' e e' to (Some at) h = ap (λ (x : Ends). x.count) h.1
+
+pub count-stays : (v v1 v2 : Nodes) (e e1 e2 : Ends) (before after : Option MsgLink) → Writes set_ahead set_first v v1 e e1 before after → Writes set_behind set_last v1 v2 e1 e2 after before → e2.count ≡ e.count
+count-stays v v1 v2 e e1 e2 before after f g = count-kept set_behind set_last (λ o e. refl) v1 v2 e1 e2 before after g ∙ count-kept set_ahead set_first (λ o e. refl) v v1 e e1 after before f

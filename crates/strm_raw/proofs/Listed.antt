@@ -35,6 +35,7 @@ module _ {v : Nodes} {ends : List Ends} {b : Roster} (is : AreListed v ends b) (
     last = λ k. there _ (is.last k);
     tied = λ k. subst (λ (x : Ptr × (ℕ → Option ℕ) × (ℕ → Option ℕ) × List (List Msg)). IsTied (on x.0 x.1 (ends_at k ends)) (back x.0 x.2 (ends_at k ends)) None (queue_at k x.3))
         (λ j. (sym mat j, sym ahead-same j, sym behind-same j, sym lists j)) (is.tied k);
+    counted = λ k. is.counted k ∙ ap (λ lists. length (queue_at k lists)) (sym lists);
     ordered = λ k. subst (λ (lists : List (List (List Block))). ranked.IsOrdered rank_of (get_or lists k [])) (sym (ap (λ (s : StoreValue). s.lists) value ∙ same)) (is.ordered k);
   }
 
@@ -60,5 +61,6 @@ listed-none v b lists =
       first = λ k. subst (λ (e : Ends). IsMsgOrNone v.mat (length v.rows) e.first) (sym (ends k)) tt;
       last = λ k. subst (λ (e : Ends). IsMsgOrNone v.mat (length v.rows) e.last) (sym (ends k)) tt;
       tied = λ k. subst (λ (x : Ends × List Msg). IsList v x.0 x.1) (λ j. (sym (ends k) j, sym (queues k) j)) (none-linked v);
+      counted = λ k. ap (λ (e : Ends). e.count) (ends k) ∙ ap (λ (q : List Msg). length q) (sym (queues k));
       ordered = λ k. subst (λ (q : List (List Block)). ranked.IsOrdered rank_of q) (sym (values k)) tt;
     }

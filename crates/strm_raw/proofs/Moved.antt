@@ -123,7 +123,7 @@ module _ {v : Nodes} {ends : List Ends} {b : Roster} {first_m : Option MsgLink} 
     dblks = v.dblks;
   }
 
-  module _ (e : Ends) (first : IsMsgOrNone v.mat (length v.rows) e.first) (last : IsMsgOrNone v.mat (length v.rows) e.last) (tied : IsList moved_nodes e q) (order : ranked.IsOrdered rank_of (map (chain_of v) q))
+  module _ (e : Ends) (first : IsMsgOrNone v.mat (length v.rows) e.first) (last : IsMsgOrNone v.mat (length v.rows) e.last) (tied : IsList moved_nodes e q) (counted : e.count ≡ length q) (order : ranked.IsOrdered rank_of (map (chain_of v) q))
       (ahead : (i j : ℕ) → j ≢ k → 0 < heads i (queue_at j b.lists) → ahead_of rows i ≡ ahead_of v.rows i) (behind : (i j : ℕ) → j ≢ k → 0 < heads i (queue_at j b.lists) → behind_of rows i ≡ behind_of v.rows i) where
     end-inside : k < length ends
     end-inside = let e = listed.eight in omega arith
@@ -144,6 +144,7 @@ module _ {v : Nodes} {ends : List Ends} {b : Roster} {first_m : Option MsgLink} 
       first = each (λ _ x _. IsMsgOrNone v.mat (length rows) x.first) (there e.first first) (λ j _. there (ends_at j ends).first (listed.first j));
       last = each (λ _ x _. IsMsgOrNone v.mat (length rows) x.last) (there e.last last) (λ j _. there (ends_at j ends).last (listed.last j));
       tied = each (λ _ x y. IsList moved_nodes x y) tied (λ j other. tied-same (on v.mat (ahead_of v.rows) (ends_at j ends)) (back v.mat (behind_of v.rows) (ends_at j ends)) (on v.mat (ahead_of rows) (ends_at j ends)) (back v.mat (behind_of rows) (ends_at j ends)) None (queue_at j b.lists) refl refl (λ i s. ahead i j other s) (λ i s. behind i j other s) (listed.tied j));
+      counted = each (λ _ x y. x.count ≡ length y) counted (λ j _. listed.counted j);
       ordered = λ j. subst (λ (x : List (List Block)). ranked.IsOrdered rank_of x) (sym (queue-value moved_nodes (set b.lists k q) j ∙ ap (λ (f : Msg → List Block). map f (queue_at j (set b.lists k q))) moved-chains))
           (each (λ _ _ y. ranked.IsOrdered rank_of (map (chain_of v) y)) order (λ j _. subst (λ (x : List (List Block)). ranked.IsOrdered rank_of x) (queue-value v b.lists j) (listed.ordered j)) j);
     }

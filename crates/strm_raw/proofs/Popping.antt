@@ -1,7 +1,7 @@
 -- What a call leaves that takes the message off a list that stands at one of its ends.
-use Rattle.std.proofs.Common.{ℕ, ◌≡◌, ◌<◌, [], List, map, refl, sym, ap, ◌∙◌, subst}
+use Rattle.std.proofs.Common.{ℕ, ◌≡◌, ◌<◌, [], ◌∷◌, List, length, map, refl, sym, ap, ◌∙◌, subst, arith}
 use Rattle.std.specs.Prelude.{Option, None, Some, option_map}
-use Rattle.std.proofs.lemmas.List.{append-nil}
+use Rattle.std.proofs.lemmas.List.{append-nil, length-append}
 use Rattle.strm_blocks.specs.Blocks.{Block, StoreValue, list_at, held, placed}
 use Rattle.strm_blocks.specs.Outcomes.{Popped, PoppedLast}
 use Rattle.strm_raw.specs.Numbered.{Nodes, msg_number}
@@ -28,6 +28,15 @@ module _ {v : Nodes} {ends : List Ends} {b : Roster} {first_m : Option MsgLink} 
 
   pub nothing-there : (c : Course) → along c v (ends_at k ends) None ≡ None → list_at s k ≡ []
   nothing-there c none = ap (λ (s : StoreValue). list_at s k) (sym view) ∙ no-queue v b k (none-at c none)
+
+  -- the list counts the message there
+  pub some-there : (c : Course) (i : ℕ) → along c v (ends_at k ends) None ≡ Some i → 0 < (ends_at k ends).count
+  some-there On i there =
+      let at = a-first q i (sym (list-begin v (ends_at k ends) q (listed.tied k)) ∙ there) in
+      omega (arith, listed.counted k, ap length at.1.1.0)
+  some-there Back i there =
+      let at = a-last q i (sym (list-end v (ends_at k ends) q (listed.tied k)) ∙ there) in
+      omega (arith, listed.counted k, ap length at.1.1.0, length-append at.0 (at.1.0 ∷ []))
 
   -- the message there has none beyond it
   pub sides-are : (c : Course) (i : ℕ) → along c v (ends_at k ends) None ≡ Some i → (before after ahead behind : Option MsgLink) → before ≡ pick c None behind → after ≡ pick c ahead None

@@ -1,10 +1,10 @@
 -- A message that is put on a list, and one that is taken off it.
-use Rattle.std.proofs.Common.{ℕ, ◌≡◌, ◌≢◌, ◌≤◌, ◌<◌, ◌+◌, true, false, cond, eqb, List, [], ◌∷◌, ◌++◌, length, map, refl, sym, ap, ◌∙◌, subst, arith}
+use Rattle.std.proofs.Common.{ℕ, ◌≡◌, ◌≢◌, ◌≤◌, ◌<◌, ◌+◌, ◌-◌, true, false, cond, eqb, List, [], ◌∷◌, ◌++◌, length, map, refl, sym, ap, ◌∙◌, subst, arith}
 use Rattle.std.proofs.Math.ListN.{set}
 use Rattle.std.specs.Prelude.{sum_by, Option, None, Some, option_map, unwrap_or}
 use Rattle.std.specs.List.{AllByRecursion}
 use Rattle.std.proofs.lemmas.Bool.Decides.{nat_tests}
-use Rattle.std.proofs.lemmas.List.{append_assoc, map-append, get_or-set_same}
+use Rattle.std.proofs.lemmas.List.{append_assoc, length-append, map-append, get_or-set_same}
 use Rattle.std.proofs.lemmas.List.Sums.{sum_by-cons, sum_by-append}
 use Rattle.strm_types.specs.Ranked as ranked
 use Rattle.strm_blocks.specs.Blocks.{Block, rank_of, list_at, held, dropped, placed, IsFreshName}
@@ -62,7 +62,7 @@ module _ {v : Nodes} {ends : List Ends} {b : Roster} {first_m : Option MsgLink} 
   -- one that is on the list is taken off it
   module _ (xs : List Msg) (m : Msg) (ys : List Msg) (shape : queue_at k b.lists ≡ xs ++ m ∷ ys)
       (rows : List Row) (e : Ends) (ties : Ties v.mat v.rows rows (ends_at k ends) e (behind_of v.rows m.head) (ahead_of v.rows m.head))
-      (first : IsMsgOrNone v.mat (length v.rows) e.first) (last : IsMsgOrNone v.mat (length v.rows) e.last) where
+      (count : e.count ≡ (ends_at k ends).count - 1) (first : IsMsgOrNone v.mat (length v.rows) e.first) (last : IsMsgOrNone v.mat (length v.rows) e.last) where
     once : (i : ℕ) → heads i (xs ++ m ∷ ys) ≤ 1
     once i = subst (λ (q : List Msg). heads i q ≤ 1) shape (once-queue is i k)
 
@@ -111,13 +111,16 @@ module _ {v : Nodes} {ends : List Ends} {b : Roster} {first_m : Option MsgLink} 
     off-order = subst (λ (q : List (List Block)). ranked.IsOrdered rank_of q) (sym (map-append (chain_of v) xs ys))
         (order-without rank_of (chain_of v m) (map (chain_of v) ys) (map (chain_of v) xs) (subst (λ (q : List (List Block)). ranked.IsOrdered rank_of q) off-shape (listed.ordered k)))
 
+    fewer : e.count ≡ length (xs ++ ys)
+    fewer = omega (arith, count, listed.counted k, ap length shape, length-append xs (m ∷ ys), length-append xs ys)
+
     -- the other lists have none of its neighbours
     none-here : (i j : ℕ) → j ≢ k → 0 < heads i (queue_at j b.lists) → heads i (xs ++ m ∷ ys) ≡ 0
     none-here i j other s = ap (λ q. heads i q) (sym shape) ∙ apart-queues is i j k other s
 
     pub off-listed : AreListed (record v { rows = rows }) (set ends k e) (record b { lists = set b.lists k (xs ++ ys); hand = m ∷ b.hand })
     off-listed = moved-listed is listed k within rows tied.len tied.plain (xs ++ ys) (m ∷ b.hand) all e first last
-        (tied-out (on v.mat (ahead_of v.rows) (ends_at k ends)) (back v.mat (behind_of v.rows) (ends_at k ends)) (on v.mat (ahead_of rows) e) (back v.mat (behind_of rows) e) m None xs ys tied.on_at tied.back_at tied.on_else tied.back_else once refl old) off-order
+        (tied-out (on v.mat (ahead_of v.rows) (ends_at k ends)) (back v.mat (behind_of v.rows) (ends_at k ends)) (on v.mat (ahead_of rows) e) (back v.mat (behind_of rows) e) m None xs ys tied.on_at tied.back_at tied.on_else tied.back_else once refl old) fewer off-order
         (λ i j other s. (let z = none-here i j other s in let h = heads-append i xs (m ∷ ys) in tied.on_else (Some i) (λ e. off-end None (Some i) xs (λ n. some-none i (sym n)) (omega arith) (sym e))))
         (λ i j other s. (let z = none-here i j other s in let h = heads-append i xs (m ∷ ys) in let c = heads-cons i m ys in tied.back_else (Some i) (off-begin i ys (omega arith))))
 
@@ -225,8 +228,11 @@ module _ {v : Nodes} {ends : List Ends} {b : Roster} {first_m : Option MsgLink} 
     none-there : (n j : ℕ) → j ≢ k → 0 < heads n (queue_at j b.lists) → heads n (xs ++ ys) ≡ 0
     none-there n j other s = ap (λ q. heads n q) (sym shape) ∙ apart-queues is n j k other s
 
+    more : e.count ≡ length (xs ++ x ∷ ys)
+    more = omega (arith, seats.count, listed.counted k, ap length shape, length-append xs (x ∷ ys), length-append xs ys)
+
     pub on-listed : AreListed (record v { rows = rows }) (set ends k e) (record b { lists = set b.lists k (xs ++ x ∷ ys); hand = without_in i b.hand })
-    on-listed = moved-listed is listed k within rows len same (xs ++ x ∷ ys) (without_in i b.hand) all-in e first last tied-here order
+    on-listed = moved-listed is listed k within rows len same (xs ++ x ∷ ys) (without_in i b.hand) all-in e first last tied-here more order
         (λ n j other s. (let z = none-there n j other s in let h = heads-append n xs ys in on-else (Some n) (λ e. off-end None (Some n) xs (λ m. some-none n (sym m)) (omega arith) (sym e)) (hand-elsewhere n j s)))
         (λ n j other s. (let z = none-there n j other s in let h = heads-append n xs ys in back-else (Some n) (off-begin n ys (omega arith)) (hand-elsewhere n j s)))
 
@@ -244,11 +250,11 @@ pub taken-off : {v v' : Nodes} {ends ends' : List Ends} {b b' : Roster} {first_m
 taken-off {v = v} {v' = v'} {ends = ends} is listed k within l xs m ys shape name u =
     let ties = subst (λ n. Ties v.mat v.rows v'.rows (ends_at k ends) u.after (behind_of v.rows n) (ahead_of v.rows n)) (sym name) u.tied in
     record {
-      becomes = unseated-becomes is listed k within xs m ys shape v'.rows u.after ties u.first u.last l name u.nodes u.ends_are u.roster_is;
-      fresh = unseated-fresh is listed k within xs m ys shape v'.rows u.after ties u.first u.last l name u.nodes u.ends_are u.roster_is;
-      shape = off-shape is listed k within xs m ys shape v'.rows u.after ties u.first u.last;
-      queue = unseated-queue is listed k within xs m ys shape v'.rows u.after ties u.first u.last l name u.nodes u.ends_are u.roster_is;
-      chains = unseated-chains is listed k within xs m ys shape v'.rows u.after ties u.first u.last l name u.nodes u.ends_are u.roster_is;
+      becomes = unseated-becomes is listed k within xs m ys shape v'.rows u.after ties u.count u.first u.last l name u.nodes u.ends_are u.roster_is;
+      fresh = unseated-fresh is listed k within xs m ys shape v'.rows u.after ties u.count u.first u.last l name u.nodes u.ends_are u.roster_is;
+      shape = off-shape is listed k within xs m ys shape v'.rows u.after ties u.count u.first u.last;
+      queue = unseated-queue is listed k within xs m ys shape v'.rows u.after ties u.count u.first u.last l name u.nodes u.ends_are u.roster_is;
+      chains = unseated-chains is listed k within xs m ys shape v'.rows u.after ties u.count u.first u.last l name u.nodes u.ends_are u.roster_is;
     }
 
 -- a list with nothing on it

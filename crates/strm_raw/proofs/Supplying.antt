@@ -57,6 +57,7 @@ module _ (v : Nodes) (b : Roster) (rows : List Row) (same : (i : ℕ) → row_at
     first = λ k. msg-more _ _ le v.mat (ends_at k ends).first (listed.first k);
     last = λ k. msg-more _ _ le v.mat (ends_at k ends).last (listed.last k);
     tied = λ k. subst (λ (x : (ℕ → Option ℕ) × (ℕ → Option ℕ) × List (List Msg)). IsTied (on v.mat x.0 (ends_at k ends)) (back v.mat x.1 (ends_at k ends)) None (queue_at k x.2)) (λ j. (sym ahead-same j, sym behind-same j, sym lists j)) (listed.tied k);
+    counted = λ k. listed.counted k ∙ ap (λ lists. length (queue_at k lists)) (sym lists);
     ordered = λ k. subst (λ (s : StoreValue). ranked.IsOrdered rank_of (list_at s k)) (sym (value-same b' lists hand)) (listed.ordered k);
   }
 

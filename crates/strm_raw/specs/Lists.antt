@@ -1,5 +1,5 @@
 -- The lists of a raw store: how a list leads through its messages, on and back.
-use Rattle.std.specs.Prelude.{ℕ, ◌≡◌, ◌≢◌, ◌≤◌, ◌==◌, if◌then◌else◌, List, [], ◌∷◌, length, sum_by, slice_index_or, slice_set, Option, None, Some, option_map}
+use Rattle.std.specs.Prelude.{ℕ, ◌≡◌, ◌≢◌, ◌≤◌, ◌+◌, ◌-◌, ◌==◌, if◌then◌else◌, List, [], ◌∷◌, length, sum_by, slice_index_or, slice_set, Option, None, Some, option_map}
 use denote.RawPtr.{Ptr}
 use Rattle.strm_types.specs.Ranked as ranked
 use Rattle.strm_blocks.specs.Blocks.{StoreValue, rank_of, list_at}
@@ -13,7 +13,7 @@ use Rattle.strm_raw.specs.declared.neighbours.Ends.{Ends}
 use Rattle.strm_raw.specs.declared.msg_nodes.MsgLink.{MsgLink}
 
 abbrev pub no_ends : Ends
-no_ends = record { first = None; last = None }
+no_ends = record { first = None; last = None; count = 0 }
 
 abbrev pub ends_at : ℕ → List Ends → Ends
 ends_at k ends = slice_index_or ends k no_ends
@@ -78,12 +78,14 @@ pub record AreWhole (rows : List Row) (q : List Msg) : Type 0 where
   pub chained : sum_by (broken rows) q ≡ 0
   pub few : sum_by (λ m. length (ids m)) q ≤ length rows
 
--- The ends of each list lead to nodes, the links of each list are its messages, and each list is in order of rank.
+-- The ends of each list lead to nodes, the links of each list are its messages, its count says how many they are, and each list is in order of
+-- rank.
 pub record AreListed (v : Nodes) (ends : List Ends) (b : Roster) : Type 0 where
   pub eight : length ends ≡ 8
   pub first : (k : ℕ) → IsMsgOrNone v.mat (length v.rows) (ends_at k ends).first
   pub last : (k : ℕ) → IsMsgOrNone v.mat (length v.rows) (ends_at k ends).last
   pub tied : (k : ℕ) → IsList v (ends_at k ends) (queue_at k b.lists)
+  pub counted : (k : ℕ) → (ends_at k ends).count ≡ length (queue_at k b.lists)
   pub ordered : (k : ℕ) → ranked.IsOrdered rank_of (list_at (value_of v b) k)
 
 -- a message block without its neighbours
@@ -99,12 +101,13 @@ pub record Ties (mat : Ptr) (rows rows' : List Row) (e e' : Ends) (a b : Option 
   pub on_else : (p : Option ℕ) → p ≢ a → on mat (ahead_of rows') e' p ≡ on mat (ahead_of rows) e p
   pub back_else : (p : Option ℕ) → p ≢ b → back mat (behind_of rows') e' p ≡ back mat (behind_of rows) e p
 
--- a message lies between two places that follow one another
+-- a message lies between two places that followed one another, and counts
 pub record Seats (mat : Ptr) (rows rows' : List Row) (e e' : Ends) (a : Option ℕ) (x : ℕ) (b : Option ℕ) : Type 0 where
   pub middle : List Row
   pub ends : Ends
   pub front : Ties mat rows middle e ends a (Some x)
   pub rear : Ties mat middle rows' ends e' (Some x) b
+  pub count : e'.count ≡ e.count + 1
 
 -- how a call on a list changes the roster
 
@@ -121,11 +124,12 @@ unseated k l b = let i = msg_number b.mat l in let q = queue_at k b.lists in rec
 abbrev pub seated : ℕ → ℕ → MsgLink → Roster → Roster
 seated k i l b = record b { lists = slice_set b.lists k (seat_in (msg_number b.mat l) (msg_in i b.hand) (queue_at k b.lists)); hand = without_in i b.hand }
 
--- A message is taken off a list: its neighbours are tied.
+-- A message is taken off a list: its neighbours are tied, and it counts no longer.
 pub record Unseats (v v' : Nodes) (ends ends' : List Ends) (b b' : Roster) (k : ℕ) (l : MsgLink) : Type 0 where
   pub after : Ends
   pub nodes : v' ≡ record v { rows = v'.rows }
   pub tied : Ties v.mat v.rows v'.rows (ends_at k ends) after (behind_of v.rows (msg_number v.mat l)) (ahead_of v.rows (msg_number v.mat l))
+  pub count : after.count ≡ (ends_at k ends).count - 1
   pub first : IsMsgOrNone v.mat (length v.rows) after.first
   pub last : IsMsgOrNone v.mat (length v.rows) after.last
   pub ends_are : ends' ≡ slice_set ends k after

@@ -9,7 +9,7 @@ ghost use Rattle.strm_raw.specs.Places.{put_by};
 use crate::ledger::Ledger;
 use crate::memory::Memory;
 use crate::msg_nodes::MsgLink;
-use crate::neighbours::{Course, Ends, beside, pick, seat, tie};
+use crate::neighbours::{Course, Ends, beside, bypass, pick, seat};
 use crate::ranks::{rank_of, ranked};
 use crate::raw::RawStore;
 use std::ptr::null_mut;
@@ -27,11 +27,12 @@ pub(crate) fn unseat(
     requires there { IsMsg memory.old.mat (length memory.old.rows) at }
     requires first { IsMsgOrNone memory.old.mat (length memory.old.rows) (ends_at list ends.old).first }
     requires last { IsMsgOrNone memory.old.mat (length memory.old.rows) (ends_at list ends.old).last }
+    requires some { 0 < (ends_at list ends.old).count }
     ensures name { token result ≡ msg_number memory.old.mat at }
     ensures unseats { Unseats memory.old memory.new ends.old ends.new ledger.old.roster ledger.new.roster list at }
 {
     let node = memory.message(at);
-    tie(memory, &mut ends[list], node.behind, node.ahead);
+    bypass(memory, &mut ends[list], node.behind, node.ahead);
     ledger.note(at.at, null_mut(), list, 0);
     InHand::of(node.name)
 }
@@ -90,7 +91,7 @@ impl RawStore {
         let node = self.memory.message(at);
         let before = pick(course, None, node.behind);
         let after = pick(course, node.ahead, None);
-        tie(&mut self.memory, &mut self.ends[list], before, after);
+        bypass(&mut self.memory, &mut self.ends[list], before, after);
         self.ledger.note(at.at, null_mut(), list, 0);
         Some(InHand::of(node.name))
     }

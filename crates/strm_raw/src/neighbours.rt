@@ -1,22 +1,24 @@
-//! The two ends of a list of messages, and its links.
-ghost use Rattle.std.specs.Prelude.{◌≡◌, length, option_map, MatchOption};
+//! The two ends of a list of messages, how many stand on it, and its links.
+ghost use Rattle.std.specs.Prelude.{◌≡◌, ◌<◌, ◌+◌, ◌-◌, ◌^◌, length, option_map, MatchOption};
 ghost use Rattle.strm_raw.specs.Numbered.{IsMsg, IsMsgOrNone, msg_number, row_at, with_row};
 ghost use Rattle.strm_raw.specs.Lists.{Seats, Ties, along, edge, pick};
 
 use crate::memory::Memory;
 use crate::msg_nodes::MsgLink;
 
-/// Where the first and the last message of a list lie; both are `None` where no message stands on it.
+/// Where the first and the last message of a list lie, both `None` where no message stands on it, and how many stand there.
 #[derive(Clone, Copy)]
 pub(crate) struct Ends {
     pub(crate) first: Option<MsgLink>,
     pub(crate) last: Option<MsgLink>,
+    pub(crate) count: usize,
 }
 
 /// The ends of a list with no message on it.
 pub(crate) const NO_ENDS: Ends = Ends {
     first: None,
     last: None,
+    count: 0,
 };
 
 /// A course along a list: on from its first message, or back from its last one.
@@ -80,6 +82,7 @@ pub(crate) fn tie(
     ensures nodes { memory.new ≡ record memory.old { rows = memory.new.rows } }
     ensures tied { let v = memory.old in
         Ties v.mat v.rows memory.new.rows ends.old ends.new (option_map (msg_number v.mat) before) (option_map (msg_number v.mat) after) }
+    ensures count { ends.new.count ≡ ends.old.count }
     ensures first { let v = memory.old in
         IsMsgOrNone v.mat (length v.rows) ends.old.first → IsMsgOrNone v.mat (length v.rows) ends.new.first }
     ensures last { let v = memory.old in
@@ -122,6 +125,7 @@ pub(crate) fn seat(
     requires before { IsMsgOrNone memory.old.mat (length memory.old.rows) before }
     requires at { IsMsg memory.old.mat (length memory.old.rows) at }
     requires after { IsMsgOrNone memory.old.mat (length memory.old.rows) after }
+    requires few { ends.old.count < 2 ^ 63 }
     ensures nodes { memory.new ≡ record memory.old { rows = memory.new.rows } }
     ensures seats { let v = memory.old in
         Seats v.mat v.rows memory.new.rows ends.old ends.new (option_map (msg_number v.mat) before) (msg_number v.mat at) (option_map (msg_number v.mat) after) }
@@ -132,4 +136,28 @@ pub(crate) fn seat(
 {
     tie(memory, ends, before, Some(at));
     tie(memory, ends, Some(at), after);
+    ends.count += 1;
+}
+
+/// Takes the message between two places off a list, which then leads from one of them to the other.
+pub(crate) fn bypass(
+    memory: &mut Memory,
+    ends: &mut Ends,
+    before: Option<MsgLink>,
+    after: Option<MsgLink>,
+)
+    requires before { IsMsgOrNone memory.old.mat (length memory.old.rows) before }
+    requires after { IsMsgOrNone memory.old.mat (length memory.old.rows) after }
+    requires some { 0 < ends.old.count }
+    ensures nodes { memory.new ≡ record memory.old { rows = memory.new.rows } }
+    ensures tied { let v = memory.old in
+        Ties v.mat v.rows memory.new.rows ends.old ends.new (option_map (msg_number v.mat) before) (option_map (msg_number v.mat) after) }
+    ensures count { ends.new.count ≡ ends.old.count - 1 }
+    ensures first { let v = memory.old in
+        IsMsgOrNone v.mat (length v.rows) ends.old.first → IsMsgOrNone v.mat (length v.rows) ends.new.first }
+    ensures last { let v = memory.old in
+        IsMsgOrNone v.mat (length v.rows) ends.old.last → IsMsgOrNone v.mat (length v.rows) ends.new.last }
+{
+    tie(memory, ends, before, after);
+    ends.count -= 1;
 }

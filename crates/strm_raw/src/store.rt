@@ -191,6 +191,12 @@ impl Blocks for RawStore {
         self.ends[list].first.is_none()
     }
 
+    /// One load.
+    fn messages(&self, list: usize) -> usize {
+        let _ = &self.ledger;
+        self.ends[list].count
+    }
+
     /// It takes one step where the last message of the list has at least the new one's rank, and else a step for each
     /// message that is passed.
     fn insert_back(&mut self, list: usize, message: InHand) {

@@ -233,7 +233,7 @@ fn put_filled<B: Blocks>(store: &mut B, kind: MsgKind, bytes: &[u8]) -> Result<(
 
 // Whether a visitor of list 5 passes over the messages without a data part, and is told of none behind the first one.
 fn finds_data<B: Blocks>(store: &mut B) -> Result<bool, NoBlocks> {
-    let empty = store.is_empty(5);
+    let empty = store.is_empty(5) && store.messages(5) == 0;
     put_filled(store, MsgKind::Proto, b"ab")?;
     put_filled(store, MsgKind::Data, b"cdef")?;
     put_filled(store, MsgKind::Data, b"gh")?;
@@ -242,7 +242,8 @@ fn finds_data<B: Blocks>(store: &mut B) -> Result<bool, NoBlocks> {
         body: None,
     };
     store.visit(5, &mut first);
-    Ok(empty && !store.is_empty(5) && first.told == 2 && first.body == Some(4))
+    let some = !store.is_empty(5) && store.messages(5) == 3;
+    Ok(empty && some && first.told == 2 && first.body == Some(4))
 }
 
 // 45 of 300 message blocks are free beside a data block of 255 references, which can have no more, and then all.

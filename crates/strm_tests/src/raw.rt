@@ -321,9 +321,10 @@ fn the_last_of_a_list_has_the_lowest_rank(rt: HostRuntime) -> Result<(), Fail> {
     };
     let Summary { band, bytes, .. } = store.summary(&last);
     assert!(rt; band == Band(0) && bytes == 1);
+    assert_eq!(rt; store.messages(7), 1);
     store.audit();
     store.reset();
-    assert!(rt; store.is_empty(7));
+    assert!(rt; store.is_empty(7) && store.messages(7) == 0);
     assert_eq!(rt; store.free_blocks(), (3, 3));
     Ok(())
 }

@@ -3,7 +3,7 @@ ghost use Rattle.std.specs.Prelude.{◌≡◌, ◌<◌, ◌≤◌, length};
 ghost use Rattle.strm_blocks.specs.Blocks.{IsInHand, in_hand, token};
 
 use std::test::Fail;
-use strm_blocks::{Blocks, FlushWhat, InHand, TableStore};
+use strm_blocks::{Blocks, FlushWhat, InHand, TableStore, Visitor};
 use strm_raw::RawStore;
 use strm_types::{Band, MsgKind};
 
@@ -235,6 +235,36 @@ fn are_alike<A: Blocks, B: Blocks>(one: &A, here: &InHand, other: &B, there: &In
     true
 }
 
+// Counts the messages of which it is told.
+#[derive(Drop)]
+struct Heads {
+    count: usize,
+}
+
+impl Visitor for Heads {
+    ghost use Rattle.std.specs.Prelude.{◌+◌, ◌-◌, ◌^◌, min, true, if◌then◌else◌};
+
+    ghost after = { λ v b. if b.first then record { count = min (v.count + 1) (2 ^ 64 - 1) } else v };
+
+    ghost goes_on = { λ v. true };
+
+    fn see(&mut self, first: bool, _kind: MsgKind, _band: Band, _bytes: &[u8]) -> bool {
+        if first {
+            self.count = self.count.saturating_add(1);
+        }
+        true
+    }
+}
+
+// Whether a store knows how many messages stand on a list.
+fn is_counted<B: Blocks>(store: &B, list: usize) -> bool
+    requires { list < 8 }
+{
+    let mut heads = Heads { count: 0 };
+    store.visit(list, &mut heads);
+    store.messages(list) == heads.count
+}
+
 // Puts the messages of a list of both stores on another one, in their order; whether each two were alike.
 fn pass_on<A: Blocks, B: Blocks>(one: &mut A, other: &mut B, from: usize, to: usize) -> bool
     requires from { from < 8 }
@@ -255,13 +285,15 @@ fn pass_on<A: Blocks, B: Blocks>(one: &mut A, other: &mut B, from: usize, to: us
     false
 }
 
-// Whether the lists of both stores are alike, which stay as they are, and as many blocks free.
+// Whether the lists of both stores are alike, which stay as they are, and as many blocks free; and each store knows how many
+// messages stand on each of its lists.
 fn all_alike<A: Blocks, B: Blocks>(one: &mut A, other: &mut B) -> bool {
     let mut alike = one.free_blocks() == other.free_blocks();
     for list in 0..ASIDE {
+        let counted = is_counted(one, list) && is_counted(other, list);
         let there = pass_on(one, other, list, ASIDE);
         let back = pass_on(one, other, ASIDE, list);
-        alike = alike && there && back;
+        alike = alike && counted && there && back;
     }
     alike
 }

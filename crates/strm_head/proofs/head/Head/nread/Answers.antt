@@ -22,4 +22,4 @@ overflow_cast-result g c =
 pub overflow_cast-result-2 : goal.overflow_cast-result-2
 overflow_cast-result-2 g c =
     let s = g.B.Blocks.value c.args.store.now in
-    omega (arith, c.sizes.ensures.messages, messages-few s c.args.self.now.queue.list c.audit.ensures)
+    omega (arith, c.messages.ensures, messages-few s c.args.self.now.queue.list c.audit.ensures)

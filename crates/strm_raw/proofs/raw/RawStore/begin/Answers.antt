@@ -1,15 +1,19 @@
-use Rattle.std.proofs.Common.{[], ◌∷◌, List, refl, sym, ap, ◌∙◌}
+use Rattle.std.proofs.Common.{[], ◌∷◌, List, refl, sym, ap, ◌∙◌, arith}
 use Rattle.std.proofs.Math.ListN.{set}
 use Rattle.std.specs.Prelude.{None}
 use Rattle.strm_blocks.specs.Blocks.{Block, StoreValue, token, in_hand, list_at, dropped, placed}
 use Rattle.strm_raw.proofs.Finding as finding
 use Rattle.strm_raw.proofs.Becoming.{Becomes, becomes-as}
+use Rattle.strm_raw.proofs.Inserting.{count-few}
 use Rattle.strm_raw.proofs.Seating.{put-on, queue-none}
 use Rattle.strm_raw.proofs.raw.RawStore.begin.Goals as goal
 use Rattle.strm_raw.proofs.raw.RawStore.begin.Goals.{After-note}
 
 pub message_link-at-requires : goal.message_link-at-requires
 message_link-at-requires c = finding.token-below c.self.invariant.raw _ c.self.view_is (token c.args.message) _ c.name.ensures c.requires.in_hand
+
+pub seat-requires-clause-few : goal.seat-requires-clause-few
+seat-requires-clause-few c = omega (arith, count-few c.self.invariant.raw c.self.invariant.listed c.args.list)
 
 done : (c : After-note) → let t = c.self.inside in let s = c.args.self.now in let n = token c.args.message in let k = c.args.list in
     Becomes c.seat.new.memory (set t.ends k c.seat.new.ends) c.note.new.self.roster t.free_msg t.free_data t.spare_m t.spare_d (placed (dropped s n) k (in_hand s n ∷ []))

@@ -1,4 +1,4 @@
-use Rattle.std.proofs.Common.{refl, sym, ap, ◌∙◌}
+use Rattle.std.proofs.Common.{refl, sym, ap, ◌∙◌, arith}
 use Rattle.std.proofs.Math.ListN.{set}
 use Rattle.strm_blocks.specs.Blocks.{token, in_hand, list_at, dropped, placed, rank_of}
 use Rattle.strm_raw.specs.Numbered.{Row}
@@ -7,12 +7,15 @@ use Rattle.strm_raw.specs.Places.{put_by, rank_by}
 use Rattle.strm_raw.specs.declared.msg_nodes.MsgLink.{MsgLink}
 use Rattle.strm_raw.proofs.Finding as finding
 use Rattle.strm_raw.proofs.Becoming.{Becomes, becomes-as}
-use Rattle.strm_raw.proofs.Inserting.{inserted}
+use Rattle.strm_raw.proofs.Inserting.{count-few, inserted}
 use Rattle.strm_raw.proofs.raw.RawStore.insert.Goals as goal
 use Rattle.strm_raw.proofs.raw.RawStore.insert.Goals.{After-note}
 
 pub message_link-at-requires : goal.message_link-at-requires
 message_link-at-requires c = finding.token-below c.self.invariant.raw _ c.self.view_is (token c.args.message) _ c.name.ensures c.requires.in_hand
+
+pub seat-requires-clause-few : goal.seat-requires-clause-few
+seat-requires-clause-few c = omega (arith, count-few c.self.invariant.raw c.self.invariant.listed c.args.list)
 
 done : (c : After-note) → let t = c.self.inside in let s = c.args.self.now in let n = token c.args.message in let k = c.args.list in
     Becomes c.seat.new.memory (set t.ends k c.seat.new.ends) c.note.new.self.roster t.free_msg t.free_data t.spare_m t.spare_d (placed (dropped s n) k (put_by c.args.course rank_of (in_hand s n) (list_at s k)))

@@ -6,7 +6,7 @@ use Rattle.strm_raw.specs.Lists.{PoppedBy, Ties, Unseats, ends_at}
 use Rattle.strm_raw.specs.Numbered.{Row, msg_number}
 use Rattle.strm_raw.specs.declared.msg_nodes.MsgLink.{MsgLink}
 use Rattle.strm_raw.proofs.Becoming.{Becomes}
-use Rattle.strm_raw.proofs.Popping.{nothing-there, sides-are, taken-end}
+use Rattle.strm_raw.proofs.Popping.{nothing-there, sides-are, some-there, taken-end}
 use Rattle.strm_raw.proofs.raw.RawStore.take_end.Goals as goal
 use Rattle.strm_raw.proofs.raw.RawStore.take_end.Goals.{After-note}
 
@@ -16,7 +16,10 @@ returns-in_default c = record {
   same = refl;
 }
 
-unseats : (c : After-note) → let t = c.self.inside in Unseats t.memory c.tie.new.memory t.ends (set t.ends c.args.list c.tie.new.ends) t.ledger.roster c.note.new.self.roster c.args.list c.in-Some.at
+pub bypass-requires-clause-some : goal.bypass-requires-clause-some
+bypass-requires-clause-some c = some-there c.self.invariant.raw c.self.invariant.listed c.self.view_is c.args.list c.args.course _ (sym c.beside.ensures.step ∙ ap (λ (o : Option MsgLink). option_map (msg_number c.self.inside.memory.mat) o) c.in-Some.is)
+
+unseats : (c : After-note) → let t = c.self.inside in Unseats t.memory c.bypass.new.memory t.ends (set t.ends c.args.list c.bypass.new.ends) t.ledger.roster c.note.new.self.roster c.args.list c.in-Some.at
 unseats c =
     let t = c.self.inside in let v = t.memory in let k = c.args.list in let listed = c.self.invariant.listed in
     let there = sym c.beside.ensures.step ∙ ap (λ (o : Option MsgLink). option_map (msg_number v.mat) o) c.in-Some.is in
@@ -24,17 +27,18 @@ unseats c =
     let sides = sides-are c.self.invariant.raw listed c.self.view_is k c.args.course _ there c.pick-before.result c.pick-after.result _ _ c.pick-before.ensures c.pick-after.ensures
     (ap (λ (r : Row). r.ahead) row) (ap (λ (r : Row). r.behind) row) in
     record {
-      after = c.tie.new.ends;
-      nodes = c.tie.ensures.nodes;
-      tied = subst (λ (x : Option ℕ × Option ℕ). Ties v.mat v.rows c.tie.new.memory.rows (ends_at k t.ends) c.tie.new.ends x.0 x.1) (λ j. (sides.0 j, sides.1 j)) c.tie.ensures.tied;
-      first = c.tie.ensures.first (listed.first k);
-      last = c.tie.ensures.last (listed.last k);
+      after = c.bypass.new.ends;
+      nodes = c.bypass.ensures.nodes;
+      tied = subst (λ (x : Option ℕ × Option ℕ). Ties v.mat v.rows c.bypass.new.memory.rows (ends_at k t.ends) c.bypass.new.ends x.0 x.1) (λ j. (sides.0 j, sides.1 j)) c.bypass.ensures.tied;
+      count = c.bypass.ensures.count;
+      first = c.bypass.ensures.first (listed.first k);
+      last = c.bypass.ensures.last (listed.last k);
       ends_are = refl;
       roster_is = c.note.ensures;
     }
 
 done : (c : After-note) → let t = c.self.inside in
-    (s : StoreValue) × (Becomes c.tie.new.memory (set t.ends c.args.list c.tie.new.ends) c.note.new.self.roster t.free_msg t.free_data t.spare_m t.spare_d s × PoppedBy c.args.course c.args.self.now s c.args.list (msg_number t.memory.mat c.in-Some.at))
+    (s : StoreValue) × (Becomes c.bypass.new.memory (set t.ends c.args.list c.bypass.new.ends) c.note.new.self.roster t.free_msg t.free_data t.spare_m t.spare_d s × PoppedBy c.args.course c.args.self.now s c.args.list (msg_number t.memory.mat c.in-Some.at))
 done c = taken-end c.self.invariant.raw c.self.invariant.listed c.self.view_is c.args.list c.requires c.in-Some.at (unseats c) c.args.course (sym c.beside.ensures.step ∙ ap (λ (o : Option MsgLink). option_map (msg_number c.self.inside.memory.mat) o) c.in-Some.is)
 
 pub invariant_of-self : goal.invariant_of-self

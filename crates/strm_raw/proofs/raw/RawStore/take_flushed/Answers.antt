@@ -6,7 +6,7 @@ use Rattle.strm_raw.specs.Numbered.{Row, msg_number}
 use Rattle.strm_raw.specs.Raw.{value_of}
 use Rattle.strm_raw.specs.Tails.{Hangs}
 use Rattle.strm_raw.proofs.Finding.{token-below}
-use Rattle.strm_raw.proofs.Flushed.{Loose, Taken, takes_row, sift-begins, sift-ends, walk-passes, walk-takes, loose-first, loose-joins, loose-others}
+use Rattle.strm_raw.proofs.Flushed.{Loose, Taken, takes_row, sift-begins, sift-ends, some-left, walk-passes, walk-takes, loose-first, loose-joins, loose-others}
 use Rattle.strm_raw.proofs.raw.RawStore.take_flushed.Goals as goal
 use Rattle.strm_raw.proofs.raw.RawStore.take_flushed.Goals.{After-unseat-message}
 
@@ -25,6 +25,10 @@ loop-left-preserved-then-not-is_flushed c = record {
       (ap (λ (r : Row). takes_row c.args.what r) (sym c.message-node.ensures.row) ∙ sym c.is_flushed.ensures ∙ c.if-not-is_flushed.true);
   gathered = c.loop-left.invariant.gathered;
 }
+
+pub unseat-message-requires-clause-some : goal.unseat-message-requires-clause-some
+unseat-message-requires-clause-some c =
+    some-left c.args.self.now c.args.list c.args.what c.loop-left.invariant.walk c.loop-left-test.true c.in-Some.link c.in-Some.is c.message-node.result.ahead (ap (λ (r : Row). r.ahead) c.message-node.ensures.row) c.message-node.ensures.links.ahead
 
 -- the message is in hand, beside what was taken before
 loosened : (c : After-unseat-message) (o : Option InHand) → c.loop-left.taken ≡ o → let t = c.loop-left.self-inside in
