@@ -11,6 +11,7 @@ use Rattle.atomic_table.specs.Table.{State, step, keeps, takes, gives, stepped, 
 use Rattle.atomic_table.proofs.Lists.{set_again, set_here, at_set}
 use Rattle.strm_types.specs.Journal.{PlainEntry}
 use Rattle.strm_locks.specs.declared.end.TheConstants.{ALL_PARTS}
+use Rattle.strm_locks.specs.declared.lock.TheConstants.{WORD}
 use Rattle.strm_locks.specs.declared.view.View.{View}
 use Rattle.strm_locks.specs.Books.{pick, nothing, plus, weigh, Fits, Book, Kept, closed_book}
 use Rattle.strm_locks.specs.Rules.{fresh, total, AddsUp, Knows, Mine, holding, grown, leaving, taken, given, emptied, passed, looked, sat, kept_half, split_half, joined}
@@ -21,7 +22,7 @@ abbrev Locked : Type 0
 Locked = State Kept View
 
 abbrev word : Locked → ℕ
-word s = get_or s.words 0 0
+word s = get_or s.words WORD 0
 
 -- a view without a part was told nothing
 abbrev IsIdle : View → Type 0
@@ -82,11 +83,11 @@ module _ (s : Locked) (r : AddsUp s) (id n : ℕ) (homes' : List (Option Kept)) 
       → ((i : ℕ) → pick i w.told + pick i r.book.totals ≡ pick i v.told + pick i c.totals)
       → ((h : PlainEntry → ℕ) → weigh h w.made + weigh h r.book.history ≡ weigh h v.made + weigh h c.history)
       → w.parts + c.left ≡ v.parts + r.book.left → Fits c.totals → IsIdle w
-      → AddsUp record { words = set s.words 0 n; homes = homes'; views = set s.views id w }
+      → AddsUp record { words = set s.words WORD n; homes = homes'; views = set s.views id w }
   moved bit home holds mine others sums entries parts fits idle = let some_word = r.has_word in
-      let now : get_or (set s.words 0 n) 0 0 ≡ n = get_or-set_same s.words 0 n 0 (omega arith) in record {
+      let now : get_or (set s.words WORD n) WORD 0 ≡ n = get_or-set_same s.words WORD n 0 (omega arith) in record {
         book = c;
-        has_word = omega (arith, length-set s.words 0 n);
+        has_word = omega (arith, length-set s.words WORD n);
         bit = omega arith;
         at_home = λ z. home (sym now ∙ z);
         holders = let a = total-set (λ x. x.holds) s.views id v w at in let b = r.holders in omega arith;
@@ -99,16 +100,16 @@ module _ (s : Locked) (r : AddsUp s) (id n : ℕ) (homes' : List (Option Kept)) 
       }
 
 -- a load changes nothing
-unmoved : (s : Locked) → AddsUp s → (id : ℕ) (me : Mine) → get_elem? s.views id ≡ some me.0 → AddsUp (stepped s 0 (word s) id me.1 me.0 keeps)
-unmoved s r id me at = subst (λ (z : List ℕ × List View). AddsUp record { words = z.0; homes = s.homes; views = z.1 }) (λ k. (sym (set-get_or s.words 0 0) k, sym (set_again s.views id me.0 at) k)) r
+unmoved : (s : Locked) → AddsUp s → (id : ℕ) (me : Mine) → get_elem? s.views id ≡ some me.0 → AddsUp (stepped s WORD (word s) id me.1 me.0 keeps)
+unmoved s r id me at = subst (λ (z : List ℕ × List View). AddsUp record { words = z.0; homes = s.homes; views = z.1 }) (λ k. (sym (set-get_or s.words WORD 0) k, sym (set_again s.views id me.0 at) k)) r
 
-pub starts : (k : Kept) (unused : List ℕ) → k.book ≡ closed_book → AddsUp (opening (0 ∷ unused) (k ∷ []) fresh)
-starts k unused shut = record {
+pub starts : (k : Kept) (words : List ℕ) → WORD < length words → get_or words WORD 0 ≡ 0 → k.book ≡ closed_book → AddsUp (opening words (k ∷ []) fresh)
+starts k words has free shut = record {
   book = closed_book;
-  has_word = omega arith;
+  has_word = has;
   bit = omega arith;
   at_home = λ _. (k, refl, shut);
-  holders = refl;
+  holders = sym free;
   found = found;
   totals = λ i. let a = pick-nothing i in omega arith;
   history = λ h. refl;
@@ -125,7 +126,7 @@ starts k unused shut = record {
     idle zero v e z = (ap (λ (x : View). x.told) (sym (some-injective _ _ e)), ap (λ (x : View). x.made) (sym (some-injective _ _ e)))
     idle (suc i) v e z = absurd (some-ne-none v (sym e))
 
-pub sits : (slots : ℕ) → Enters AddsUp slots 0 (λ n w. sat (step slots 0 0 0 none) (fresh, []) n (w, []))
+pub sits : (slots : ℕ) → Enters AddsUp slots WORD (λ n w. sat (step slots WORD 0 0 none) (fresh, []) n (w, []))
 sits slots s r deep small = let vs : List View = s.views ++ fresh ∷ [] in (
   fresh,
   reseated s r vs (let a = total-append (λ x. x.holds) s.views (fresh ∷ []) in omega arith)
@@ -137,13 +138,13 @@ sits slots s r deep small = let vs : List View = s.views ++ fresh ∷ [] in (
   refl,
 )
 
-pub takes_lock : (slots id : ℕ) (me : Mine) → me.0.holds ≡ 0 → Allows AddsUp slots id me 0 (λ x. either (eqb x 0) 1 x) (taken (step slots 0 0 1 none) me)
+pub takes_lock : (slots id : ℕ) (me : Mine) → me.0.holds ≡ 0 → Allows AddsUp slots id me WORD (λ x. either (eqb x 0) 1 x) (taken (step slots WORD 0 1 none) me)
 takes_lock slots id me free s r deep at small = dite (ℕ_discrete (word s) 0)
     (λ hit. let k : Kept = (r.at_home hit).0 in let same : k.book ≡ r.book = (r.at_home hit).2 in let w : View = holding me.0 k in (
       w,
       takes 0 k,
       (r.at_home hit).1,
-      subst (λ b. AddsUp (stepped s 0 (either b 1 (word s)) id me.1 w (takes 0 k))) (sym (eq-eqb (word s) 0 hit))
+      subst (λ b. AddsUp (stepped s WORD (either b 1 (word s)) id me.1 w (takes 0 k))) (sym (eq-eqb (word s) 0 hit))
           (moved s r id 1 (set s.homes 0 none) me.0 w r.book at (omega arith) (λ z. absurd (omega arith)) (omega arith) (λ _. same)
           (λ j u apart e. r.found j u e) (λ i. refl) (λ h. refl) refl r.fits (r.idle id me.0 at)),
       ((λ _. (k, refl, subst (Knows me.0) (sym same) (knows s r id me.0 at))), λ not. absurd (not hit)),
@@ -152,16 +153,16 @@ takes_lock slots id me free s r deep at small = dite (ℕ_discrete (word s) 0)
       me.0,
       keeps,
       tt,
-      subst (λ b. AddsUp (stepped s 0 (either b 1 (word s)) id me.1 me.0 keeps)) (sym (ne_eqb (word s) 0 miss)) (unmoved s r id me at),
+      subst (λ b. AddsUp (stepped s WORD (either b 1 (word s)) id me.1 me.0 keeps)) (sym (ne_eqb (word s) 0 miss)) (unmoved s r id me at),
       ((λ z. absurd (miss z)), λ _. refl),
     ))
 
 -- a step that gives the lock back
 abbrev Gives : ℕ → ℕ → Mine → (Mine → ℕ → Mine → Type 0) → Type 0
-Gives slots id me then = Allows AddsUp slots id me 0 (λ _. 0) (λ _. then me 0)
+Gives slots id me then = Allows AddsUp slots id me WORD (λ _. 0) (λ _. then me 0)
 
 module _ (slots id : ℕ) (v : View) (k : Kept) (one : slots ≡ 1) (holds : v.holds ≡ 1) where
-  gives_at : MayGive v k.book → Gives slots id (v, (0, k) ∷ []) (given (step slots 0 0 0 none))
+  gives_at : MayGive v k.book → Gives slots id (v, (0, k) ∷ []) (given (step slots WORD 0 0 none))
   gives_at g s r deep at small =
       let b : Book = v.found in let c : Book = k.book in let w : View = grown v b c in
       let same : b ≡ r.book = r.found id v at (omega arith) in
@@ -187,7 +188,7 @@ module _ (slots id : ℕ) (v : View) (k : Kept) (one : slots ≡ 1) (holds : v.h
         (λ k' e. ap (λ (l : List (ℕ × Kept)). let m : Mine = (grown v b (get_or l 0 (0, k)).1.book, []) in m) e),
       )
 
-  empties_at : v.parts ≡ ALL_PARTS → k.book ≡ closed_book → Gives slots id (v, (0, k) ∷ []) (emptied (step slots 0 0 0 none))
+  empties_at : v.parts ≡ ALL_PARTS → k.book ≡ closed_book → Gives slots id (v, (0, k) ∷ []) (emptied (step slots WORD 0 0 none))
   empties_at all shut s r deep at small =
       let known = knows s r id v at in let told = known.whole all in
       let held : word s ≡ 1 = (let a = total-at (λ x. x.holds) s.views id v at in let o = r.holders in let b = r.bit in omega arith) in (
@@ -204,7 +205,7 @@ module _ (slots id : ℕ) (v : View) (k : Kept) (one : slots ≡ 1) (holds : v.h
         refl,
       )
 
-  passes_at : k.book ≡ v.found → Gives slots id (v, (0, k) ∷ []) (passed (step slots 0 0 0 none))
+  passes_at : k.book ≡ v.found → Gives slots id (v, (0, k) ∷ []) (passed (step slots WORD 0 0 none))
   passes_at still s r deep at small =
       let w : View = leaving v k.pair in let same : v.found ≡ r.book = r.found id v at (omega arith) in
       let held : word s ≡ 1 = (let a = total-at (λ x. x.holds) s.views id v at in let o = r.holders in let t = r.bit in omega arith) in (
@@ -218,16 +219,16 @@ module _ (slots id : ℕ) (v : View) (k : Kept) (one : slots ≡ 1) (holds : v.h
       )
 
 module _ (slots id : ℕ) (me : Mine) (k : Kept) (one : slots ≡ 1) (holds : me.0.holds ≡ 1) (has : me.1 ≡ (0, k) ∷ []) where
-  pub gives_lock : MayGive me.0 k.book → Gives slots id me (given (step slots 0 0 0 none))
-  gives_lock g = subst (λ (l : List (ℕ × Kept)). Gives slots id (me.0, l) (given (step slots 0 0 0 none))) (sym has) (gives_at slots id me.0 k one holds g)
+  pub gives_lock : MayGive me.0 k.book → Gives slots id me (given (step slots WORD 0 0 none))
+  gives_lock g = subst (λ (l : List (ℕ × Kept)). Gives slots id (me.0, l) (given (step slots WORD 0 0 none))) (sym has) (gives_at slots id me.0 k one holds g)
 
-  pub passes : k.book ≡ me.0.found → Gives slots id me (passed (step slots 0 0 0 none))
-  passes still = subst (λ (l : List (ℕ × Kept)). Gives slots id (me.0, l) (passed (step slots 0 0 0 none))) (sym has) (passes_at slots id me.0 k one holds still)
+  pub passes : k.book ≡ me.0.found → Gives slots id me (passed (step slots WORD 0 0 none))
+  passes still = subst (λ (l : List (ℕ × Kept)). Gives slots id (me.0, l) (passed (step slots WORD 0 0 none))) (sym has) (passes_at slots id me.0 k one holds still)
 
-  pub empties : me.0.parts ≡ ALL_PARTS → k.book ≡ closed_book → Gives slots id me (emptied (step slots 0 0 0 none))
-  empties all shut = subst (λ (l : List (ℕ × Kept)). Gives slots id (me.0, l) (emptied (step slots 0 0 0 none))) (sym has) (empties_at slots id me.0 k one holds all shut)
+  pub empties : me.0.parts ≡ ALL_PARTS → k.book ≡ closed_book → Gives slots id me (emptied (step slots WORD 0 0 none))
+  empties all shut = subst (λ (l : List (ℕ × Kept)). Gives slots id (me.0, l) (emptied (step slots WORD 0 0 none))) (sym has) (empties_at slots id me.0 k one holds all shut)
 
-pub looks : (slots id : ℕ) (me : Mine) → Allows AddsUp slots id me 0 (λ n. n) (looked (step slots 0 0 0 none) me)
+pub looks : (slots id : ℕ) (me : Mine) → Allows AddsUp slots id me WORD (λ n. n) (looked (step slots WORD 0 0 none) me)
 looks slots id me s r deep at small = let known = knows s r id me.0 at in
     (me.0, keeps, tt, unmoved s r id me at, (refl, (λ i. let a = known.below i in let b = known.fits i in omega arith), (let a = known.parts in omega arith)))
 

@@ -6,6 +6,7 @@ use Rattle.atomic_table.specs.Table.{State, Me, Step}
 use Rattle.strm_types.specs.Journal.{PlainEntry}
 use Rattle.strm_laws.specs.Pair.{PairState}
 use Rattle.strm_locks.specs.declared.end.TheConstants.{ALL_PARTS}
+use Rattle.strm_locks.specs.declared.lock.TheConstants.{WORD}
 use Rattle.strm_locks.specs.declared.told.Told.{Told}
 use Rattle.strm_locks.specs.declared.view.View.{View}
 use Rattle.strm_locks.specs.Books.{pick, nothing, plus, minus, weigh, IsReordered, IsBelow, Fits, Book, Kept, closed_book}
@@ -42,10 +43,10 @@ total f (v ∷ vs) = f v + total f vs
 -- the slot. The views' entries are those of the history, each as often; their parts with those left in the book are all; and a view without a part was told nothing.
 pub record AddsUp (s : State Kept View) : Type 0 where
   pub book : Book
-  pub has_word : 0 < length s.words
-  pub bit : slice_index s.words 0 < 2
-  pub at_home : slice_index s.words 0 ≡ 0 → (k : Kept) × (get_elem? s.homes 0 ≡ some (some k)) × (k.book ≡ book)
-  pub holders : total (λ v. v.holds) s.views ≡ slice_index s.words 0
+  pub has_word : WORD < length s.words
+  pub bit : slice_index s.words WORD < 2
+  pub at_home : slice_index s.words WORD ≡ 0 → (k : Kept) × (get_elem? s.homes 0 ≡ some (some k)) × (k.book ≡ book)
+  pub holders : total (λ v. v.holds) s.views ≡ slice_index s.words WORD
   pub found : (id : ℕ) (v : View) → get_elem? s.views id ≡ some v → 0 < v.holds → v.found ≡ book
   pub totals : (i : ℕ) → total (λ v. pick i v.told) s.views ≡ pick i book.totals
   pub history : (h : PlainEntry → ℕ) → total (λ v. weigh h v.made) s.views ≡ weigh h book.history

@@ -16,9 +16,11 @@ use std::marker::Model;
 use std::sync::Wait;
 use std::sync::atomic::{AtomicU64, Ordering};
 
-// How many words of 8 bytes a line of the cache has. No more than the first one of a lock is used: so threads that take different locks
-// don't wait for each other's line.
-const LINE: usize = 8;
+// How many words a lock has, and the one of them that is used: a line of the cache, which is eight words of 8 bytes, lies free before it and
+// one behind it. So threads that take different locks don't wait for each other's line, wherever the allocator laid the words.
+const WORDS: usize = 16;
+
+const WORD: usize = 8;
 
 /// A pair under its lock, which threads share by a `&`. One thread at a time has the pair, and with it the book of what all ends were told.
 ///
@@ -36,13 +38,13 @@ pub struct Lock<P: Object> {
 impl<P: Object> Model for Lock<P> {
     ghost use Rattle.std.specs.Prelude.{◌≡◌};
     ghost use Rattle.atomic_table.specs.Seated.{TableId};
-    ghost use Rattle.strm_locks.specs.declared.lock.TheConstants.{LINE};
+    ghost use Rattle.strm_locks.specs.declared.lock.TheConstants.{WORDS};
 
     ghost Value = { TableId };
 
     ghost view = { λ l. l.table.shared.table_id };
 
-    ghost invariant = { λ l. (l.table.shared.table_id.words ≡ LINE) × (l.table.shared.table_id.slots ≡ 1) };
+    ghost invariant = { λ l. (l.table.shared.table_id.words ≡ WORDS) × (l.table.shared.table_id.slots ≡ 1) };
 }
 
 impl<P: Object> Lock<P> {
@@ -52,7 +54,7 @@ impl<P: Object> Lock<P> {
     {
         let mut slots = Vec::with_capacity(alloc, 1)?;
         slots.push_reserved(held);
-        match Table::new(alloc, &[0; LINE], slots, &()) {
+        match Table::new(alloc, &[0; WORDS], slots, &()) {
             Ok((table, _seat)) => Ok(Lock {
                 table,
                 waiting: AtomicU64::new(0),
@@ -65,7 +67,7 @@ impl<P: Object> Lock<P> {
     pub(crate) fn sit(&self) -> Place<P>
         ensures { (result.table_id ≡ self.now) × (result.me ≡ (fresh, [])) }
     {
-        self.table.shared.load_new_seat::<Sit>(0).1
+        self.table.shared.load_new_seat::<Sit>(WORD).1
     }
 
     // Takes the lock, and with it the pair. The word is tested and set in one step; where it was 1 the thread parks until it is given back.
@@ -77,7 +79,7 @@ impl<P: Object> Lock<P> {
     {
         let shared = &self.table.shared;
         for _ in rt.forever() {
-            if shared.compare_exchange::<Take>(seat, 0, 0, 1) == 0 {
+            if shared.compare_exchange::<Take>(seat, WORD, 0, 1) == 0 {
                 return;
             }
             self.wait(rt);
@@ -88,14 +90,14 @@ impl<P: Object> Lock<P> {
     // Parks while the word is 1. It is noted before: who gives the lock back sees the note, or this thread sees the word at 0.
     fn wait<R: Wait>(&self, rt: &R) {
         self.waiting.fetch_add(1, Ordering::SeqCst);
-        self.table.shared.park(rt, 0, 1);
+        self.table.shared.park(rt, WORD, 1);
         self.waiting.fetch_sub(1, Ordering::SeqCst);
     }
 
     // Wakes one that waits, behind the store that gave the lock back.
     fn wake(&self) {
         if self.waiting.load(Ordering::SeqCst) > 0 {
-            self.table.shared.wake_one(0);
+            self.table.shared.wake_one(WORD);
         }
     }
 
@@ -107,7 +109,7 @@ impl<P: Object> Lock<P> {
         ensures same { IsSame seat.old seat.new }
         ensures told { (k : Kept) → seat.old.me.1 ≡ (0, k) ∷ [] → seat.new.me ≡ (grown seat.old.me.0 seat.old.me.0.found k.book, []) }
     {
-        self.table.shared.store::<Give>(seat, 0, 0);
+        self.table.shared.store::<Give>(seat, WORD, 0);
         self.wake();
     }
 
@@ -118,7 +120,7 @@ impl<P: Object> Lock<P> {
         requires lock { (k : Kept) × (seat.old.me.1 ≡ (0, k) ∷ []) × (k.book ≡ closed_book) }
         ensures { IsSame seat.old seat.new × (seat.new.me ≡ (fresh, [])) }
     {
-        self.table.shared.store::<Empty>(seat, 0, 0);
+        self.table.shared.store::<Empty>(seat, WORD, 0);
         self.wake();
     }
 
@@ -130,7 +132,7 @@ impl<P: Object> Lock<P> {
         ensures same { IsSame seat.old seat.new }
         ensures met { (k : Kept) → seat.old.me.1 ≡ (0, k) ∷ [] → seat.new.me ≡ (leaving seat.old.me.0 k.pair, []) }
     {
-        self.table.shared.store::<Pass>(seat, 0, 0);
+        self.table.shared.store::<Pass>(seat, WORD, 0);
         self.wake();
     }
 
@@ -155,6 +157,6 @@ impl<P: Object> Lock<P> {
         ensures most { seat.new.me.0.parts ≤ ALL_PARTS }
     {
         self.table.shared.join_seat::<Halves>(seat, other);
-        self.table.shared.load::<Look>(seat, 0);
+        self.table.shared.load::<Look>(seat, WORD);
     }
 }

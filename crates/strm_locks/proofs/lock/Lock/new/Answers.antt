@@ -1,4 +1,4 @@
-use Rattle.std.proofs.Common.{rules, ◌≡◌, [], ◌∷◌, sym, subst}
+use Rattle.std.proofs.Common.{rules, ◌≡◌, [], ◌∷◌, refl, sym, subst}
 use Rattle.std.specs.Prelude.{replicate}
 use Rattle.atomic_table.specs.Table.{opening}
 use Rattle.strm_locks.specs.Rules.{AddsUp, fresh}
@@ -6,4 +6,4 @@ use Rattle.strm_locks.proofs.Keeps.{starts}
 use Rattle.strm_locks.proofs.lock.Lock.new.Goals as goal
 
 pub new-requires : goal.new-requires
-new-requires g c = let is : c.push_reserved.new.self.items ≡ c.args.held ∷ [] = search rules in subst (λ l. AddsUp (opening (replicate 8 0) l fresh)) (sym is) (starts _ (replicate 7 0) c.requires)
+new-requires g c = let is : c.push_reserved.new.self.items ≡ c.args.held ∷ [] = search rules in subst (λ l. AddsUp (opening (replicate 16 0) l fresh)) (sym is) (starts _ (replicate 16 0) (search rules) refl c.requires)
