@@ -1,14 +1,18 @@
--- What a put and a delivery did to a store and what stands beside it.
-use Rattle.std.specs.Prelude.{ℕ, ◌≡◌, List}
+-- What a put, a delivery and a pop did to a store and what stands beside it.
+use Rattle.std.specs.Prelude.{ℕ, ◌≡◌, List, Option}
 use Rattle.strm_types.specs.declared.rules.Fates.{Fates}
 use Rattle.strm_types.specs.declared.spots.Spot.{Spot}
 use Rattle.strm_types.specs.Costs.{cost_of}
-use Rattle.strm_types.specs.Deliver.{AreLower, Carried, Took, tallied}
+use Rattle.strm_types.specs.Deliver.{Acted, AreLower, Carried, Took, tallied}
+use Rattle.strm_types.specs.Dropped.{is_met}
 use Rattle.strm_types.specs.Message.{Message}
 use Rattle.strm_blocks.specs.Blocks.{StoreValue}
+use Rattle.strm_queue.specs.Stored.{FreesBlocks}
+use Rattle.strm_frame.specs.declared.modules.LetGo.{LetGo}
 use Rattle.strm_frame.specs.declared.parcels.Sent.{Sent}
-use Rattle.strm_frame.specs.Hands.{Handles, Hands, SamePool, Takes}
+use Rattle.strm_frame.specs.Hands.{Handles, Hands, OnlyOwn, SamePool, Takes}
 use Rattle.strm_frame.specs.Outboxes.{message_in, times_sent, parcels_in, AreChains}
+use Rattle.strm_frame.specs.Serves.{SameHand}
 
 module _ {X P : Type 0} (plain : StoreValue → X → P) (IsHeld : StoreValue → X → Type 0) (keeps : X → ℕ → ℕ) (spare : P → ℕ) where
   -- A put at a spot of stations did what a definition says: the message has gone, and what is sent on has come in hand, and has less before it. Of
@@ -33,3 +37,17 @@ module _ {X P : Type 0} (plain : StoreValue → X → P) (IsHeld : StoreValue �
     pub hands : Handles old new gone (keeps x) (keeps y) (λ _. 0)
     pub takes : Takes old new (spare (plain old x)) (spare (plain new y)) most 0
     pub pool : SamePool old new
+
+module _ {X P : Type 0} (plain : StoreValue → X → P) (IsHeld : StoreValue → X → Type 0) (owns keeps : X → ℕ → ℕ) where
+  -- A module let all go, as a definition says, and told whether the M_IOCTL of a number, where one is sought, stood among `below`. Only its own lists changed,
+  -- it keeps nothing in hand, and no block was taken.
+  pub record Clears (old new : StoreValue) (x y : X) (seeking : Option ℕ) (below : List (Message ℕ)) (gone : LetGo) (t t' : Fates) (is : Acted ℕ P) : Type 0 where
+    pub state : plain new y ≡ is.state
+    pub notes : gone.notes.items ≡ is.notes
+    pub met : gone.met ≡ is_met seeking below
+    pub told : t' ≡ tallied is.gone t
+    pub held : IsHeld new y
+    pub rests : (i : ℕ) → keeps y i ≡ 0
+    pub own : OnlyOwn old new (owns x) (owns y)
+    pub hand : SameHand old new
+    pub frees : FreesBlocks old new
