@@ -3,3 +3,4 @@ pub mod Hands
 pub mod Serves
 pub mod Stacks
 pub mod StackLaws
+pub mod Does

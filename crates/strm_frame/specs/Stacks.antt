@@ -1,7 +1,11 @@
 -- The modules of a stream, beside a store.
-use Rattle.std.specs.Prelude.{ℕ, ◌≤◌, ◌<◌, List, sum_by, Option, None, Some}
+use Rattle.std.specs.Prelude.{ℕ, ◌≤◌, ◌<◌, List, map, sum_by, Option, None, Some}
 use Rattle.std.specs.List.{AllByRecursion}
 use Rattle.strm_blocks.specs.Blocks.{StoreValue}
+
+-- what they stand for
+abbrev pub all_in : {X P : Type 0} → (StoreValue → X → P) → StoreValue → List X → List P
+all_in plain s xs = map (plain s) xs
 
 -- what all together own or keep
 abbrev pub all_of : {X : Type 0} → (X → ℕ → ℕ) → List X → ℕ → ℕ

@@ -1,13 +1,14 @@
 //! Delivery: a message is put at a spot, and each message that this gives rise to is carried on in turn, with all that
 //! it gives rise to, until queues or ends have taken all.
 
-ghost use Rattle.std.specs.Prelude.{ℕ, ◌≡◌, ◌<◌, ◌≤◌};
-ghost use Rattle.strm_types.specs.Deliver.{AreLower, carried, in_turn, tallied};
+ghost use Rattle.std.specs.Prelude.{◌<◌};
+ghost use Rattle.strm_types.specs.Deliver.{AreLower, carried, in_turn};
 ghost use Rattle.strm_blocks.specs.Blocks.{in_hand, token};
 ghost use Rattle.strm_msg.specs.Messages.{IsChain};
 ghost use Rattle.strm_types.specs.Costs.{cost_of};
 ghost use Rattle.strm_frame.specs.Outboxes.{AreChains, message_in, parcels_in, sent_of, times_sent};
-ghost use Rattle.strm_frame.specs.Hands.{AreIn, CanPut, Handles, Hands, SamePool, MayTake, Takes};
+ghost use Rattle.strm_frame.specs.Does.{Delivered};
+ghost use Rattle.strm_frame.specs.Hands.{AreIn, CanPut, MayTake, once};
 
 use crate::parcels::Outbox;
 use crate::places::Stations;
@@ -33,18 +34,9 @@ pub fn deliver<B: Blocks, S: Stations<B>>(
     requires low { S.height to (message_in (B.value store.old) (token message)) < hops }
     requires room { let s = B.value store.old in let p = S.plain s stations.old in
         MayTake s (S.spare p) (S.cost p to (message_in s (token message))) }
-    ensures state { let s = B.value store.old in
-        S.plain (B.value store.new) stations.new ≡ (carried S.puts hops
-        (record { to = to; message = message_in s (token message) }) (S.plain s stations.old)).state }
-    ensures told { let s = B.value store.old in
-        told.new ≡ tallied (carried S.puts hops (record { to = to; message = message_in s (token message) })
-        (S.plain s stations.old)).gone told.old }
-    ensures held { S.IsHeld (B.value store.new) stations.new }
-    ensures hands { Hands (B.value store.old) (B.value store.new) (token message) (S.keeps stations.old)
-        (S.keeps stations.new) (λ _. 0) }
-    ensures takes { let s = B.value store.old in let t = B.value store.new in let p = S.plain s stations.old in
-        Takes s t (S.spare p) (S.spare (S.plain t stations.new)) (S.cost p to (message_in s (token message))) 0 }
-    ensures pool { SamePool (B.value store.old) (B.value store.new) }
+    ensures { let s = B.value store.old in let p = S.plain s stations.old in let m = message_in s (token message) in
+        Delivered S.plain S.IsHeld S.keeps S.spare s (B.value store.new) stations.old stations.new (once (token message)) (S.cost p to m)
+        told.old told.new (carried S.puts hops (record { to = to; message = m }) p) }
 {
     let sent = stations.put_at(store, to, message, told);
     store.audit();
@@ -70,18 +62,9 @@ pub fn deliver_all<B: Blocks, S: Stations<B>>(
     requires low { AreLower S.height hops (parcels_in (B.value store.old) (sent_of sent)) }
     requires room { let s = B.value store.old in let p = S.plain s stations.old in
         MayTake s (S.spare p) (cost_of (S.cost p) (parcels_in s (sent_of sent))) }
-    ensures state { let s = B.value store.old in
-        S.plain (B.value store.new) stations.new ≡ (in_turn (carried S.puts hops) (parcels_in s (sent_of sent))
-        (S.plain s stations.old)).state }
-    ensures told { let s = B.value store.old in
-        told.new ≡ tallied (in_turn (carried S.puts hops) (parcels_in s (sent_of sent)) (S.plain s stations.old)).gone
-        told.old }
-    ensures held { S.IsHeld (B.value store.new) stations.new }
-    ensures hands { Handles (B.value store.old) (B.value store.new) (λ i. times_sent i (sent_of sent))
-        (S.keeps stations.old) (S.keeps stations.new) (λ _. 0) }
-    ensures takes { let s = B.value store.old in let t = B.value store.new in let p = S.plain s stations.old in
-        Takes s t (S.spare p) (S.spare (S.plain t stations.new)) (cost_of (S.cost p) (parcels_in s (sent_of sent))) 0 }
-    ensures pool { SamePool (B.value store.old) (B.value store.new) }
+    ensures { let s = B.value store.old in let p = S.plain s stations.old in let parcels = parcels_in s (sent_of sent) in
+        Delivered S.plain S.IsHeld S.keeps S.spare s (B.value store.new) stations.old stations.new (λ i. times_sent i (sent_of sent))
+        (cost_of (S.cost p) parcels) told.old told.new (in_turn (carried S.puts hops) parcels p) }
 {
     let mut left = sent;
     if left.is_empty() {

@@ -7,7 +7,6 @@ ghost use Rattle.strm_types.specs.declared.names.Way.{Way};
 ghost use Rattle.strm_types.specs.declared.names.Way.TheVariants.{Up, Down};
 ghost use Rattle.strm_types.specs.declared.spots.Spot.{Spot};
 ghost use Rattle.strm_types.specs.declared.spots.Asks.{Asks};
-ghost use Rattle.strm_types.specs.Dropped.{is_met};
 ghost use Rattle.strm_types.specs.Input.{made_of};
 ghost use Rattle.strm_types.specs.Message.{Message};
 ghost use Rattle.strm_types.specs.LdtermCalls.{most_made};
@@ -21,8 +20,8 @@ ghost use Rattle.strm_types.specs.Service.{Serving, turn_ended, end_relieves, ha
 ghost use Rattle.strm_blocks.specs.Blocks.{StoreValue, in_hand, token};
 ghost use Rattle.strm_msg.specs.Messages.{IsChain};
 ghost use Rattle.strm_frame.specs.Outboxes.{message_in, sent_of, times_sent, parcels_in, AreChains};
-ghost use Rattle.strm_queue.specs.Stored.{FreesBlocks};
-ghost use Rattle.strm_frame.specs.Serves.{SameHand, least_free, stop_of, later_cost};
+ghost use Rattle.strm_frame.specs.Does.{Clears};
+ghost use Rattle.strm_frame.specs.Serves.{least_free, stop_of, later_cost};
 ghost use Rattle.strm_frame.specs.Hands.{AreIn, CanPut, Handles, Hands, SamePool, SameOwn, OnlyOwn, HasRoom, Spends};
 
 use crate::parcels::Outbox;
@@ -291,18 +290,9 @@ pub trait Module: Drop {
     ) -> LetGo
         requires held { IsHeld (B.value store.old) self.old }
         requires rests { (i : ℕ) → keeps self.old i ≡ 0 }
-        ensures state { let s = B.value store.old in plain (B.value store.new) self.new ≡
-            (cleared queue_of with_queue line_of without_line side rule (plain s self.old)).state }
-        ensures notes { let s = B.value store.old in result.notes.items ≡
-            (cleared queue_of with_queue line_of without_line side rule (plain s self.old)).notes }
-        ensures met { result.met ≡ is_met seeking (messages_at queue_of Down (plain (B.value store.old) self.old)) }
-        ensures told { let s = B.value store.old in told.new ≡
-            tallied (cleared queue_of with_queue line_of without_line side rule (plain s self.old)).gone told.old }
-        ensures held { IsHeld (B.value store.new) self.new }
-        ensures rests { (i : ℕ) → keeps self.new i ≡ 0 }
-        ensures own { OnlyOwn (B.value store.old) (B.value store.new) (owns self.old) (owns self.new) }
-        ensures hand { SameHand (B.value store.old) (B.value store.new) }
-        ensures frees { FreesBlocks (B.value store.old) (B.value store.new) };
+        ensures { let s = B.value store.old in let p = plain s self.old in
+            Clears plain IsHeld owns keeps s (B.value store.new) self.old self.new seeking (messages_at queue_of Down p) result
+            told.old told.new (cleared queue_of with_queue line_of without_line side rule p) };
 
     /// It stands for the same, and fits, wherever its own lists are the same and what it keeps in hand is.
     ghost frame: { (s t : StoreValue) (x : Self) → SameOwn s t (owns x) (keeps x) → IsHeld s x →

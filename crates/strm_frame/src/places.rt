@@ -3,12 +3,12 @@
 ghost use Rattle.std.specs.Prelude.{ℕ, ◌≡◌};
 ghost use Rattle.strm_types.specs.declared.spots.Spot.{Spot};
 ghost use Rattle.strm_types.specs.Message.{Message};
-ghost use Rattle.strm_types.specs.Deliver.{Took, AreLower, tallied};
+ghost use Rattle.strm_types.specs.Deliver.{Took};
 ghost use Rattle.strm_blocks.specs.Blocks.{StoreValue, in_hand, token};
 ghost use Rattle.strm_msg.specs.Messages.{IsChain};
-ghost use Rattle.strm_types.specs.Costs.{cost_of};
-ghost use Rattle.strm_frame.specs.Outboxes.{message_in, sent_of, times_sent, parcels_in, AreChains};
-ghost use Rattle.strm_frame.specs.Hands.{CanPut, Hands, SamePool, SameFor, MayTake, Takes};
+ghost use Rattle.strm_frame.specs.Does.{PutAt};
+ghost use Rattle.strm_frame.specs.Outboxes.{message_in, sent_of};
+ghost use Rattle.strm_frame.specs.Hands.{CanPut, SameFor, MayTake};
 
 use crate::parcels::Outbox;
 use strm_blocks::{Blocks, InHand};
@@ -49,23 +49,9 @@ pub trait Stations<B: Blocks> {
         requires chain { IsChain (in_hand (B.value store.old) (token message)) }
         requires room { let s = B.value store.old in
             MayTake s (spare (plain s self.old)) (cost (plain s self.old) to (message_in s (token message))) }
-        ensures state { let s = B.value store.old in
-            plain (B.value store.new) self.new ≡ (puts to (message_in s (token message)) (plain s self.old)).state }
-        ensures sent { let s = B.value store.old in
-            parcels_in (B.value store.new) (sent_of result) ≡ (puts to (message_in s (token message))
-            (plain s self.old)).sent }
-        ensures told { let s = B.value store.old in
-            told.new ≡ tallied (puts to (message_in s (token message)) (plain s self.old)).gone told.old }
-        ensures held { IsHeld (B.value store.new) self.new }
-        ensures chains { AreChains (B.value store.new) (sent_of result) }
-        ensures falls { AreLower height (height to (message_in (B.value store.old) (token message)))
-            (parcels_in (B.value store.new) (sent_of result)) }
-        ensures hands { Hands (B.value store.old) (B.value store.new) (token message) (keeps self.old)
-            (keeps self.new) (λ i. times_sent i (sent_of result)) }
-        ensures takes { let s = B.value store.old in let t = B.value store.new in
-            Takes s t (spare (plain s self.old)) (spare (plain t self.new)) (cost (plain s self.old) to (message_in s (token message)))
-            (cost_of (cost (plain s self.old)) (parcels_in t (sent_of result))) }
-        ensures pool { SamePool (B.value store.old) (B.value store.new) };
+        ensures { let s = B.value store.old in let p = plain s self.old in
+            PutAt plain IsHeld keeps spare height (cost p) s (B.value store.new) self.old self.new to (token message) (sent_of result)
+            told.old told.new (puts to (message_in s (token message)) p) };
 
     /// The stations stand for the same, and fit, wherever the lists are the same and what they keep in hand is.
     ghost frame: { (s t : StoreValue) (x : Self) → SameFor s t (keeps x) → IsHeld s x → (plain t x ≡ plain s x) ×

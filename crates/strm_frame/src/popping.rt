@@ -2,15 +2,11 @@
 
 ghost use Rattle.std.specs.Prelude.{ℕ, ◌≡◌, ◌<◌, [], length, map, slice_index_or};
 ghost use Rattle.strm_types.specs.declared.names.Way.TheVariants.{Down};
-ghost use Rattle.strm_types.specs.Deliver.{tallied};
-ghost use Rattle.strm_types.specs.Dropped.{is_met};
 ghost use Rattle.strm_types.specs.ModuleQueues.{at_place, messages_at};
 ghost use Rattle.strm_types.specs.Modules.{act_among};
 ghost use Rattle.strm_types.specs.Service.{cleared};
-ghost use Rattle.strm_queue.specs.Stored.{FreesBlocks};
-ghost use Rattle.strm_frame.specs.Hands.{OnlyOwn};
-ghost use Rattle.strm_frame.specs.Serves.{SameHand};
-ghost use Rattle.strm_frame.specs.Stacks.{all_of, AreHeld};
+ghost use Rattle.strm_frame.specs.Does.{Clears};
+ghost use Rattle.strm_frame.specs.Stacks.{all_in, all_of, AreHeld};
 
 use crate::modules::{LetGo, Module};
 use crate::stack::Stream;
@@ -32,20 +28,10 @@ fn clear_among<B: Blocks, M: Module>(
     requires held { AreHeld M.IsHeld M.owns (B.value store.old) modules.old }
     requires rests { (i : ℕ) → all_of M.keeps modules.old i ≡ 0 }
     ensures length { length modules.new ≡ length modules.old }
-    ensures state { let s = B.value store.old in map (M.plain (B.value store.new)) modules.new ≡
-        (act_among (cleared M.queue_of M.with_queue M.line_of M.without_line side rule) at (map (M.plain s) modules.old)).state }
-    ensures notes { let s = B.value store.old in result.notes.items ≡
-        (act_among (cleared M.queue_of M.with_queue M.line_of M.without_line side rule) at (map (M.plain s) modules.old)).notes }
-    ensures met { let s = B.value store.old in result.met ≡
-        is_met seeking (slice_index_or (map (messages_at M.queue_of Down) (map (M.plain s) modules.old)) at []) }
-    ensures told { let s = B.value store.old in told.new ≡ tallied
-        (act_among (cleared M.queue_of M.with_queue M.line_of M.without_line side rule) at (map (M.plain s) modules.old)).gone
-        told.old }
-    ensures held { AreHeld M.IsHeld M.owns (B.value store.new) modules.new }
-    ensures rests { (i : ℕ) → all_of M.keeps modules.new i ≡ 0 }
-    ensures own { OnlyOwn (B.value store.old) (B.value store.new) (all_of M.owns modules.old) (all_of M.owns modules.new) }
-    ensures hand { SameHand (B.value store.old) (B.value store.new) }
-    ensures frees { FreesBlocks (B.value store.old) (B.value store.new) }
+    ensures does { let s = B.value store.old in let ps = all_in M.plain s modules.old in
+        Clears (all_in M.plain) (AreHeld M.IsHeld M.owns) (all_of M.owns) (all_of M.keeps) s (B.value store.new) modules.old modules.new
+        seeking (slice_index_or (map (messages_at M.queue_of Down) ps) at []) result told.old told.new
+        (act_among (cleared M.queue_of M.with_queue M.line_of M.without_line side rule) at ps) }
 {
     store.audit();
     modules[at].clear(store, side, rule, seeking, told)
@@ -66,23 +52,10 @@ impl<M: Module + Default> Stream<M> {
         requires held { AreHeld M.IsHeld M.owns (B.value store.old) self.old.modules.items }
         requires rests { (i : ℕ) → all_of M.keeps self.old.modules.items i ≡ 0 }
         ensures length { length self.new.modules.items ≡ length self.old.modules.items }
-        ensures state { let s = B.value store.old in map (M.plain (B.value store.new)) self.new.modules.items ≡
-            (act_among (cleared M.queue_of M.with_queue M.line_of M.without_line side rule) 0
-            (map (M.plain s) self.old.modules.items)).state }
-        ensures notes { let s = B.value store.old in result.notes.items ≡
-            (act_among (cleared M.queue_of M.with_queue M.line_of M.without_line side rule) 0
-            (map (M.plain s) self.old.modules.items)).notes }
-        ensures met { let s = B.value store.old in result.met ≡
-            is_met seeking (at_place (messages_at M.queue_of Down) [] 1 (map (M.plain s) self.old.modules.items)) }
-        ensures told { let s = B.value store.old in told.new ≡ tallied
-            (act_among (cleared M.queue_of M.with_queue M.line_of M.without_line side rule) 0
-            (map (M.plain s) self.old.modules.items)).gone told.old }
-        ensures held { AreHeld M.IsHeld M.owns (B.value store.new) self.new.modules.items }
-        ensures rests { (i : ℕ) → all_of M.keeps self.new.modules.items i ≡ 0 }
-        ensures own { OnlyOwn (B.value store.old) (B.value store.new) (all_of M.owns self.old.modules.items)
-            (all_of M.owns self.new.modules.items) }
-        ensures hand { SameHand (B.value store.old) (B.value store.new) }
-        ensures frees { FreesBlocks (B.value store.old) (B.value store.new) }
+        ensures does { let s = B.value store.old in let xs = self.old.modules.items in let ps = all_in M.plain s xs in
+            Clears (all_in M.plain) (AreHeld M.IsHeld M.owns) (all_of M.owns) (all_of M.keeps) s (B.value store.new) xs self.new.modules.items
+            seeking (at_place (messages_at M.queue_of Down) [] 1 ps) result told.old told.new
+            (act_among (cleared M.queue_of M.with_queue M.line_of M.without_line side rule) 0 ps) }
     {
         if self.modules.is_empty() {
             return LetGo::nothing();

@@ -3,13 +3,10 @@
 ghost use Rattle.std.specs.Prelude.{ℕ, ◌≡◌, []};
 ghost use Rattle.strm_types.specs.declared.names.Way.TheVariants.{Down};
 ghost use Rattle.strm_types.specs.Deliver.{tallied};
-ghost use Rattle.strm_types.specs.Dropped.{is_met};
 ghost use Rattle.strm_types.specs.Ldterms.{without_line};
 ghost use Rattle.strm_types.specs.ModuleQueues.{messages_at};
 ghost use Rattle.strm_types.specs.Service.{cleared, line_gone};
-ghost use Rattle.strm_queue.specs.Stored.{FreesBlocks};
-ghost use Rattle.strm_frame.specs.Hands.{OnlyOwn};
-ghost use Rattle.strm_frame.specs.Serves.{SameHand};
+ghost use Rattle.strm_frame.specs.Does.{Clears};
 ghost use Rattle.strm_ldterm.specs.Stands.{ldterm_in, owns, keeps, IsHeld};
 ghost use Rattle.strm_ldterm.specs.Calls.{queue_of, with_queue};
 ghost use Rattle.strm_ldterm.specs.Popped.{line_of};
@@ -48,18 +45,9 @@ pub fn clear<B: Blocks>(
 ) -> LetGo
     requires held { IsHeld (B.value store.old) ldterm.old }
     requires rests { (i : ℕ) → keeps ldterm.old i ≡ 0 }
-    ensures state { let s = B.value store.old in ldterm_in (B.value store.new) ldterm.new ≡
-        (cleared queue_of with_queue line_of without_line side rule (ldterm_in s ldterm.old)).state }
-    ensures notes { let s = B.value store.old in result.notes.items ≡
-        (cleared queue_of with_queue line_of without_line side rule (ldterm_in s ldterm.old)).notes }
-    ensures met { result.met ≡ is_met seeking (messages_at queue_of Down (ldterm_in (B.value store.old) ldterm.old)) }
-    ensures told { let s = B.value store.old in told.new ≡
-        tallied (cleared queue_of with_queue line_of without_line side rule (ldterm_in s ldterm.old)).gone told.old }
-    ensures held { IsHeld (B.value store.new) ldterm.new }
-    ensures rests { (i : ℕ) → keeps ldterm.new i ≡ 0 }
-    ensures own { OnlyOwn (B.value store.old) (B.value store.new) (owns ldterm.old) (owns ldterm.new) }
-    ensures hand { SameHand (B.value store.old) (B.value store.new) }
-    ensures frees { FreesBlocks (B.value store.old) (B.value store.new) }
+    ensures { let s = B.value store.old in let p = ldterm_in s ldterm.old in
+        Clears ldterm_in IsHeld owns keeps s (B.value store.new) ldterm.old ldterm.new seeking (messages_at queue_of Down p) result
+        told.old told.new (cleared queue_of with_queue line_of without_line side rule p) }
 {
     let up = direction_at(Way::Up, side);
     let above = clear_queue(store, &mut ldterm.read_queue, None, up, rule, told);

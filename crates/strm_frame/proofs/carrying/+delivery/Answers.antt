@@ -29,98 +29,63 @@ deliver-deliver_all-requires g t c κs within =
     let room = subst (λ cost. MayTake s (w.spare behind) (cost_of cost (parcels_in s all))) (sym same) left in
     (omega arith, (within.0, (within.1, (e.held, (in_hand, (e.chains, (low, room)))))))
 
-pub deliver-returns-clause-state : goal.deliver-returns-clause-state
-deliver-returns-clause-state g t c =
-    let s = g.B.Blocks.value c.args.store.now in
-    let p : Parcel ℕ = record { to = c.args.to; message = message_in s (token c.args.message) } in
-    let w = g.S.Stations in
-    let e = c.put_at-sent.ensures in
-    let low = c.requires.low in
-    let next : c.args.hops ≡ suc (c.args.hops - 1) = omega arith in
-    c.deliver_all.ensures.state ∙ begins-state w.puts c.args.hops (c.args.hops - 1) p (w.plain s c.args.stations.now) _ _ next e.state e.sent
-
-pub deliver-returns-clause-told : goal.deliver-returns-clause-told
-deliver-returns-clause-told g t c =
-    let s = g.B.Blocks.value c.args.store.now in
-    let p : Parcel ℕ = record { to = c.args.to; message = message_in s (token c.args.message) } in
-    let w = g.S.Stations in
-    let e = c.put_at-sent.ensures in
-    let low = c.requires.low in
-    let next : c.args.hops ≡ suc (c.args.hops - 1) = omega arith in
-    c.deliver_all.ensures.told ∙ begins-told w.puts c.args.hops (c.args.hops - 1) p (w.plain s c.args.stations.now) _ _ _ _ next e.state e.sent e.told
-
-pub deliver-returns-clause-hands : goal.deliver-returns-clause-hands
-deliver-returns-clause-hands g t c =
-    let value = g.B.Blocks.value in
-    let w = g.S.Stations in
-    hands-on (value c.args.store.now) (value c.put_at-sent.new.store) (value c.deliver_all.new.store) (once (token c.args.message)) (λ i. times_sent i (sent_of c.put_at-sent.result))
-    (w.keeps c.args.stations.now) (w.keeps c.put_at-sent.new.self) (w.keeps c.deliver_all.new.stations) c.audit.ensures c.put_at-sent.ensures.hands c.deliver_all.ensures.hands
-
-pub deliver-returns-clause-takes : goal.deliver-returns-clause-takes
-deliver-returns-clause-takes g t c =
+pub deliver-returns : goal.deliver-returns
+deliver-returns g t c =
     let value = g.B.Blocks.value in
     let w = g.S.Stations in
     let s0 = value c.args.store.now in
     let s = value c.put_at-sent.new.store in
     let u = value c.deliver_all.new.store in
     let m = message_in s0 (token c.args.message) in
+    let p : Parcel ℕ = record { to = c.args.to; message = m } in
     let e = c.put_at-sent.ensures in
+    let f = c.deliver_all.ensures in
     let before = w.plain s0 c.args.stations.now in
     let behind = w.plain s c.put_at-sent.new.self in
     let after = w.plain u c.deliver_all.new.stations in
-    let sent = parcels_in s (sent_of c.put_at-sent.result) in
+    let all = sent_of c.put_at-sent.result in
+    let sent = parcels_in s all in
+    let low = c.requires.low in
+    let next : c.args.hops ≡ suc (c.args.hops - 1) = omega arith in
     let same : w.cost behind ≡ w.cost before = ap w.cost e.state ∙ g.met.S.Stations.cost_stays c.args.to m before in
-    let then = subst (λ cost. Takes s u (w.spare behind) (w.spare after) (cost_of cost sent) 0) same c.deliver_all.ensures.takes in
-    takes-on s0 s u (w.spare before) (w.spare behind) (w.spare after) (w.cost before c.args.to m) (cost_of (w.cost before) sent) e.takes then
+    let then = subst (λ cost. Takes s u (w.spare behind) (w.spare after) (cost_of cost sent) 0) same f.takes in
+    record {
+      state = f.state ∙ begins-state w.puts c.args.hops (c.args.hops - 1) p before behind sent next e.state e.sent;
+      told = f.told ∙ begins-told w.puts c.args.hops (c.args.hops - 1) p before behind sent _ _ next e.state e.sent e.told;
+      held = f.held;
+      hands = hands-on s0 s u (once (token c.args.message)) (λ i. times_sent i all) (w.keeps c.args.stations.now) (w.keeps c.put_at-sent.new.self) (w.keeps c.deliver_all.new.stations) c.audit.ensures e.hands f.hands;
+      takes = takes-on s0 s u (w.spare before) (w.spare behind) (w.spare after) (w.cost before c.args.to m) (cost_of (w.cost before) sent) e.takes then;
+      pool = record { mblks = f.pool.mblks ∙ e.pool.mblks; dblks = f.pool.dblks ∙ e.pool.dblks };
+    }
 
 -- Nothing is sent on, and all is done.
-pub deliver-returns-then-is_empty-clause-state : goal.deliver-returns-then-is_empty-clause-state
-deliver-returns-then-is_empty-clause-state g t c =
-    let value = g.B.Blocks.value in
-    let s0 = value c.args.store.now in
-    let s = value c.put_at-sent.new.store in
-    let p : Parcel ℕ = record { to = c.args.to; message = message_in s0 (token c.args.message) } in
-    let w = g.S.Stations in
-    let e = c.put_at-sent.ensures in
-    let low = c.requires.low in
-    let next : c.args.hops ≡ suc (c.args.hops - 1) = omega arith in
-    let all = parcels_in s (sent_of c.put_at-sent.result) in
-    let none = no-parts s (sent_of c.put_at-sent.result) (c.if-is_empty.ensures.0 refl) in
-    sym (stops-state (carried w.puts (c.args.hops - 1)) all (w.plain s c.put_at-sent.new.self) none)
-    ∙ begins-state w.puts c.args.hops (c.args.hops - 1) p (w.plain s0 c.args.stations.now) (w.plain s c.put_at-sent.new.self) all next e.state e.sent
-
-pub deliver-returns-then-is_empty-clause-told : goal.deliver-returns-then-is_empty-clause-told
-deliver-returns-then-is_empty-clause-told g t c =
-    let value = g.B.Blocks.value in
-    let s0 = value c.args.store.now in
-    let s = value c.put_at-sent.new.store in
-    let p : Parcel ℕ = record { to = c.args.to; message = message_in s0 (token c.args.message) } in
-    let w = g.S.Stations in
-    let e = c.put_at-sent.ensures in
-    let low = c.requires.low in
-    let next : c.args.hops ≡ suc (c.args.hops - 1) = omega arith in
-    let all = parcels_in s (sent_of c.put_at-sent.result) in
-    let none = no-parts s (sent_of c.put_at-sent.result) (c.if-is_empty.ensures.0 refl) in
-    sym (stops-told (carried w.puts (c.args.hops - 1)) all (w.plain s c.put_at-sent.new.self) c.put_at-sent.new.told none)
-    ∙ begins-told w.puts c.args.hops (c.args.hops - 1) p (w.plain s0 c.args.stations.now) (w.plain s c.put_at-sent.new.self) all c.args.told.now c.put_at-sent.new.told next e.state e.sent e.told
-
-pub deliver-returns-then-is_empty-clause-hands : goal.deliver-returns-then-is_empty-clause-hands
-deliver-returns-then-is_empty-clause-hands g t c =
-    let value = g.B.Blocks.value in
-    let w = g.S.Stations in
-    no-more (value c.args.store.now) (value c.put_at-sent.new.store) (once (token c.args.message)) (w.keeps c.args.stations.now) (w.keeps c.put_at-sent.new.self)
-    (sent_of c.put_at-sent.result) (c.if-is_empty.ensures.0 refl) c.put_at-sent.ensures.hands
-
-pub deliver-returns-then-is_empty-clause-takes : goal.deliver-returns-then-is_empty-clause-takes
-deliver-returns-then-is_empty-clause-takes g t c =
+pub deliver-returns-then-is_empty : goal.deliver-returns-then-is_empty
+deliver-returns-then-is_empty g t c =
     let value = g.B.Blocks.value in
     let w = g.S.Stations in
     let s0 = value c.args.store.now in
     let s = value c.put_at-sent.new.store in
     let m = message_in s0 (token c.args.message) in
+    let p : Parcel ℕ = record { to = c.args.to; message = m } in
+    let e = c.put_at-sent.ensures in
     let before = w.plain s0 c.args.stations.now in
-    no-cost s0 s (w.cost before) (w.cost before c.args.to m) (w.spare before) (w.spare (w.plain s c.put_at-sent.new.self))
-    (sent_of c.put_at-sent.result) (c.if-is_empty.ensures.0 refl) c.put_at-sent.ensures.takes
+    let behind = w.plain s c.put_at-sent.new.self in
+    let all = sent_of c.put_at-sent.result in
+    let sent = parcels_in s all in
+    let low = c.requires.low in
+    let next : c.args.hops ≡ suc (c.args.hops - 1) = omega arith in
+    let empty = c.if-is_empty.ensures.0 refl in
+    let none = no-parts s all empty in
+    let carry = carried w.puts (c.args.hops - 1) in
+    record {
+      state = sym (stops-state carry sent behind none) ∙ begins-state w.puts c.args.hops (c.args.hops - 1) p before behind sent next e.state e.sent;
+      told = sym (stops-told carry sent behind c.put_at-sent.new.told none)
+          ∙ begins-told w.puts c.args.hops (c.args.hops - 1) p before behind sent c.args.told.now c.put_at-sent.new.told next e.state e.sent e.told;
+      held = e.held;
+      hands = no-more s0 s (once (token c.args.message)) (w.keeps c.args.stations.now) (w.keeps c.put_at-sent.new.self) all empty e.hands;
+      takes = no-cost s0 s (w.cost before) (w.cost before c.args.to m) (w.spare before) (w.spare behind) all empty e.takes;
+      pool = e.pool;
+    }
 
 pub deliver_all-loop-next-init : goal.deliver_all-loop-next-init
 deliver_all-loop-next-init g t c =
@@ -201,54 +166,41 @@ deliver_all-deliver-requires g t c κs within =
     let low = next-low s0 s s first k0 k k x more all c.in-Some.ensures c.audit.ensures c.requires.are_in i.hands w.height c.args.hops i.lower in
     (omega arith, (within.0, (within.1, (i.held, (can, (chain, (low, room)))))))
 
-pub deliver_all-returns-clause-state : goal.deliver_all-returns-clause-state
-deliver_all-returns-clause-state g t c =
-    let w = g.S.Stations in
-    let s = g.B.Blocks.value c.loop-next.store in
-    let all = parcels_in s (sent_of c.loop-next.left) in
-    let none = no-parts s (sent_of c.loop-next.left) c.in_default.ensures.0 in
-    sym (stops-state (carried w.puts c.args.hops) all (w.plain s c.loop-next.stations) none) ∙ c.loop-next.invariant.state
-
-pub deliver_all-returns-clause-told : goal.deliver_all-returns-clause-told
-deliver_all-returns-clause-told g t c =
-    let w = g.S.Stations in
-    let s = g.B.Blocks.value c.loop-next.store in
-    let all = parcels_in s (sent_of c.loop-next.left) in
-    let none = no-parts s (sent_of c.loop-next.left) c.in_default.ensures.0 in
-    sym (stops-told (carried w.puts c.args.hops) all (w.plain s c.loop-next.stations) c.loop-next.told none) ∙ c.loop-next.invariant.told
-
-pub deliver_all-returns-clause-hands : goal.deliver_all-returns-clause-hands
-deliver_all-returns-clause-hands g t c =
+pub deliver_all-returns : goal.deliver_all-returns
+deliver_all-returns g t c =
     let w = g.S.Stations in
     let s0 = g.B.Blocks.value c.args.store.now in
     let s = g.B.Blocks.value c.loop-next.store in
-    no-more s0 s (λ i. times_sent i (sent_of c.args.sent)) (w.keeps c.args.stations.now) (w.keeps c.loop-next.stations) (sent_of c.loop-next.left) c.in_default.ensures.0 c.loop-next.invariant.hands
-
-pub deliver_all-returns-clause-takes : goal.deliver_all-returns-clause-takes
-deliver_all-returns-clause-takes g t c =
-    let w = g.S.Stations in
-    let s0 = g.B.Blocks.value c.args.store.now in
-    let s = g.B.Blocks.value c.loop-next.store in
+    let i = c.loop-next.invariant in
+    let left = sent_of c.loop-next.left in
+    let all = parcels_in s left in
     let before = w.plain s0 c.args.stations.now in
-    no-cost s0 s (w.cost before) (cost_of (w.cost before) (parcels_in s0 (sent_of c.args.sent))) (w.spare before) (w.spare (w.plain s c.loop-next.stations)) (sent_of c.loop-next.left) c.in_default.ensures.0 c.loop-next.invariant.takes
+    let now = w.plain s c.loop-next.stations in
+    let empty = c.in_default.ensures.0 in
+    let none = no-parts s left empty in
+    let first = λ (j : ℕ). times_sent j (sent_of c.args.sent) in
+    record {
+      state = sym (stops-state (carried w.puts c.args.hops) all now none) ∙ i.state;
+      told = sym (stops-told (carried w.puts c.args.hops) all now c.loop-next.told none) ∙ i.told;
+      held = i.held;
+      hands = no-more s0 s first (w.keeps c.args.stations.now) (w.keeps c.loop-next.stations) left empty i.hands;
+      takes = no-cost s0 s (w.cost before) (cost_of (w.cost before) (parcels_in s0 (sent_of c.args.sent))) (w.spare before) (w.spare now) left empty i.takes;
+      pool = i.pool;
+    }
 
-pub deliver_all-returns-then-is_empty-clause-state : goal.deliver_all-returns-then-is_empty-clause-state
-deliver_all-returns-then-is_empty-clause-state g t c =
+pub deliver_all-returns-then-is_empty : goal.deliver_all-returns-then-is_empty
+deliver_all-returns-then-is_empty g t c =
     let w = g.S.Stations in
     let s = g.B.Blocks.value c.args.store.now in
-    let none = no-parts s (sent_of c.args.sent) (c.if-is_empty.ensures.0 refl) in
-    sym (stops-state (carried w.puts c.args.hops) (parcels_in s (sent_of c.args.sent)) (w.plain s c.args.stations.now) none)
-
-pub deliver_all-returns-then-is_empty-clause-told : goal.deliver_all-returns-then-is_empty-clause-told
-deliver_all-returns-then-is_empty-clause-told g t c =
-    let w = g.S.Stations in
-    let s = g.B.Blocks.value c.args.store.now in
-    let none = no-parts s (sent_of c.args.sent) (c.if-is_empty.ensures.0 refl) in
-    sym (stops-told (carried w.puts c.args.hops) (parcels_in s (sent_of c.args.sent)) (w.plain s c.args.stations.now) c.args.told.now none)
-
-pub deliver_all-returns-then-is_empty-clause-hands : goal.deliver_all-returns-then-is_empty-clause-hands
-deliver_all-returns-then-is_empty-clause-hands g t c =
-    still-sent (g.B.Blocks.value c.args.store.now) (g.S.Stations.keeps c.args.stations.now) (sent_of c.args.sent) (c.if-is_empty.ensures.0 refl)
-
-pub deliver_all-returns-then-is_empty-clause-takes : goal.deliver_all-returns-then-is_empty-clause-takes
-deliver_all-returns-then-is_empty-clause-takes g t c = record { blocks = record { mblks = omega arith; dblks = omega arith }; spare = omega arith }
+    let sent = sent_of c.args.sent in
+    let now = w.plain s c.args.stations.now in
+    let empty = c.if-is_empty.ensures.0 refl in
+    let none = no-parts s sent empty in
+    record {
+      state = sym (stops-state (carried w.puts c.args.hops) (parcels_in s sent) now none);
+      told = sym (stops-told (carried w.puts c.args.hops) (parcels_in s sent) now c.args.told.now none);
+      held = c.requires.held;
+      hands = still-sent s (w.keeps c.args.stations.now) sent empty;
+      takes = record { blocks = record { mblks = omega arith; dblks = omega arith }; spare = omega arith };
+      pool = record { mblks = refl; dblks = refl };
+    }

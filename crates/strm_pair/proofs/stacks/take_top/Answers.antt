@@ -12,10 +12,10 @@ returns-in_err-name-clause-took g c =
 
 pub returns-clause-took : goal.returns-clause-took
 returns-clause-took g c =
-    let e = c.clear_top-gone.ensures in
+    let e = c.clear_top-gone.ensures.does in
     took-top (g.B.Blocks.value c.args.store.now) (g.B.Blocks.value c.clear_top-gone.new.store) c.args.side c.args.rule c.args.told.now c.clear_top-gone.new.told _ c.args.end.now.stack c.clear_top-gone.new.self c.pop_top.new.stack
     (sym (c.look.ensures (g.B.Blocks.value c.args.store.now)) ∙ c.in_ok-name.was) e.state e.notes e.told e.held e.rests e.own e.hand e.frees c.pop_top.ensures.rest
 
 pub returns-clause-shelf : goal.returns-clause-shelf
 returns-clause-shelf g c = λ k before none.
-    c.pop_top.ensures.shelf k (λ own. before (sym (c.clear_top-gone.ensures.own.owns_same k) ∙ own)) none
+    c.pop_top.ensures.shelf k (λ own. before (sym (c.clear_top-gone.ensures.does.own.owns_same k) ∙ own)) none

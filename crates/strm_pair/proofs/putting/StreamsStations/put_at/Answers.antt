@@ -16,22 +16,27 @@ use Rattle.strm_pair.proofs.PlaceCosts.{plain-few, puts-leave}
 use Rattle.strm_pair.proofs.putting.StreamsStations.put_at.Goals as goal
 use Rattle.strm_blocks.specs.Blocks.{token}
 
-pub returns-clause-falls : goal.returns-clause-falls
-returns-clause-falls g c =
-    let s = g.B.Blocks.value c.args.store.now in
-    let m = message_in s (token c.args.message) in
-    subst (λ ps. AreLower far (far c.args.to m) ps) (sym c.put.ensures.sent) (puts-fall plain c.args.to m (state_in s c.args.self.now))
-
-pub returns-clause-takes : goal.returns-clause-takes
-returns-clause-takes g c =
+pub returns : goal.returns
+returns g c =
     let s = g.B.Blocks.value c.args.store.now in
     let i = token c.args.message in
     let m = message_in s i in
     let st = state_in s c.args.self.now in
     let each : Spot → Message ℕ → ℕ = stack_cost (stands_of st) in
-    let sends = ap (cost_of each) c.put.ensures.sent in
+    let e = c.put.ensures in
+    let sends = ap (cost_of each) e.sent in
     let leaves = puts-leave c.args.to m st (plain-few s i c.audit.ensures) in
     record {
-      blocks = subst (λ n. Spends s (g.B.Blocks.value c.put.new.store) (each c.args.to m) n) (sym sends) c.put.ensures.spends;
-      spare = omega (arith, leaves, sends, ap spare c.put.ensures.state);
+      state = e.state;
+      sent = e.sent;
+      told = e.tells;
+      held = e.beside;
+      chains = e.chains;
+      falls = subst (λ ps. AreLower far (far c.args.to m) ps) (sym e.sent) (puts-fall plain c.args.to m st);
+      hands = e.hands;
+      takes = record {
+        blocks = subst (λ n. Spends s (g.B.Blocks.value c.put.new.store) (each c.args.to m) n) (sym sends) e.spends;
+        spare = omega (arith, leaves, sends, ap spare e.state);
+      };
+      pool = e.pool;
     }

@@ -1,0 +1,53 @@
+-- What a put, a delivery and a pop did to a store and what stands beside it.
+use Rattle.std.specs.Prelude.{ℕ, ◌≡◌, List, Option}
+use Rattle.strm_types.specs.declared.rules.Fates.{Fates}
+use Rattle.strm_types.specs.declared.spots.Spot.{Spot}
+use Rattle.strm_types.specs.Costs.{cost_of}
+use Rattle.strm_types.specs.Deliver.{Acted, AreLower, Carried, Took, tallied}
+use Rattle.strm_types.specs.Dropped.{is_met}
+use Rattle.strm_types.specs.Message.{Message}
+use Rattle.strm_blocks.specs.Blocks.{StoreValue}
+use Rattle.strm_queue.specs.Stored.{FreesBlocks}
+use Rattle.strm_frame.specs.declared.modules.LetGo.{LetGo}
+use Rattle.strm_frame.specs.declared.parcels.Sent.{Sent}
+use Rattle.strm_frame.specs.Hands.{Handles, Hands, OnlyOwn, SamePool, Takes}
+use Rattle.strm_frame.specs.Outboxes.{message_in, times_sent, parcels_in, AreChains}
+use Rattle.strm_frame.specs.Serves.{SameHand}
+
+module _ {X P : Type 0} (plain : StoreValue → X → P) (IsHeld : StoreValue → X → Type 0) (keeps : X → ℕ → ℕ) (spare : P → ℕ) where
+  -- A put at a spot of stations did what a definition says: the message has gone, and what is sent on has come in hand, and has less before it. Of
+  -- blocks and of what else the stations count no more was taken than the message may take, and what may be taken by what is sent on is left.
+  pub record PutAt (height : Spot → Message ℕ → ℕ) (cost : Spot → Message ℕ → ℕ) (old new : StoreValue) (x y : X) (to : Spot) (message : ℕ) (sent_on : List Sent) (t t' : Fates) (is : Took ℕ P) : Type 0 where
+    pub state : plain new y ≡ is.state
+    pub sent : parcels_in new sent_on ≡ is.sent
+    pub told : t' ≡ tallied is.gone t
+    pub held : IsHeld new y
+    pub chains : AreChains new sent_on
+    pub falls : AreLower height (height to (message_in old message)) (parcels_in new sent_on)
+    pub hands : Hands old new message (keeps x) (keeps y) (λ i. times_sent i sent_on)
+    pub takes : Takes old new (spare (plain old x)) (spare (plain new y)) (cost to (message_in old message)) (cost_of cost (parcels_in new sent_on))
+    pub pool : SamePool old new
+
+  -- A delivery led to what a definition says: what was delivered has gone, and nothing has come in hand but what the stations keep. No more was
+  -- taken than `most`.
+  pub record Delivered (old new : StoreValue) (x y : X) (gone : ℕ → ℕ) (most : ℕ) (t t' : Fates) (is : Carried ℕ P) : Type 0 where
+    pub state : plain new y ≡ is.state
+    pub told : t' ≡ tallied is.gone t
+    pub held : IsHeld new y
+    pub hands : Handles old new gone (keeps x) (keeps y) (λ _. 0)
+    pub takes : Takes old new (spare (plain old x)) (spare (plain new y)) most 0
+    pub pool : SamePool old new
+
+module _ {X P : Type 0} (plain : StoreValue → X → P) (IsHeld : StoreValue → X → Type 0) (owns keeps : X → ℕ → ℕ) where
+  -- A module let all go, as a definition says, and told whether the M_IOCTL of a number, where one is sought, stood among `below`. Only its own lists changed,
+  -- it keeps nothing in hand, and no block was taken.
+  pub record Clears (old new : StoreValue) (x y : X) (seeking : Option ℕ) (below : List (Message ℕ)) (gone : LetGo) (t t' : Fates) (is : Acted ℕ P) : Type 0 where
+    pub state : plain new y ≡ is.state
+    pub notes : gone.notes.items ≡ is.notes
+    pub met : gone.met ≡ is_met seeking below
+    pub told : t' ≡ tallied is.gone t
+    pub held : IsHeld new y
+    pub rests : (i : ℕ) → keeps y i ≡ 0
+    pub own : OnlyOwn old new (owns x) (owns y)
+    pub hand : SameHand old new
+    pub frees : FreesBlocks old new
