@@ -25,6 +25,8 @@ pub struct Held<P: Object> {
     pair: P,
     calls: u64,
     left: u64,
+    // A line of the cache that nothing uses: what lies behind on the heap is another thread's, as the next pair of a system.
+    apart: [u64; 8],
 }
 
 /// What the ends of a pair were told in all, and the pair's ledgers, when it was settled: that of what the master wrote (`ms`), and that of
@@ -69,6 +71,7 @@ impl<P: Object> Held<P> {
             pair,
             calls: 0,
             left: ALL_PARTS,
+            apart: [0; 8],
         }
     }
 
