@@ -8,10 +8,11 @@ use Rattle.strm_types.specs.Dropped.{is_met}
 use Rattle.strm_types.specs.Message.{Message}
 use Rattle.strm_blocks.specs.Blocks.{StoreValue}
 use Rattle.strm_queue.specs.Stored.{FreesBlocks}
+use Rattle.strm_frame.specs.declared.modules.Acts.{Acts}
 use Rattle.strm_frame.specs.declared.modules.LetGo.{LetGo}
 use Rattle.strm_frame.specs.declared.parcels.Sent.{Sent}
-use Rattle.strm_frame.specs.Hands.{Handles, Hands, OnlyOwn, SamePool, Takes}
-use Rattle.strm_frame.specs.Outboxes.{message_in, times_sent, parcels_in, AreChains}
+use Rattle.strm_frame.specs.Hands.{Handles, Hands, OnlyOwn, SamePool, Spends, Takes}
+use Rattle.strm_frame.specs.Outboxes.{message_in, sent_of, times_sent, parcels_in, AreChains}
 use Rattle.strm_frame.specs.Serves.{SameHand}
 
 module _ {X P : Type 0} (plain : StoreValue → X → P) (IsHeld : StoreValue → X → Type 0) (keeps : X → ℕ → ℕ) (spare : P → ℕ) where
@@ -39,6 +40,21 @@ module _ {X P : Type 0} (plain : StoreValue → X → P) (IsHeld : StoreValue �
     pub pool : SamePool old new
 
 module _ {X P : Type 0} (plain : StoreValue → X → P) (IsHeld : StoreValue → X → Type 0) (owns keeps : X → ℕ → ℕ) where
+  -- A put procedure did what a definition says: the message has gone, and what is sent on has come in hand, and has less before it. Only its own lists
+  -- changed. No more blocks of each kind were taken than `most`, and where that many were free, `later` are free behind it.
+  pub record Puts (height : Spot → Message ℕ → ℕ) (old new : StoreValue) (x y : X) (here : Spot) (message most later : ℕ) (acts : Acts) (t t' : Fates) (is : Acted ℕ P) : Type 0 where
+    pub state : plain new y ≡ is.state
+    pub notes : acts.notes.items ≡ is.notes
+    pub sent : parcels_in new (sent_of acts.sent) ≡ is.sent
+    pub told : t' ≡ tallied is.gone t
+    pub held : IsHeld new y
+    pub own : OnlyOwn old new (owns x) (owns y)
+    pub chains : AreChains new (sent_of acts.sent)
+    pub falls : AreLower height (height here (message_in old message)) (parcels_in new (sent_of acts.sent))
+    pub hands : Hands old new message (keeps x) (keeps y) (λ i. times_sent i (sent_of acts.sent))
+    pub spends : Spends old new most later
+    pub pool : SamePool old new
+
   -- A module let all go, as a definition says, and told whether the M_IOCTL of a number, where one is sought, stood among `below`. Only its own lists changed,
   -- it keeps nothing in hand, and no block was taken.
   pub record Clears (old new : StoreValue) (x y : X) (seeking : Option ℕ) (below : List (Message ℕ)) (gone : LetGo) (t t' : Fates) (is : Acted ℕ P) : Type 0 where

@@ -20,9 +20,9 @@ ghost use Rattle.strm_types.specs.Service.{Serving, turn_ended, end_relieves, ha
 ghost use Rattle.strm_blocks.specs.Blocks.{StoreValue, in_hand, token};
 ghost use Rattle.strm_msg.specs.Messages.{IsChain};
 ghost use Rattle.strm_frame.specs.Outboxes.{message_in, sent_of, times_sent, parcels_in, AreChains};
-ghost use Rattle.strm_frame.specs.Does.{Clears};
+ghost use Rattle.strm_frame.specs.Does.{Clears, Puts};
 ghost use Rattle.strm_frame.specs.Serves.{least_free, stop_of, later_cost};
-ghost use Rattle.strm_frame.specs.Hands.{AreIn, CanPut, Handles, Hands, SamePool, SameOwn, OnlyOwn, HasRoom, Spends};
+ghost use Rattle.strm_frame.specs.Hands.{AreIn, CanPut, Handles, SamePool, SameOwn, OnlyOwn, HasRoom};
 
 use crate::parcels::Outbox;
 use crate::service::{Served, TurnEnd};
@@ -144,25 +144,9 @@ pub trait Module: Drop {
         requires room { let s = B.value store.old in HasRoom s (takes here (message_in s (token message)) (plain s self.old)) }
         requires inside { 0 < here.at }
         requires small { here.at ≤ MODULES }
-        ensures state { let s = B.value store.old in
-            plain (B.value store.new) self.new ≡ (puts here (message_in s (token message)) (plain s self.old)).state }
-        ensures notes { let s = B.value store.old in
-            result.notes.items ≡ (puts here (message_in s (token message)) (plain s self.old)).notes }
-        ensures sent { let s = B.value store.old in
-            parcels_in (B.value store.new) (sent_of result.sent) ≡
-            (puts here (message_in s (token message)) (plain s self.old)).sent }
-        ensures told { let s = B.value store.old in
-            told.new ≡ tallied (puts here (message_in s (token message)) (plain s self.old)).gone told.old }
-        ensures held { IsHeld (B.value store.new) self.new }
-        ensures own { OnlyOwn (B.value store.old) (B.value store.new) (owns self.old) (owns self.new) }
-        ensures chains { AreChains (B.value store.new) (sent_of result.sent) }
-        ensures falls { AreLower height (height here (message_in (B.value store.old) (token message)))
-            (parcels_in (B.value store.new) (sent_of result.sent)) }
-        ensures hands { Hands (B.value store.old) (B.value store.new) (token message) (keeps self.old)
-            (keeps self.new) (λ i. times_sent i (sent_of result.sent)) }
-        ensures spends { let s = B.value store.old in let m = message_in s (token message) in
-            Spends s (B.value store.new) (takes here m (plain s self.old)) (leaves here m (plain s self.old)) }
-        ensures pool { SamePool (B.value store.old) (B.value store.new) };
+        ensures { let s = B.value store.old in let m = message_in s (token message) in let p = plain s self.old in
+            Puts plain IsHeld owns keeps height s (B.value store.new) self.old self.new here (token message)
+            (takes here m p) (leaves here m p) result told.old told.new (puts here m p) };
 
     /// Whether it has a queue of a way, with a service procedure.
     fn has_queue(&self, way: Way) -> bool
