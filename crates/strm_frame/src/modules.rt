@@ -1,28 +1,25 @@
 //! What may stand on a stream between its head and its driver.
 
 ghost use Rattle.std.specs.Prelude.{ℕ, ◌≡◌, ◌<◌, ◌≤◌, length, Bool, true, false, List, [], Option};
-ghost use Rattle.std.specs.Bool.{OnTrue};
 ghost use Rattle.strm_types.specs.declared.names.ModuleName.{ModuleName};
 ghost use Rattle.strm_types.specs.declared.names.Way.{Way};
 ghost use Rattle.strm_types.specs.declared.names.Way.TheVariants.{Up, Down};
 ghost use Rattle.strm_types.specs.declared.spots.Spot.{Spot};
 ghost use Rattle.strm_types.specs.declared.spots.Asks.{Asks};
-ghost use Rattle.strm_types.specs.Input.{made_of};
 ghost use Rattle.strm_types.specs.Message.{Message};
-ghost use Rattle.strm_types.specs.LdtermCalls.{most_made};
 ghost use Rattle.strm_types.specs.Queue.{first_size, Queue, bytes_of, count_of};
 ghost use Rattle.strm_types.specs.declared.keys.TheConstants.{LINE_MAX};
-ghost use Rattle.strm_types.specs.declared.limits.TheConstants.{MODULES, STOP_BLOCKS};
-ghost use Rattle.strm_types.specs.Deliver.{Acted, AreLower, tallied};
+ghost use Rattle.strm_types.specs.declared.limits.TheConstants.{MODULES};
+ghost use Rattle.strm_types.specs.Deliver.{Acted};
 ghost use Rattle.strm_types.specs.Refused.{has_no_data};
 ghost use Rattle.strm_types.specs.ModuleQueues.{has_queue, messages_at, full_at, waits, queue_changed};
 ghost use Rattle.strm_types.specs.Service.{Serving, turn_ended, end_relieves, has_more, cleared};
 ghost use Rattle.strm_blocks.specs.Blocks.{StoreValue, in_hand, token};
 ghost use Rattle.strm_msg.specs.Messages.{IsChain};
-ghost use Rattle.strm_frame.specs.Outboxes.{message_in, sent_of, times_sent, parcels_in, AreChains};
-ghost use Rattle.strm_frame.specs.Does.{Clears};
-ghost use Rattle.strm_frame.specs.Serves.{least_free, stop_of, later_cost};
-ghost use Rattle.strm_frame.specs.Hands.{AreIn, CanPut, Handles, Hands, SamePool, SameOwn, OnlyOwn, HasRoom, Spends};
+ghost use Rattle.strm_frame.specs.Outboxes.{message_in};
+ghost use Rattle.strm_frame.specs.Does.{Clears, Puts, Serves};
+ghost use Rattle.strm_frame.specs.Serves.{stop_of};
+ghost use Rattle.strm_frame.specs.Hands.{AreIn, CanPut, SameOwn, HasRoom};
 
 use crate::parcels::Outbox;
 use crate::service::{Served, TurnEnd};
@@ -144,25 +141,9 @@ pub trait Module: Drop {
         requires room { let s = B.value store.old in HasRoom s (takes here (message_in s (token message)) (plain s self.old)) }
         requires inside { 0 < here.at }
         requires small { here.at ≤ MODULES }
-        ensures state { let s = B.value store.old in
-            plain (B.value store.new) self.new ≡ (puts here (message_in s (token message)) (plain s self.old)).state }
-        ensures notes { let s = B.value store.old in
-            result.notes.items ≡ (puts here (message_in s (token message)) (plain s self.old)).notes }
-        ensures sent { let s = B.value store.old in
-            parcels_in (B.value store.new) (sent_of result.sent) ≡
-            (puts here (message_in s (token message)) (plain s self.old)).sent }
-        ensures told { let s = B.value store.old in
-            told.new ≡ tallied (puts here (message_in s (token message)) (plain s self.old)).gone told.old }
-        ensures held { IsHeld (B.value store.new) self.new }
-        ensures own { OnlyOwn (B.value store.old) (B.value store.new) (owns self.old) (owns self.new) }
-        ensures chains { AreChains (B.value store.new) (sent_of result.sent) }
-        ensures falls { AreLower height (height here (message_in (B.value store.old) (token message)))
-            (parcels_in (B.value store.new) (sent_of result.sent)) }
-        ensures hands { Hands (B.value store.old) (B.value store.new) (token message) (keeps self.old)
-            (keeps self.new) (λ i. times_sent i (sent_of result.sent)) }
-        ensures spends { let s = B.value store.old in let m = message_in s (token message) in
-            Spends s (B.value store.new) (takes here m (plain s self.old)) (leaves here m (plain s self.old)) }
-        ensures pool { SamePool (B.value store.old) (B.value store.new) };
+        ensures { let s = B.value store.old in let m = message_in s (token message) in let p = plain s self.old in
+            Puts plain IsHeld owns keeps height s (B.value store.new) self.old self.new here (token message)
+            (takes here m p) (leaves here m p) result told.old told.new (puts here m p) };
 
     /// Whether it has a queue of a way, with a service procedure.
     fn has_queue(&self, way: Way) -> bool
@@ -233,36 +214,9 @@ pub trait Module: Drop {
         requires room { HasRoom (B.value store.old) (turn_cost here again (plain (B.value store.old) self.old)) }
         requires inside { 0 < here.at }
         requires small { here.at ≤ MODULES }
-        ensures state { let s = B.value store.old in
-            plain (B.value store.new) self.new ≡ (serves here again (stop_of result) (plain s self.old)).acted.state }
-        ensures notes { let s = B.value store.old in
-            result.acts.notes.items ≡ (serves here again (stop_of result) (plain s self.old)).acted.notes }
-        ensures sent { let s = B.value store.old in
-            parcels_in (B.value store.new) (sent_of result.acts.sent) ≡
-            (serves here again (stop_of result) (plain s self.old)).acted.sent }
-        ensures told { let s = B.value store.old in
-            told.new ≡ tallied (serves here again (stop_of result) (plain s self.old)).acted.gone told.old }
-        ensures bytes { let s = B.value store.old in
-            result.bytes ≡ (serves here again (stop_of result) (plain s self.old)).bytes }
-        ensures again { let s = B.value store.old in
-            result.again ≡ (serves here again (stop_of result) (plain s self.old)).again }
-        ensures stopped { OnTrue result.stopped
-            ((least_free (B.value store.new) < STOP_BLOCKS) × (result.again ≡ false)) }
-        ensures stops { OnTrue result.stopped
-            (MayStop here.way again result.bytes (plain (B.value store.old) self.old)) }
-        ensures made { let s = B.value store.old in
-            made_of (serves here again (stop_of result) (plain s self.old)).acted.gone ≤ most_made result.bytes }
-        ensures held { IsHeld (B.value store.new) self.new }
-        ensures own { OnlyOwn (B.value store.old) (B.value store.new) (owns self.old) (owns self.new) }
-        ensures chains { AreChains (B.value store.new) (sent_of result.acts.sent) }
-        ensures falls { AreLower height (turn_height here)
-            (parcels_in (B.value store.new) (sent_of result.acts.sent)) }
-        ensures hands { Handles (B.value store.old) (B.value store.new) (λ _. 0) (keeps self.old) (keeps self.new)
-            (λ i. times_sent i (sent_of result.acts.sent)) }
-        ensures room { HasRoom (B.value store.new) (later_cost cost result.again
-            (turn_cost here true (plain (B.value store.new) self.new))
-            (parcels_in (B.value store.new) (sent_of result.acts.sent))) }
-        ensures pool { SamePool (B.value store.old) (B.value store.new) };
+        ensures { let s = B.value store.old in
+            Serves plain IsHeld owns keeps height cost (turn_cost here true) (MayStop here.way again) s (B.value store.new)
+            self.old self.new (turn_height here) result told.old told.new (serves here again (stop_of result) (plain s self.old)) };
 
     /// Ends a turn of its queue of a way, when all is delivered that was sent: want-read is set where the queue is empty and
     /// cleared where it isn't. Where the turn took bytes, waiting writers are let go. A turn that treated nothing ends so

@@ -3,20 +3,16 @@
 //! turn.
 
 ghost use Rattle.std.specs.Prelude.{ℕ, ◌≡◌, ◌<◌, ◌≤◌, ◌-◌, true, false, length, map, slice_index_or, HoldsAt};
-ghost use Rattle.std.specs.Bool.{OnTrue};
-ghost use Rattle.strm_types.specs.declared.limits.TheConstants.{MODULES, STOP_BLOCKS};
+ghost use Rattle.strm_types.specs.declared.limits.TheConstants.{MODULES};
 ghost use Rattle.strm_types.specs.declared.spots.Asks.TheVariants.{Empty};
-ghost use Rattle.strm_types.specs.Deliver.{AreLower, tallied};
-ghost use Rattle.strm_types.specs.Input.{made_of};
-ghost use Rattle.strm_types.specs.Modules.{change_among, act_among};
+ghost use Rattle.strm_types.specs.Modules.{change_among};
 ghost use Rattle.strm_types.specs.ModuleQueues.{at_place, messages_at, queue_changed};
-ghost use Rattle.strm_types.specs.Service.{Serving, turn_ended, end_relieves, has_more};
-ghost use Rattle.strm_types.specs.LdtermCalls.{most_made};
+ghost use Rattle.strm_types.specs.Service.{turn_ended, end_relieves, has_more};
 ghost use Rattle.strm_types.specs.Queue.{first_size};
-ghost use Rattle.strm_frame.specs.Hands.{AreIn, Handles, OnlyOwn, SamePool, HasRoom};
-ghost use Rattle.strm_frame.specs.Outboxes.{sent_of, times_sent, parcels_in, AreChains};
-ghost use Rattle.strm_frame.specs.Serves.{least_free, stop_of, later_cost};
-ghost use Rattle.strm_frame.specs.Stacks.{all_of, AreHeld};
+ghost use Rattle.strm_frame.specs.Does.{Serves};
+ghost use Rattle.strm_frame.specs.Hands.{AreIn, HasRoom};
+ghost use Rattle.strm_frame.specs.Serves.{served_among, stop_of};
+ghost use Rattle.strm_frame.specs.Stacks.{all_in, all_of, AreHeld};
 
 use crate::modules::Module;
 use crate::service::{Served, TurnEnd};
@@ -77,37 +73,11 @@ fn serve_among<B: Blocks, M: Module>(
     requires inside { 0 < here.at }
     requires small { here.at ≤ MODULES }
     ensures length { length modules.new ≡ length modules.old }
-    ensures state { let s = B.value store.old in map (M.plain (B.value store.new)) modules.new ≡
-        (act_among (λ p. (M.serves here again (stop_of result) p).acted) at (map (M.plain s) modules.old)).state }
-    ensures notes { let s = B.value store.old in result.acts.notes.items ≡
-        (act_among (λ p. (M.serves here again (stop_of result) p).acted) at (map (M.plain s) modules.old)).notes }
-    ensures sent { let s = B.value store.old in parcels_in (B.value store.new) (sent_of result.acts.sent) ≡
-        (act_among (λ p. (M.serves here again (stop_of result) p).acted) at (map (M.plain s) modules.old)).sent }
-    ensures told { let s = B.value store.old in told.new ≡
-        tallied (act_among (λ p. (M.serves here again (stop_of result) p).acted) at (map (M.plain s) modules.old)).gone
-        told.old }
-    ensures bytes { let s = B.value store.old in result.bytes ≡
-        slice_index_or (map (λ p. (M.serves here again (stop_of result) p).bytes) (map (M.plain s) modules.old)) at 0 }
-    ensures again { let s = B.value store.old in result.again ≡
-        slice_index_or (map (λ p. (M.serves here again (stop_of result) p).again) (map (M.plain s) modules.old)) at false }
-    ensures stopped { OnTrue result.stopped
-        ((least_free (B.value store.new) < STOP_BLOCKS) × (result.again ≡ false)) }
-    ensures stops { OnTrue result.stopped (HoldsAt (M.MayStop here.way again result.bytes)
-        (map (M.plain (B.value store.old)) modules.old) at) }
-    ensures made { let s = B.value store.old in
-        made_of (act_among (λ p. (M.serves here again (stop_of result) p).acted) at (map (M.plain s) modules.old)).gone
-        ≤ most_made result.bytes }
-    ensures held { AreHeld M.IsHeld M.owns (B.value store.new) modules.new }
-    ensures own { OnlyOwn (B.value store.old) (B.value store.new) (all_of M.owns modules.old) (all_of M.owns modules.new) }
-    ensures chains { AreChains (B.value store.new) (sent_of result.acts.sent) }
-    ensures falls { AreLower M.height (M.turn_height here)
-        (parcels_in (B.value store.new) (sent_of result.acts.sent)) }
-    ensures hands { Handles (B.value store.old) (B.value store.new) (λ _. 0) (all_of M.keeps modules.old)
-        (all_of M.keeps modules.new) (λ i. times_sent i (sent_of result.acts.sent)) }
-    ensures room { HasRoom (B.value store.new) (later_cost M.cost result.again
-        (slice_index_or (map (M.turn_cost here true) (map (M.plain (B.value store.new)) modules.new)) at 0)
-        (parcels_in (B.value store.new) (sent_of result.acts.sent))) }
-    ensures pool { SamePool (B.value store.old) (B.value store.new) }
+    ensures does { let s = B.value store.old in
+        Serves (all_in M.plain) (AreHeld M.IsHeld M.owns) (all_of M.owns) (all_of M.keeps) M.height M.cost
+        (λ ps. slice_index_or (map (M.turn_cost here true) ps) at 0) (λ bytes ps. HoldsAt (M.MayStop here.way again bytes) ps at)
+        s (B.value store.new) modules.old modules.new (M.turn_height here) result told.old told.new
+        (served_among (M.serves here again (stop_of result)) at (all_in M.plain s modules.old)) }
 {
     store.audit();
     modules[at].serve(store, here, again, told)
@@ -147,44 +117,11 @@ impl<M: Module + Default> Stream<M> {
         requires room { HasRoom (B.value store.old) (at_place (M.turn_cost here again) 0 here.at
             (map (M.plain (B.value store.old)) self.old.modules.items)) }
         ensures length { length self.new.modules.items ≡ length self.old.modules.items }
-        ensures state { let s = B.value store.old in map (M.plain (B.value store.new)) self.new.modules.items ≡
-            (act_among (λ p. (M.serves here again (stop_of result) p).acted) (here.at - 1)
-            (map (M.plain s) self.old.modules.items)).state }
-        ensures notes { let s = B.value store.old in result.acts.notes.items ≡
-            (act_among (λ p. (M.serves here again (stop_of result) p).acted) (here.at - 1)
-            (map (M.plain s) self.old.modules.items)).notes }
-        ensures sent { let s = B.value store.old in parcels_in (B.value store.new) (sent_of result.acts.sent) ≡
-            (act_among (λ p. (M.serves here again (stop_of result) p).acted) (here.at - 1)
-            (map (M.plain s) self.old.modules.items)).sent }
-        ensures told { let s = B.value store.old in told.new ≡ tallied
-            (act_among (λ p. (M.serves here again (stop_of result) p).acted) (here.at - 1)
-            (map (M.plain s) self.old.modules.items)).gone told.old }
-        ensures bytes { let s = B.value store.old in result.bytes ≡
-            at_place (λ p. (M.serves here again (stop_of result) p).bytes) 0 here.at
-            (map (M.plain s) self.old.modules.items) }
-        ensures again { let s = B.value store.old in result.again ≡
-            at_place (λ p. (M.serves here again (stop_of result) p).again) false here.at
-            (map (M.plain s) self.old.modules.items) }
-        ensures stopped { OnTrue result.stopped
-            ((least_free (B.value store.new) < STOP_BLOCKS) × (result.again ≡ false)) }
-        ensures stops { OnTrue result.stopped (HoldsAt (M.MayStop here.way again result.bytes)
-            (map (M.plain (B.value store.old)) self.old.modules.items) (here.at - 1)) }
-        ensures made { let s = B.value store.old in
-            made_of (act_among (λ p. (M.serves here again (stop_of result) p).acted) (here.at - 1)
-            (map (M.plain s) self.old.modules.items)).gone ≤ most_made result.bytes }
-        ensures held { AreHeld M.IsHeld M.owns (B.value store.new) self.new.modules.items }
-        ensures own { OnlyOwn (B.value store.old) (B.value store.new) (all_of M.owns self.old.modules.items)
-            (all_of M.owns self.new.modules.items) }
-        ensures chains { AreChains (B.value store.new) (sent_of result.acts.sent) }
-        ensures falls { AreLower M.height (M.turn_height here)
-            (parcels_in (B.value store.new) (sent_of result.acts.sent)) }
-        ensures hands { Handles (B.value store.old) (B.value store.new) (λ _. 0)
-            (all_of M.keeps self.old.modules.items) (all_of M.keeps self.new.modules.items)
-            (λ i. times_sent i (sent_of result.acts.sent)) }
-        ensures room { HasRoom (B.value store.new) (later_cost M.cost result.again
-            (at_place (M.turn_cost here true) 0 here.at (map (M.plain (B.value store.new)) self.new.modules.items))
-            (parcels_in (B.value store.new) (sent_of result.acts.sent))) }
-        ensures pool { SamePool (B.value store.old) (B.value store.new) }
+        ensures does { let s = B.value store.old in let xs = self.old.modules.items in
+            Serves (all_in M.plain) (AreHeld M.IsHeld M.owns) (all_of M.owns) (all_of M.keeps) M.height M.cost
+            (at_place (M.turn_cost here true) 0 here.at) (λ bytes ps. HoldsAt (M.MayStop here.way again bytes) ps (here.at - 1))
+            s (B.value store.new) xs self.new.modules.items (M.turn_height here) result told.old told.new
+            (served_among (M.serves here again (stop_of result)) (here.at - 1) (all_in M.plain s xs)) }
     {
         serve_among(
             store,

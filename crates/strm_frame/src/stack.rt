@@ -3,14 +3,14 @@
 ghost use Rattle.std.specs.Prelude.{ℕ, ◌≡◌, ◌<◌, ◌≤◌, ◌-◌, ◌*◌, [], ◌∷◌, length, map, slice_index_or, sum_by, true, false, MatchOption, MatchResult};
 ghost use Rattle.strm_types.specs.declared.keys.TheConstants.{LINE_MAX};
 ghost use Rattle.strm_types.specs.declared.limits.TheConstants.{MODULES};
-ghost use Rattle.strm_types.specs.Deliver.{AreLower, tallied};
 ghost use Rattle.strm_types.specs.Modules.{put_among, may_push, stands, top_name};
 ghost use Rattle.strm_blocks.specs.Blocks.{StoreValue, in_hand, token};
 ghost use Rattle.strm_msg.specs.Messages.{IsChain};
-ghost use Rattle.strm_frame.specs.Stacks.{all_of, AreHeld};
+ghost use Rattle.strm_frame.specs.Does.{Puts};
+ghost use Rattle.strm_frame.specs.Stacks.{all_in, all_of, AreHeld};
 ghost use Rattle.strm_types.specs.ModuleQueues.{at_place};
-ghost use Rattle.strm_frame.specs.Outboxes.{message_in, sent_of, times_sent, parcels_in, AreChains};
-ghost use Rattle.strm_frame.specs.Hands.{CanPut, Hands, OnlyOwn, SamePool, HasRoom, Spends};
+ghost use Rattle.strm_frame.specs.Outboxes.{message_in};
+ghost use Rattle.strm_frame.specs.Hands.{CanPut, HasRoom};
 
 use crate::modules::{Acts, Module};
 use arrayvec::ArrayVec;
@@ -63,29 +63,10 @@ fn put_among<B: Blocks, M: Module>(
     requires inside { 0 < to.at }
     requires small { to.at ≤ MODULES }
     ensures length { length modules.new ≡ length modules.old }
-    ensures state { let s = B.value store.old in
-        map (M.plain (B.value store.new)) modules.new ≡ (put_among M.puts at to (message_in s (token message))
-        (map (M.plain s) modules.old)).state }
-    ensures notes { let s = B.value store.old in
-        result.notes.items ≡ (put_among M.puts at to (message_in s (token message))
-        (map (M.plain s) modules.old)).notes }
-    ensures sent { let s = B.value store.old in
-        parcels_in (B.value store.new) (sent_of result.sent) ≡ (put_among M.puts at to
-        (message_in s (token message)) (map (M.plain s) modules.old)).sent }
-    ensures told { let s = B.value store.old in
-        told.new ≡ tallied (put_among M.puts at to (message_in s (token message)) (map (M.plain s) modules.old)).gone
-        told.old }
-    ensures held { AreHeld M.IsHeld M.owns (B.value store.new) modules.new }
-    ensures own { OnlyOwn (B.value store.old) (B.value store.new) (all_of M.owns modules.old) (all_of M.owns modules.new) }
-    ensures chains { AreChains (B.value store.new) (sent_of result.sent) }
-    ensures falls { AreLower M.height (M.height to (message_in (B.value store.old) (token message)))
-        (parcels_in (B.value store.new) (sent_of result.sent)) }
-    ensures hands { Hands (B.value store.old) (B.value store.new) (token message) (all_of M.keeps modules.old)
-        (all_of M.keeps modules.new) (λ i. times_sent i (sent_of result.sent)) }
-    ensures spends { let s = B.value store.old in let m = message_in s (token message) in
-        Spends s (B.value store.new) (slice_index_or (map (M.takes to m) (map (M.plain s) modules.old)) at 0)
-        (slice_index_or (map (M.leaves to m) (map (M.plain s) modules.old)) at 0) }
-    ensures pool { SamePool (B.value store.old) (B.value store.new) }
+    ensures does { let s = B.value store.old in let m = message_in s (token message) in let ps = all_in M.plain s modules.old in
+        Puts (all_in M.plain) (AreHeld M.IsHeld M.owns) (all_of M.owns) (all_of M.keeps) M.height s (B.value store.new)
+        modules.old modules.new to (token message) (slice_index_or (map (M.takes to m) ps) at 0)
+        (slice_index_or (map (M.leaves to m) ps) at 0) result told.old told.new (put_among M.puts at to m ps) }
 {
     store.audit();
     modules[at].put(store, to, message, told)
@@ -164,33 +145,11 @@ impl<M: Module + Default> Stream<M> {
         requires room { let s = B.value store.old in
             HasRoom s (at_place (M.takes to (message_in s (token message))) 0 to.at (map (M.plain s) self.old.modules.items)) }
         ensures length { length self.new.modules.items ≡ length self.old.modules.items }
-        ensures state { let s = B.value store.old in
-            map (M.plain (B.value store.new)) self.new.modules.items ≡
-            (put_among M.puts (to.at - 1) to (message_in s (token message))
-            (map (M.plain s) self.old.modules.items)).state }
-        ensures notes { let s = B.value store.old in
-            result.notes.items ≡ (put_among M.puts (to.at - 1) to (message_in s (token message))
-            (map (M.plain s) self.old.modules.items)).notes }
-        ensures sent { let s = B.value store.old in
-            parcels_in (B.value store.new) (sent_of result.sent) ≡
-            (put_among M.puts (to.at - 1) to (message_in s (token message))
-            (map (M.plain s) self.old.modules.items)).sent }
-        ensures told { let s = B.value store.old in
-            told.new ≡ tallied (put_among M.puts (to.at - 1) to (message_in s (token message))
-            (map (M.plain s) self.old.modules.items)).gone told.old }
-        ensures held { AreHeld M.IsHeld M.owns (B.value store.new) self.new.modules.items }
-        ensures own { OnlyOwn (B.value store.old) (B.value store.new) (all_of M.owns self.old.modules.items)
-            (all_of M.owns self.new.modules.items) }
-        ensures chains { AreChains (B.value store.new) (sent_of result.sent) }
-        ensures falls { AreLower M.height (M.height to (message_in (B.value store.old) (token message)))
-            (parcels_in (B.value store.new) (sent_of result.sent)) }
-        ensures hands { Hands (B.value store.old) (B.value store.new) (token message)
-            (all_of M.keeps self.old.modules.items) (all_of M.keeps self.new.modules.items)
-            (λ i. times_sent i (sent_of result.sent)) }
-        ensures spends { let s = B.value store.old in let m = message_in s (token message) in
-            Spends s (B.value store.new) (at_place (M.takes to m) 0 to.at (map (M.plain s) self.old.modules.items))
-            (at_place (M.leaves to m) 0 to.at (map (M.plain s) self.old.modules.items)) }
-        ensures pool { SamePool (B.value store.old) (B.value store.new) }
+        ensures does { let s = B.value store.old in let m = message_in s (token message) in
+            let xs = self.old.modules.items in let ps = all_in M.plain s xs in
+            Puts (all_in M.plain) (AreHeld M.IsHeld M.owns) (all_of M.owns) (all_of M.keeps) M.height s (B.value store.new)
+            xs self.new.modules.items to (token message) (at_place (M.takes to m) 0 to.at ps) (at_place (M.leaves to m) 0 to.at ps)
+            result told.old told.new (put_among M.puts (to.at - 1) to m ps) }
     {
         put_among(
             store,

@@ -202,7 +202,7 @@ module-by s t p q x i to place earlier acts f f' a b store can place_is earlier_
     (record {
       state = r.state;
       sent = e.sent ∙ ap (λ ls. (taken_at to m ls).sent) same;
-      tells = e.tells ∙ ap (λ ls. tallied (taken_at to m ls).gone f) same;
+      tells = e.told ∙ ap (λ ls. tallied (taken_at to m ls).gone f) same;
       beside = r.beside;
       chains = e.chains;
       hands = r.hands;

@@ -4,6 +4,7 @@ use Rattle.strm_types.specs.declared.rules.Fates.{Fates}
 use Rattle.strm_types.specs.declared.spots.Spot.{Spot}
 use Rattle.strm_types.specs.Cells.{plain}
 use Rattle.strm_types.specs.Deliver.{Acted, Parcel, Took, tallied}
+use Rattle.strm_types.specs.Far.{far}
 use Rattle.strm_types.specs.Message.{Message}
 use Rattle.strm_types.specs.ModuleQueues.{at_place}
 use Rattle.strm_types.specs.Modules.{put_among}
@@ -13,11 +14,14 @@ use Rattle.strm_laws.specs.State.{State}
 use Rattle.strm_blocks.specs.Blocks.{StoreValue}
 use Rattle.strm_frame.specs.declared.parcels.Sent.{Sent}
 use Rattle.strm_frame.specs.declared.modules.Acts.{Acts}
-use Rattle.strm_frame.specs.Hands.{once, Handles, OnlyOwn, SamePool, Shifts, Spends}
-use Rattle.strm_frame.specs.Outboxes.{message_in, sent_of, times_sent, parcels_in, AreChains}
+use Rattle.strm_frame.specs.Does.{Puts}
+use Rattle.strm_frame.specs.Hands.{once, Handles, SamePool, Shifts, Spends}
+use Rattle.strm_frame.specs.Outboxes.{message_in, times_sent, parcels_in, AreChains}
+use Rattle.strm_frame.specs.Stacks.{all_in, all_of, AreHeld}
 use Rattle.strm_pair.specs.declared.streams.Streams.{Streams}
+use Rattle.strm_pair.specs.AnyModules.{IsHeld, keeps, module_in, owns}
 use Rattle.strm_pair.specs.Pairs.{state_in, AreBeside, kept_by}
-use Rattle.strm_pair.specs.Stacks.{modules_in, IsStackHeld, stack_owns, stack_keeps, Stack}
+use Rattle.strm_pair.specs.Stacks.{modules_in, Stack}
 
 -- A put did what a definition says: the message has gone, and what is sent on has come in hand, beside what the stacks keep. No more
 -- blocks of each kind were taken than `most`, and where that many were free, `later` are free behind it.
@@ -50,14 +54,9 @@ abbrev pub taken_at : Spot → Message ℕ → List (Module ℕ) → Acted ℕ (
 taken_at to m ms = put_among (module_puts plain 0) (to.at - 1) to m ms
 
 -- A stack of modules took a message at a place.
-pub record StackTakes (old new : StoreValue) (x y : Stack) (message : ℕ) (to : Spot) (acts : Acts) (told told' : Fates) : Type 0 where
-  pub state : modules_in new y ≡ (taken_at to (message_in old message) (modules_in old x)).state
-  pub notes : acts.notes.items ≡ (taken_at to (message_in old message) (modules_in old x)).notes
-  pub sent : parcels_in new (sent_of acts.sent) ≡ (taken_at to (message_in old message) (modules_in old x)).sent
-  pub tells : told' ≡ tallied (taken_at to (message_in old message) (modules_in old x)).gone told
-  pub held : IsStackHeld new y
-  pub own : OnlyOwn old new (stack_owns x) (stack_owns y)
-  pub chains : AreChains new (sent_of acts.sent)
-  pub hands : Handles old new (once message) (stack_keeps x) (stack_keeps y) (λ i. times_sent i (sent_of acts.sent))
-  pub spends : Spends old new (at_place (module_takes to (message_in old message)) 0 to.at (modules_in old x)) (at_place (module_leaves to (message_in old message)) 0 to.at (modules_in old x))
-  pub pool : SamePool old new
+abbrev pub StackTakes : (old new : StoreValue) → (x y : Stack) → (message : ℕ) → Spot → Acts → (told told' : Fates) → Type 0
+StackTakes old new x y message to acts told told' =
+    let m = message_in old message in
+    let ms = modules_in old x in
+    Puts (all_in module_in) (AreHeld IsHeld owns) (all_of owns) (all_of keeps) far old new x.modules.items y.modules.items to message (at_place (module_takes to m) 0 to.at ms)
+    (at_place (module_leaves to m) 0 to.at ms) acts told told' (taken_at to m ms)

@@ -1,29 +1,25 @@
 -- The modules are written back whole.
-use Rattle.std.proofs.Common.{◌∙◌, sym, ap, subst, length}
-use Rattle.strm_frame.specs.Hands.{Handles, OnlyOwn}
-use Rattle.strm_frame.specs.Outboxes.{sent_of, times_sent}
-use Rattle.strm_frame.specs.Stacks.{all_of}
+use Rattle.std.proofs.Common.{◌-◌, ◌∙◌, true, List, sym, ap, subst, length}
+use Rattle.std.specs.Prelude.{HoldsAt}
+use Rattle.strm_types.specs.ModuleQueues.{at_place}
+use Rattle.strm_frame.specs.Does.{Serves}
+use Rattle.strm_frame.specs.Serves.{served_among, stop_of}
+use Rattle.strm_frame.specs.Stacks.{all_in, all_of, AreHeld}
 use Rattle.strm_frame.proofs.Beside.{refilled}
 use Rattle.strm_frame.proofs.stack.Stream.serve.Goals as goal
 
-pub returns-clause-hands : goal.returns-clause-hands
-returns-clause-hands g c =
+pub returns-clause-does : goal.returns-clause-does
+returns-clause-does g c =
+    let w = g.M.Module in
     let s = g.B.Blocks.value c.args.store.now in
     let t = g.B.Blocks.value c.serve_among.new.store in
-    let keeps = g.M.Module.keeps in
-    let xs = c.args.self.now.modules.items in
+    let here = c.args.here in
+    let r = c.serve_among.result in
+    let before = c.as_mut_slice.ensures.value in
     let ys = c.serve_among.new.modules in
-    let before = c.as_mut_slice.ensures.value in
-    let all = sent_of c.serve_among.result.acts.sent in
-    subst (λ zs. Handles s t (λ _. 0) (all_of keeps xs) (all_of keeps zs) (λ i. times_sent i all)) (sym (refilled xs ys (c.serve_among.ensures.length ∙ ap length before)))
-    (subst (λ zs. Handles s t (λ _. 0) (all_of keeps zs) (all_of keeps ys) (λ i. times_sent i all)) before c.serve_among.ensures.hands)
-
-pub returns-clause-own : goal.returns-clause-own
-returns-clause-own g c =
-    let owns = g.M.Module.owns in
-    let s = g.B.Blocks.value c.args.store.now in
-    let t = g.B.Blocks.value c.serve_among.new.store in
-    let before = c.as_mut_slice.ensures.value in
-    subst (λ xs. OnlyOwn s t (all_of owns c.args.self.now.modules.items) (all_of owns xs))
-    (sym (refilled c.args.self.now.modules.items c.serve_among.new.modules (c.serve_among.ensures.length ∙ ap length before)))
-    (subst (λ xs. OnlyOwn s t (all_of owns xs) (all_of owns c.serve_among.new.modules)) before c.serve_among.ensures.own)
+    let same = refilled c.args.self.now.modules.items ys (c.serve_among.ensures.length ∙ ap length before) in
+    let These = λ (xs zs : List _).
+    Serves (all_in w.plain) (AreHeld w.IsHeld w.owns) (all_of w.owns) (all_of w.keeps) w.height w.cost (at_place (w.turn_cost here true) 0 here.at)
+    (λ bytes ps. HoldsAt (w.MayStop here.way c.args.again bytes) ps (here.at - 1)) s t xs zs (w.turn_height here) r c.args.told.now c.serve_among.new.told
+    (served_among (w.serves here c.args.again (stop_of r)) (here.at - 1) (all_in w.plain s xs)) in
+    subst (These c.args.self.now.modules.items) (sym same) (subst (λ xs. These xs ys) before c.serve_among.ensures.does)

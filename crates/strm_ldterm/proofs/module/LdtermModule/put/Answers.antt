@@ -7,12 +7,22 @@ use Rattle.strm_ldterm.specs.Stands.{ldterm_in}
 use Rattle.strm_ldterm.proofs.module.LdtermModule.put.Goals as goal
 use Rattle.strm_blocks.specs.Blocks.{token}
 
-pub returns-clause-falls : goal.returns-clause-falls
-returns-clause-falls g c =
+pub returns : goal.returns
+returns g c =
     let s = g.B.Blocks.value c.args.store.now in
     let m = message_in s (token c.args.message) in
     let p = ldterm_in s c.args.self.now in
-    subst (λ (ps : List (Parcel ℕ)). AreLower far (far c.args.here m) ps) (sym c.put.ensures.sent) (ldterm-lower c.args.here m c.requires.inside c.requires.small p)
-
-pub returns-clause-spends : goal.returns-clause-spends
-returns-clause-spends g c = c.put.ensures.spends
+    let e = c.put.ensures in
+    record {
+      state = e.state;
+      notes = e.notes;
+      sent = e.sent;
+      told = e.told;
+      held = e.held;
+      own = e.own;
+      chains = e.chains;
+      falls = subst (λ (ps : List (Parcel ℕ)). AreLower far (far c.args.here m) ps) (sym e.sent) (ldterm-lower c.args.here m c.requires.inside c.requires.small p);
+      hands = e.hands;
+      spends = e.spends;
+      pool = e.pool;
+    }

@@ -1,5 +1,5 @@
 -- An ldterm keeps what the module does.
-use Rattle.std.proofs.Common.{ℕ, ◌≡◌, Bool, false, List, [], subst, arith}
+use Rattle.std.proofs.Common.{ℕ, ◌≡◌, Bool, false, List, [], subst, arith, rules}
 use Rattle.strm_types.specs.Deliver.{Parcel}
 use Rattle.strm_types.specs.Costs.{most_cost}
 use Rattle.strm_types.proofs.CostSums.{none-few}
@@ -17,14 +17,50 @@ serve-requires-clause-kept g c = subst (λ x. AreIn (g.B.Blocks.value c.args.sto
 none-sent : (s : StoreValue) (again : Bool) (next : ℕ) (ps : List (Parcel ℕ)) → again ≡ false → ps ≡ [] → HasRoom s (later_cost most_cost again next ps)
 none-sent s again next ps ends none = rw (ends, none) (let free = none-few {C = ℕ} most_cost 0 in record { mblks = omega (arith, free); dblks = omega (arith, free) })
 
-pub returns-in-Ptem-clause-room : goal.returns-in-Ptem-clause-room
-returns-in-Ptem-clause-room g c =
+pub returns-in-Ptem : goal.returns-in-Ptem
+returns-in-Ptem g c =
     let t = g.B.Blocks.value c.serve-in-Ptem.new._store in
     let r = c.serve-in-Ptem.result in
-    none-sent t r.again _ (parcels_in t (sent_of r.acts.sent)) c.serve-in-Ptem.ensures.again c.serve-in-Ptem.ensures.sent
+    let e = c.serve-in-Ptem.ensures in
+    record {
+      state = search rules;
+      notes = search rules;
+      sent = search rules;
+      told = search rules;
+      bytes = search rules;
+      again = search rules;
+      stopped = search rules;
+      stops = search rules;
+      made = search rules;
+      held = search rules;
+      own = search rules;
+      chains = e.chains;
+      falls = search rules;
+      hands = search rules;
+      room = none-sent t r.again _ (parcels_in t (sent_of r.acts.sent)) e.again e.sent;
+      pool = e.pool;
+    }
 
-pub returns-in-Pckt-clause-room : goal.returns-in-Pckt-clause-room
-returns-in-Pckt-clause-room g c =
+pub returns-in-Pckt : goal.returns-in-Pckt
+returns-in-Pckt g c =
     let t = g.B.Blocks.value c.serve-in-Pckt.new._store in
     let r = c.serve-in-Pckt.result in
-    none-sent t r.again _ (parcels_in t (sent_of r.acts.sent)) c.serve-in-Pckt.ensures.again c.serve-in-Pckt.ensures.sent
+    let e = c.serve-in-Pckt.ensures in
+    record {
+      state = search rules;
+      notes = search rules;
+      sent = search rules;
+      told = search rules;
+      bytes = search rules;
+      again = search rules;
+      stopped = search rules;
+      stops = search rules;
+      made = search rules;
+      held = search rules;
+      own = search rules;
+      chains = e.chains;
+      falls = search rules;
+      hands = search rules;
+      room = none-sent t r.again _ (parcels_in t (sent_of r.acts.sent)) e.again e.sent;
+      pool = e.pool;
+    }

@@ -52,7 +52,7 @@ returns-clause-serves g c =
     let s = g.B.Blocks.value c.args.store.now in
     let t = g.B.Blocks.value c.serve.new.store in
     let x = (end_at c.args.here.side c.args.self.now).stack in
-    let e = rw c.get_mut.ensures.value at c.serve.ensures in
+    let e = rw c.get_mut.ensures.value at c.serve.ensures.does in
     subst (λ y. StackServes s t x y c.args.here c.args.again c.serve.result c.args.told.now c.serve.new.told)
     (sym (stack-there c.args.self.now c.args.here.side c.get_mut.result.now c.serve.new.self c.get_mut.ensures.value).0)
     (record { state = e.state; notes = e.notes; sent = e.sent; tells = e.told; bytes = e.bytes; asks = e.again; over = on-true c.serve.result.stopped (λ stop. stop.1) e.stopped; ends = e.stops; made = e.made; held = e.held; own = e.own; chains = e.chains; falls = e.falls; hands = e.hands; room = e.room; pool = e.pool })

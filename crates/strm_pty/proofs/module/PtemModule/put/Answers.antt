@@ -1,7 +1,25 @@
 -- What a put did, in the frame's words.
+use Rattle.std.proofs.Common.{rules}
 use Rattle.strm_frame.proofs.Handing.{can-in_hand}
 use Rattle.strm_pty.proofs.module.PtemModule.put.Goals as goal
 use Rattle.strm_blocks.specs.Blocks.{token}
 
 pub put-requires-clause-in_hand : goal.put-requires-clause-in_hand
 put-requires-clause-in_hand g c = can-in_hand (g.B.Blocks.value c.args.store.now) (token c.args.message) (λ _. 0) c.audit.ensures c.requires.can_put
+
+pub returns : goal.returns
+returns g c =
+    let e = c.put.ensures.does in
+    record {
+      state = e.state;
+      notes = e.notes;
+      sent = e.sent;
+      told = search rules;
+      held = tt;
+      own = search rules;
+      chains = e.chains;
+      falls = search rules;
+      hands = e.hands;
+      spends = e.spends;
+      pool = e.pool;
+    }

@@ -1,22 +1,29 @@
 -- Nothing is done.
+use Rattle.std.proofs.Common.{rules}
 use Rattle.strm_types.specs.Costs.{cost}
 use Rattle.strm_types.specs.Far.{far}
 use Rattle.strm_frame.proofs.Handing.{still-hands, none-hands, none-chains, none-lower, no-parts, no-room}
 use Rattle.strm_pty.proofs.module.PtemModule.serve.Goals as goal
 
-pub returns-clause-sent : goal.returns-clause-sent
-returns-clause-sent g c = no-parts (g.B.Blocks.value c.args._store.now) _ c.none.ensures
-
-pub returns-clause-chains : goal.returns-clause-chains
-returns-clause-chains g c = none-chains (g.B.Blocks.value c.args._store.now) _ c.none.ensures
-
-pub returns-clause-falls : goal.returns-clause-falls
-returns-clause-falls g c = none-lower (g.B.Blocks.value c.args._store.now) far 0 _ c.none.ensures
-
-pub returns-clause-hands : goal.returns-clause-hands
-returns-clause-hands g c =
+pub returns : goal.returns
+returns g c =
     let s = g.B.Blocks.value c.args._store.now in
-    none-hands s s (λ _. 0) (λ _. 0) (λ _. 0) _ c.none.ensures (still-hands s (λ _. 0))
-
-pub returns-clause-room : goal.returns-clause-room
-returns-clause-room g c = no-room (g.B.Blocks.value c.args._store.now) cost 0 _ c.none.ensures
+    let none = c.none.ensures in
+    record {
+      state = search rules;
+      notes = search rules;
+      sent = no-parts s _ none;
+      told = search rules;
+      bytes = search rules;
+      again = search rules;
+      stopped = search rules;
+      stops = search rules;
+      made = search rules;
+      held = tt;
+      own = search rules;
+      chains = none-chains s _ none;
+      falls = none-lower s far 0 _ none;
+      hands = none-hands s s (λ _. 0) (λ _. 0) (λ _. 0) _ none (still-hands s (λ _. 0));
+      room = no-room s cost 0 _ none;
+      pool = search rules;
+    }

@@ -24,7 +24,7 @@ serve-served-requires g c =
     (omega arith, (c.requires.inside, (omega arith, (c.requires.rest.are.held, ((λ d. refl), (rest-in s (all_of (λ y i. 0) xs) (kept-none xs), record { mblks = omega arith; dblks = omega arith }))))))
 
 pub deliver-requires-clause-held : goal.deliver-requires-clause-held
-deliver-requires-clause-held g c = rw c.note_all.ensures (record { held = c.serve-served.ensures.held; two = c.serve-served.ensures.length ∙ c.requires.rest.are.two })
+deliver-requires-clause-held g c = rw c.note_all.ensures (record { held = c.serve-served.ensures.does.held; two = c.serve-served.ensures.length ∙ c.requires.rest.are.two })
 
 pub deliver-requires-clause-can_put : goal.deliver-requires-clause-can_put
 deliver-requires-clause-can_put g c =
@@ -32,7 +32,7 @@ deliver-requires-clause-can_put g c =
     let t = g.B.Blocks.value c.serve-served.new.store in
     let xs = c.args.self.now.modules.modules.items in
     let ys = c.serve-served.new.self.modules.items in
-    rw c.note_all.ensures (sent-can s t (all_of (λ y i. 0) xs) (all_of (λ y i. 0) ys) _ c.requires.rest.hand (kept-none xs) (kept-none ys) c.serve-served.ensures.hands c.in-Some.next _ c.in-Some.ensures)
+    rw c.note_all.ensures (sent-can s t (all_of (λ y i. 0) xs) (all_of (λ y i. 0) ys) _ c.requires.rest.hand (kept-none xs) (kept-none ys) c.serve-served.ensures.does.hands c.in-Some.next _ c.in-Some.ensures)
 
 pub deliver-requires-clause-chain : goal.deliver-requires-clause-chain
 deliver-requires-clause-chain g c =
@@ -40,7 +40,7 @@ deliver-requires-clause-chain g c =
     let t = g.B.Blocks.value c.serve-served.new.store in
     let xs = c.args.self.now.modules.modules.items in
     let ys = c.serve-served.new.self.modules.items in
-    sent-chain s t (all_of (λ y i. 0) xs) (all_of (λ y i. 0) ys) _ c.requires.rest.hand (kept-none xs) (kept-none ys) c.serve-served.ensures.hands c.in-Some.next _ c.in-Some.ensures c.serve-served.ensures.chains
+    sent-chain s t (all_of (λ y i. 0) xs) (all_of (λ y i. 0) ys) _ c.requires.rest.hand (kept-none xs) (kept-none ys) c.serve-served.ensures.does.hands c.in-Some.next _ c.in-Some.ensures c.serve-served.ensures.does.chains
 
 pub deliver-requires-clause-low : goal.deliver-requires-clause-low
 deliver-requires-clause-low g c =
@@ -48,8 +48,8 @@ deliver-requires-clause-low g c =
     let t = g.B.Blocks.value c.serve-served.new.store in
     let xs = c.args.self.now.modules.modules.items in
     let ys = c.serve-served.new.self.modules.items in
-    sent-low s t (all_of (λ y i. 0) xs) (all_of (λ y i. 0) ys) _ c.requires.rest.hand (kept-none xs) (kept-none ys) c.serve-served.ensures.hands c.in-Some.next _ c.in-Some.ensures
-    (record { side = Slave; at = c.args.at; way = Down }) c.serve-served.ensures.falls
+    sent-low s t (all_of (λ y i. 0) xs) (all_of (λ y i. 0) ys) _ c.requires.rest.hand (kept-none xs) (kept-none ys) c.serve-served.ensures.does.hands c.in-Some.next _ c.in-Some.ensures
+    (record { side = Slave; at = c.args.at; way = Down }) c.serve-served.ensures.does.falls
 
 pub returns-in_default : goal.returns-in_default
 returns-in_default g c =
@@ -58,8 +58,8 @@ returns-in_default g c =
     let xs = c.args.self.now.modules.modules.items in
     let ys = c.serve-served.new.self.modules.items in
     rw c.note_all.ensures (record {
-      are = record { held = c.serve-served.ensures.held; two = c.serve-served.ensures.length ∙ c.requires.rest.are.two };
-      hand = none-rest s t (all_of (λ y i. 0) xs) (all_of (λ y i. 0) ys) _ c.requires.rest.hand (kept-none xs) (kept-none ys) c.serve-served.ensures.hands c.in_default.ensures.0;
+      are = record { held = c.serve-served.ensures.does.held; two = c.serve-served.ensures.length ∙ c.requires.rest.are.two };
+      hand = none-rest s t (all_of (λ y i. 0) xs) (all_of (λ y i. 0) ys) _ c.requires.rest.hand (kept-none xs) (kept-none ys) c.serve-served.ensures.does.hands c.in_default.ensures.0;
     })
 
 pub returns : goal.returns
@@ -75,6 +75,6 @@ returns g c =
     let carried : Hands t u n (all_of (λ y i. 0) ys) (all_of (λ y i. 0) zs) (λ _. 0) = subst (λ (m : Stream toy.Stock). Hands t u n (all_of (λ y i. 0) m.modules.items) (all_of (λ y i. 0) zs) (λ _. 0)) c.note_all.ensures c.deliver.ensures.hands in
     record {
       are = c.deliver.ensures.held;
-      hand = sent-rest s t (all_of (λ y i. 0) xs) (all_of (λ y i. 0) ys) _ c.requires.rest.hand (kept-none xs) (kept-none ys) c.serve-served.ensures.hands c.in-Some.next _ c.in-Some.ensures
-          here false (stop_of c.serve-served.result) _ (map (λ y. stock_in s y.name y.queue) xs) u (all_of (λ y i. 0) zs) c.serve-served.ensures.sent (kept-none zs) carried;
+      hand = sent-rest s t (all_of (λ y i. 0) xs) (all_of (λ y i. 0) ys) _ c.requires.rest.hand (kept-none xs) (kept-none ys) c.serve-served.ensures.does.hands c.in-Some.next _ c.in-Some.ensures
+          here false (stop_of c.serve-served.result) _ (map (λ y. stock_in s y.name y.queue) xs) u (all_of (λ y i. 0) zs) c.serve-served.ensures.does.sent (kept-none zs) carried;
     }

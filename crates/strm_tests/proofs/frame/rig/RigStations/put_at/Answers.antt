@@ -50,7 +50,7 @@ returns g c =
     let xs = c.args.self.now.modules.modules.items in
     let s = g.B.Blocks.value c.args.store.now in
     let t = g.B.Blocks.value c.put-acts.new.store in
-    let e = c.put-acts.ensures in
+    let e = c.put-acts.ensures.does in
     let none = none-taken (map (λ y. stock_in s y.name y.queue) xs) (c.args.to.at - 1) in
     let spends = e.spends in
     let free = nothing-free (parcels_in t (sent_of c.put-acts.result.sent)) in
@@ -58,7 +58,7 @@ returns g c =
       state = search rules;
       sent = search rules;
       told = search rules;
-      held = rw c.note_all.ensures (record { held = e.held; two = e.length ∙ c.requires.held.two });
+      held = rw c.note_all.ensures (record { held = e.held; two = c.put-acts.ensures.length ∙ c.requires.held.two });
       chains = search rules;
       falls = e.falls;
       hands = search rules;
