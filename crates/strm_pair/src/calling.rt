@@ -1,14 +1,11 @@
 //! Calls of a turn of a module's queue, one after the other: what each sends is delivered before the next one (srv(9E); STREAMS
 //! Programming Guide, "Service Procedures").
 
-ghost use Rattle.std.specs.Prelude.{ℕ, ◌≡◌, ◌≤◌, ◌<◌, ◌+◌, ◌^◌, length, true, false};
+ghost use Rattle.std.specs.Prelude.{◌≡◌, ◌≤◌, ◌<◌, ◌+◌, ◌^◌, length, false};
 ghost use Rattle.strm_types.specs.declared.limits.TheConstants.{MODULES};
-ghost use Rattle.strm_laws.specs.Kept.{AreIdle};
-ghost use Rattle.strm_laws.specs.Refusals.{in_range};
 ghost use Rattle.strm_laws.specs.State.{stream};
 ghost use Rattle.strm_types.specs.LdtermCalls.{Begins, bytes_left};
 ghost use Rattle.strm_laws.specs.TurnCalls.{ldterm_of, module_at};
-ghost use Rattle.strm_blocks.specs.Blocks.{StoreValue};
 ghost use Rattle.strm_frame.specs.Hands.{HasRoom};
 ghost use Rattle.strm_frame.specs.Outboxes.{sent_of};
 ghost use Rattle.strm_pair.specs.ModuleServed.{ActsAs, BookTakes, CallsAs, IsKeptAll, MayBook, StackServes, TreatsAs, between, call_cost, call_of, with_more};
@@ -65,7 +62,8 @@ pub(crate) struct Call {
 }
 
 impl Streams {
-    ghost use Rattle.strm_pair.specs.Pairs.{state_in, end_at, with_end, AreBeside, AreHeld, SamePool};
+    ghost use Rattle.strm_pair.specs.Effects.{MayDeliver};
+    ghost use Rattle.strm_pair.specs.Pairs.{state_in, end_at, with_end, AreBeside, SamePool};
 
     // How many bytes are booked as made in each direction.
     pub(crate) fn booked(&self) -> Made
@@ -172,14 +170,11 @@ impl Streams {
         here: Spot,
         told: &mut Fates,
     ) -> usize
-        requires held { AreHeld (B.value store.old) self.old }
-        requires rests { AreIdle (state_in (B.value store.old) self.old) }
+        requires may { MayDeliver (B.value store.old) self.old 25 }
         requires inside { 0 < here.at }
         requires low { here.at ≤ MODULES }
         requires within { here.at ≤ length (stream here.side (state_in (B.value store.old) self.old)).modules }
         requires few { bytes_left here.way false (ldterm_of (module_at here (state_in (B.value store.old) self.old))) ≤ 16777216 }
-        requires room { HasRoom (B.value store.old) 25 }
-        requires range { in_range (state_in (B.value store.old) self.old) ≡ true }
         ensures treats { TreatsAs here result (state_in (B.value store.old) self.old)
             (state_in (B.value store.new) self.new) told.old told.new }
         ensures beside { AreBeside (B.value store.new) self.new }
