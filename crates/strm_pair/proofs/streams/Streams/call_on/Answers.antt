@@ -86,18 +86,20 @@ loop-call-preserved g c =
       pool = record { mblks = e.pool.mblks ∙ l.invariant.pool.mblks; dblks = e.pool.dblks ∙ l.invariant.pool.dblks };
     }
 
-pub call_module-call-requires-clause-begins : goal.call_module-call-requires-clause-begins
-call_module-call-requires-clause-begins g c =
+pub call_module-call-requires-clause-may : goal.call_module-call-requires-clause-may
+call_module-call-requires-clause-may g c =
     let here = c.args.here in
-    let st0 = state_in (g.B.Blocks.value c.args.store.now) c.args.self.now in
-    first-begins here st0 c.requires.may.rests.idle (let inside = c.requires.inside in let within = c.requires.within in omega arith)
-
-pub call_module-call-requires-clause-hand : goal.call_module-call-requires-clause-hand
-call_module-call-requires-clause-hand g c = λ i.
     let s = g.B.Blocks.value c.args.store.now in
-    ap (times_in i) c.requires.may.rests.held.hand ∙ sym (rests s c.args.self.now c.requires.may.rests.held.beside c.requires.may.rests.idle i)
-
-pub call_module-call-requires-clause-room : goal.call_module-call-requires-clause-room
-call_module-call-requires-clause-room g c =
-    let cost = first-cost c.args.here (state_in (g.B.Blocks.value c.args.store.now) c.args.self.now) in
-    record { mblks = omega (arith, cost, c.requires.may.room.mblks); dblks = omega (arith, cost, c.requires.may.room.dblks) }
+    let p = c.args.self.now in
+    let st0 = state_in s p in
+    let at_rest = c.requires.may.rests in
+    let cost = first-cost here st0 in
+    let room = c.requires.may.room in
+    record {
+      inside = c.requires.inside;
+      within = c.requires.within;
+      begins = first-begins here st0 at_rest.idle (let inside = c.requires.inside in let within = c.requires.within in omega arith);
+      beside = at_rest.held.beside;
+      hand = λ i. ap (times_in i) at_rest.held.hand ∙ sym (rests s p at_rest.held.beside at_rest.idle i);
+      room = record { mblks = omega (arith, cost, room.mblks); dblks = omega (arith, cost, room.dblks) };
+    }
