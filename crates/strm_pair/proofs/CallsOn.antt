@@ -33,7 +33,7 @@ use Rattle.strm_pair.specs.declared.calling.Call.{Call}
 use Rattle.strm_pair.specs.ModuleServed.{MayBook, TellsAs, TreatsAs, call_cost, call_units, stop_in}
 use Rattle.strm_pair.specs.ModuleTurned.{MayMove}
 use Rattle.strm_pair.proofs.ServeSteps.{module-goes}
-use Rattle.strm_pair.proofs.Takings.{tallied-both}
+use Rattle.strm_ldterm.proofs.Flushed.{tallied-append}
 
 -- What calls that go on have led to so far: so many bytes were treated, by so many calls, each of which came a stage further.
 pub record GoOn (here : Spot) (bytes : ℕ) (s0 st : State ℕ) (f f' : Fates) : Type 0 where
@@ -108,7 +108,7 @@ module _ (here : Spot) where
     any_name = record { side = here.side; place = Driver; way = here.way }
 
     told-on : f'' ≡ tallied (gone ++ (led here again (stop_in call) s).gone) f
-    told-on = told ∙ ap (tallied (led here again (stop_in call) s).gone) was ∙ sym (tallied-both gone (led here again (stop_in call) s).gone f)
+    told-on = told ∙ ap (tallied (led here again (stop_in call) s).gone) was ∙ sym (tallied-append gone (led here again (stop_in call) s).gone f)
 
     -- the turn goes on
     goes-on : (count : ℕ) → count ≤ 3 * bytes + stages_done (ldterm_of (module_at here s)).stage → spare s0 ≤ spare s + (3 * bytes + 33 * count)

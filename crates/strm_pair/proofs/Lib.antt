@@ -1,5 +1,6 @@
 pub mod Peeked
 pub mod Idle
+pub mod Leading
 pub mod InHand
 pub mod Sides
 pub mod MadeModules

@@ -10,20 +10,25 @@ use Rattle.strm_types.specs.declared.job_control.Verdict.TheVariants.{Allowed, R
 use Rattle.strm_types.specs.declared.refusals.Refusal.{Refusal}
 use Rattle.strm_types.specs.declared.signals.StopSignal.{StopSignal}
 use Rattle.strm_types.specs.declared.modes.Prio.{Prio}
-use Rattle.strm_types.specs.declared.refusals.Refusal.TheVariants.{Enosr, Erange, JournalFull}
+use Rattle.strm_types.specs.declared.refusals.Refusal.TheVariants.{Einval, Enosr, Erange, JournalFull}
 use Rattle.strm_types.specs.declared.limits.TheConstants.{IOCTL_END, IOCTL_MAX}
 use Rattle.strm_types.specs.Cells.{plain}
+use Rattle.strm_types.specs.declared.limits.Config.{Config}
+use Rattle.strm_types.specs.declared.names.QueueName.{QueueName}
 use Rattle.strm_types.specs.Events.{Request}
+use Rattle.strm_types.specs.Journal.{PlainEntry}
+use Rattle.strm_types.specs.Names.{is_enabled}
 use Rattle.strm_types.specs.JobControl.{judged, refusal_behind, stop_in}
 use Rattle.strm_laws.specs.Calls.{called, or_stopped, performed, tells}
 use Rattle.strm_laws.specs.Pair.{PairState, call_refused}
 use Rattle.strm_types.specs.Needs.{needs}
-use Rattle.strm_laws.specs.Refusals.{enough, has_room, in_range, refused_at_once, refused_by_state, stop_of}
+use Rattle.strm_laws.specs.Refusals.{enough, has_room, in_range, refused_at_once, refused_by_state, stop_of, turn_refused}
 use Rattle.strm_types.specs.Refused.{or_else, unless}
 use Rattle.strm_laws.specs.State.{State}
-use Rattle.strm_laws.proofs.Replay.{met, unless-none}
+use Rattle.strm_laws.proofs.Replay.{met, or_else-none, unless-none}
 use Rattle.strm_laws.proofs.Balances.{both-true}
 use Rattle.strm_blocks.specs.Blocks.{StoreValue, free_d, free_m}
+use Rattle.strm_frame.specs.Hands.{HasRoom}
 use Rattle.strm_pair.specs.Pairs.{free_in}
 
 -- an ioctl that isn't refused at once sends few bytes, and a number is left for it
@@ -38,10 +43,18 @@ number-left s caller command body at_once =
     grind (arith, nat_tests, left)
 
 -- a store has as many free blocks as are asked for
-pub asked-free : (need : ℕ) (s : StoreValue) → enough need (free_in s) ≡ true → (need ≤ free_m s) × (need ≤ free_d s)
+pub asked-free : (need : ℕ) (s : StoreValue) → enough need (free_in s) ≡ true → HasRoom s need
 asked-free need s is =
     let both = both-true (nat_le need (free_m s)) (nat_le need (free_d s)) is in
-    (let first = both.0 in grind (arith, nat_tests), let second = both.1 in grind (arith, nat_tests))
+    record { mblks = let first = both.0 in grind (arith, nat_tests); dblks = let second = both.1 in grind (arith, nat_tests) }
+
+-- and so it has where no turn is refused for want of them
+pub turn-free : (s : State ℕ) (es : List PlainEntry) (limits : Config) (has_blocks : Bool) (name : QueueName) → turn_refused s es limits has_blocks name ≡ None → has_blocks ≡ true
+turn-free s es limits has_blocks name is =
+    let first = or_else-none (unless (is_enabled name s.enabled) Einval) _ is in
+    let second = or_else-none (unless (in_range s) Erange) _ first.1 in
+    let third = or_else-none (unless (has_room es limits 0) JournalFull) _ second.1 in
+    unless-none _ _ third.1
 
 -- what a verdict says of the refusal and of the signal
 pub judged-allowed : (r : Option Refusal) (s : Option StopSignal) → judged r s ≡ Allowed → (r ≡ None) × (s ≡ None)

@@ -46,7 +46,7 @@ use Rattle.strm_pair.specs.declared.calling.Call.{Call}
 use Rattle.strm_pair.specs.declared.streams.Streams.{Streams}
 use Rattle.strm_pair.specs.ModuleServed.{ActsAs, CallsAs, IsKeptAll, MayBook, StackServes, TellsAs, acts_in, between, call_of, call_units, next_cost, stop_in, with_more}
 use Rattle.strm_pair.specs.Pairs.{state_in, end_at, with_end, AreBeside, kept_by}
-use Rattle.strm_pair.proofs.Takings.{tallied-both}
+use Rattle.strm_ldterm.proofs.Flushed.{tallied-append}
 use Rattle.strm_ldterm.proofs.Spared.{call-few}
 use Rattle.strm_pair.specs.Framing.{kept-parts}
 use Rattle.strm_pair.proofs.ModuleSteps.{stack-acts, stack-modules}
@@ -285,7 +285,7 @@ module _ (r s : StoreValue) (o p : Streams) (here : Spot) (again : Bool) (call :
       let led_state = state ∙ ap (λ (u : Carried ℕ (State ℕ)). u.state) is in
       record {
         state = led_state;
-        tells = told ∙ ap (λ (u : Carried ℕ (State ℕ)). tallied u.gone f') is ∙ ap (tallied (on w.sent w.state).gone) a.tells ∙ sym (tallied-both w.gone (on w.sent w.state).gone f);
+        tells = told ∙ ap (λ (u : Carried ℕ (State ℕ)). tallied u.gone f') is ∙ ap (tallied (on w.sent w.state).gone) a.tells ∙ sym (tallied-append w.gone (on w.sent w.state).gone f);
         itself = a.itself;
         beside = beside;
         hand = λ i. omega (arith, all i, a.hands.counts i, hands.counts i);

@@ -2,12 +2,15 @@
 use Rattle.std.proofs.Common.{ℕ, zero, suc, ◌≡◌, ◌≢◌, ◌≤◌, ◌<◌, ◌+◌, Bool, true, false, cond, List, [], ◌∷◌, map, refl, sym, ap, subst, ◌∙◌, arith}
 use Rattle.std.specs.Prelude.{◌==◌, replicate, slice_index_or, is_some}
 use Rattle.std.proofs.lemmas.Bool.Decides.{nat_tests}
+use Rattle.strm_types.specs.declared.names.Openness.{Openness}
 use Rattle.strm_types.specs.declared.names.Side.{Side}
 use Rattle.strm_types.specs.declared.names.Side.TheVariants.{Master, Slave}
 use Rattle.strm_types.specs.declared.kinds.MsgKind.TheVariants as kinds
 use Rattle.strm_types.specs.Flush.{is_data_kind}
 use Rattle.strm_types.specs.Emptied.{of_all, emptied, none_goes, queue_behind}
 use Rattle.strm_types.specs.Both.{set, map_both}
+use Rattle.strm_types.specs.Heads as heads
+use Rattle.strm_types.specs.Heads.{new_head}
 use Rattle.strm_types.specs.Names.{enable_some, other}
 use Rattle.strm_types.proofs.BySide.{get-map, get-set-other, get-set-same, map-set, set-all, set-same, side-and-other}
 use Rattle.strm_types.specs.Queue as state
@@ -32,6 +35,7 @@ use Rattle.strm_pair.specs.Framing.{state_with, stack-same, stays-at, still}
 use Rattle.strm_pair.specs.Lists.{first_list}
 use Rattle.strm_pair.specs.Streams.{stream_in, IsBlank, IsSide, AreApart}
 use Rattle.strm_pair.specs.Pairs.{state_in, end_at, with_end, AreBeside, AreHeld, Stays, kept_by}
+use Rattle.strm_pair.specs.Renewed.{RenewsHead}
 use Rattle.strm_pair.specs.Stacks.{modules_in, IsStackHeld, Stack, stack_owns, stack_keeps}
 
 -- the driver of a side is ready, and so is the head
@@ -360,31 +364,33 @@ pub head-is : (s : StoreValue) (p : Streams) (side : Side) → (stream side (sta
 head-is s p side = ap (λ (x : streams.Stream ℕ). x.head) (stream-is s p side)
 
 -- a side whose head's queue was emptied, and whose driver stays
-module _ (s t : StoreValue) (p : Streams) (e : StreamEnd) (beside : AreBeside s p) (side : Side) (same : e.driver ≡ (end_at side p).driver) (stays : e.stack ≡ (end_at side p).stack) (shelf : e.shelf ≡ (end_at side p).shelf) (keeps : Keeps s t (end_at side p).head.queue e.head.queue) where
+module _ (s t : StoreValue) (p : Streams) (e : StreamEnd) (beside : AreBeside s p) (side : Side) (openness : Openness) (renews : RenewsHead s t (end_at side p) e openness) where
   all-kept : Stays s t (kept_by p)
-  all-kept = still s t (kept_by p) keeps.hand keeps.mblks keeps.dblks
+  all-kept = still s t (kept_by p) renews.keeps.hand renews.keeps.mblks renews.keeps.dblks
 
   only-renewed : OnlyQueue s t (end_at side p).head.queue e.head.queue
-  only-renewed = only-kept s t (end_at side p).head.queue e.head.queue keeps
+  only-renewed = only-kept s t (end_at side p).head.queue e.head.queue renews.keeps
 
   pub renewed-beside : AreBeside t (with_end side e p)
   renewed-beside =
       one-beside s t p beside side e
-      (as-side t (first_list side) (end_at side p) e same stays shelf (head-side s t (first_list side) (end_at side p) (beside side) (stays-at s t side p all-kept) e.head only-renewed (readable-kept s t (end_at side p).head.queue e.head.queue (beside side).head keeps)))
+      (as-side t (first_list side) (end_at side p) e renews.driver renews.stack renews.shelf (head-side s t (first_list side) (end_at side p) (beside side) (stays-at s t side p all-kept) e.head only-renewed (readable-kept s t (end_at side p).head.queue e.head.queue (beside side).head renews.keeps)))
       (only-head s t p beside all-kept side e.head only-renewed)
 
   -- what it stands for: its head alone, and whether it was opened
   as-stream : stream_in t e ≡ record (stream_in t (record (end_at side p) { head = e.head })) { opened = e.opened }
   as-stream =
-      ap (λ d. record { opened = e.opened; head = head_in t e.head; modules = modules_in t e.stack; driver = record { queue = queue_in t d } }) same
-      ∙ ap (λ x. record { opened = e.opened; head = head_in t e.head; modules = modules_in t x; driver = record { queue = queue_in t (end_at side p).driver } }) stays
+      ap (λ d. record { opened = e.opened; head = head_in t e.head; modules = modules_in t e.stack; driver = record { queue = queue_in t d } }) renews.driver
+      ∙ ap (λ x. record { opened = e.opened; head = head_in t e.head; modules = modules_in t x; driver = record { queue = queue_in t (end_at side p).driver } }) renews.stack
 
-  pub renewed-state : state_in t (with_end side e p) ≡ with_stream side (record (stream side (state_in s p)) { opened = e.opened; head = head_in t e.head }) (state_in s p)
+  pub renewed-state : state_in t (with_end side e p) ≡ with_stream side (record (stream side (state_in s p)) { opened = openness; head = new_head }) (state_in s p)
   renewed-state =
       one-state s t p beside side e (record (stream_in s (end_at side p)) { opened = e.opened; head = head_in t e.head })
       (as-stream ∙ ap (λ (x : streams.Stream ℕ). record x { opened = e.opened }) (head-stream s t (first_list side) (end_at side p) (beside side) (stays-at s t side p all-kept) e.head only-renewed))
       (only-head s t p beside all-kept side e.head only-renewed)
       ∙ ap (λ (x : streams.Stream ℕ). with_stream side (record x { opened = e.opened; head = head_in t e.head }) (state_in s p)) (sym (stream-is s p side))
+      ∙ ap (λ (o : Openness). with_stream side (record (stream side (state_in s p)) { opened = o; head = head_in t e.head }) (state_in s p)) renews.opened
+      ∙ ap (λ (h : heads.Head ℕ). with_stream side (record (stream side (state_in s p)) { opened = openness; head = h }) (state_in s p)) renews.head
 
 -- the queue of a side's head, or of its driver, once messages went from it, and a writer before it
 module _ (s t : StoreValue) (p : Streams) (beside : AreBeside s p) (q q' : Queue) (plain : state.Queue ℕ) (goes goes' : Bool) (changes : Changes s t q q') where

@@ -18,7 +18,8 @@ use Rattle.strm_blocks.specs.Blocks.{StoreValue}
 use Rattle.strm_pair.specs.declared.streams.Streams.{Streams}
 use Rattle.strm_pair.specs.declared.journal.Journal.{Journal}
 use Rattle.strm_pair.specs.BaseTexts.{begun_at}
-use Rattle.strm_pair.specs.Pairs.{state_in, journal_of, AreHeld, SamePool}
+use Rattle.strm_pair.specs.Effects.{AreAtRest, Leads}
+use Rattle.strm_pair.specs.Pairs.{state_in, journal_of}
 use Rattle.strm_pair.specs.PairViews.{IsKept, led_to, pair_of}
 use Rattle.strm_pair.specs.Starts.{Start, led_on}
 
@@ -48,22 +49,22 @@ within-on (x ∷ es) e all one = (all.0, within-on es e all.1 one)
 
 pub kept-step : (s new : StoreValue) (p q : Streams) (j k : Journal) (b : Start) (limits : Config) (fates fates' : Fates) (entry : PlainEntry) → IsKept s p j b limits fates
     → Step plain (state_in s p) entry (after plain (state_in s p) entry) → IsWithinEntry entry
-    → state_in new q ≡ after plain (state_in s p) entry → AreHeld new q → SamePool s new → FewBooked (state_in new q) → fates' ≡ tallied (gone plain (state_in s p) entry) fates
+    → Leads s new q fates fates' (after plain (state_in s p) entry) (gone plain (state_in s p) entry) → FewBooked (state_in new q)
     → journal_of k ≡ journal_of j ++ entry ∷ [] → k.most_entries ≡ j.most_entries → k.most_bytes ≡ j.most_bytes → IsKept new q k b limits fates'
-kept-step s new p q j k b limits fates fates' entry kept step within stands held pool few told added events bytes = record {
+kept-step s new p q j k b limits fates fates' entry kept step within leads few added events bytes = record {
   based = kept.based;
-  replayed = stands ∙ sym (led-on s p j k b limits fates entry kept added);
+  replayed = leads.state ∙ sym (led-on s p j k b limits fates entry kept added);
   legal = subst (λ js. IsLegal plain b.state js) (sym added) (kept-legal plain b.state (state_in s p) (after plain (state_in s p) entry) (journal_of j) entry kept.replayed step kept.legal);
   within = subst AreWithinEntries (sym added) (within-on (journal_of j) entry kept.within within);
   few = few;
-  told = told
+  told = leads.tells
       ∙ ap (λ f. tallied (gone plain (state_in s p) entry) f) kept.told
       ∙ ap (λ t. tallied (gone plain t entry) (told_by plain b.state (journal_of j) b.fates)) kept.replayed
       ∙ sym (told-on b.state (journal_of j) entry b.fates)
       ∙ ap (λ js. told_by plain b.state js b.fates) (sym added);
-  held = held;
-  mblks = pool.mblks ∙ kept.mblks;
-  dblks = pool.dblks ∙ kept.dblks;
+  held = leads.held;
+  mblks = leads.pool.mblks ∙ kept.mblks;
+  dblks = leads.pool.dblks ∙ kept.dblks;
   events = events ∙ kept.events;
   bytes = bytes ∙ kept.bytes;
 }
@@ -77,6 +78,9 @@ kept-base s p j b limits fates kept =
 -- nothing of a turn is under way at any module between calls
 pub led-idle : (s : StoreValue) (p : Streams) (j : Journal) (b : Start) (limits : Config) (fates : Fates) → IsKept s p j b limits fates → AreIdle (state_in s p)
 led-idle s p j b limits fates kept = (kept-base s p j b limits fates kept).restorable.idle
+
+pub led-rests : (s : StoreValue) (p : Streams) (j : Journal) (b : Start) (limits : Config) (fates : Fates) → IsKept s p j b limits fates → AreAtRest s p
+led-rests s p j b limits fates kept = record { held = kept.held; idle = led-idle s p j b limits fates kept }
 
 -- what the blocks stand for, with what has gone, is where the journal leads
 pub on-told : (s : StoreValue) (p : Streams) (j : Journal) (b : Start) (limits : Config) (fates : Fates) (past : List PlainEntry) → IsKept s p j b limits fates

@@ -6,7 +6,7 @@ use Rattle.strm_types.specs.declared.names.Side.{Side}
 use Rattle.strm_types.specs.declared.rules.Fates.{Fates}
 use Rattle.strm_types.specs.declared.rules.Rule.{Rule}
 use Rattle.strm_types.specs.declared.spots.Note.{Note}
-use Rattle.strm_types.specs.Deliver.{Carried, Fate, counted_with, tallied}
+use Rattle.strm_types.specs.Deliver.{Carried, Fate, tallied}
 use Rattle.strm_types.specs.Modules.{top_name, without_module}
 use Rattle.strm_types.specs.Names.{other, place_of}
 use Rattle.strm_types.proofs.BySide.{get-set-same}
@@ -29,11 +29,6 @@ use Rattle.strm_pair.specs.Streams.{stream_in, IsSide, AreApart}
 use Rattle.strm_pair.specs.Taken.{TookNone, TookTop, WithoutTop, let_go_of}
 use Rattle.strm_pair.proofs.Sides.{OtherStays, modules-are, never-both, one-beside, one-state, queue-same, stream-is, stream_of}
 use Rattle.strm_pair.specs.Stacks.{modules_in, stack_owns, Stack}
-
--- what was let go first, and then the rest
-pub tallied-both : (a b : List (Fate ℕ)) (f : Fates) → tallied (a ++ b) f ≡ tallied b (tallied a f)
-tallied-both [] b f = refl
-tallied-both (x ∷ a) b f = tallied-both a b (counted_with x f)
 
 zero-if : (n : ℕ) → (0 < n → 1 ≤ 0) → n ≡ 0
 zero-if zero never = refl
@@ -112,18 +107,20 @@ module _ (side : Side) (rule : Rule) (s : StoreValue) (p : Streams) (held : AreH
       ∙ ap (λ (ns : List Note). without_module side (module_name took.top) (noted side (place_of (module_name took.top)) earlier ns p.enabled)) took.notes in
       record {
         name_is = ap (λ n. Some n) took.name ∙ sym (ap (λ ms. top_name module_name ms) these);
-        state =
-            ap (λ (r : Streams). state_in t (record r { enabled = names })) same
-            ∙ ap (λ (x : State ℕ). record x { enabled = names }) (took-state s t p held.beside rule told told' taken side y z shelf took)
-            ∙ ap (λ (ns : List QueueName). record (with_modules side took.rest st) { enabled = ns }) enabled
-            ∙ sym (ap (λ ms. (top_taken rule side ms st).state) these);
-        tells = took.tells ∙ sym (ap (λ ms. tallied (top_taken rule side ms st).gone told) these);
-        held = record {
-          hand = took.hand.hand ∙ held.hand;
-          beside = subst (AreBeside t) (sym same) (took-beside s t p held.beside rule told told' taken side y z shelf took);
+        leads = record {
+          state =
+              ap (λ (r : Streams). state_in t (record r { enabled = names })) same
+              ∙ ap (λ (x : State ℕ). record x { enabled = names }) (took-state s t p held.beside rule told told' taken side y z shelf took)
+              ∙ ap (λ (ns : List QueueName). record (with_modules side took.rest st) { enabled = ns }) enabled
+              ∙ sym (ap (λ ms. (top_taken rule side ms st).state) these);
+          tells = took.tells ∙ sym (ap (λ ms. tallied (top_taken rule side ms st).gone told) these);
+          held = record {
+            hand = took.hand.hand ∙ held.hand;
+            beside = subst (AreBeside t) (sym same) (took-beside s t p held.beside rule told told' taken side y z shelf took);
+          };
+          pool = record { mblks = took.hand.mblks; dblks = took.hand.dblks };
         };
         frees = took.frees;
-        pool = record { mblks = took.hand.mblks; dblks = took.hand.dblks };
       }
 
 -- no module stood there
@@ -134,11 +131,13 @@ none-went side rule s t p q told told' held same took =
     let none = modules-are s p side ∙ took.none in
     record {
       name_is = sym (ap (λ ms. top_name module_name ms) none);
-      state = ap (state_in t) same ∙ ap (λ v. state_in v p) took.store ∙ sym (ap (λ ms. (top_taken rule side ms st).state) none);
-      tells = took.tells ∙ sym (ap (λ ms. tallied (top_taken rule side ms st).gone told) none);
-      held = subst (λ v. AreHeld v q) (sym took.store) (subst (AreHeld s) (sym same) held);
+      leads = record {
+        state = ap (state_in t) same ∙ ap (λ v. state_in v p) took.store ∙ sym (ap (λ ms. (top_taken rule side ms st).state) none);
+        tells = took.tells ∙ sym (ap (λ ms. tallied (top_taken rule side ms st).gone told) none);
+        held = subst (λ v. AreHeld v q) (sym took.store) (subst (AreHeld s) (sym same) held);
+        pool = record { mblks = ap (λ (v : StoreValue). v.mblks) took.store; dblks = ap (λ (v : StoreValue). v.dblks) took.store };
+      };
       frees = record { mblks = omega (arith, ap free_m took.store); dblks = omega (arith, ap free_d took.store) };
-      pool = record { mblks = ap (λ (v : StoreValue). v.mblks) took.store; dblks = ap (λ (v : StoreValue). v.dblks) took.store };
     }
 
 -- what all modules lead to that are taken off, by the one on top and the rest

@@ -5,6 +5,8 @@ pub mod PutBy
 pub mod Took
 pub mod Taken
 pub mod Framing
+pub mod Effects
+pub mod Renewed
 pub mod Lists
 pub mod Streams
 pub mod Journals

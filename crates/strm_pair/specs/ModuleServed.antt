@@ -18,7 +18,7 @@ use Rattle.strm_laws.specs.Puts.{module_acted}
 use Rattle.strm_laws.specs.Spares.{spare}
 use Rattle.strm_types.specs.Costs.{most_cost}
 use Rattle.strm_laws.specs.State.{State, stream}
-use Rattle.strm_types.specs.LdtermCalls.{Ends, bytes_left, most_made}
+use Rattle.strm_types.specs.LdtermCalls.{Begins, Ends, bytes_left, most_made}
 use Rattle.strm_laws.specs.TurnCalls.{asks_on, called, ldterm_of, led, module_at, treated}
 use Rattle.strm_blocks.specs.Blocks.{StoreValue, times_in}
 use Rattle.strm_frame.specs.declared.parcels.Sent.{Sent}
@@ -63,6 +63,20 @@ call_units bytes = 3 * bytes + 33
 -- that much is left, however far a call goes
 abbrev pub MayBook : Spot → Bool → State ℕ → Type 0
 MayBook here again s = call_units (bytes_left here.way again (ldterm_of (module_at here s))) ≤ spare s
+
+-- all that is in hand is kept by the stacks
+abbrev pub IsKeptAll : StoreValue → Streams → Type 0
+IsKeptAll s p = (i : ℕ) → times_in i s.hand ≡ kept_by p i
+
+-- The module at a place may serve a call of the turn: it stands there and is at that call, the streams fit the store, which has blocks enough,
+-- and nothing else is in hand.
+pub record MayServe (s : StoreValue) (p : Streams) (here : Spot) (again : Bool) : Type 0 where
+  pub inside : 0 < here.at
+  pub within : here.at ≤ length (stream here.side (state_in s p)).modules
+  pub begins : Begins here.way again (ldterm_of (module_at here (state_in s p)))
+  pub beside : AreBeside s p
+  pub hand : IsKeptAll s p
+  pub room : HasRoom s (call_cost here again (state_in s p))
 
 -- what the module at a place does in a call
 abbrev pub acts_in : Spot → Bool → Call → State ℕ → Took ℕ (State ℕ)
@@ -112,10 +126,6 @@ pub record ActsAs (old new : StoreValue) (p q : Streams) (here : Spot) (again : 
   pub hands : Handles old new (λ _. 0) (kept_by p) (kept_by q) (λ i. times_sent i sent_on)
   pub room : HasRoom new (later_cost most_cost call.again (next_cost here (state_in new q)) (parcels_in new sent_on))
   pub pool : SamePool old new
-
--- all that is in hand is kept by the stacks
-abbrev pub IsKeptAll : StoreValue → Streams → Type 0
-IsKeptAll s p = (i : ℕ) → times_in i s.hand ≡ kept_by p i
 
 -- A call did what it says, and what it sent is delivered.
 pub record CallsAs (old new : StoreValue) (p q : Streams) (here : Spot) (again : Bool) (call : Call) (told told' : Fates) : Type 0 where

@@ -14,7 +14,8 @@ use Rattle.strm_queue.specs.Stored.{FreesBlocks}
 use Rattle.strm_frame.specs.Serves.{SameHand}
 use Rattle.strm_pair.specs.declared.stacks.Taken.{Taken}
 use Rattle.strm_pair.specs.declared.streams.Streams.{Streams}
-use Rattle.strm_pair.specs.Pairs.{state_in, AreHeld, SamePool}
+use Rattle.strm_pair.specs.Effects.{Leads}
+use Rattle.strm_pair.specs.Pairs.{state_in}
 use Rattle.strm_pair.specs.Stacks.{modules_in, IsStackHeld, stack_owns, stack_keeps, Stack}
 
 -- what a module lets go by a rule that is taken off a side's stream
@@ -48,8 +49,5 @@ pub record TookTop (side : Side) (rule : Rule) (old new : StoreValue) (x y : Sta
 -- The module on top of a side's stream has gone, and its name is told, where one stood there. No block was taken.
 pub record WithoutTop (side : Side) (rule : Rule) (old new : StoreValue) (p q : Streams) (told told' : Fates) (name : Option ModuleName) : Type 0 where
   pub name_is : name ≡ top_on side (state_in old p)
-  pub state : state_in new q ≡ (top_taken rule side (stream side (state_in old p)).modules (state_in old p)).state
-  pub tells : told' ≡ tallied (top_taken rule side (stream side (state_in old p)).modules (state_in old p)).gone told
-  pub held : AreHeld new q
+  pub leads : let st = state_in old p in let is = top_taken rule side (stream side st).modules st in Leads old new q told told' is.state is.gone
   pub frees : FreesBlocks old new
-  pub pool : SamePool old new

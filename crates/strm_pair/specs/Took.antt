@@ -4,15 +4,15 @@ use Rattle.strm_types.specs.declared.answers.Turn.{Turn}
 use Rattle.strm_types.specs.declared.names.Side.{Side}
 use Rattle.strm_types.specs.declared.rules.Fates.{Fates}
 use Rattle.strm_types.specs.Cells.{plain}
-use Rattle.strm_types.specs.Deliver.{tallied}
 use Rattle.strm_types.specs.Message.{Message}
 use Rattle.strm_types.specs.Queue.{Queue, left_with, relieved, relieves}
-use Rattle.strm_laws.specs.State.{State, stream}
+use Rattle.strm_laws.specs.State.{stream}
 use Rattle.strm_laws.specs.Turns.{turned_queue, with_driver, moved_across}
 use Rattle.strm_blocks.specs.Blocks.{StoreValue, in_hand}
 use Rattle.strm_msg.specs.Messages.{message_of, IsChain}
 use Rattle.strm_queue.specs.Stored.{FreesBlocks}
 use Rattle.strm_pair.specs.declared.streams.Streams.{Streams}
+use Rattle.strm_pair.specs.Effects.{Delivers}
 use Rattle.strm_pair.specs.Pairs.{state_in, AreBeside}
 
 -- a queue behind a turn that took a message of this size, and whether that lets a writer go
@@ -35,10 +35,9 @@ pub record TookFirst (side : Side) (old new : StoreValue) (p q : Streams) (i : �
   pub frees : FreesBlocks old new
 
 -- A turn moved the first message, with all that this gave rise to.
-pub record MovesAcross (side : Side) (old : State ℕ) (turn : Turn) (new : State ℕ) (told told' : Fates) : Type 0 where
+pub record MovesAcross (side : Side) (old new : StoreValue) (p q : Streams) (turn : Turn) (told told' : Fates) : Type 0 where
   pub message : Message ℕ
   pub rest : List (Message ℕ)
-  pub first : (stream side old).driver.queue.messages ≡ message ∷ rest
-  pub answer : turn ≡ (moved_across plain side message rest old).turn
-  pub state : new ≡ (moved_across plain side message rest old).state
-  pub tells : told' ≡ tallied (moved_across plain side message rest old).gone told
+  pub first : (stream side (state_in old p)).driver.queue.messages ≡ message ∷ rest
+  pub answer : turn ≡ (moved_across plain side message rest (state_in old p)).turn
+  pub delivers : let is = moved_across plain side message rest (state_in old p) in Delivers old new p q told told' is.state is.gone 8

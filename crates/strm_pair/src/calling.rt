@@ -1,17 +1,13 @@
 //! Calls of a turn of a module's queue, one after the other: what each sends is delivered before the next one (srv(9E); STREAMS
 //! Programming Guide, "Service Procedures").
 
-ghost use Rattle.std.specs.Prelude.{ℕ, ◌≡◌, ◌≤◌, ◌<◌, ◌+◌, ◌^◌, length, true, false};
+ghost use Rattle.std.specs.Prelude.{◌≡◌, ◌≤◌, ◌<◌, ◌+◌, ◌^◌, length, false};
 ghost use Rattle.strm_types.specs.declared.limits.TheConstants.{MODULES};
-ghost use Rattle.strm_laws.specs.Kept.{AreIdle};
-ghost use Rattle.strm_laws.specs.Refusals.{in_range};
 ghost use Rattle.strm_laws.specs.State.{stream};
-ghost use Rattle.strm_types.specs.LdtermCalls.{Begins, bytes_left};
+ghost use Rattle.strm_types.specs.LdtermCalls.{bytes_left};
 ghost use Rattle.strm_laws.specs.TurnCalls.{ldterm_of, module_at};
-ghost use Rattle.strm_blocks.specs.Blocks.{StoreValue};
-ghost use Rattle.strm_frame.specs.Hands.{HasRoom};
 ghost use Rattle.strm_frame.specs.Outboxes.{sent_of};
-ghost use Rattle.strm_pair.specs.ModuleServed.{ActsAs, BookTakes, CallsAs, IsKeptAll, MayBook, StackServes, TreatsAs, between, call_cost, call_of, with_more};
+ghost use Rattle.strm_pair.specs.ModuleServed.{ActsAs, BookTakes, CallsAs, IsKeptAll, MayBook, MayServe, StackServes, TreatsAs, between, call_of, with_more};
 
 use crate::stacks::place_at;
 use crate::streams::Streams;
@@ -65,7 +61,8 @@ pub(crate) struct Call {
 }
 
 impl Streams {
-    ghost use Rattle.strm_pair.specs.Pairs.{state_in, end_at, with_end, AreBeside, AreHeld, SamePool};
+    ghost use Rattle.strm_pair.specs.Effects.{MayDeliver};
+    ghost use Rattle.strm_pair.specs.Pairs.{state_in, end_at, with_end, AreBeside, SamePool};
 
     // How many bytes are booked as made in each direction.
     pub(crate) fn booked(&self) -> Made
@@ -97,12 +94,7 @@ impl Streams {
         again: bool,
         told: &mut Fates,
     ) -> Served
-        requires beside { AreBeside (B.value store.old) self.old }
-        requires inside { 0 < here.at }
-        requires within { here.at ≤ length (stream here.side (state_in (B.value store.old) self.old)).modules }
-        requires begins { Begins here.way again (ldterm_of (module_at here (state_in (B.value store.old) self.old))) }
-        requires hand { IsKeptAll (B.value store.old) self.old }
-        requires room { HasRoom (B.value store.old) (call_cost here again (state_in (B.value store.old) self.old)) }
+        requires { MayServe (B.value store.old) self.old here again }
         ensures streams { self.new ≡ with_end here.side (record (end_at here.side self.old) { stack = (end_at here.side self.new).stack }) self.old }
         ensures serves { StackServes (B.value store.old) (B.value store.new) (end_at here.side self.old).stack (end_at here.side self.new).stack
             here again result told.old told.new }
@@ -116,12 +108,7 @@ impl Streams {
     // The module at a place serves a call of a turn: what it says of its queues goes by how the stream was before, and what it made is
     // booked.
     fn act<B: Blocks>(&mut self, store: &mut B, here: Spot, again: bool, told: &mut Fates) -> Served
-        requires beside { AreBeside (B.value store.old) self.old }
-        requires inside { 0 < here.at }
-        requires within { here.at ≤ length (stream here.side (state_in (B.value store.old) self.old)).modules }
-        requires begins { Begins here.way again (ldterm_of (module_at here (state_in (B.value store.old) self.old))) }
-        requires hand { IsKeptAll (B.value store.old) self.old }
-        requires room { HasRoom (B.value store.old) (call_cost here again (state_in (B.value store.old) self.old)) }
+        requires may { MayServe (B.value store.old) self.old here again }
         requires books { MayBook here again (state_in (B.value store.old) self.old) }
         ensures { ActsAs (B.value store.old) (B.value store.new) self.old self.new here again
             (call_of result) (sent_of result.acts.sent) told.old told.new }
@@ -144,13 +131,8 @@ impl Streams {
         again: bool,
         told: &mut Fates,
     ) -> Call
-        requires beside { AreBeside (B.value store.old) self.old }
-        requires inside { 0 < here.at }
+        requires may { MayServe (B.value store.old) self.old here again }
         requires low { here.at ≤ MODULES }
-        requires within { here.at ≤ length (stream here.side (state_in (B.value store.old) self.old)).modules }
-        requires begins { Begins here.way again (ldterm_of (module_at here (state_in (B.value store.old) self.old))) }
-        requires hand { IsKeptAll (B.value store.old) self.old }
-        requires room { HasRoom (B.value store.old) (call_cost here again (state_in (B.value store.old) self.old)) }
         requires books { MayBook here again (state_in (B.value store.old) self.old) }
         ensures { CallsAs (B.value store.old) (B.value store.new) self.old self.new here again result told.old told.new }
     {
@@ -172,14 +154,11 @@ impl Streams {
         here: Spot,
         told: &mut Fates,
     ) -> usize
-        requires held { AreHeld (B.value store.old) self.old }
-        requires rests { AreIdle (state_in (B.value store.old) self.old) }
+        requires may { MayDeliver (B.value store.old) self.old 25 }
         requires inside { 0 < here.at }
         requires low { here.at ≤ MODULES }
         requires within { here.at ≤ length (stream here.side (state_in (B.value store.old) self.old)).modules }
         requires few { bytes_left here.way false (ldterm_of (module_at here (state_in (B.value store.old) self.old))) ≤ 16777216 }
-        requires room { HasRoom (B.value store.old) 25 }
-        requires range { in_range (state_in (B.value store.old) self.old) ≡ true }
         ensures treats { TreatsAs here result (state_in (B.value store.old) self.old)
             (state_in (B.value store.new) self.new) told.old told.new }
         ensures beside { AreBeside (B.value store.new) self.new }

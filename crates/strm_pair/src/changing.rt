@@ -3,10 +3,8 @@
 ghost use Rattle.std.specs.Prelude.{ℕ, List, ◌≡◌, ◌<◌, ◌∷◌, ◌+◌, ◌&&◌, not, true, MatchOption, IfNone, IfSome, Some, is_some, length};
 ghost use Rattle.strm_types.specs.declared.answers.Answer.TheVariants.{Done};
 ghost use Rattle.strm_laws.specs.Calls.{looked};
-ghost use Rattle.strm_types.specs.Deliver.{tallied};
 ghost use Rattle.strm_types.specs.Dropped.{is_met};
 ghost use Rattle.strm_types.specs.Journal.{answer_len, reply_in};
-ghost use Rattle.strm_laws.specs.Kept.{AreIdle};
 ghost use Rattle.strm_types.specs.Options.{mode_number};
 ghost use Rattle.strm_laws.specs.Pushes.{all_taken, below_top, may_stand, mode_behind, mode_on_push, mode_put, modules_emptied, named_by, popped, pushed_named, top_on, with_modules};
 ghost use Rattle.strm_types.specs.Names.{driver_of, enable_if, other, place_of};
@@ -67,7 +65,8 @@ pub(crate) struct TakenOff {
 
 impl Streams {
     ghost use Rattle.strm_blocks.specs.Blocks.{StoreValue};
-    ghost use Rattle.strm_pair.specs.Pairs.{state_in, end_at, with_end, AreHeld, SamePool};
+    ghost use Rattle.strm_pair.specs.Effects.{AreAtRest, Leads};
+    ghost use Rattle.strm_pair.specs.Pairs.{state_in, end_at, with_end, AreHeld};
 
     // Takes the module on top off the stack of a side, and changes nothing else of the streams. It tells whether the M_IOCTL of a number
     // went with it, where one is sought.
@@ -79,8 +78,7 @@ impl Streams {
         seeking: Option<u32>,
         told: &mut Fates,
     ) -> Option<Taken>
-        requires held { AreHeld (B.value store.old) self.old }
-        requires idle { AreIdle (state_in (B.value store.old) self.old) }
+        requires { AreAtRest (B.value store.old) self.old }
         ensures streams { self.new ≡ with_end side (record (end_at side self.old) { stack = (end_at side self.new).stack; shelf = (end_at side self.new).shelf }) self.old }
         ensures none { IfNone result (self.new ≡ self.old) }
         ensures shelf { stack_owns (end_at side self.new).stack (first_list side + 2) ≡ 0 → is_some (end_at side self.new).shelf ≡ true }
@@ -104,8 +102,7 @@ impl Streams {
         seeking: Option<u32>,
         told: &mut Fates,
     ) -> TakenOff
-        requires held { AreHeld (B.value store.old) self.old }
-        requires idle { AreIdle (state_in (B.value store.old) self.old) }
+        requires { AreAtRest (B.value store.old) self.old }
         ensures taken { WithoutTop side rule (B.value store.old) (B.value store.new) self.old self.new told.old told.new result.name }
         ensures met { result.met
             ≡ is_met seeking (below_top (stream side (state_in (B.value store.old) self.old)).modules) }
@@ -141,15 +138,11 @@ impl Streams {
         told: &mut Fates,
         count: usize,
     )
-        requires held { AreHeld (B.value store.old) self.old }
-        requires idle { AreIdle (state_in (B.value store.old) self.old) }
+        requires rests { AreAtRest (B.value store.old) self.old }
         requires count { count ≡ length (stream side (state_in (B.value store.old) self.old)).modules }
-        ensures state { let s = state_in (B.value store.old) self.old in
-            state_in (B.value store.new) self.new ≡ (all_taken rule side (stream side s).modules s).state }
-        ensures told { let s = state_in (B.value store.old) self.old in
-            told.new ≡ tallied (all_taken rule side (stream side s).modules s).gone told.old }
-        ensures held { AreHeld (B.value store.new) self.new }
-        ensures pool { SamePool (B.value store.old) (B.value store.new) }
+        ensures { let s = B.value store.old in let st = state_in s self.old in
+            let is = all_taken rule side (stream side st).modules st in
+            Leads s (B.value store.new) self.new told.old told.new is.state is.gone }
     {
         if count == 0 {
             return;
@@ -166,13 +159,9 @@ impl Streams {
         rule: Rule,
         told: &mut Fates,
     )
-        requires held { AreHeld (B.value store.old) self.old }
-        requires idle { AreIdle (state_in (B.value store.old) self.old) }
-        ensures state { state_in (B.value store.new) self.new
-            ≡ (modules_emptied rule side (state_in (B.value store.old) self.old)).state }
-        ensures told { told.new ≡ tallied (modules_emptied rule side (state_in (B.value store.old) self.old)).gone told.old }
-        ensures held { AreHeld (B.value store.new) self.new }
-        ensures pool { SamePool (B.value store.old) (B.value store.new) }
+        requires { AreAtRest (B.value store.old) self.old }
+        ensures { let s = B.value store.old in let is = modules_emptied rule side (state_in s self.old) in
+            Leads s (B.value store.new) self.new told.old told.new is.state is.gone }
     {
         let count = module_count(&self.end(side).stack);
         self.take_all(store, side, rule, told, count);
@@ -186,13 +175,10 @@ impl Streams {
         mode: Option<ReadMode>,
         told: &mut Fates,
     )
-        requires held { AreHeld (B.value store.old) self.old }
-        requires idle { AreIdle (state_in (B.value store.old) self.old) }
+        requires rests { AreAtRest (B.value store.old) self.old }
         requires room { HasRoom (B.value store.old) 1 }
-        ensures state { state_in (B.value store.new) self.new ≡ (mode_put side mode (state_in (B.value store.old) self.old)).state }
-        ensures told { told.new ≡ tallied (mode_put side mode (state_in (B.value store.old) self.old)).gone told.old }
-        ensures held { AreHeld (B.value store.new) self.new }
-        ensures pool { SamePool (B.value store.old) (B.value store.new) }
+        ensures { let s = B.value store.old in let is = mode_put side mode (state_in s self.old) in
+            Leads s (B.value store.new) self.new told.old told.new is.state is.gone }
     {
         let Some(mode) = mode else {
             return;
@@ -210,14 +196,11 @@ impl Streams {
     /// refused where its M_IOCTL went with the module, as nobody will answer it any more. Nothing where no module stands (streamio(7I): I_POP).
     #[inline(never)]
     pub fn pop<B: Blocks>(&mut self, store: &mut B, side: Side, told: &mut Fates) -> Answer<u32>
-        requires held { AreHeld (B.value store.old) self.old }
-        requires idle { AreIdle (state_in (B.value store.old) self.old) }
+        requires rests { AreAtRest (B.value store.old) self.old }
         requires room { HasRoom (B.value store.old) 1 }
         ensures answer { result ≡ Done }
-        ensures state { state_in (B.value store.new) self.new ≡ (popped side (state_in (B.value store.old) self.old)).state }
-        ensures told { told.new ≡ tallied (popped side (state_in (B.value store.old) self.old)).gone told.old }
-        ensures held { AreHeld (B.value store.new) self.new }
-        ensures pool { SamePool (B.value store.old) (B.value store.new) }
+        ensures leads { let s = B.value store.old in let is = popped side (state_in s self.old) in
+            Leads s (B.value store.new) self.new told.old told.new is.state is.gone }
     {
         let seeking = self.end(side).head.number_sought();
         let taken = self.take_top(store, side, Rule::ModulePopped, seeking, told);
@@ -285,16 +268,12 @@ impl Streams {
         name: Option<ModuleName>,
         told: &mut Fates,
     ) -> Answer<u32>
-        requires held { AreHeld (B.value store.old) self.old }
-        requires idle { AreIdle (state_in (B.value store.old) self.old) }
+        requires rests { AreAtRest (B.value store.old) self.old }
         requires may_stand { may_stand (named_by name) (stream side (state_in (B.value store.old) self.old)).modules ≡ true }
         requires room { HasRoom (B.value store.old) 1 }
         ensures answer { result ≡ Done }
-        ensures state { state_in (B.value store.new) self.new
-            ≡ (pushed_named side (named_by name) (state_in (B.value store.old) self.old)).state }
-        ensures told { told.new ≡ tallied (pushed_named side (named_by name) (state_in (B.value store.old) self.old)).gone told.old }
-        ensures held { AreHeld (B.value store.new) self.new }
-        ensures pool { SamePool (B.value store.old) (B.value store.new) }
+        ensures leads { let s = B.value store.old in let is = pushed_named side (named_by name) (state_in s self.old) in
+            Leads s (B.value store.new) self.new told.old told.new is.state is.gone }
     {
         let Some(name) = name else {
             return Answer::Done;

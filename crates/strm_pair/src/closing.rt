@@ -1,17 +1,12 @@
 //! Flushes and closes of a side's stream (streamio(7I): I_FLUSH; close(2); STREAMS Programming Guide, "Flush Handling").
 
-ghost use Rattle.std.specs.Prelude.{ℕ, ◌≡◌, ◌+◌, ◌≤◌, true};
+ghost use Rattle.std.specs.Prelude.{◌≡◌, []};
 ghost use Rattle.strm_types.specs.declared.answers.Answer.TheVariants.{Done};
 ghost use Rattle.strm_types.specs.declared.rules.Rule.TheVariants.{EndClosed};
 ghost use Rattle.strm_types.specs.Cells.{plain};
 ghost use Rattle.strm_laws.specs.Closes.{head_emptied, driver_emptied, ended, hung_up_at, closed_at};
 ghost use Rattle.strm_types.specs.Emptied.{of_all};
-ghost use Rattle.strm_types.specs.Deliver.{tallied};
-ghost use Rattle.strm_laws.specs.Kept.{AreIdle};
 ghost use Rattle.strm_laws.specs.Puts.{flushed_on};
-ghost use Rattle.strm_laws.specs.Refusals.{in_range};
-ghost use Rattle.strm_laws.specs.Spares.{spare};
-ghost use Rattle.strm_frame.specs.Hands.{HasRoom};
 
 use crate::streams::Streams;
 use strm_blocks::Blocks;
@@ -20,9 +15,9 @@ use strm_head::make_flush;
 use strm_types::{Answer, Band, Fates, FlushAsked, FlushQueues, Rule, Side, Spot, Way};
 
 impl Streams {
-    ghost use Rattle.strm_blocks.specs.Blocks.{StoreValue};
     ghost use Rattle.strm_types.specs.declared.names.Side.TheVariants.{Slave};
-    ghost use Rattle.strm_pair.specs.Pairs.{state_in, AreHeld, AreBeside, SamePool};
+    ghost use Rattle.strm_pair.specs.Effects.{AreAtRest, Becomes, Delivers, Leads, MayDeliver};
+    ghost use Rattle.strm_pair.specs.Pairs.{state_in, AreHeld};
 
     /// Flushes a side's stream: an M_FLUSH goes down from its head, with all that it gives rise to.
     #[inline(never)]
@@ -34,18 +29,10 @@ impl Streams {
         band: Option<Band>,
         told: &mut Fates,
     ) -> Answer<u32>
-        requires held { AreHeld (B.value store.old) self.old }
-        requires idle { AreIdle (state_in (B.value store.old) self.old) }
-        requires room { HasRoom (B.value store.old) 6 }
-        requires range { in_range (state_in (B.value store.old) self.old) ≡ true }
+        requires { MayDeliver (B.value store.old) self.old 6 }
         ensures answer { result ≡ Done }
-        ensures state { state_in (B.value store.new) self.new
-            ≡ (flushed_on plain band side what (state_in (B.value store.old) self.old)).state }
-        ensures held { AreHeld (B.value store.new) self.new }
-        ensures pool { SamePool (B.value store.old) (B.value store.new) }
-        ensures told { told.new ≡ tallied (flushed_on plain band side what
-            (state_in (B.value store.old) self.old)).gone told.old }
-        ensures left { spare (state_in (B.value store.old) self.old) ≤ spare (state_in (B.value store.new) self.new) + 5 }
+        ensures delivers { let s = B.value store.old in let is = flushed_on plain band side what (state_in s self.old) in
+            Delivers s (B.value store.new) self.old self.new told.old told.new is.state is.gone 5 }
     {
         let message = make_flush(store, FlushAsked::of(what, band));
         let below = Spot {
@@ -60,11 +47,8 @@ impl Streams {
     // Lets all go that stands at a side's head.
     fn clear_head<B: Blocks>(&mut self, store: &mut B, side: Side, told: &mut Fates)
         requires { AreHeld (B.value store.old) self.old }
-        ensures state { state_in (B.value store.new) self.new
-            ≡ (head_emptied EndClosed of_all side (state_in (B.value store.old) self.old)).state }
-        ensures told { told.new ≡ tallied (head_emptied EndClosed of_all side (state_in (B.value store.old) self.old)).gone told.old }
-        ensures held { AreHeld (B.value store.new) self.new }
-        ensures pool { SamePool (B.value store.old) (B.value store.new) }
+        ensures { let s = B.value store.old in let is = head_emptied EndClosed of_all side (state_in s self.old) in
+            Leads s (B.value store.new) self.new told.old told.new is.state is.gone }
     {
         let direction = side.head().direction();
         let gone = clear_queue(
@@ -81,11 +65,8 @@ impl Streams {
     // Lets all go that stands at a side's driver.
     fn clear_driver<B: Blocks>(&mut self, store: &mut B, side: Side, told: &mut Fates)
         requires { AreHeld (B.value store.old) self.old }
-        ensures state { state_in (B.value store.new) self.new
-            ≡ (driver_emptied EndClosed of_all side (state_in (B.value store.old) self.old)).state }
-        ensures told { told.new ≡ tallied (driver_emptied EndClosed of_all side (state_in (B.value store.old) self.old)).gone told.old }
-        ensures held { AreHeld (B.value store.new) self.new }
-        ensures pool { SamePool (B.value store.old) (B.value store.new) }
+        ensures { let s = B.value store.old in let is = driver_emptied EndClosed of_all side (state_in s self.old) in
+            Leads s (B.value store.new) self.new told.old told.new is.state is.gone }
     {
         let direction = side.driver().direction();
         let at = self.driver_place(side);
@@ -103,17 +84,15 @@ impl Streams {
     // A side is closed, with a head as new.
     fn end_side<B: Blocks>(&mut self, store: &mut B, side: Side)
         requires { AreHeld (B.value store.old) self.old }
-        ensures state { state_in (B.value store.new) self.new ≡ ended side (state_in (B.value store.old) self.old) }
-        ensures held { AreHeld (B.value store.new) self.new }
-        ensures pool { SamePool (B.value store.old) (B.value store.new) }
+        ensures { (told : Fates) → let s = B.value store.old in
+            Leads s (B.value store.new) self.new told told (ended side (state_in s self.old)) [] }
     {
         self.ends.get_mut(side).close(store);
     }
 
     // An M_HANGUP goes up the slave's stream, where that is open.
     fn hang_up(&mut self)
-        ensures state { (s : StoreValue) → state_in s self.new ≡ hung_up_at Slave (state_in s self.old) }
-        ensures held { (s : StoreValue) → AreHeld s self.old → AreHeld s self.new }
+        ensures { Becomes self.old self.new (hung_up_at Slave) }
     {
         if self.ends.slave.opened.is_open() {
             self.ends.slave.head.hung_up = true;
@@ -124,14 +103,10 @@ impl Streams {
     /// master what both drivers have; the slave's driver keeps what it has for the master. The slave is hung up where the master goes.
     #[inline(never)]
     pub fn shut<B: Blocks>(&mut self, store: &mut B, side: Side, told: &mut Fates) -> Answer<u32>
-        requires held { AreHeld (B.value store.old) self.old }
-        requires idle { AreIdle (state_in (B.value store.old) self.old) }
+        requires { AreAtRest (B.value store.old) self.old }
         ensures answer { result ≡ Done }
-        ensures state { state_in (B.value store.new) self.new
-            ≡ (closed_at side (state_in (B.value store.old) self.old)).state }
-        ensures held { AreHeld (B.value store.new) self.new }
-        ensures pool { SamePool (B.value store.old) (B.value store.new) }
-        ensures told { told.new ≡ tallied (closed_at side (state_in (B.value store.old) self.old)).gone told.old }
+        ensures leads { let s = B.value store.old in let is = closed_at side (state_in s self.old) in
+            Leads s (B.value store.new) self.new told.old told.new is.state is.gone }
     {
         self.clear_head(store, side, told);
         self.clear_modules(store, side, Rule::EndClosed, told);

@@ -1,9 +1,8 @@
 //! Messages that calls and turns send (STREAMS Programming Guide, "Put Procedures").
 
-ghost use Rattle.std.specs.Prelude.{◌≡◌, ◌<◌};
+ghost use Rattle.std.specs.Prelude.{◌<◌};
 ghost use Rattle.strm_types.specs.Cells.{plain};
 ghost use Rattle.strm_types.specs.declared.limits.TheConstants.{HOPS};
-ghost use Rattle.strm_types.specs.Deliver.{tallied};
 ghost use Rattle.strm_laws.specs.Puts.{delivered};
 ghost use Rattle.strm_types.specs.Far.{far};
 ghost use Rattle.strm_laws.specs.Spares.{spare};
@@ -19,7 +18,8 @@ use strm_frame::deliver;
 use strm_types::{Fates, HOPS, Spot};
 
 impl Streams {
-    ghost use Rattle.strm_pair.specs.Pairs.{state_in, AreHeld, SamePool};
+    ghost use Rattle.strm_pair.specs.Effects.{Leads};
+    ghost use Rattle.strm_pair.specs.Pairs.{state_in};
 
     /// Delivers the one message in hand to a spot, with all that it gives rise to. Nothing is in hand behind it. As each module stands on a
     /// stream once at most, it takes few blocks, and little of the books.
@@ -34,14 +34,10 @@ impl Streams {
         requires low { far to (message_in (B.value store.old) (token message)) < HOPS }
         requires room { let s = B.value store.old in
             MayTake s (spare (state_in s self.old)) (most_cost to (message_in s (token message))) }
-        ensures state { let s = B.value store.old in state_in (B.value store.new) self.new
-            ≡ (delivered plain to (message_in s (token message)) (state_in s self.old)).state }
-        ensures told { let s = B.value store.old in told.new
-            ≡ tallied (delivered plain to (message_in s (token message)) (state_in s self.old)).gone told.old }
-        ensures held { AreHeld (B.value store.new) self.new }
+        ensures leads { let s = B.value store.old in let is = delivered plain to (message_in s (token message)) (state_in s self.old) in
+            Leads s (B.value store.new) self.new told.old told.new is.state is.gone }
         ensures takes { let s = B.value store.old in let t = B.value store.new in
             Takes s t (spare (state_in s self.old)) (spare (state_in t self.new)) (most_cost to (message_in s (token message))) 0 }
-        ensures pool { SamePool (B.value store.old) (B.value store.new) }
     {
         deliver(store, self, HOPS, to, message, told);
     }

@@ -4,11 +4,10 @@ ghost use Rattle.std.specs.Prelude.{ℕ, ◌≡◌, ◌≤◌};
 ghost use Rattle.strm_blocks.specs.Blocks.{StoreValue};
 ghost use Rattle.strm_laws.specs.State.{new_stream};
 ghost use Rattle.strm_pair.specs.Streams.{IsBlank, IsSide, stream_in};
+ghost use Rattle.strm_pair.specs.Renewed.{RenewsHead};
 ghost use Rattle.strm_pair.specs.Lists.{first_list};
 ghost use Rattle.strm_types.specs.declared.names.Openness.TheVariants.{Open, Closed};
-ghost use Rattle.strm_types.specs.Heads.{new_head};
-ghost use Rattle.strm_queue.specs.Stored.{IsReady, Keeps};
-ghost use Rattle.strm_head.specs.Heads.{head_in};
+ghost use Rattle.strm_queue.specs.Stored.{IsReady};
 
 use crate::stacks::{Stack, take_modules};
 use strm_blocks::Blocks;
@@ -44,12 +43,7 @@ impl StreamEnd {
     // Makes the head as new, with nothing on its queue.
     fn renew_head<B: Blocks>(&mut self, store: &mut B)
         requires { IsReady (B.value store.old) self.old.head.queue }
-        ensures head { head_in (B.value store.new) self.new.head ≡ new_head }
-        ensures opened { self.new.opened ≡ self.old.opened }
-        ensures driver { self.new.driver ≡ self.old.driver }
-        ensures stack { self.new.stack ≡ self.old.stack }
-        ensures shelf { self.new.shelf ≡ self.old.shelf }
-        ensures keeps { Keeps (B.value store.old) (B.value store.new) self.old.head.queue self.new.head.queue }
+        ensures { RenewsHead (B.value store.old) (B.value store.new) self.old self.new self.old.opened }
     {
         store.audit();
         self.head.queue.flushq(store, Flush::All);
@@ -59,12 +53,7 @@ impl StreamEnd {
     /// Opens the stream, with a head as new.
     pub fn open<B: Blocks>(&mut self, store: &mut B)
         requires { IsReady (B.value store.old) self.old.head.queue }
-        ensures head { head_in (B.value store.new) self.new.head ≡ new_head }
-        ensures opened { self.new.opened ≡ Open }
-        ensures driver { self.new.driver ≡ self.old.driver }
-        ensures stack { self.new.stack ≡ self.old.stack }
-        ensures shelf { self.new.shelf ≡ self.old.shelf }
-        ensures keeps { Keeps (B.value store.old) (B.value store.new) self.old.head.queue self.new.head.queue }
+        ensures { RenewsHead (B.value store.old) (B.value store.new) self.old self.new Open }
     {
         self.opened = Openness::Open;
         self.renew_head(store);
@@ -73,12 +62,7 @@ impl StreamEnd {
     /// Closes the stream, with a head as new.
     pub fn close<B: Blocks>(&mut self, store: &mut B)
         requires { IsReady (B.value store.old) self.old.head.queue }
-        ensures head { head_in (B.value store.new) self.new.head ≡ new_head }
-        ensures opened { self.new.opened ≡ Closed }
-        ensures driver { self.new.driver ≡ self.old.driver }
-        ensures stack { self.new.stack ≡ self.old.stack }
-        ensures shelf { self.new.shelf ≡ self.old.shelf }
-        ensures keeps { Keeps (B.value store.old) (B.value store.new) self.old.head.queue self.new.head.queue }
+        ensures { RenewsHead (B.value store.old) (B.value store.new) self.old self.new Closed }
     {
         self.opened = Openness::Closed;
         self.renew_head(store);

@@ -1,21 +1,15 @@
 //! Ioctls on a side's stream, and the signals that wait at its head (ioctl(2), streamio(7I): I_STR).
 
-ghost use Rattle.std.specs.Prelude.{ℕ, ◌≡◌, ◌+◌, ◌≤◌, ◌<◌, List, [], true, length};
-ghost use Rattle.strm_types.specs.declared.limits.TheConstants.{IOCTL_BLOCKS, IOCTL_END, IOCTL_MAX, READ_MAX, SIGNALS_MAX};
+ghost use Rattle.std.specs.Prelude.{ℕ, ◌≡◌, ◌≤◌, ◌<◌, List, [], length};
+ghost use Rattle.strm_types.specs.declared.limits.TheConstants.{IOCTL_BLOCKS, IOCTL_END, IOCTL_MAX, SIGNALS_MAX};
 ghost use Rattle.strm_types.specs.Cells.{plain};
 ghost use Rattle.strm_laws.specs.Calls.{group_at, ioctl_begun, ioctl_called, ioctl_sent, ioctl_told, signals_told};
-ghost use Rattle.strm_types.specs.Deliver.{tallied};
 ghost use Rattle.strm_types.specs.Dropped.{is_met, number_sought};
 ghost use Rattle.strm_types.specs.Journal.{answer_len, reply_in};
-ghost use Rattle.strm_laws.specs.Kept.{AreIdle};
 ghost use Rattle.strm_types.specs.Message.{Message};
 ghost use Rattle.strm_laws.specs.Pushes.{ioctl_dropped};
-ghost use Rattle.strm_laws.specs.Refusals.{in_range};
-ghost use Rattle.strm_laws.specs.Spares.{spare};
 ghost use Rattle.strm_laws.specs.State.{stream};
 ghost use Rattle.strm_blocks.specs.Blocks.{StoreValue};
-ghost use Rattle.strm_frame.specs.Hands.{HasRoom};
-ghost use Rattle.strm_pair.specs.Parts.{longest_part};
 
 use crate::streams::Streams;
 use strm_blocks::Blocks;
@@ -23,13 +17,13 @@ use strm_head::make_ioctl;
 use strm_types::{Answer, Content, Fates, Ioc, Side, Spot, Way, asks_group};
 
 impl Streams {
-    ghost use Rattle.strm_pair.specs.Pairs.{state_in, AreHeld, SamePool};
+    ghost use Rattle.strm_pair.specs.Effects.{Becomes, Delivers, MayDeliver};
+    ghost use Rattle.strm_pair.specs.Pairs.{state_in, AreHeld};
 
     // The ioctl of the next number is under way on a side's stream, and waits for its answer.
     fn begin_ioctl(&mut self, side: Side, command: u32)
         requires { self.old.next_ioctl < IOCTL_END }
-        ensures state { (s : StoreValue) → state_in s self.new ≡ ioctl_begun side command (state_in s self.old) }
-        ensures held { (s : StoreValue) → AreHeld s self.old → AreHeld s self.new }
+        ensures { Becomes self.old self.new (ioctl_begun side command) }
     {
         let number = self.next_ioctl;
         self.next_ioctl = number + 1;
@@ -54,18 +48,11 @@ impl Streams {
         body: &[u8],
         told: &mut Fates,
     )
-        requires held { AreHeld (B.value store.old) self.old }
-        requires idle { AreIdle (state_in (B.value store.old) self.old) }
+        requires may { MayDeliver (B.value store.old) self.old IOCTL_BLOCKS }
         requires small { length body.now ≤ IOCTL_MAX }
         requires numbered { self.old.next_ioctl < IOCTL_END }
-        requires room { HasRoom (B.value store.old) IOCTL_BLOCKS }
-        requires range { in_range (state_in (B.value store.old) self.old) ≡ true }
-        ensures state { state_in (B.value store.new) self.new
-            ≡ (ioctl_sent plain side command body.now (state_in (B.value store.old) self.old)).state }
-        ensures held { AreHeld (B.value store.new) self.new }
-        ensures pool { SamePool (B.value store.old) (B.value store.new) }
-        ensures told { told.new ≡ tallied (ioctl_sent plain side command body.now (state_in (B.value store.old) self.old)).gone told.old }
-        ensures left { spare (state_in (B.value store.old) self.old) ≤ spare (state_in (B.value store.new) self.new) + 30 }
+        ensures { let s = B.value store.old in let is = ioctl_sent plain side command body.now (state_in s self.old) in
+            Delivers s (B.value store.new) self.old self.new told.old told.new is.state is.gone 30 }
     {
         let message = make_ioctl(store, Ioc::asking(command, self.next_ioctl), body);
         self.begin_ioctl(side, command);
@@ -85,8 +72,7 @@ impl Streams {
         ensures answer { (s : StoreValue) → reply_in result out.new.items ≡ (ioctl_told side (state_in s self.old)).answer }
         ensures filled { answer_len result ≡ length out.new.items }
         ensures content { length out.new.items ≤ IOCTL_MAX }
-        ensures state { (s : StoreValue) → state_in s self.new ≡ (ioctl_told side (state_in s self.old)).state }
-        ensures held { (s : StoreValue) → AreHeld s self.old → AreHeld s self.new }
+        ensures becomes { Becomes self.old self.new (λ st. (ioctl_told side st).state) }
     {
         self.ends.get_mut(side).head.tell_ioctl(out)
     }
@@ -104,8 +90,7 @@ impl Streams {
         ensures answer { (s : StoreValue) → reply_in result out.new.items ≡ (group_at side command body.now (state_in s self.old)).answer }
         ensures filled { answer_len result ≡ length out.new.items }
         ensures content { length out.new.items ≤ IOCTL_MAX }
-        ensures state { (s : StoreValue) → state_in s self.new ≡ (group_at side command body.now (state_in s self.old)).state }
-        ensures held { (s : StoreValue) → AreHeld s self.old → AreHeld s self.new }
+        ensures becomes { Becomes self.old self.new (λ st. (group_at side command body.now st).state) }
     {
         self.next_ioctl += 1;
         self.ends.get_mut(side).head.tell_group(command, body, out)
@@ -123,23 +108,16 @@ impl Streams {
         out: &mut Content,
         told: &mut Fates,
     ) -> Answer<u32>
-        requires held { AreHeld (B.value store.old) self.old }
-        requires idle { AreIdle (state_in (B.value store.old) self.old) }
+        requires may { MayDeliver (B.value store.old) self.old IOCTL_BLOCKS }
         requires small { length body.now ≤ IOCTL_MAX }
         requires numbered { self.old.next_ioctl < IOCTL_END }
-        requires room { HasRoom (B.value store.old) IOCTL_BLOCKS }
-        requires range { in_range (state_in (B.value store.old) self.old) ≡ true }
         requires fresh { out.old.items ≡ [] }
         ensures answer { reply_in result out.new.items
             ≡ (ioctl_called plain side command body.now (state_in (B.value store.old) self.old)).answer }
         ensures filled { answer_len result ≡ length out.new.items }
         ensures content { length out.new.items ≤ IOCTL_MAX }
-        ensures state { state_in (B.value store.new) self.new
-            ≡ (ioctl_called plain side command body.now (state_in (B.value store.old) self.old)).state }
-        ensures held { AreHeld (B.value store.new) self.new }
-        ensures pool { SamePool (B.value store.old) (B.value store.new) }
-        ensures told { told.new ≡ tallied (ioctl_called plain side command body.now (state_in (B.value store.old) self.old)).gone told.old }
-        ensures left { spare (state_in (B.value store.old) self.old) ≤ spare (state_in (B.value store.new) self.new) + 30 }
+        ensures delivers { let s = B.value store.old in let is = ioctl_called plain side command body.now (state_in s self.old) in
+            Delivers s (B.value store.new) self.old self.new told.old told.new is.state is.gone 30 }
     {
         if asks_group(side, command) {
             return self.tell_group(side, command, body, out);
@@ -155,8 +133,7 @@ impl Streams {
         ensures answer { (s : StoreValue) → reply_in result out.new.items ≡ (signals_told side (state_in s self.old)).answer }
         ensures filled { answer_len result ≡ length out.new.items }
         ensures content { length out.new.items ≤ SIGNALS_MAX }
-        ensures state { (s : StoreValue) → state_in s self.new ≡ (signals_told side (state_in s self.old)).state }
-        ensures held { (s : StoreValue) → AreHeld s self.old → AreHeld s self.new }
+        ensures becomes { Becomes self.old self.new (λ st. (signals_told side st).state) }
     {
         self.ends.get_mut(side).head.take_signals(out);
         Answer::Signals(out.len() as u32)

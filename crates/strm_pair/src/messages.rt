@@ -1,22 +1,16 @@
 //! Messages that putmsg(2) sends down a side's stream, and that getmsg(2) takes off its head.
 
-ghost use Rattle.std.specs.Prelude.{ℕ, ◌≡◌, ◌≤◌, ◌<◌, ◌+◌, ◌^◌, ◌++◌, [], true, length, min, max, None, option_map, List};
+ghost use Rattle.std.specs.Prelude.{ℕ, ◌≡◌, ◌≤◌, ◌<◌, ◌+◌, ◌^◌, [], length, min, None, option_map, List};
 ghost use Rattle.strm_types.specs.declared.answers.Answer.TheVariants.{Done};
 ghost use Rattle.strm_types.specs.declared.limits.TheConstants.{READ_MAX, WRITE_BLOCKS};
 ghost use Rattle.strm_types.specs.Books.{with_written};
 ghost use Rattle.strm_laws.specs.Calls.{get_at, put_at, sizes_at};
 ghost use Rattle.strm_types.specs.Cells.{plain};
-ghost use Rattle.strm_types.specs.Deliver.{tallied};
-ghost use Rattle.strm_types.specs.GetQueues.{get_gone};
 ghost use Rattle.strm_types.specs.Journal.{answer_len, reply_in};
-ghost use Rattle.strm_laws.specs.Kept.{AreIdle};
 ghost use Rattle.strm_types.specs.Message.{part};
-ghost use Rattle.strm_types.specs.Names.{direction_from, direction_of, head_of};
+ghost use Rattle.strm_types.specs.Names.{direction_from};
 ghost use Rattle.strm_types.specs.PutMsg.{put_blocks, put_refusal};
-ghost use Rattle.strm_laws.specs.Refusals.{in_range};
-ghost use Rattle.strm_laws.specs.Spares.{spare};
-ghost use Rattle.strm_laws.specs.State.{book, stream, with_book};
-ghost use Rattle.strm_blocks.specs.Blocks.{StoreValue, free_m, free_d};
+ghost use Rattle.strm_laws.specs.State.{with_book};
 ghost use Rattle.strm_pair.specs.Parts.{longest_part};
 
 use crate::streams::Streams;
@@ -37,12 +31,12 @@ fn len_of(lent: Option<&[u8]>) -> usize
 }
 
 impl Streams {
-    ghost use Rattle.strm_pair.specs.Pairs.{state_in, AreHeld, SamePool};
+    ghost use Rattle.strm_pair.specs.Effects.{Becomes, Delivers, Leads, MayDeliver};
+    ghost use Rattle.strm_pair.specs.Pairs.{state_in, AreHeld};
 
     /// Keeps a book of what comes from a side.
     pub(crate) fn keep_book(&mut self, side: Side, book: Book)
-        ensures state { (s : StoreValue) → state_in s self.new ≡ with_book (direction_from side) book (state_in s self.old) }
-        ensures held { (s : StoreValue) → AreHeld s self.old → AreHeld s self.new }
+        ensures { Becomes self.old self.new (with_book (direction_from side) book) }
     {
         *self.books.get_mut(side) = book;
     }
@@ -59,20 +53,13 @@ impl Streams {
         body: Option<&[u8]>,
         told: &mut Fates,
     ) -> Answer<u32>
-        requires held { AreHeld (B.value store.old) self.old }
-        requires idle { AreIdle (state_in (B.value store.old) self.old) }
         requires allowed { put_refusal prio (option_map (λ bytes. bytes.now) control) (option_map (λ bytes. bytes.now) body) ≡ None }
-        requires in_range { in_range (state_in (B.value store.old) self.old) ≡ true }
-        requires room_m { WRITE_BLOCKS + put_blocks (option_map (λ bytes. bytes.now) control) (option_map (λ bytes. bytes.now) body) ≤ free_m (B.value store.old) }
-        requires room_d { WRITE_BLOCKS + put_blocks (option_map (λ bytes. bytes.now) control) (option_map (λ bytes. bytes.now) body) ≤ free_d (B.value store.old) }
+        requires may { MayDeliver (B.value store.old) self.old
+            (WRITE_BLOCKS + put_blocks (option_map (λ bytes. bytes.now) control) (option_map (λ bytes. bytes.now) body)) }
         ensures answer { result ≡ Done }
-        ensures state { let c = option_map (λ bytes. bytes.now) control.entry in let b = option_map (λ bytes. bytes.now) body.entry in
-            state_in (B.value store.new) self.new ≡ (put_at plain side prio c b (state_in (B.value store.old) self.old)).state }
-        ensures held { AreHeld (B.value store.new) self.new }
-        ensures pool { SamePool (B.value store.old) (B.value store.new) }
-        ensures told { let c = option_map (λ bytes. bytes.now) control.entry in let b = option_map (λ bytes. bytes.now) body.entry in
-            told.new ≡ tallied (put_at plain side prio c b (state_in (B.value store.old) self.old)).gone told.old }
-        ensures left { spare (state_in (B.value store.old) self.old) ≤ spare (state_in (B.value store.new) self.new) }
+        ensures delivers { let c = option_map (λ bytes. bytes.now) control.entry in let b = option_map (λ bytes. bytes.now) body.entry in
+            let s = B.value store.old in let is = put_at plain side prio c b (state_in s self.old) in
+            Delivers s (B.value store.new) self.old self.new told.old told.new is.state is.gone 0 }
     {
         let Some(message) = make_message(store, prio, control, body) else {
             return Answer::Done;
@@ -107,12 +94,8 @@ impl Streams {
         ensures filled { answer_len result ≡ length out.new.items }
         ensures parts { longest_part result ≤ READ_MAX }
         ensures most { length out.new.items ≤ min cmax READ_MAX + min dmax READ_MAX }
-        ensures state { state_in (B.value store.new) self.new
-            ≡ (get_at plain side wanted cmax dmax (state_in (B.value store.old) self.old)).state }
-        ensures held { AreHeld (B.value store.new) self.new }
-        ensures pool { SamePool (B.value store.old) (B.value store.new) }
-        ensures told { told.new ≡ tallied (get_gone (direction_of (head_of side)) wanted (min cmax READ_MAX) (min dmax READ_MAX)
-            (stream side (state_in (B.value store.old) self.old)).head.queue.messages) told.old }
+        ensures leads { let s = B.value store.old in let is = get_at plain side wanted cmax dmax (state_in s self.old) in
+            Leads s (B.value store.new) self.new told.old told.new is.state is.gone }
     {
         let most = (cmax as usize).min(READ_MAX);
         let most_data = (dmax as usize).min(READ_MAX);

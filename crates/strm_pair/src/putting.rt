@@ -1,7 +1,7 @@
 //! What stands on the streams of a pair, as delivery sees it: two heads, two drivers, and the modules between them (STREAMS
 //! Programming Guide, "Put Procedures").
 
-ghost use Rattle.std.specs.Prelude.{ℕ, ◌≡◌, ◌<◌, ◌≤◌, ◌&&◌, ◌==◌, [], ◌∷◌, suc, true, false, if◌then◌else◌, Some};
+ghost use Rattle.std.specs.Prelude.{ℕ, ◌≡◌, ◌<◌, ◌≤◌, ◌&&◌, ◌==◌, true, false, if◌then◌else◌, Some};
 ghost use Rattle.strm_types.specs.declared.limits.TheConstants.{MODULES};
 ghost use Rattle.strm_types.specs.declared.names.Way.TheVariants.{Up};
 ghost use Rattle.strm_types.specs.Cells.{plain};
@@ -12,10 +12,10 @@ ghost use Rattle.strm_types.specs.Names.{is_open};
 ghost use Rattle.strm_laws.specs.Puts.{across_of, put_at_head, put_at_module, put_at_driver, passed_up, put_behind, put_in};
 ghost use Rattle.strm_types.specs.Far.{far};
 ghost use Rattle.strm_laws.specs.State.{stream};
-ghost use Rattle.strm_blocks.specs.Blocks.{in_hand, block_at, token};
+ghost use Rattle.strm_blocks.specs.Blocks.{in_hand, token};
 ghost use Rattle.strm_msg.specs.Messages.{IsChain};
-ghost use Rattle.strm_frame.specs.Hands.{CanPut, HasRoom, MayTake, Shifts, once};
-ghost use Rattle.strm_frame.specs.Outboxes.{message_in, sent_of, times_sent, parcels_in, AreChains};
+ghost use Rattle.strm_frame.specs.Hands.{HasRoom, MayTake};
+ghost use Rattle.strm_frame.specs.Outboxes.{message_in, sent_of};
 ghost use Rattle.strm_types.specs.Reads.{is_there};
 ghost use Rattle.strm_head.specs.Heads.{down_message, sent_down};
 ghost use Rattle.strm_pty.specs.Does.{Makes, MadeOne};
@@ -23,7 +23,7 @@ ghost use Rattle.strm_types.specs.Costs.{below_takes, cost_of, head_takes, is_ac
 ghost use Rattle.strm_types.specs.ModuleQueues.{at_place};
 ghost use Rattle.strm_laws.specs.Spares.{module_packs, spare};
 ghost use Rattle.strm_laws.specs.StackCosts.{module_leaves, module_takes, stack_cost, stands_of};
-ghost use Rattle.strm_pair.specs.PutBy.{PutAs, PutBy, CameBy, StackTakes};
+ghost use Rattle.strm_pair.specs.PutBy.{MayPut, PutAs, PutBy, CameBy, StackTakes};
 
 use crate::calling::Made;
 use crate::stacks::place_at;
@@ -91,9 +91,7 @@ impl Streams {
 
     // A message that comes to the head of a side that isn't open, where nobody reads: its bytes go.
     fn lose<B: Blocks>(&self, store: &mut B, to: Spot, message: InHand, told: &mut Fates) -> Outbox
-        requires beside { AreBeside (B.value store.old) self.now }
-        requires can_put { CanPut (B.value store.old) (token message) (kept_by self.now) }
-        requires chain { IsChain (in_hand (B.value store.old) (token message)) }
+        requires may { MayPut (B.value store.old) self.now (token message) }
         requires closed { is_open (stream to.side (state_in (B.value store.old) self.now)).opened ≡ false }
         ensures { let s = B.value store.old in
             PutBy s (B.value store.new) self.now self.now (token message) 0 (sent_of result) told.old told.new
@@ -114,9 +112,7 @@ impl Streams {
         message: InHand,
         told: &mut Fates,
     ) -> Option<Down>
-        requires beside { AreBeside (B.value store.old) self.old }
-        requires can_put { CanPut (B.value store.old) (token message) (kept_by self.old) }
-        requires chain { IsChain (in_hand (B.value store.old) (token message)) }
+        requires may { MayPut (B.value store.old) self.old (token message) }
         requires opened { is_open (stream to.side (state_in (B.value store.old) self.old)).opened ≡ true }
         ensures { let s = B.value store.old in
             CameBy s (B.value store.new) self.old self.new (token message) (sent_down to result) told.old told.new
@@ -140,9 +136,7 @@ impl Streams {
         message: InHand,
         told: &mut Fates,
     ) -> Outbox
-        requires beside { AreBeside (B.value store.old) self.old }
-        requires can_put { CanPut (B.value store.old) (token message) (kept_by self.old) }
-        requires chain { IsChain (in_hand (B.value store.old) (token message)) }
+        requires may { MayPut (B.value store.old) self.old (token message) }
         requires room { HasRoom (B.value store.old) (head_takes (message_in (B.value store.old) (token message))) }
         requires top { to.at ≡ 0 }
         ensures { let s = B.value store.old in let m = message_in s (token message) in
@@ -164,9 +158,7 @@ impl Streams {
         message: InHand,
         told: &mut Fates,
     ) -> Acts
-        requires beside { AreBeside (B.value store.old) self.old }
-        requires can_put { CanPut (B.value store.old) (token message) (kept_by self.old) }
-        requires chain { IsChain (in_hand (B.value store.old) (token message)) }
+        requires may { MayPut (B.value store.old) self.old (token message) }
         requires room { let s = B.value store.old in let m = message_in s (token message) in
             HasRoom s (at_place (module_takes to m) 0 to.at (stream to.side (state_in s self.old)).modules) }
         requires inside { 0 < to.at }
@@ -190,9 +182,7 @@ impl Streams {
         message: InHand,
         told: &mut Fates,
     ) -> Outbox
-        requires beside { AreBeside (B.value store.old) self.old }
-        requires can_put { CanPut (B.value store.old) (token message) (kept_by self.old) }
-        requires chain { IsChain (in_hand (B.value store.old) (token message)) }
+        requires may { MayPut (B.value store.old) self.old (token message) }
         requires room { let s = B.value store.old in let m = message_in s (token message) in
             HasRoom s (at_place (module_takes to m) 0 to.at (stream to.side (state_in s self.old)).modules) }
         requires books { let s = B.value store.old in let m = message_in s (token message) in let st = state_in s self.old in
@@ -222,9 +212,7 @@ impl Streams {
         message: InHand,
         told: &mut Fates,
     ) -> Outbox
-        requires beside { AreBeside (B.value store.old) self.old }
-        requires can_put { CanPut (B.value store.old) (token message) (kept_by self.old) }
-        requires chain { IsChain (in_hand (B.value store.old) (token message)) }
+        requires may { MayPut (B.value store.old) self.old (token message) }
         requires room { HasRoom (B.value store.old) (below_takes to.way (has_parts (message_in (B.value store.old) (token message))) true) }
         ensures { let s = B.value store.old in let m = message_in s (token message) in
             PutBy s (B.value store.new) self.old self.new (token message) (below_takes to.way (has_parts m) true)
@@ -270,9 +258,7 @@ impl Streams {
         message: InHand,
         told: &mut Fates,
     ) -> Outbox
-        requires beside { AreBeside (B.value store.old) self.old }
-        requires can_put { CanPut (B.value store.old) (token message) (kept_by self.old) }
-        requires chain { IsChain (in_hand (B.value store.old) (token message)) }
+        requires may { MayPut (B.value store.old) self.old (token message) }
         requires room { let m = message_in (B.value store.old) (token message) in
             HasRoom (B.value store.old) (below_takes Up (has_parts m) (is_across to m)) }
         requires up { to.way ≡ Up }
@@ -295,9 +281,7 @@ impl Streams {
         message: InHand,
         told: &mut Fates,
     ) -> Outbox
-        requires beside { AreBeside (B.value store.old) self.old }
-        requires can_put { CanPut (B.value store.old) (token message) (kept_by self.old) }
-        requires chain { IsChain (in_hand (B.value store.old) (token message)) }
+        requires may { MayPut (B.value store.old) self.old (token message) }
         requires room { let s = B.value store.old in let st = state_in s self.old in
             MayTake s (spare st) (stack_cost (stands_of st) to (message_in s (token message))) }
         ensures { let s = B.value store.old in let m = message_in s (token message) in let st = state_in s self.old in

@@ -71,7 +71,8 @@ impl StreamEnd {
 }
 
 impl Streams {
-    ghost use Rattle.strm_pair.specs.Pairs.{AreBeside, AreHeld, state_in};
+    ghost use Rattle.strm_pair.specs.Effects.{Becomes};
+    ghost use Rattle.strm_pair.specs.Pairs.{AreBeside, state_in};
 
     /// Whether a message of a band may go on past a place of a side's stream, as messages of a way go. Nobody waits by this.
     pub(crate) fn has_room_past<B: Blocks>(
@@ -99,9 +100,7 @@ impl Streams {
     /// Has a writer wait for room in a band past a place of a side's stream, as messages of a way go: want-write is set on the nearest
     /// queue there.
     pub(crate) fn wait_past(&mut self, side: Side, way: Way, at: usize, band: Band)
-        ensures state { (s : StoreValue) → state_in s self.new
-            ≡ writer_waits side way at band.0 (state_in s self.old) }
-        ensures held { (s : StoreValue) → AreHeld s self.old → AreHeld s self.new }
+        ensures { Becomes self.old self.new (writer_waits side way at band.0) }
     {
         self.ends.get_mut(side).wait_past(way, at, band);
     }

@@ -1,19 +1,15 @@
 //! Turns of the queues of modules (srv(9E); STREAMS Programming Guide, "Service Procedures", "Flow Control"). Places count from the
 //! head's, 0, over the modules from the top, to the driver's.
 
-ghost use Rattle.std.specs.Prelude.{ℕ, ◌≡◌, ◌≤◌, ◌<◌, length, true, false};
+ghost use Rattle.std.specs.Prelude.{ℕ, ◌≡◌, ◌≤◌, ◌<◌, length, false};
 ghost use Rattle.strm_types.specs.Cells.{plain};
-ghost use Rattle.strm_types.specs.Deliver.{tallied};
-ghost use Rattle.strm_laws.specs.Kept.{AreIdle};
 ghost use Rattle.strm_types.specs.ModuleQueues.{at_place};
 ghost use Rattle.strm_laws.specs.Ledgers.{FewBooked};
 ghost use Rattle.strm_laws.specs.ModuleTurns.{module_turn_ended, module_turned, place_named, queue_ended, stayed_at};
-ghost use Rattle.strm_laws.specs.Refusals.{in_range};
 ghost use Rattle.strm_types.specs.Service.{end_relieves, has_more};
 ghost use Rattle.strm_laws.specs.Stacked.{module_queue};
 ghost use Rattle.strm_laws.specs.State.{stream, with_stream};
 ghost use Rattle.strm_blocks.specs.Blocks.{StoreValue};
-ghost use Rattle.strm_frame.specs.Hands.{HasRoom};
 ghost use Rattle.strm_pair.specs.declared.serving.Begun.TheVariants.{Over};
 ghost use Rattle.strm_pair.specs.ModuleTurned.{BeginsAs};
 
@@ -31,7 +27,8 @@ pub(crate) enum Begun {
 }
 
 impl Streams {
-    ghost use Rattle.strm_pair.specs.Pairs.{state_in, AreBeside, AreHeld, SamePool, kept_by};
+    ghost use Rattle.strm_pair.specs.Effects.{AreAtRest, Leads, MayDeliver};
+    ghost use Rattle.strm_pair.specs.Pairs.{state_in, AreBeside, AreHeld, kept_by};
 
     /// The place of the module on a side's stream whose queues have a name.
     pub(crate) fn module_named(&self, side: Side, name: Place) -> Option<usize>
@@ -78,8 +75,7 @@ impl Streams {
     /// there, the turn is over as an idle one; where its first message may not go on, as a blocked one, and a writer waits for room
     /// where that is what it asks for. Nothing of a turn is under way.
     pub(crate) fn begin_module_turn<B: Blocks>(&mut self, store: &B, name: QueueName) -> Begun
-        requires held { AreHeld (B.value store.now) self.old }
-        requires rests { AreIdle (state_in (B.value store.now) self.old) }
+        requires { AreAtRest (B.value store.now) self.old }
         ensures begins { BeginsAs (state_in (B.value store.now) self.old) (state_in (B.value store.now) self.new)
             name result }
         ensures held { AreHeld (B.value store.now) self.new }
@@ -132,17 +128,11 @@ impl Streams {
         name: QueueName,
         told: &mut Fates,
     ) -> Turn
-        requires held { AreHeld (B.value store.old) self.old }
-        requires rests { AreIdle (state_in (B.value store.old) self.old) }
-        requires room { HasRoom (B.value store.old) 25 }
-        requires range { in_range (state_in (B.value store.old) self.old) ≡ true }
+        requires { MayDeliver (B.value store.old) self.old 25 }
         ensures turn { result ≡ (module_turned plain name result (state_in (B.value store.old) self.old)).turn }
-        ensures state { state_in (B.value store.new) self.new
-            ≡ (module_turned plain name result (state_in (B.value store.old) self.old)).state }
-        ensures told { told.new ≡ tallied (module_turned plain name result (state_in (B.value store.old) self.old)).gone told.old }
+        ensures leads { let s = B.value store.old in let is = module_turned plain name result (state_in s self.old) in
+            Leads s (B.value store.new) self.new told.old told.new is.state is.gone }
         ensures few { FewBooked (state_in (B.value store.new) self.new) }
-        ensures held { AreHeld (B.value store.new) self.new }
-        ensures pool { SamePool (B.value store.old) (B.value store.new) }
     {
         match self.begin_module_turn(store, name) {
             Begun::Over(turn) => turn,

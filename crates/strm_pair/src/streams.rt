@@ -1,7 +1,7 @@
 //! Both streams of a pair, and what calls and turns do to them, on the store in which their messages stand.
 
 ghost use Rattle.std.specs.Bool.{OnTrue};
-ghost use Rattle.std.specs.Prelude.{ℕ, ◌≡◌, ◌+◌, ◌≤◌, ◌<◌, true, false, [], length, min, None};
+ghost use Rattle.std.specs.Prelude.{ℕ, ◌≡◌, ◌+◌, ◌≤◌, false, [], length, min, None};
 ghost use Rattle.strm_laws.specs.Ledgers.{FewBooked};
 ghost use Rattle.strm_types.specs.Cells.{plain};
 ghost use Rattle.strm_laws.specs.State.{opening, new_stream};
@@ -9,16 +9,14 @@ ghost use Rattle.strm_types.specs.declared.answers.Answer.TheVariants.{Done, Byt
 ghost use Rattle.strm_types.specs.declared.names.Openness.TheVariants.{Open};
 ghost use Rattle.strm_types.specs.Events.{request};
 ghost use Rattle.strm_laws.specs.Calls.{delivers, mode_set, opened_slave, performed, read_at};
-ghost use Rattle.strm_types.specs.Deliver.{tallied};
-ghost use Rattle.strm_laws.specs.Kept.{AreIdle};
 ghost use Rattle.strm_laws.specs.Turns.{turned};
 ghost use Rattle.strm_types.specs.declared.limits.TheConstants.{READ_MAX};
 ghost use Rattle.strm_frame.specs.Hands.{HasRoom};
-ghost use Rattle.strm_laws.specs.Refusals.{blocks_asked, in_range, refused_at_once, unfit};
+ghost use Rattle.strm_laws.specs.Refusals.{blocks_asked, refused_at_once, unfit};
 ghost use Rattle.strm_types.specs.Refused.{turn_blocks};
 ghost use Rattle.strm_laws.specs.Spares.{spare};
 ghost use Rattle.strm_types.specs.Journal.{reply_in, answer_len, content_max};
-ghost use Rattle.strm_blocks.specs.Blocks.{StoreValue, free_m, free_d, empty_store};
+ghost use Rattle.strm_blocks.specs.Blocks.{StoreValue, empty_store};
 ghost use Rattle.strm_pair.specs.Streams.{IsBlank, IsSide, stream_in};
 ghost use Rattle.strm_pair.specs.Parts.{longest_part};
 
@@ -90,7 +88,8 @@ fn new_end(first: usize, tables: SideTables) -> StreamEnd
 
 impl Streams {
     ghost use Rattle.strm_types.specs.declared.names.Side.TheVariants.{Master};
-    ghost use Rattle.strm_pair.specs.Pairs.{state_in, end_at, with_end, AreBeside, AreHeld, SamePool};
+    ghost use Rattle.strm_pair.specs.Effects.{AreAtRest, Becomes, Leads, MayDeliver};
+    ghost use Rattle.strm_pair.specs.Pairs.{state_in, end_at, with_end, AreBeside, AreHeld};
 
     /// The streams of a new pair.
     pub fn new(tables: Both<SideTables>) -> Streams
@@ -149,9 +148,8 @@ impl Streams {
     pub fn open_slave<B: Blocks>(&mut self, store: &mut B) -> Answer<u32>
         requires { AreHeld (B.value store.old) self.old }
         ensures answer { result ≡ Done }
-        ensures state { state_in (B.value store.new) self.new ≡ opened_slave (state_in (B.value store.old) self.old) }
-        ensures held { AreHeld (B.value store.new) self.new }
-        ensures pool { SamePool (B.value store.old) (B.value store.new) }
+        ensures leads { (told : Fates) → let s = B.value store.old in
+            Leads s (B.value store.new) self.new told told (opened_slave (state_in s self.old)) [] }
     {
         self.ends.slave.open(store);
         if !self.ends.master.driver.is_empty(store) {
@@ -163,8 +161,7 @@ impl Streams {
     // Sets a mode of a side's head.
     #[inline(never)]
     fn set_mode(&mut self, side: Side, mode: Mode)
-        ensures state { (s : StoreValue) → state_in s self.new ≡ mode_set side mode (state_in s self.old) }
-        ensures held { (s : StoreValue) → AreHeld s self.old → AreHeld s self.new }
+        ensures { Becomes self.old self.new (mode_set side mode) }
     {
         self.ends.get_mut(side).head.set_mode(mode);
     }
@@ -183,11 +180,8 @@ impl Streams {
         requires fresh { out.old.items ≡ [] }
         ensures answer { Bytes out.new.items ≡ (read_at plain side n (state_in (B.value store.old) self.old)).answer }
         ensures most { length out.new.items ≤ min n READ_MAX }
-        ensures state { state_in (B.value store.new) self.new
-            ≡ (read_at plain side n (state_in (B.value store.old) self.old)).state }
-        ensures held { AreHeld (B.value store.new) self.new }
-        ensures pool { SamePool (B.value store.old) (B.value store.new) }
-        ensures told { told.new ≡ tallied (read_at plain side n (state_in (B.value store.old) self.old)).gone told.old }
+        ensures leads { let s = B.value store.old in let is = read_at plain side n (state_in s self.old) in
+            Leads s (B.value store.new) self.new told.old told.new is.state is.gone }
     {
         let wanted = (n as usize).min(READ_MAX);
         let direction = side.head().direction();
@@ -209,25 +203,19 @@ impl Streams {
         out: &mut Content,
         told: &mut Fates,
     ) -> Answer<u32>
-        requires held { AreHeld (B.value store.old) self.old }
+        requires rests { AreAtRest (B.value store.old) self.old }
         requires allowed { refused_at_once (state_in (B.value store.old) self.old) caller (request event.now) ≡ None }
         requires fits { unfit (state_in (B.value store.old) self.old) caller (request event.now) ≡ None }
-        requires idle { AreIdle (state_in (B.value store.old) self.old) }
-        requires room_m { blocks_asked (request event.now) ≤ free_m (B.value store.old) }
-        requires room_d { blocks_asked (request event.now) ≤ free_d (B.value store.old) }
+        requires room { HasRoom (B.value store.old) (blocks_asked (request event.now)) }
         ensures answer { reply_in result out.new.items
             ≡ (performed plain caller (request event.now) (state_in (B.value store.old) self.old)).answer }
         ensures filled { answer_len result ≡ length out.new.items }
         ensures content { length out.new.items ≤ content_max (request event.now) }
         ensures parts { longest_part result ≤ READ_MAX }
-        ensures state { state_in (B.value store.new) self.new
-            ≡ (performed plain caller (request event.now) (state_in (B.value store.old) self.old)).state }
-        ensures held { AreHeld (B.value store.new) self.new }
-        ensures told { told.new
-            ≡ tallied (performed plain caller (request event.now) (state_in (B.value store.old) self.old)).gone told.old }
+        ensures leads { let s = B.value store.old in let is = performed plain caller (request event.now) (state_in s self.old) in
+            Leads s (B.value store.new) self.new told.old told.new is.state is.gone }
         ensures left { OnTrue (delivers (request event.now))
             (spare (state_in (B.value store.old) self.old) ≤ spare (state_in (B.value store.new) self.new) + 30) }
-        ensures pool { SamePool (B.value store.old) (B.value store.new) }
     {
         out.clear();
         let side = caller.side;
@@ -266,17 +254,11 @@ impl Streams {
 
     /// A turn of an enabled queue.
     pub fn turn<B: Blocks>(&mut self, store: &mut B, name: QueueName, told: &mut Fates) -> Turn
-        requires held { AreHeld (B.value store.old) self.old }
-        requires idle { AreIdle (state_in (B.value store.old) self.old) }
-        requires room { HasRoom (B.value store.old) (turn_blocks name.place) }
-        requires range { in_range (state_in (B.value store.old) self.old) ≡ true }
+        requires { MayDeliver (B.value store.old) self.old (turn_blocks name.place) }
         ensures turn { result ≡ (turned plain name result (state_in (B.value store.old) self.old)).turn }
-        ensures state { state_in (B.value store.new) self.new
-            ≡ (turned plain name result (state_in (B.value store.old) self.old)).state }
+        ensures leads { let s = B.value store.old in let is = turned plain name result (state_in s self.old) in
+            Leads s (B.value store.new) self.new told.old told.new is.state is.gone }
         ensures few { FewBooked (state_in (B.value store.new) self.new) }
-        ensures held { AreHeld (B.value store.new) self.new }
-        ensures pool { SamePool (B.value store.old) (B.value store.new) }
-        ensures told { told.new ≡ tallied (turned plain name result (state_in (B.value store.old) self.old)).gone told.old }
     {
         self.enabled.remove(name);
         match name.place {

@@ -1,19 +1,14 @@
 //! A turn of a driver: what goes from it up the other side's stream (STREAMS Programming Guide, "Service Procedures").
 
-ghost use Rattle.std.specs.Prelude.{ℕ, ◌≡◌, ◌+◌, ◌≤◌, ◌<◌, ◌&&◌, [], not, true, false, MatchOption};
+ghost use Rattle.std.specs.Prelude.{◌≡◌, ◌&&◌, [], not, false, MatchOption};
 ghost use Rattle.strm_types.specs.declared.names.Way.TheVariants.{Up};
 ghost use Rattle.strm_types.specs.Cells.{plain};
-ghost use Rattle.strm_types.specs.Deliver.{tallied};
 ghost use Rattle.strm_laws.specs.Earlier.{driver_place};
-ghost use Rattle.strm_laws.specs.Kept.{AreIdle};
 ghost use Rattle.strm_types.specs.Message.{is_held};
 ghost use Rattle.strm_laws.specs.Past.{has_room_past};
 ghost use Rattle.strm_laws.specs.Turns.{driver_turned, turn_ended, with_driver};
 ghost use Rattle.strm_types.specs.Queue.{is_none_left};
-ghost use Rattle.strm_laws.specs.Refusals.{in_range};
-ghost use Rattle.strm_laws.specs.Spares.{spare};
 ghost use Rattle.strm_laws.specs.State.{stream};
-ghost use Rattle.strm_frame.specs.Hands.{HasRoom};
 ghost use Rattle.strm_queue.specs.Stored.{messages_on, queue_in, IsReady};
 ghost use Rattle.strm_pty.specs.Does.{OnlyQueue};
 ghost use Rattle.strm_pair.specs.Took.{settled, settling_relieves, TookFirst, MovesAcross};
@@ -48,13 +43,13 @@ fn settle<B: Blocks>(store: &B, queue: &mut Queue, size: usize) -> TurnEnd
 }
 
 impl Streams {
-    ghost use Rattle.strm_blocks.specs.Blocks.{StoreValue, token};
-    ghost use Rattle.strm_pair.specs.Pairs.{state_in, end_at, AreBeside, AreHeld, SamePool};
+    ghost use Rattle.strm_blocks.specs.Blocks.{token};
+    ghost use Rattle.strm_pair.specs.Effects.{AreAtRest, Becomes, Delivers, MayDeliver};
+    ghost use Rattle.strm_pair.specs.Pairs.{state_in, end_at, AreBeside, AreHeld};
 
     // Takes the first message off the queue of a side's driver.
     fn take_first<B: Blocks>(&mut self, store: &mut B, side: Side) -> Option<InHand>
-        requires held { AreHeld (B.value store.old) self.old }
-        requires idle { AreIdle (state_in (B.value store.old) self.old) }
+        requires { AreAtRest (B.value store.old) self.old }
         ensures { MatchOption result
             (messages_on (B.value store.old) (end_at side self.old).driver.list ≡ [])
             (λ m. TookFirst side (B.value store.old) (B.value store.new) self.old self.new (token m)) }
@@ -76,16 +71,9 @@ impl Streams {
 
     // A driver's first message goes up the other side's stream, with all that it gives rise to.
     fn move_across<B: Blocks>(&mut self, store: &mut B, side: Side, told: &mut Fates) -> Turn
-        requires held { AreHeld (B.value store.old) self.old }
-        requires idle { AreIdle (state_in (B.value store.old) self.old) }
-        requires room { HasRoom (B.value store.old) 8 }
-        requires range { in_range (state_in (B.value store.old) self.old) ≡ true }
+        requires may { MayDeliver (B.value store.old) self.old 8 }
         requires some { is_none_left (messages_on (B.value store.old) (end_at side self.old).driver.list) ≡ false }
-        ensures moves { MovesAcross side (state_in (B.value store.old) self.old) result
-            (state_in (B.value store.new) self.new) told.old told.new }
-        ensures held { AreHeld (B.value store.new) self.new }
-        ensures pool { SamePool (B.value store.old) (B.value store.new) }
-        ensures left { spare (state_in (B.value store.old) self.old) ≤ spare (state_in (B.value store.new) self.new) + 8 }
+        ensures { MovesAcross side (B.value store.old) (B.value store.new) self.old self.new result told.old told.new }
     {
         let Some(message) = self.take_first(store, side) else {
             return Turn::Idle;
@@ -106,9 +94,8 @@ impl Streams {
 
     // A driver's queue keeps what it has, and wants to be read or not.
     fn keep(&mut self, side: Side, want_read: bool)
-        ensures state { (s : StoreValue) → state_in s self.new
-            ≡ with_driver side (record (stream side (state_in s self.old)).driver.queue { want_read = want_read }) (state_in s self.old) }
-        ensures held { (s : StoreValue) → AreHeld s self.old → AreHeld s self.new }
+        ensures { Becomes self.old self.new
+            (λ st. with_driver side (record (stream side st).driver.queue { want_read = want_read }) st) }
     {
         self.ends.get_mut(side).driver.want_read = want_read;
     }
@@ -131,17 +118,10 @@ impl Streams {
         side: Side,
         told: &mut Fates,
     ) -> Turn
-        requires held { AreHeld (B.value store.old) self.old }
-        requires idle { AreIdle (state_in (B.value store.old) self.old) }
-        requires room { HasRoom (B.value store.old) 8 }
-        requires range { in_range (state_in (B.value store.old) self.old) ≡ true }
+        requires { MayDeliver (B.value store.old) self.old 8 }
         ensures turn { result ≡ (driver_turned plain side (state_in (B.value store.old) self.old)).turn }
-        ensures state { state_in (B.value store.new) self.new
-            ≡ (driver_turned plain side (state_in (B.value store.old) self.old)).state }
-        ensures told { told.new ≡ tallied (driver_turned plain side (state_in (B.value store.old) self.old)).gone told.old }
-        ensures held { AreHeld (B.value store.new) self.new }
-        ensures pool { SamePool (B.value store.old) (B.value store.new) }
-        ensures left { spare (state_in (B.value store.old) self.old) ≤ spare (state_in (B.value store.new) self.new) + 8 }
+        ensures delivers { let s = B.value store.old in let is = driver_turned plain side (state_in s self.old) in
+            Delivers s (B.value store.new) self.old self.new told.old told.new is.state is.gone 8 }
     {
         let Some(first) = store.peek(self.end(side).driver.list) else {
             self.keep(side, true);

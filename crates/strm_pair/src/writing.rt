@@ -1,21 +1,18 @@
 //! Writes on a side's stream, chunk by chunk (write(2), streamio(7I)).
 
-ghost use Rattle.std.specs.Prelude.{ℕ, ◌≡◌, ◌+◌, ◌≤◌, ◌<◌, ◌^◌, true, false, length};
+ghost use Rattle.std.specs.Prelude.{◌≡◌, ◌+◌, ◌≤◌, ◌<◌, ◌^◌, length};
 ghost use Rattle.strm_types.specs.declared.answers.Answer.TheVariants.{Count};
 ghost use Rattle.strm_types.specs.Books.{with_written};
-ghost use Rattle.strm_laws.specs.Calls.{wrote, write_sent};
+ghost use Rattle.strm_laws.specs.Calls.{wrote};
 ghost use Rattle.strm_types.specs.Cells.{plain};
-ghost use Rattle.strm_types.specs.Deliver.{tallied};
-ghost use Rattle.strm_laws.specs.Kept.{AreIdle};
 ghost use Rattle.strm_types.specs.Message.{data_message};
 ghost use Rattle.strm_types.specs.Names.{direction_from};
 ghost use Rattle.strm_laws.specs.Puts.{delivered};
-ghost use Rattle.strm_laws.specs.Refusals.{in_range};
-ghost use Rattle.strm_laws.specs.Spares.{spare};
 ghost use Rattle.strm_laws.specs.State.{book};
 ghost use Rattle.strm_types.specs.Write.{chunk_count, chunks_of};
 ghost use Rattle.strm_laws.specs.Writes.{below_head, chunks_sent};
-ghost use Rattle.strm_blocks.specs.Blocks.{StoreValue, free_m, free_d};
+ghost use Rattle.strm_blocks.specs.Blocks.{StoreValue};
+ghost use Rattle.strm_frame.specs.Hands.{HasRoom, Spends};
 
 use crate::streams::Streams;
 use strm_blocks::Blocks;
@@ -34,7 +31,8 @@ pub(crate) fn with_written(book: Book, count: usize) -> Book
 }
 
 impl Streams {
-    ghost use Rattle.strm_pair.specs.Pairs.{state_in, AreHeld, SamePool};
+    ghost use Rattle.strm_pair.specs.Effects.{AreAtRest, Delivers, MayDeliver};
+    ghost use Rattle.strm_pair.specs.Pairs.{state_in};
 
     // The book of what comes from a side.
     pub(crate) fn book_of(&self, side: Side) -> Book
@@ -45,20 +43,12 @@ impl Streams {
 
     // Makes an ordinary message of bytes, and delivers it from below a side's head.
     fn send_chunk<B: Blocks>(&mut self, store: &mut B, side: Side, chunk: &[u8], told: &mut Fates)
-        requires held { AreHeld (B.value store.old) self.old }
-        requires idle { AreIdle (state_in (B.value store.old) self.old) }
+        requires rests { AreAtRest (B.value store.old) self.old }
         requires small { length chunk.now ≤ 256 }
-        requires room_m { 0 < free_m (B.value store.old) }
-        requires room_d { 0 < free_d (B.value store.old) }
-        ensures state { state_in (B.value store.new) self.new
-            ≡ (delivered plain (below_head side) (data_message chunk.now) (state_in (B.value store.old) self.old)).state }
-        ensures told { told.new
-            ≡ tallied (delivered plain (below_head side) (data_message chunk.now) (state_in (B.value store.old) self.old)).gone told.old }
-        ensures takes_m { free_m (B.value store.old) ≤ free_m (B.value store.new) + 1 }
-        ensures takes_d { free_d (B.value store.old) ≤ free_d (B.value store.new) + 1 }
-        ensures held { AreHeld (B.value store.new) self.new }
-        ensures pool { SamePool (B.value store.old) (B.value store.new) }
-        ensures left { spare (state_in (B.value store.old) self.old) ≤ spare (state_in (B.value store.new) self.new) }
+        requires room { HasRoom (B.value store.old) 1 }
+        ensures delivers { let s = B.value store.old in let is = delivered plain (below_head side) (data_message chunk.now) (state_in s self.old) in
+            Delivers s (B.value store.new) self.old self.new told.old told.new is.state is.gone 0 }
+        ensures spends { Spends (B.value store.old) (B.value store.new) 1 0 }
     {
         let message = write(store, chunk);
         let below = Spot {
@@ -79,20 +69,13 @@ impl Streams {
         chunks: usize,
         told: &mut Fates,
     ) -> usize
-        requires held { AreHeld (B.value store.old) self.old }
-        requires idle { AreIdle (state_in (B.value store.old) self.old) }
-        requires room_m { chunks ≤ free_m (B.value store.old) }
-        requires room_d { chunks ≤ free_d (B.value store.old) }
+        requires rests { AreAtRest (B.value store.old) self.old }
+        requires room { HasRoom (B.value store.old) chunks }
         ensures taken { result
             ≡ (chunks_sent plain side (chunks_of chunks bytes.now) (state_in (B.value store.old) self.old)).taken }
-        ensures state { state_in (B.value store.new) self.new
-            ≡ (chunks_sent plain side (chunks_of chunks bytes.now) (state_in (B.value store.old) self.old)).state }
-        ensures told { told.new
-            ≡ tallied (chunks_sent plain side (chunks_of chunks bytes.now) (state_in (B.value store.old) self.old)).gone told.old }
         ensures fits { result ≤ length bytes.now }
-        ensures held { AreHeld (B.value store.new) self.new }
-        ensures pool { SamePool (B.value store.old) (B.value store.new) }
-        ensures left { spare (state_in (B.value store.old) self.old) ≤ spare (state_in (B.value store.new) self.new) }
+        ensures delivers { let s = B.value store.old in let is = chunks_sent plain side (chunks_of chunks bytes.now) (state_in s self.old) in
+            Delivers s (B.value store.new) self.old self.new told.old told.new is.state is.gone 0 }
     {
         if chunks == 0 {
             return 0;
@@ -116,18 +99,10 @@ impl Streams {
         bytes: &[u8],
         told: &mut Fates,
     ) -> u32
-        requires held { AreHeld (B.value store.old) self.old }
-        requires in_range { in_range (state_in (B.value store.old) self.old) ≡ true }
-        requires idle { AreIdle (state_in (B.value store.old) self.old) }
-        requires room_m { chunk_count (length bytes.now) ≤ free_m (B.value store.old) }
-        requires room_d { chunk_count (length bytes.now) ≤ free_d (B.value store.old) }
+        requires { MayDeliver (B.value store.old) self.old (chunk_count (length bytes.now)) }
         ensures answer { Count result ≡ (wrote plain side bytes.now (state_in (B.value store.old) self.old)).answer }
-        ensures state { state_in (B.value store.new) self.new
-            ≡ (wrote plain side bytes.now (state_in (B.value store.old) self.old)).state }
-        ensures told { told.new ≡ tallied (write_sent plain side bytes.now (state_in (B.value store.old) self.old)).gone told.old }
-        ensures held { AreHeld (B.value store.new) self.new }
-        ensures pool { SamePool (B.value store.old) (B.value store.new) }
-        ensures left { spare (state_in (B.value store.old) self.old) ≤ spare (state_in (B.value store.new) self.new) }
+        ensures delivers { let s = B.value store.old in let is = wrote plain side bytes.now (state_in s self.old) in
+            Delivers s (B.value store.new) self.old self.new told.old told.new is.state is.gone 0 }
     {
         store.audit();
         let chunks = chunk_count(bytes.len());

@@ -1,21 +1,21 @@
 -- The list is emptied, and a head as new stands on it.
-use Rattle.std.proofs.Common.{◌<◌, length, ap, ◌∙◌, arith}
+use Rattle.std.proofs.Common.{◌<◌, length, refl, ap, ◌∙◌, arith}
 use Rattle.strm_blocks.specs.Blocks.{list_at}
 use Rattle.strm_queue.proofs.Renewed.{cleared, renewed-keeps}
 use Rattle.strm_pair.proofs.ends.StreamEnd.renew_head.Goals as goal
 
-pub returns-clause-head : goal.returns-clause-head
-returns-clause-head g c =
+pub returns : goal.returns
+returns g c =
     let s = g.B.Blocks.value c.args.store.now in
     let new = g.B.Blocks.value c.flushq.new.store in
     let q = c.args.self.now.head.queue in
     let within : q.list < length s.lists = let low = q.on_list in omega (arith, low, c.audit.ensures.eight) in
-    c.renew.ensures.head new (ap (list_at new) c.flushq.ensures.list ∙ (cleared s new q.list within c.flushq.ensures.flushed).here)
-
-pub returns-clause-keeps : goal.returns-clause-keeps
-returns-clause-keeps g c =
-    let s = g.B.Blocks.value c.args.store.now in
-    let new = g.B.Blocks.value c.flushq.new.store in
-    let q = c.args.self.now.head.queue in
-    let within : q.list < length s.lists = let low = q.on_list in omega (arith, low, c.audit.ensures.eight) in
-    renewed-keeps s new q c.renew.new.self.queue (cleared s new q.list within c.flushq.ensures.flushed) (c.renew.ensures.list ∙ c.flushq.ensures.list) c.renew.ensures.counted
+    let emptied = cleared s new q.list within c.flushq.ensures.flushed in
+    record {
+      head = c.renew.ensures.head new (ap (list_at new) c.flushq.ensures.list ∙ emptied.here);
+      opened = refl;
+      driver = refl;
+      stack = refl;
+      shelf = refl;
+      keeps = renewed-keeps s new q c.renew.new.self.queue emptied (c.renew.ensures.list ∙ c.flushq.ensures.list) c.renew.ensures.counted;
+    }

@@ -21,10 +21,11 @@ use Rattle.strm_blocks.proofs.Laws.{free_m-is}
 use Rattle.strm_pair.specs.BaseTexts.{start_in}
 use Rattle.strm_pair.specs.Pairs.{state_in, journal_of, free_in}
 use Rattle.strm_pair.specs.PairViews.{pair_of}
+use Rattle.strm_pair.specs.Effects.{Leads}
 use Rattle.strm_pair.proofs.JournalLemmas.{room-less}
 use Rattle.strm_pair.proofs.FewBytes.{few-kept}
 use Rattle.strm_pair.proofs.Refusing.{as-performed, asked-free, free-fits, judged-allowed}
-use Rattle.strm_pair.proofs.Steps.{kept-step, led-idle, step-shown}
+use Rattle.strm_pair.proofs.Steps.{kept-step, led-rests, step-shown}
 use Rattle.strm_pair.proofs.pair.Pair.perform.Goals as goal
 
 pub invariant_of-self : goal.invariant_of-self
@@ -39,14 +40,13 @@ invariant_of-self g c =
     let allowed : call_refused (pair_of s p.streams p.journal (start_in p.base) p.limits p.fates) c.args.caller asked ≡ None = ap (λ (v : PairState). call_refused v c.args.caller asked) c.self.view_is ∙ (judged-allowed _ (stop_of c.args.self.now.state c.args.caller asked) c.requires).0 in
     let free : stop_of old c.args.caller asked ≡ None = ap (λ (v : PairState). stop_of v.state c.args.caller asked) c.self.view_is ∙ (judged-allowed (call_refused c.args.self.now c.args.caller asked) _ c.requires).1 in
     let same = as-performed c.args.caller asked old free in
-    let stands = c.carry_out-answer.ensures.state ∙ ap (λ (o : Outcome ℕ). o.state) same in
-    let told = c.carry_out-answer.ensures.told ∙ ap (λ (o : Outcome ℕ). tallied o.gone p.fates) same in
+    let leads = subst (λ (o : Outcome ℕ). Leads s new c.carry_out-answer.new.self p.fates c.carry_out-answer.new.told o.state o.gone) same c.carry_out-answer.ensures.leads in
     let added : journal_of c.add_call.new.self ≡ journal_of p.journal ++ entry ∷ [] = c.add_call.ensures.added ∙ ap (λ b. journal_of p.journal ++ Called c.args.caller asked (reply_in c.carry_out-answer.result b) ∷ []) c.as_slice.ensures.value in
     let may = (call-allowed old (journal_of p.journal) p.limits (enough (blocks_asked asked) (free_in s)) c.args.caller asked allowed).0 in
-    let blocks : blocks_asked asked ≤ free_m s = (asked-free (blocks_asked asked) s (call-allowed old (journal_of p.journal) p.limits (enough (blocks_asked asked) (free_in s)) c.args.caller asked allowed).2).0 in
+    let blocks : blocks_asked asked ≤ free_m s = (asked-free (blocks_asked asked) s (call-allowed old (journal_of p.journal) p.limits (enough (blocks_asked asked) (free_in s)) c.args.caller asked allowed).2).mblks in
     let store = c.audit.ensures in
     let less : blocks_asked asked ≤ 65536 = omega (arith, blocks, store.few_mblks, free_m-is s) in
-    let left = subst (λ v. OnTrue (delivers asked) (spare old ≤ spare v + 30)) stands c.carry_out-answer.ensures.left in
+    let left = subst (λ v. OnTrue (delivers asked) (spare old ≤ spare v + 30)) leads.state c.carry_out-answer.ensures.left in
     let few = call-few plain c.args.caller asked old may (written-by-blocks asked 65536 (omega arith) less) c.self.invariant.kept.few (λ room. call-low plain c.args.caller asked old room left) in
     record {
       kept = kept-step s new p.streams c.carry_out-answer.new.self p.journal c.add_call.new.self (start_in p.base) p.limits p.fates c.carry_out-answer.new.told entry c.self.invariant.kept
@@ -55,7 +55,7 @@ invariant_of-self g c =
             answered = sym (c.carry_out-answer.ensures.answer ∙ ap (λ (o : Outcome ℕ). o.answer) same);
             leads = refl;
           })
-          c.add_call.ensures.within stands c.carry_out-answer.ensures.held c.carry_out-answer.ensures.pool (subst FewBooked (sym stands) few) told added c.add_call.ensures.most_entries c.add_call.ensures.most_bytes;
+          c.add_call.ensures.within leads (subst FewBooked (sym leads.state) few) added c.add_call.ensures.most_entries c.add_call.ensures.most_bytes;
       written = c.self.invariant.written;
     }
 
@@ -73,7 +73,7 @@ returns-clause-adds g c =
     let allowed : call_refused (pair_of s p.streams p.journal (start_in p.base) p.limits p.fates) c.args.caller asked ≡ None = ap (λ (v : PairState). call_refused v c.args.caller asked) c.self.view_is ∙ (judged-allowed _ (stop_of c.args.self.now.state c.args.caller asked) c.requires).0 in
     let free : stop_of old c.args.caller asked ≡ None = ap (λ (v : PairState). stop_of v.state c.args.caller asked) c.self.view_is ∙ (judged-allowed (call_refused c.args.self.now c.args.caller asked) _ c.requires).1 in
     let same = as-performed c.args.caller asked old free in
-    let stands = c.carry_out-answer.ensures.state ∙ ap (λ (o : Outcome ℕ). o.state) same in
+    let leads = c.carry_out-answer.ensures.leads in
     let added : journal_of k ≡ journal_of p.journal ++ entry ∷ [] = c.add_call.ensures.added ∙ ap (λ b. journal_of p.journal ++ Called c.args.caller asked (reply_in c.carry_out-answer.result b) ∷ []) c.as_slice.ensures.value in
     let taken : IsCall plain old c.args.caller asked (reply_in c.carry_out-answer.result out) (after plain old entry) = record {
       allowed = (call-allowed old (journal_of p.journal) p.limits (enough (blocks_asked asked) (free_in s)) c.args.caller asked allowed).0;
@@ -83,16 +83,13 @@ returns-clause-adds g c =
     subst (λ (v : PairState). AddsEntry v (pair_of new q k (start_in p.base) p.limits c.carry_out-answer.new.told) entry) c.self.view_is
     (record {
       journal = added;
-      step = step-shown s new p.streams q entry stands taken;
-      fates = c.carry_out-answer.ensures.told ∙ ap (λ (o : Outcome ℕ). tallied o.gone p.fates) same;
+      step = step-shown s new p.streams q entry (leads.state ∙ ap (λ (o : Outcome ℕ). o.state) same) taken;
+      fates = leads.tells ∙ ap (λ (o : Outcome ℕ). tallied o.gone p.fates) same;
       base = refl;
       base_fates = refl;
       past = refl;
       limits = refl;
     })
-
-pub carry_out-answer-requires-clause-held : goal.carry_out-answer-requires-clause-held
-carry_out-answer-requires-clause-held g c = search rules steps 100000
 
 pub carry_out-answer-requires-clause-allowed : goal.carry_out-answer-requires-clause-allowed
 carry_out-answer-requires-clause-allowed g c =
@@ -113,26 +110,17 @@ carry_out-answer-requires-clause-fits g c =
     let free : stop_of old c.args.caller asked ≡ None = ap (λ (v : PairState). stop_of v.state c.args.caller asked) c.self.view_is ∙ (judged-allowed (call_refused c.args.self.now c.args.caller asked) _ c.requires).1 in
     free-fits (hold old c.args.caller asked) (unfit old c.args.caller asked) (or_else-none (refused_at_once old c.args.caller asked) (refused_by_state old c.args.caller asked) (call-allowed old (journal_of p.journal) p.limits (enough (blocks_asked asked) (free_in s)) c.args.caller asked allowed).0).1 free
 
-pub carry_out-answer-requires-clause-idle : goal.carry_out-answer-requires-clause-idle
-carry_out-answer-requires-clause-idle g c = led-idle (g.B.Blocks.value c.self.inside.store) c.self.inside.streams c.self.inside.journal (start_in c.self.inside.base) c.self.inside.limits c.self.inside.fates c.self.invariant.kept
+pub carry_out-answer-requires-clause-rests : goal.carry_out-answer-requires-clause-rests
+carry_out-answer-requires-clause-rests g c = led-rests (g.B.Blocks.value c.self.inside.store) c.self.inside.streams c.self.inside.journal (start_in c.self.inside.base) c.self.inside.limits c.self.inside.fates c.self.invariant.kept
 
-pub carry_out-answer-requires-clause-room_m : goal.carry_out-answer-requires-clause-room_m
-carry_out-answer-requires-clause-room_m g c =
+pub carry_out-answer-requires-clause-room : goal.carry_out-answer-requires-clause-room
+carry_out-answer-requires-clause-room g c =
     let p = c.self.inside in
     let s = g.B.Blocks.value p.store in
     let asked = request c.args.event.now in
     let old = state_in s p.streams in
     let allowed : call_refused (pair_of s p.streams p.journal (start_in p.base) p.limits p.fates) c.args.caller asked ≡ None = ap (λ (v : PairState). call_refused v c.args.caller asked) c.self.view_is ∙ (judged-allowed _ (stop_of c.args.self.now.state c.args.caller asked) c.requires).0 in
-    (asked-free (blocks_asked asked) s (call-allowed old (journal_of p.journal) p.limits (enough (blocks_asked asked) (free_in s)) c.args.caller asked allowed).2).0
-
-pub carry_out-answer-requires-clause-room_d : goal.carry_out-answer-requires-clause-room_d
-carry_out-answer-requires-clause-room_d g c =
-    let p = c.self.inside in
-    let s = g.B.Blocks.value p.store in
-    let asked = request c.args.event.now in
-    let old = state_in s p.streams in
-    let allowed : call_refused (pair_of s p.streams p.journal (start_in p.base) p.limits p.fates) c.args.caller asked ≡ None = ap (λ (v : PairState). call_refused v c.args.caller asked) c.self.view_is ∙ (judged-allowed _ (stop_of c.args.self.now.state c.args.caller asked) c.requires).0 in
-    (asked-free (blocks_asked asked) s (call-allowed old (journal_of p.journal) p.limits (enough (blocks_asked asked) (free_in s)) c.args.caller asked allowed).2).1
+    asked-free (blocks_asked asked) s (call-allowed old (journal_of p.journal) p.limits (enough (blocks_asked asked) (free_in s)) c.args.caller asked allowed).2
 
 pub as_slice-requires : goal.as_slice-requires
 as_slice-requires g c = search rules steps 30000
@@ -149,7 +137,7 @@ add_call-requires-clause-small g c =
     let allowed : call_refused (pair_of s p.streams p.journal (start_in p.base) p.limits p.fates) c.args.caller asked ≡ None = ap (λ (v : PairState). call_refused v c.args.caller asked) c.self.view_is ∙ (judged-allowed _ (stop_of c.args.self.now.state c.args.caller asked) c.requires).0 in
     let parts = call-allowed old (journal_of p.journal) p.limits (enough (blocks_asked asked) (free_in s)) c.args.caller asked allowed in
     let at_once = (or_else-none (refused_at_once old c.args.caller asked) (refused_by_state old c.args.caller asked) parts.0).0 in
-    let blocks : blocks_asked asked ≤ free_m s = (asked-free (blocks_asked asked) s parts.2).0 in
+    let blocks : blocks_asked asked ≤ free_m s = (asked-free (blocks_asked asked) s parts.2).mblks in
     few-kept old c.args.caller asked at_once (omega (arith, blocks, c.audit.ensures.few_mblks, free_m-is s))
 
 pub add_call-requires-clause-room : goal.add_call-requires-clause-room

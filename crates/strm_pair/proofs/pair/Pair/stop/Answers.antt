@@ -17,10 +17,12 @@ use Rattle.strm_blocks.proofs.Laws.{free_m-is}
 use Rattle.strm_pair.specs.BaseTexts.{start_in}
 use Rattle.strm_pair.specs.Pairs.{free_in, journal_of, state_in}
 use Rattle.strm_pair.specs.PairViews.{pair_of}
+use Rattle.strm_pair.specs.Effects.{Leads}
 use Rattle.strm_pair.proofs.FewBytes.{few-kept}
 use Rattle.strm_pair.proofs.JournalLemmas.{room-less}
 use Rattle.strm_pair.proofs.Refusing.{as-stopped, asked-free, judged-stopped}
 use Rattle.strm_pair.proofs.Steps.{kept-step, step-shown}
+use Rattle.strm_pair.proofs.Leading.{leads-nowhere}
 use Rattle.strm_pair.proofs.pair.Pair.stop.Goals as goal
 
 pub invariant_of-self : goal.invariant_of-self
@@ -41,7 +43,7 @@ invariant_of-self g c =
             answered = sym (ap (λ (o : Outcome ℕ). o.answer) same);
             leads = refl;
           })
-          c.add_call.ensures.within (ap (λ (o : Outcome ℕ). o.state) same) c.self.invariant.kept.held (record { mblks = refl; dblks = refl }) c.self.invariant.kept.few (ap (λ (o : Outcome ℕ). tallied o.gone p.fates) same)
+          c.add_call.ensures.within (subst (λ (o : Outcome ℕ). Leads s s p.streams p.fates p.fates o.state o.gone) same (leads-nowhere s p.streams p.fates c.self.invariant.kept.held)) c.self.invariant.kept.few
           c.add_call.ensures.added c.add_call.ensures.most_entries c.add_call.ensures.most_bytes;
       written = c.self.invariant.written;
     }
@@ -82,7 +84,7 @@ add_call-requires-clause-small g c =
     let allowed : call_refused (pair_of s p.streams p.journal (start_in p.base) p.limits p.fates) c.args.caller asked ≡ None = ap (λ (v : PairState). call_refused v c.args.caller asked) c.self.view_is ∙ (judged-stopped c.args.signal (call_refused c.args.self.now c.args.caller asked) (stop_of c.args.self.now.state c.args.caller asked) c.requires).0 in
     let parts = call-allowed old (journal_of p.journal) p.limits (enough (blocks_asked asked) (free_in s)) c.args.caller asked allowed in
     let at_once = (or_else-none (refused_at_once old c.args.caller asked) (refused_by_state old c.args.caller asked) parts.0).0 in
-    let blocks : blocks_asked asked ≤ free_m s = (asked-free (blocks_asked asked) s parts.2).0 in
+    let blocks : blocks_asked asked ≤ free_m s = (asked-free (blocks_asked asked) s parts.2).mblks in
     few-kept old c.args.caller asked at_once (omega (arith, blocks, c.audit.ensures.few_mblks, free_m-is s))
 
 pub add_call-requires-clause-room : goal.add_call-requires-clause-room

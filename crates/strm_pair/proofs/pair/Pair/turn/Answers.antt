@@ -13,7 +13,8 @@ use Rattle.strm_pair.specs.BaseTexts.{start_in}
 use Rattle.strm_pair.specs.Pairs.{state_in, journal_of, free_in}
 use Rattle.strm_pair.specs.PairViews.{pair_of}
 use Rattle.strm_pair.proofs.JournalLemmas.{room-less}
-use Rattle.strm_pair.proofs.Steps.{kept-step, led-idle, step-shown}
+use Rattle.strm_pair.proofs.Steps.{kept-step, led-rests, step-shown}
+use Rattle.strm_pair.proofs.Refusing.{asked-free, turn-free}
 use Rattle.strm_pair.proofs.pair.Pair.turn.Goals as goal
 
 pub invariant_of-self : goal.invariant_of-self
@@ -32,7 +33,7 @@ invariant_of-self g c =
             answered = sym c.turn-turn.ensures.turn;
             leads = refl;
           })
-          tt c.turn-turn.ensures.state c.turn-turn.ensures.held c.turn-turn.ensures.pool c.turn-turn.ensures.few c.turn-turn.ensures.told c.add_turn.ensures.added c.add_turn.ensures.most_entries c.add_turn.ensures.most_bytes;
+          tt c.turn-turn.ensures.leads c.turn-turn.ensures.few c.add_turn.ensures.added c.add_turn.ensures.most_entries c.add_turn.ensures.most_bytes;
       written = c.self.invariant.written;
     }
 
@@ -55,8 +56,8 @@ returns-clause-adds g c =
     subst (λ (v : PairState). AddsEntry v (pair_of new q k (start_in p.base) p.limits c.turn-turn.new.told) entry) c.self.view_is
     (record {
       journal = c.add_turn.ensures.added;
-      step = step-shown s new p.streams q entry c.turn-turn.ensures.state taken;
-      fates = c.turn-turn.ensures.told;
+      step = step-shown s new p.streams q entry c.turn-turn.ensures.leads.state taken;
+      fates = c.turn-turn.ensures.leads.tells;
       base = refl;
       base_fates = refl;
       past = refl;
@@ -81,13 +82,15 @@ add_turn-requires g c =
 pub returns-clause-refused : goal.returns-clause-refused
 returns-clause-refused g c = search rules steps 1000000
 
-pub turn-turn-requires-clause-idle : goal.turn-turn-requires-clause-idle
-turn-turn-requires-clause-idle g c = led-idle (g.B.Blocks.value c.self.inside.store) c.self.inside.streams c.self.inside.journal (start_in c.self.inside.base) c.self.inside.limits c.self.inside.fates c.self.invariant.kept
-
-pub turn-turn-requires-clause-range : goal.turn-turn-requires-clause-range
-turn-turn-requires-clause-range g c =
+pub turn-turn-requires : goal.turn-turn-requires
+turn-turn-requires g c =
     let p = c.self.inside in
     let s = g.B.Blocks.value p.store in
     let old = state_in s p.streams in
+    let asked = enough (turn_blocks c.args.name.place) (free_in s) in
     let allowed : queue_refused (pair_of s p.streams p.journal (start_in p.base) p.limits p.fates) c.args.name ≡ None = ap (λ (v : PairState). queue_refused v c.args.name) c.self.view_is ∙ sym c.turn_refusal.ensures ∙ c.in_default.is in
-    (turn-allowed old (journal_of p.journal) p.limits (enough (turn_blocks c.args.name.place) (free_in s)) c.args.name allowed).1
+    record {
+      rests = led-rests s p.streams p.journal (start_in p.base) p.limits p.fates c.self.invariant.kept;
+      room = asked-free (turn_blocks c.args.name.place) s (turn-free old (journal_of p.journal) p.limits asked c.args.name allowed);
+      range = (turn-allowed old (journal_of p.journal) p.limits asked c.args.name allowed).1;
+    }

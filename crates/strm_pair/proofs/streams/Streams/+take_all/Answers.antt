@@ -1,56 +1,45 @@
 -- The module on top is taken off, and then all others.
-use Rattle.std.proofs.Common.{ℕ, ◌≡◌, ◌-◌, suc, length, sym, ap, subst, ◌∙◌, arith}
-use Rattle.strm_types.specs.Deliver.{Carried, tallied}
-use Rattle.strm_laws.specs.Kept.{AreIdle}
+use Rattle.std.proofs.Common.{ℕ, suc, ◌≡◌, ◌-◌, length, sym, subst, ◌∙◌, arith}
+use Rattle.strm_types.specs.Deliver.{Carried}
 use Rattle.strm_laws.specs.Pushes.{all_taken, top_taken}
 use Rattle.strm_laws.specs.State.{State, stream}
 use Rattle.strm_pair.specs.Pairs.{state_in}
+use Rattle.strm_pair.specs.Effects.{Leads}
 use Rattle.strm_pair.proofs.Idle.{top-idle}
-use Rattle.strm_pair.proofs.Takings.{all-by-one, none-taken, one-less, tallied-both}
+use Rattle.strm_pair.proofs.Takings.{all-by-one, none-taken, one-less}
+use Rattle.strm_pair.proofs.Leading.{leads-both, leads-nowhere, rests-behind}
 use Rattle.strm_pair.proofs.streams.Streams.+take_all.Goals as goal
 
-pub returns-then-count-eq0-clause-state : goal.returns-then-count-eq0-clause-state
-returns-then-count-eq0-clause-state g t c =
-    let st = state_in (g.B.Blocks.value c.args.store.now) c.args.self.now in
-    sym (ap (λ (o : Carried ℕ (State ℕ)). o.state) (none-taken c.args.rule c.args.side st (sym c.requires.count ∙ c.if-count-eq0.true)))
-
-pub returns-then-count-eq0-clause-told : goal.returns-then-count-eq0-clause-told
-returns-then-count-eq0-clause-told g t c =
-    let st = state_in (g.B.Blocks.value c.args.store.now) c.args.self.now in
-    sym (ap (λ (o : Carried ℕ (State ℕ)). tallied o.gone c.args.told.now) (none-taken c.args.rule c.args.side st (sym c.requires.count ∙ c.if-count-eq0.true)))
+pub returns-then-count-eq0 : goal.returns-then-count-eq0
+returns-then-count-eq0 g t c =
+    let s = g.B.Blocks.value c.args.store.now in
+    let p = c.args.self.now in
+    let f = c.args.told.now in
+    subst (λ (o : Carried ℕ (State ℕ)). Leads s s p f f o.state o.gone) (sym (none-taken c.args.rule c.args.side (state_in s p) (sym c.requires.count ∙ c.if-count-eq0.true)))
+    (leads-nowhere s p f c.requires.rests.held)
 
 pub take_all-requires : goal.take_all-requires
 take_all-requires g t c κs within =
-    let s = state_in (g.B.Blocks.value c.args.store.now) c.args.self.now in
-    let u = state_in (g.B.Blocks.value c.take_top.new.store) c.take_top.new.self in
-    let many : suc (c.args.count - 1) ≡ length (stream c.args.side s).modules = omega (arith, c.requires.count, c.if-count-eq0.false) in
+    let s = g.B.Blocks.value c.args.store.now in
+    let st = state_in s c.args.self.now in
+    let taken = top_taken c.args.rule c.args.side (stream c.args.side st).modules st in
+    let leads = c.take_top.ensures.taken.leads in
+    let many : suc (c.args.count - 1) ≡ length (stream c.args.side st).modules = omega (arith, c.requires.count, c.if-count-eq0.false) in
     let some = c.if-count-eq0.false in
-    let left : c.args.count - 1 ≡ length (stream c.args.side u).modules = sym (one-less c.args.rule c.args.side s u c.take_top.ensures.taken.state (c.args.count - 1) many) in
-    let idle = subst AreIdle (sym c.take_top.ensures.taken.state) (top-idle c.args.rule c.args.side s c.requires.idle) in
-    (omega arith, (within, (c.take_top.ensures.taken.held, (idle, left))))
+    let left = sym (one-less c.args.rule c.args.side st (state_in (g.B.Blocks.value c.take_top.new.store) c.take_top.new.self) leads.state (c.args.count - 1) many) in
+    let rests = rests-behind s (g.B.Blocks.value c.take_top.new.store) c.take_top.new.self c.args.told.now c.take_top.new.told taken.state taken.gone leads (top-idle c.args.rule c.args.side st c.requires.rests.idle) in
+    (omega arith, (within, (rests, left)))
 
-pub returns-clause-state : goal.returns-clause-state
-returns-clause-state g t c =
-    let s = state_in (g.B.Blocks.value c.args.store.now) c.args.self.now in
-    let u = state_in (g.B.Blocks.value c.take_top.new.store) c.take_top.new.self in
-    let many : suc (c.args.count - 1) ≡ length (stream c.args.side s).modules = omega (arith, c.requires.count, c.if-count-eq0.false) in
-    c.take_all.ensures.state ∙ sym (ap (λ (o : Carried ℕ (State ℕ)). o.state) (all-by-one c.args.rule c.args.side s u c.take_top.ensures.taken.state (c.args.count - 1) many))
-
-pub returns-clause-told : goal.returns-clause-told
-returns-clause-told g t c =
-    let s = state_in (g.B.Blocks.value c.args.store.now) c.args.self.now in
-    let u = state_in (g.B.Blocks.value c.take_top.new.store) c.take_top.new.self in
-    let many : suc (c.args.count - 1) ≡ length (stream c.args.side s).modules = omega (arith, c.requires.count, c.if-count-eq0.false) in
-    let first = (top_taken c.args.rule c.args.side (stream c.args.side s).modules s).gone in
-    let rest = (all_taken c.args.rule c.args.side (stream c.args.side u).modules u).gone in
-    c.take_all.ensures.told ∙ ap (λ f. tallied rest f) c.take_top.ensures.taken.tells ∙ sym (tallied-both first rest c.args.told.now)
-    ∙ sym (ap (λ (o : Carried ℕ (State ℕ)). tallied o.gone c.args.told.now) (all-by-one c.args.rule c.args.side s u c.take_top.ensures.taken.state (c.args.count - 1) many))
-
-pub returns-clause-held : goal.returns-clause-held
-returns-clause-held g t c = c.take_all.ensures.held
-
-pub returns-clause-pool : goal.returns-clause-pool
-returns-clause-pool g t c = record {
-  mblks = c.take_all.ensures.pool.mblks ∙ c.take_top.ensures.taken.pool.mblks;
-  dblks = c.take_all.ensures.pool.dblks ∙ c.take_top.ensures.taken.pool.dblks;
-}
+pub returns : goal.returns
+returns g t c =
+    let s = g.B.Blocks.value c.args.store.now in
+    let mid = g.B.Blocks.value c.take_top.new.store in
+    let new = g.B.Blocks.value c.take_all.new.store in
+    let st = state_in s c.args.self.now in
+    let u = state_in mid c.take_top.new.self in
+    let f = c.args.told.now in
+    let leads = c.take_top.ensures.taken.leads in
+    let many : suc (c.args.count - 1) ≡ length (stream c.args.side st).modules = omega (arith, c.requires.count, c.if-count-eq0.false) in
+    subst (λ (o : Carried ℕ (State ℕ)). Leads s new c.take_all.new.self f c.take_all.new.told o.state o.gone) (sym (all-by-one c.args.rule c.args.side st u leads.state (c.args.count - 1) many))
+    (leads-both s mid new c.take_top.new.self c.take_all.new.self f c.take_top.new.told c.take_all.new.told (top_taken c.args.rule c.args.side (stream c.args.side st).modules st)
+    (all_taken c.args.rule c.args.side (stream c.args.side u).modules u) leads c.take_all.ensures)

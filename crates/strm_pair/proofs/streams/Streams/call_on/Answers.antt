@@ -18,7 +18,7 @@ loop-call-init g c =
     let st = state_in (g.B.Blocks.value m.new.store) m.new.self in
     let f = c.args.told.now in
     let low : here.at - 1 < length (stream here.side st0).modules = let inside = c.requires.inside in let within = c.requires.within in omega arith in
-    let begins = first-begins here st0 c.requires.rests low in
+    let begins = first-begins here st0 c.requires.may.rests.idle low in
     let first = along here st0 false 0 [] st0 st (reached-first here st0 low begins) m.result e.itself e.state f f m.new.told refl e.tells e.left 0 (omega arith) (omega arith) m.result.again refl in
     record {
       along = subst (λ n. Along m.result.again here n st0 st f m.new.told) (let none : 0 + m.result.bytes ≡ m.result.bytes = omega arith in none) first;
@@ -29,7 +29,7 @@ loop-call-init g c =
     }
 
 pub call_module-call-requires-clause-books : goal.call_module-call-requires-clause-books
-call_module-call-requires-clause-books g c = first-books c.args.here (state_in (g.B.Blocks.value c.args.store.now) c.args.self.now) c.requires.range c.requires.few
+call_module-call-requires-clause-books g c = first-books c.args.here (state_in (g.B.Blocks.value c.args.store.now) c.args.self.now) c.requires.may.range c.requires.few
 
 pub call_module-call-requires-in-loop-call-clause-books : goal.call_module-call-requires-in-loop-call-clause-books
 call_module-call-requires-in-loop-call-clause-books g c =
@@ -38,7 +38,7 @@ call_module-call-requires-in-loop-call-clause-books g c =
     let st0 = state_in (g.B.Blocks.value c.args.store.now) c.args.self.now in
     let st = state_in (g.B.Blocks.value l.store) l.self in
     let on : GoOn here l.bytes st0 st c.args.told.now l.told = subst (λ more. Along more here l.bytes st0 st c.args.told.now l.told) c.loop-call-test.true l.invariant.along in
-    next-books here l.bytes st0 st c.args.told.now l.told c.requires.range c.requires.few on
+    next-books here l.bytes st0 st c.args.told.now l.told c.requires.may.range c.requires.few on
 
 pub overflow_add-bytes : goal.overflow_add-bytes
 overflow_add-bytes g c =
@@ -86,18 +86,20 @@ loop-call-preserved g c =
       pool = record { mblks = e.pool.mblks ∙ l.invariant.pool.mblks; dblks = e.pool.dblks ∙ l.invariant.pool.dblks };
     }
 
-pub call_module-call-requires-clause-begins : goal.call_module-call-requires-clause-begins
-call_module-call-requires-clause-begins g c =
+pub call_module-call-requires-clause-may : goal.call_module-call-requires-clause-may
+call_module-call-requires-clause-may g c =
     let here = c.args.here in
-    let st0 = state_in (g.B.Blocks.value c.args.store.now) c.args.self.now in
-    first-begins here st0 c.requires.rests (let inside = c.requires.inside in let within = c.requires.within in omega arith)
-
-pub call_module-call-requires-clause-hand : goal.call_module-call-requires-clause-hand
-call_module-call-requires-clause-hand g c = λ i.
     let s = g.B.Blocks.value c.args.store.now in
-    ap (times_in i) c.requires.held.hand ∙ sym (rests s c.args.self.now c.requires.held.beside c.requires.rests i)
-
-pub call_module-call-requires-clause-room : goal.call_module-call-requires-clause-room
-call_module-call-requires-clause-room g c =
-    let cost = first-cost c.args.here (state_in (g.B.Blocks.value c.args.store.now) c.args.self.now) in
-    record { mblks = omega (arith, cost, c.requires.room.mblks); dblks = omega (arith, cost, c.requires.room.dblks) }
+    let p = c.args.self.now in
+    let st0 = state_in s p in
+    let at_rest = c.requires.may.rests in
+    let cost = first-cost here st0 in
+    let room = c.requires.may.room in
+    record {
+      inside = c.requires.inside;
+      within = c.requires.within;
+      begins = first-begins here st0 at_rest.idle (let inside = c.requires.inside in let within = c.requires.within in omega arith);
+      beside = at_rest.held.beside;
+      hand = λ i. ap (times_in i) at_rest.held.hand ∙ sym (rests s p at_rest.held.beside at_rest.idle i);
+      room = record { mblks = omega (arith, cost, room.mblks); dblks = omega (arith, cost, room.dblks) };
+    }

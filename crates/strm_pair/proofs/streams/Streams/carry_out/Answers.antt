@@ -1,5 +1,5 @@
 -- Plain bytes have no origin: what goes down and what comes up are the bytes themselves.
-use Rattle.std.proofs.Common.{ℕ, ◌≡◌, List, ◌∙◌, sym, ap, subst, take, arith}
+use Rattle.std.proofs.Common.{ℕ, ◌≡◌, List, take, refl, sym, ap, ◌∙◌, arith, rules}
 use Rattle.std.proofs.Math.Seq.{take-length}
 use denote.Ref.{Bor}
 use Rattle.std.specs.Prelude.{option_map}
@@ -13,19 +13,14 @@ use Rattle.strm_laws.specs.Pushes.{may_stand, named_by}
 use Rattle.strm_laws.specs.Refusals.{refused_at_once, unfit}
 use Rattle.strm_laws.specs.State.{stream}
 use Rattle.strm_laws.proofs.Replay.{unless-none}
-use Rattle.strm_pair.specs.Pairs.{state_in, end_at, AreHeld}
+use Rattle.strm_pair.specs.Pairs.{state_in, end_at}
 use Rattle.strm_pair.proofs.Refusing.{few-asked, number-left, put-in_range}
 use Rattle.strm_pair.proofs.Sides.{held-with}
+use Rattle.strm_pair.proofs.Leading.{leads-alone}
 use Rattle.strm_pair.proofs.streams.Streams.carry_out.Goals as goal
 
 pub returns-in-Write-clause-answer : goal.returns-in-Write-clause-answer
 returns-in-Write-clause-answer g c = rw c.in-Write.is c.write.ensures.answer
-
-pub returns-in-Write-clause-state : goal.returns-in-Write-clause-state
-returns-in-Write-clause-state g c = rw c.in-Write.is c.write.ensures.state
-
-pub returns-in-Write-clause-told : goal.returns-in-Write-clause-told
-returns-in-Write-clause-told g c = rw c.in-Write.is c.write.ensures.told
 
 pub returns-in-Read-clause-answer : goal.returns-in-Read-clause-answer
 returns-in-Read-clause-answer g c =
@@ -35,46 +30,6 @@ returns-in-Read-clause-answer g c =
 
 pub returns-in-Ioctl-clause-answer : goal.returns-in-Ioctl-clause-answer
 returns-in-Ioctl-clause-answer g c = rw c.in-Ioctl.is c.ioctl.ensures.answer
-
-pub returns-in-Ioctl-clause-state : goal.returns-in-Ioctl-clause-state
-returns-in-Ioctl-clause-state g c = rw c.in-Ioctl.is c.ioctl.ensures.state
-
-pub returns-in-Ioctl-clause-told : goal.returns-in-Ioctl-clause-told
-returns-in-Ioctl-clause-told g c = rw c.in-Ioctl.is c.ioctl.ensures.told
-
-pub returns-in-OpenMaster-clause-held : goal.returns-in-OpenMaster-clause-held
-returns-in-OpenMaster-clause-held g c =
-    let s = g.B.Blocks.value c.args.store.now in
-    let p = c.args.self.now in
-    let is = c.requires.held.beside Master in
-    subst (λ q. AreHeld s q) (sym c.open_master.ensures.streams)
-    (held-with s p Master (record (end_at Master p) { opened = Open }) c.requires.held (record {
-      head_list = is.head_list;
-      driver_list = is.driver_list;
-      head = is.head;
-      driver = is.driver;
-      stack = is.stack;
-      once = is.once;
-      owned = is.owned;
-      spare = is.spare;
-      shelf = is.shelf;
-    }))
-
-pub returns-in-Mode-clause-held : goal.returns-in-Mode-clause-held
-returns-in-Mode-clause-held g c = c.set_mode.ensures.held (g.B.Blocks.value c.args.store.now) c.requires.held
-
-pub returns-in-IoctlResult-clause-held : goal.returns-in-IoctlResult-clause-held
-returns-in-IoctlResult-clause-held g c = c.tell_ioctl.ensures.held (g.B.Blocks.value c.args.store.now) c.requires.held
-
-pub returns-in-Signals-clause-held : goal.returns-in-Signals-clause-held
-returns-in-Signals-clause-held g c = c.take_signals.ensures.held (g.B.Blocks.value c.args.store.now) c.requires.held
-
-pub putmsg-requires-clause-in_range : goal.putmsg-requires-clause-in_range
-putmsg-requires-clause-in_range g c =
-    let old = state_in (g.B.Blocks.value c.args.store.now) c.args.self.now in
-    let now : Bor (List ℕ) → List ℕ = λ bytes. bytes.now in
-    put-in_range old c.args.caller c.in-Put.prio (option_map now c.in-Put.control) (option_map now c.in-Put.body)
-    (ap (λ (e : Event (Bor (List ℕ))). refused_at_once old c.args.caller (request e)) (sym c.in-Put.is) ∙ c.requires.allowed)
 
 pub ioctl-requires-clause-small : goal.ioctl-requires-clause-small
 ioctl-requires-clause-small g c =
@@ -99,13 +54,69 @@ returns-in-Look-clause-answer g c = rw c.in-Look.is (c.look.ensures.answer (g.B.
 
 -- what deliveries make of the books
 pub returns-in-Flush-clause-left : goal.returns-in-Flush-clause-left
-returns-in-Flush-clause-left g c = rw c.in-Flush.is (omega (arith, c.flush.ensures.left))
+returns-in-Flush-clause-left g c = rw c.in-Flush.is (omega (arith, c.flush.ensures.delivers.left))
 
 pub returns-in-Write-clause-left : goal.returns-in-Write-clause-left
-returns-in-Write-clause-left g c = rw c.in-Write.is (omega (arith, c.write.ensures.left))
+returns-in-Write-clause-left g c = rw c.in-Write.is (omega (arith, c.write.ensures.delivers.left))
 
 pub returns-in-Put-clause-left : goal.returns-in-Put-clause-left
-returns-in-Put-clause-left g c = rw c.in-Put.is (omega (arith, c.putmsg.ensures.left))
+returns-in-Put-clause-left g c = rw c.in-Put.is (omega (arith, c.putmsg.ensures.delivers.left))
 
 pub returns-in-Ioctl-clause-left : goal.returns-in-Ioctl-clause-left
-returns-in-Ioctl-clause-left g c = rw c.in-Ioctl.is c.ioctl.ensures.left
+returns-in-Ioctl-clause-left g c = rw c.in-Ioctl.is c.ioctl.ensures.delivers.left
+
+-- what each call leads to
+pub returns-in-Write-clause-leads : goal.returns-in-Write-clause-leads
+returns-in-Write-clause-leads g c = rw c.in-Write.is c.write.ensures.delivers.leads
+
+pub returns-in-Ioctl-clause-leads : goal.returns-in-Ioctl-clause-leads
+returns-in-Ioctl-clause-leads g c = rw c.in-Ioctl.is c.ioctl.ensures.delivers.leads
+
+pub putmsg-requires-clause-may : goal.putmsg-requires-clause-may
+putmsg-requires-clause-may g c =
+    let old = state_in (g.B.Blocks.value c.args.store.now) c.args.self.now in
+    let now : Bor (List ℕ) → List ℕ = λ bytes. bytes.now in
+    record {
+      rests = c.requires.rests;
+      room = rw c.in-Put.is at c.requires.room;
+      range = put-in_range old c.args.caller c.in-Put.prio (option_map now c.in-Put.control) (option_map now c.in-Put.body)
+          (ap (λ (e : Event (Bor (List ℕ))). refused_at_once old c.args.caller (request e)) (sym c.in-Put.is) ∙ c.requires.allowed);
+    }
+
+pub returns-in-OpenMaster-clause-leads : goal.returns-in-OpenMaster-clause-leads
+returns-in-OpenMaster-clause-leads g c =
+    let s = g.B.Blocks.value c.args.store.now in
+    let p = c.args.self.now in
+    let is = c.requires.rests.held.beside Master in
+    rw (c.in-OpenMaster.is, c.open_master.ensures.streams)
+    (record {
+      state = search rules;
+      tells = refl;
+      held = held-with s p Master (record (end_at Master p) { opened = Open }) c.requires.rests.held (record {
+        head_list = is.head_list;
+        driver_list = is.driver_list;
+        head = is.head;
+        driver = is.driver;
+        stack = is.stack;
+        once = is.once;
+        owned = is.owned;
+        spare = is.spare;
+        shelf = is.shelf;
+      });
+      pool = record { mblks = refl; dblks = refl };
+    })
+
+pub returns-in-OpenSlave-clause-leads : goal.returns-in-OpenSlave-clause-leads
+returns-in-OpenSlave-clause-leads g c = rw c.in-OpenSlave.is (c.open_slave.ensures.leads c.args.told.now)
+
+pub returns-in-Mode-clause-leads : goal.returns-in-Mode-clause-leads
+returns-in-Mode-clause-leads g c =
+    rw c.in-Mode.is (leads-alone _ (g.B.Blocks.value c.args.store.now) c.args.self.now c.set_mode.new.self c.args.told.now c.requires.rests.held c.set_mode.ensures)
+
+pub returns-in-IoctlResult-clause-leads : goal.returns-in-IoctlResult-clause-leads
+returns-in-IoctlResult-clause-leads g c =
+    rw c.in-IoctlResult.is (leads-alone _ (g.B.Blocks.value c.args.store.now) c.args.self.now c.tell_ioctl.new.self c.args.told.now c.requires.rests.held c.tell_ioctl.ensures.becomes)
+
+pub returns-in-Signals-clause-leads : goal.returns-in-Signals-clause-leads
+returns-in-Signals-clause-leads g c =
+    rw c.in-Signals.is (leads-alone _ (g.B.Blocks.value c.args.store.now) c.args.self.now c.take_signals.new.self c.args.told.now c.requires.rests.held c.take_signals.ensures.becomes)

@@ -1,5 +1,5 @@
 -- Nothing is left on the queue that was cleared.
-use Rattle.std.proofs.Common.{ℕ, refl, sym, ap, ◌∙◌}
+use Rattle.std.proofs.Common.{ℕ, refl, sym, ap, ◌∙◌, rules}
 use Rattle.strm_types.specs.declared.names.Way.TheVariants.{Down}
 use Rattle.strm_types.specs.Emptied.{of_all, queue_behind, writer_goes}
 use Rattle.strm_types.specs.Names.{enable_some}
@@ -12,8 +12,8 @@ use Rattle.strm_pair.specs.Pairs.{end_at, state_in, with_end}
 use Rattle.strm_pair.proofs.Sides.{driver-held, driver-is, driver-went, modules-behind, only-changed}
 use Rattle.strm_pair.proofs.streams.Streams.clear_driver.Goals as goal
 
-pub returns-clause-state : goal.returns-clause-state
-returns-clause-state g c =
+pub returns : goal.returns
+returns g c =
     let s = g.B.Blocks.value c.args.store.now in
     let t = g.B.Blocks.value c.clear_queue-gone.new.store in
     let p = c.args.self.now in
@@ -24,18 +24,14 @@ returns-clause-state g c =
     let at = c.driver_place-at.result in
     let e = rw c.get_mut.ensures.value at c.clear_queue-gone.ensures in
     let one : Streams = with_end side (record end { driver = q }) p in
-    ap (state_in t) (rw c.get_mut.ensures.value at (c.let_go.ensures s))
-    ∙ ap (λ ms. record (state_in t one) { enabled = enable_some room (before_among side Down at ms) p.enabled }) (modules-behind s p side (record end { driver = q }) refl)
-    ∙ ap (λ n. record (state_in t one) { enabled = enable_some room (before_at side Down n (state_in s p)) p.enabled }) (c.driver_place-at.ensures.place s)
-    ∙ driver-went s t p c.requires.beside end.driver q (queue_behind of_all (queue_in s end.driver)) room (writer_goes of_all (queue_in s end.driver)) e.changes side refl e.queue e.room
-    ∙ ap (λ (x : Queue ℕ). record (with_stream side (with_driver_queue (queue_behind of_all x) (stream side (state_in s p))) (state_in s p)) { enabled = enable_some (writer_goes of_all x) (before_driver side (state_in s p)) p.enabled }) (sym (driver-is s p side))
-
-pub returns-clause-held : goal.returns-clause-held
-returns-clause-held g c =
-    let s = g.B.Blocks.value c.args.store.now in
-    let t = g.B.Blocks.value c.clear_queue-gone.new.store in
-    let p = c.args.self.now in
-    let q = c.clear_queue-gone.new.queue in
-    let e = rw c.get_mut.ensures.value at c.clear_queue-gone.ensures.changes in
-    let h = driver-held s t p c.args.side q c.requires (only-changed s t (end_at c.args.side p).driver q e) e.hand e.mblks e.dblks in
-    rw (c.let_go.ensures s, c.get_mut.ensures.value) (record { hand = h.hand; beside = h.beside })
+    let held = driver-held s t p side q c.requires (only-changed s t end.driver q e.changes) e.changes.hand e.changes.mblks e.changes.dblks in
+    record {
+      state = ap (state_in t) (rw c.get_mut.ensures.value at (c.let_go.ensures s))
+          ∙ ap (λ ms. record (state_in t one) { enabled = enable_some room (before_among side Down at ms) p.enabled }) (modules-behind s p side (record end { driver = q }) refl)
+          ∙ ap (λ n. record (state_in t one) { enabled = enable_some room (before_at side Down n (state_in s p)) p.enabled }) (c.driver_place-at.ensures.place s)
+          ∙ driver-went s t p c.requires.beside end.driver q (queue_behind of_all (queue_in s end.driver)) room (writer_goes of_all (queue_in s end.driver)) e.changes side refl e.queue e.room
+          ∙ ap (λ (x : Queue ℕ). record (with_stream side (with_driver_queue (queue_behind of_all x) (stream side (state_in s p))) (state_in s p)) { enabled = enable_some (writer_goes of_all x) (before_driver side (state_in s p)) p.enabled }) (sym (driver-is s p side));
+      tells = search rules;
+      held = rw (c.let_go.ensures s, c.get_mut.ensures.value) (record { hand = held.hand; beside = held.beside });
+      pool = record { mblks = e.changes.mblks; dblks = e.changes.dblks };
+    }

@@ -1,5 +1,5 @@
 -- Nothing is left on the queue that was cleared.
-use Rattle.std.proofs.Common.{ℕ, refl, sym, ap, ◌∙◌}
+use Rattle.std.proofs.Common.{ℕ, refl, sym, ap, ◌∙◌, rules}
 use Rattle.strm_types.specs.declared.names.Way.TheVariants.{Up}
 use Rattle.strm_types.specs.Emptied.{of_all, queue_behind, writer_goes}
 use Rattle.strm_types.specs.Heads.{Head}
@@ -13,22 +13,8 @@ use Rattle.strm_pair.specs.Pairs.{end_at, kept_by, state_in, with_end}
 use Rattle.strm_pair.proofs.Sides.{head-changed, head-is, head-went, modules-behind, only-changed, readable-cleared}
 use Rattle.strm_pair.proofs.streams.Streams.clear_head.Goals as goal
 
-pub returns-clause-held : goal.returns-clause-held
-returns-clause-held g c =
-    let s = g.B.Blocks.value c.args.store.now in
-    let t = g.B.Blocks.value c.clear_queue-gone.new.store in
-    let p = c.args.self.now in
-    let h = (end_at c.args.side p).head in
-    let q = c.clear_queue-gone.new.queue in
-    let e = rw c.get_mut.ensures.value at c.clear_queue-gone.ensures in
-    rw (c.let_go.ensures s, c.get_mut.ensures.value)
-    (record {
-      hand = e.changes.hand ∙ c.requires.hand;
-      beside = head-changed s t p c.requires.beside (still s t (kept_by p) e.changes.hand e.changes.mblks e.changes.dblks) c.args.side (record h { queue = q }) (only-changed s t h.queue q e.changes) (readable-cleared t q (queue_in s h.queue) e.queue);
-    })
-
-pub returns-clause-state : goal.returns-clause-state
-returns-clause-state g c =
+pub returns : goal.returns
+returns g c =
     let s = g.B.Blocks.value c.args.store.now in
     let t = g.B.Blocks.value c.clear_queue-gone.new.store in
     let p = c.args.self.now in
@@ -38,7 +24,16 @@ returns-clause-state g c =
     let room = c.clear_queue-gone.result.room in
     let e = rw c.get_mut.ensures.value at c.clear_queue-gone.ensures in
     let one : Streams = with_end side (record end { head = record end.head { queue = q } }) p in
-    ap (state_in t) (rw c.get_mut.ensures.value at (c.let_go.ensures s))
-    ∙ ap (λ ms. record (state_in t one) { enabled = enable_some room (before_among side Up 0 ms) p.enabled }) (modules-behind s p side (record end { head = record end.head { queue = q } }) refl)
-    ∙ head-went s t p c.requires.beside end.head.queue q (queue_behind of_all (queue_in s end.head.queue)) room (writer_goes of_all (queue_in s end.head.queue)) e.changes side refl e.queue e.room
-    ∙ ap (λ (x : Head ℕ). record (with_stream side (with_head_queue (queue_behind of_all x.queue) (stream side (state_in s p))) (state_in s p)) { enabled = enable_some (writer_goes of_all x.queue) (before_head side (state_in s p)) p.enabled }) (sym (head-is s p side))
+    record {
+      state = ap (state_in t) (rw c.get_mut.ensures.value at (c.let_go.ensures s))
+          ∙ ap (λ ms. record (state_in t one) { enabled = enable_some room (before_among side Up 0 ms) p.enabled }) (modules-behind s p side (record end { head = record end.head { queue = q } }) refl)
+          ∙ head-went s t p c.requires.beside end.head.queue q (queue_behind of_all (queue_in s end.head.queue)) room (writer_goes of_all (queue_in s end.head.queue)) e.changes side refl e.queue e.room
+          ∙ ap (λ (x : Head ℕ). record (with_stream side (with_head_queue (queue_behind of_all x.queue) (stream side (state_in s p))) (state_in s p)) { enabled = enable_some (writer_goes of_all x.queue) (before_head side (state_in s p)) p.enabled }) (sym (head-is s p side));
+      tells = search rules;
+      held = rw (c.let_go.ensures s, c.get_mut.ensures.value)
+          (record {
+            hand = e.changes.hand ∙ c.requires.hand;
+            beside = head-changed s t p c.requires.beside (still s t (kept_by p) e.changes.hand e.changes.mblks e.changes.dblks) side (record end.head { queue = q }) (only-changed s t end.head.queue q e.changes) (readable-cleared t q (queue_in s end.head.queue) e.queue);
+          });
+      pool = record { mblks = e.changes.mblks; dblks = e.changes.dblks };
+    }

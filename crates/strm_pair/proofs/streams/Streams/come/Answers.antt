@@ -12,7 +12,7 @@ use Rattle.strm_pair.proofs.streams.Streams.come.Goals as goal
 use Rattle.strm_blocks.specs.Blocks.{token}
 
 pub put-came-requires-clause-in_hand : goal.put-came-requires-clause-in_hand
-put-came-requires-clause-in_hand g c = can-in_hand (g.B.Blocks.value c.args.store.now) (token c.args.message) (kept_by c.args.self.now) c.audit.ensures c.requires.can_put
+put-came-requires-clause-in_hand g c = can-in_hand (g.B.Blocks.value c.args.store.now) (token c.args.message) (kept_by c.args.self.now) c.audit.ensures c.requires.may.can_put
 
 pub returns : goal.returns
 returns g c =
@@ -24,6 +24,6 @@ returns g c =
     let e = rw c.get_mut.ensures.value at c.put-came.ensures in
     let end = record (end_at side p) { head = c.put-came.new.self } in
     came-by side s (g.B.Blocks.value c.put-came.new.store) p c.put-came.new.self i c.args.to (message_in s i) r.lets_go r.down c.args.told.now c.put-came.new.told c.let_go.new.self
-    refl c.audit.ensures c.requires.can_put c.requires.beside c.requires.opened e.state e.notes e.sent e.told e.changes e.readable e.frees
+    refl c.audit.ensures c.requires.may.can_put c.requires.may.beside c.requires.opened e.state e.notes e.sent e.told e.changes e.readable e.frees
     (rw c.get_mut.ensures.value at (c.let_go.ensures s)
     ∙ ap (λ ms. record (with_end side end p) { enabled = enable_some r.lets_go (before_among side Up 0 ms) p.enabled }) (modules-behind s p side end refl))

@@ -44,16 +44,22 @@ returns-clause-takes g c =
       spare = omega (arith, takes.spare, most);
     }
 
-pub returns-clause-held : goal.returns-clause-held
-returns-clause-held g c =
+pub returns-clause-leads : goal.returns-clause-leads
+returns-clause-leads g c =
     let s = g.B.Blocks.value c.args.store.now in
     let t = g.B.Blocks.value c.deliver.new.store in
     let p = c.args.self.now in
     let q = c.deliver.new.stations in
     let i = token c.args.message in
     let is = c.requires.alone in
-    let idle = subst AreIdle (sym c.deliver.ensures.state) (delivered-idle plain c.args.to (message_of (in_hand s i)) (state_in s p) is.idle) in
+    let e = c.deliver.ensures in
+    let idle = subst AreIdle (sym e.state) (delivered-idle plain c.args.to (message_of (in_hand s i)) (state_in s p) is.idle) in
     record {
-      hand = none-left s t i (in_hand s i) (kept_by p) (kept_by q) is.hand (rests t q c.deliver.ensures.held idle) c.deliver.ensures.hands;
-      beside = c.deliver.ensures.held;
+      state = e.state;
+      tells = e.told;
+      held = record {
+        hand = none-left s t i (in_hand s i) (kept_by p) (kept_by q) is.hand (rests t q e.held idle) e.hands;
+        beside = e.held;
+      };
+      pool = record { mblks = e.pool.mblks; dblks = e.pool.dblks };
     }

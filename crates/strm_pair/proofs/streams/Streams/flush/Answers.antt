@@ -4,51 +4,21 @@ use Rattle.strm_types.specs.declared.flushing.FlushAsked.{FlushAsked}
 use Rattle.strm_types.specs.declared.names.Side.{Side}
 use Rattle.strm_types.specs.declared.names.Way.TheVariants.{Down}
 use Rattle.strm_types.specs.declared.spots.Spot.{Spot}
-use Rattle.strm_types.specs.Cells.{plain}
-use Rattle.strm_types.specs.Deliver.{tallied}
 use Rattle.strm_types.specs.Flushing.{asked_of, flush_bytes, flush_message}
-use Rattle.strm_types.specs.Message.{Message}
-use Rattle.strm_laws.specs.Puts.{delivered}
 use Rattle.strm_laws.specs.Spares.{spare}
 use Rattle.strm_types.specs.Costs.{most_cost}
 use Rattle.strm_laws.proofs.StackSpares.{range-spare}
 use Rattle.strm_blocks.specs.Blocks.{in_hand, token}
 use Rattle.strm_msg.specs.Messages.{message_of}
 use Rattle.strm_pair.specs.Pairs.{state_in}
-use Rattle.strm_pair.proofs.InHand.{made-alone, made-state}
+use Rattle.strm_pair.proofs.InHand.{made-alone, made-state, made-leads, made-left}
 use Rattle.strm_pair.proofs.PlaceCosts.{may-by}
 use Rattle.strm_pair.proofs.streams.Streams.flush.Goals as goal
 
 pub deliver_alone-requires-clause-alone : goal.deliver_alone-requires-clause-alone
 deliver_alone-requires-clause-alone g c =
     let sends = c.make_flush-message.ensures in
-    made-alone (g.B.Blocks.value c.args.store.now) (g.B.Blocks.value c.make_flush-message.new.store) c.args.self.now c.requires.held c.requires.idle (token c.make_flush-message.result) sends.after sends.chain
-
-pub returns-clause-state : goal.returns-clause-state
-returns-clause-state g c =
-    let s = g.B.Blocks.value c.args.store.now in
-    let made = g.B.Blocks.value c.make_flush-message.new.store in
-    let p = c.args.self.now in
-    let i = token c.make_flush-message.result in
-    let m = message_of (in_hand made i) in
-    let to : Spot = record { side = c.args.side; at = 1; way = Down } in
-    let shown : m ≡ flush_message (flush_bytes (asked_of c.args.what c.args.band)) = c.make_flush-message.ensures.shows ∙ ap (λ a. flush_message (flush_bytes a)) c.of.ensures in
-    c.deliver_alone.ensures.state
-    ∙ ap (λ v. (delivered plain to m v).state) (made-state s made p c.requires.held c.requires.idle i c.make_flush-message.ensures.after)
-    ∙ ap (λ (x : Message _). (delivered plain to x (state_in s p)).state) shown
-
-pub returns-clause-told : goal.returns-clause-told
-returns-clause-told g c =
-    let s = g.B.Blocks.value c.args.store.now in
-    let made = g.B.Blocks.value c.make_flush-message.new.store in
-    let p = c.args.self.now in
-    let i = token c.make_flush-message.result in
-    let m = message_of (in_hand made i) in
-    let to : Spot = record { side = c.args.side; at = 1; way = Down } in
-    let shown : m ≡ flush_message (flush_bytes (asked_of c.args.what c.args.band)) = c.make_flush-message.ensures.shows ∙ ap (λ a. flush_message (flush_bytes a)) c.of.ensures in
-    c.deliver_alone.ensures.told
-    ∙ ap (λ v. tallied (delivered plain to m v).gone c.args.told.now) (made-state s made p c.requires.held c.requires.idle i c.make_flush-message.ensures.after)
-    ∙ ap (λ (x : Message _). tallied (delivered plain to x (state_in s p)).gone c.args.told.now) shown
+    made-alone (g.B.Blocks.value c.args.store.now) (g.B.Blocks.value c.make_flush-message.new.store) c.args.self.now c.requires.rests (token c.make_flush-message.result) sends.after sends.chain
 
 -- an M_FLUSH on its way down
 flush-few : (side : Side) (asked : FlushAsked) → most_cost {C = ℕ} (record { side = side; at = 1; way = Down }) (flush_message (flush_bytes asked)) ≤ 5
@@ -60,17 +30,24 @@ deliver_alone-requires-clause-room g c =
     let made = g.B.Blocks.value c.make_flush-message.new.store in
     let i = token c.make_flush-message.result in
     let sends = c.make_flush-message.ensures in
-    let same = ap spare (made-state s made c.args.self.now c.requires.held c.requires.idle i sends.after) in
+    let same = ap spare (made-state s made c.args.self.now c.requires.rests i sends.after) in
     let room = c.requires.room in
     may-by made (spare (state_in made c.args.self.now)) (record { side = c.args.side; at = 1; way = Down }) (message_of (in_hand made i)) (flush_message (flush_bytes c.of.result)) 5 sends.shows (flush-few c.args.side c.of.result)
     (record { mblks = omega (arith, room.mblks, sends.room_m); dblks = omega (arith, room.dblks, sends.room_d) }) (omega (arith, same, range-spare (state_in s c.args.self.now) c.requires.range))
 
-pub returns-clause-left : goal.returns-clause-left
-returns-clause-left g c =
+pub returns-clause-delivers : goal.returns-clause-delivers
+returns-clause-delivers g c =
     let s = g.B.Blocks.value c.args.store.now in
     let made = g.B.Blocks.value c.make_flush-message.new.store in
+    let t = g.B.Blocks.value c.deliver_alone.new.store in
+    let p = c.args.self.now in
+    let q = c.deliver_alone.new.self in
     let i = token c.make_flush-message.result in
     let to : Spot = record { side = c.args.side; at = 1; way = Down } in
     let sends = c.make_flush-message.ensures in
-    let same = ap spare (made-state s made c.args.self.now c.requires.held c.requires.idle i sends.after) in
-    omega (arith, c.deliver_alone.ensures.takes.spare, same, ap (most_cost to) sends.shows, flush-few c.args.side c.of.result)
+    let e = c.deliver_alone.ensures in
+    let shown : message_of (in_hand made i) ≡ flush_message (flush_bytes (asked_of c.args.what c.args.band)) = sends.shows ∙ ap (λ a. flush_message (flush_bytes a)) c.of.ensures in
+    record {
+      leads = made-leads s made p c.requires.rests i sends.after t q c.args.told.now c.deliver_alone.new.told to (flush_message (flush_bytes (asked_of c.args.what c.args.band))) shown e.leads;
+      left = made-left s made p c.requires.rests i sends.after t q to (flush_message (flush_bytes c.of.result)) 5 sends.shows (flush-few c.args.side c.of.result) e.takes;
+    }

@@ -1,13 +1,13 @@
 -- What the head of a side gives.
-use Rattle.std.proofs.Common.{refl, sym, ap, ◌∙◌}
+use Rattle.std.proofs.Common.{refl, sym, ap, ◌∙◌, rules}
 use Rattle.std.specs.Prelude.{min}
 use Rattle.strm_types.specs.declared.limits.TheConstants.{READ_MAX}
 use Rattle.strm_types.specs.declared.names.Way.TheVariants.{Up}
 use Rattle.strm_types.specs.GetQueues.{get_lets_go, get_queue}
 use Rattle.strm_types.specs.Names.{enable_some}
-use Rattle.strm_laws.specs.Earlier.{before_among, before_head}
 use Rattle.strm_types.specs.Heads as heads
 use Rattle.strm_types.specs.Queue as plain
+use Rattle.strm_laws.specs.Earlier.{before_among, before_head}
 use Rattle.strm_laws.specs.State.{stream, with_head_queue, with_stream}
 use Rattle.strm_queue.specs.Stored.{Changes, queue_in}
 use Rattle.strm_pair.specs.declared.streams.Streams.{Streams}
@@ -49,20 +49,8 @@ returns-clause-most g c =
     let gives = gives-is c.args.side c.args.wanted c.args.cmax c.args.dmax c.min-most.result c.min-most_data.result s p c.min-most.ensures c.min-most_data.ensures got.result got.new.out.items (rw c.get_mut.ensures.value at got.ensures.gives) in
     got-few got.result got.new.out.items c.args.side c.args.wanted c.args.cmax c.args.dmax s p gives
 
-pub returns-clause-held : goal.returns-clause-held
-returns-clause-held g c =
-    let s = g.B.Blocks.value c.args.store.now in
-    let p = c.args.self.now in
-    let got = c.getmsg-got in
-    let e = rw c.get_mut.ensures.value at got.ensures in
-    rw (c.let_go.ensures s, c.get_mut.ensures.value)
-    (record {
-      hand = e.keeps.hand ∙ c.requires.held.hand;
-      beside = read-beside c.args.side s p c.min-most.result c.args.cmax c.min-most.ensures (g.B.Blocks.value got.new.store) (record (end_at c.args.side p).head { queue = got.new.queue }) got.result.lets_go c.requires.held.beside e.keeps refl e.ready;
-    })
-
-pub returns-clause-state : goal.returns-clause-state
-returns-clause-state g c =
+pub returns-clause-leads : goal.returns-clause-leads
+returns-clause-leads g c =
     let s = g.B.Blocks.value c.args.store.now in
     let p = c.args.self.now in
     let side = c.args.side in
@@ -77,9 +65,18 @@ returns-clause-state g c =
     let e = rw c.get_mut.ensures.value at got.ensures in
     let changes : Changes s t end.head.queue q = record { ready = e.keeps.ready; list = e.keeps.list; others = e.keeps.others; hand = e.keeps.hand; mblks = e.keeps.mblks; dblks = e.keeps.dblks } in
     let one : Streams = with_end side (record end { head = record end.head { queue = q } }) p in
-    ap (state_in t) (rw c.get_mut.ensures.value at (c.let_go.ensures s))
-    ∙ ap (λ ms. record (state_in t one) { enabled = enable_some got.result.lets_go (before_among side Up 0 ms) p.enabled }) (modules-behind s p side (record end { head = record end.head { queue = q } }) refl)
-    ∙ head-went s t p c.requires.held.beside end.head.queue q (get_queue wanted most most_data was) got.result.lets_go (get_lets_go wanted most most_data was) changes side refl
-    (e.queue ∙ ap (λ n. get_queue wanted n c.min-most_data.result was) c.min-most.ensures ∙ ap (λ n. get_queue wanted most n was) c.min-most_data.ensures)
-    (e.went ∙ ap (λ n. get_lets_go wanted n c.min-most_data.result was) c.min-most.ensures ∙ ap (λ n. get_lets_go wanted most n was) c.min-most_data.ensures)
-    ∙ ap (λ (x : plain.Queue _). record (with_stream side (with_head_queue (get_queue wanted most most_data x) (stream side (state_in s p))) (state_in s p)) { enabled = enable_some (get_lets_go wanted most most_data x) (before_head side (state_in s p)) p.enabled }) (sym (ap (λ (h : heads.Head _). h.queue) (head-is s p side)))
+    record {
+      state = ap (state_in t) (rw c.get_mut.ensures.value at (c.let_go.ensures s))
+          ∙ ap (λ ms. record (state_in t one) { enabled = enable_some got.result.lets_go (before_among side Up 0 ms) p.enabled }) (modules-behind s p side (record end { head = record end.head { queue = q } }) refl)
+          ∙ head-went s t p c.requires.held.beside end.head.queue q (get_queue wanted most most_data was) got.result.lets_go (get_lets_go wanted most most_data was) changes side refl
+          (e.queue ∙ ap (λ n. get_queue wanted n c.min-most_data.result was) c.min-most.ensures ∙ ap (λ n. get_queue wanted most n was) c.min-most_data.ensures)
+          (e.went ∙ ap (λ n. get_lets_go wanted n c.min-most_data.result was) c.min-most.ensures ∙ ap (λ n. get_lets_go wanted most n was) c.min-most_data.ensures)
+          ∙ ap (λ (x : plain.Queue _). record (with_stream side (with_head_queue (get_queue wanted most most_data x) (stream side (state_in s p))) (state_in s p)) { enabled = enable_some (get_lets_go wanted most most_data x) (before_head side (state_in s p)) p.enabled }) (sym (ap (λ (h : heads.Head _). h.queue) (head-is s p side)));
+      tells = search rules;
+      held = rw (c.let_go.ensures s, c.get_mut.ensures.value)
+          (record {
+            hand = e.keeps.hand ∙ c.requires.held.hand;
+            beside = read-beside side s p c.min-most.result c.args.cmax c.min-most.ensures t (record end.head { queue = q }) got.result.lets_go c.requires.held.beside e.keeps refl e.ready;
+          });
+      pool = record { mblks = e.keeps.mblks; dblks = e.keeps.dblks };
+    }

@@ -1,10 +1,10 @@
 -- The queue of the head stays.
-use Rattle.std.proofs.Common.{true, refl}
+use Rattle.std.proofs.Common.{true, refl, rules}
 use Rattle.strm_types.specs.declared.names.Side.TheVariants.{Slave}
 use Rattle.strm_pair.proofs.Sides.{head-held}
 use Rattle.strm_pair.proofs.streams.Streams.hang_up.Goals as goal
 
-pub returns-then-is_open-clause-held : goal.returns-then-is_open-clause-held
-returns-then-is_open-clause-held c = λ s held.
+pub returns-then-is_open : goal.returns-then-is_open
+returns-then-is_open c =
     let e = c.args.self.now.ends.slave in
-    head-held s c.args.self.now Slave e (record e.head { hung_up = true }) refl refl held
+    record { state = search rules; held = λ s held. head-held s c.args.self.now Slave e (record e.head { hung_up = true }) refl refl held }

@@ -1,12 +1,10 @@
 -- The head is as new, and the driver stays.
-use Rattle.std.proofs.Common.{ℕ, not, ap, sym, ◌∙◌, arith}
-use Rattle.strm_types.specs.declared.names.Openness.{Openness}
+use Rattle.std.proofs.Common.{ℕ, not, refl, sym, ap, ◌∙◌, arith}
 use Rattle.strm_types.specs.declared.names.Openness.TheVariants.{Open}
 use Rattle.strm_types.specs.declared.names.Side.TheVariants.{Master, Slave}
-use Rattle.strm_types.specs.Heads.{Head, new_head}
+use Rattle.strm_types.specs.Heads.{new_head}
 use Rattle.strm_types.specs.Names.{driver_of, enable, enable_if}
 use Rattle.strm_laws.specs.State.{State, stream, with_stream}
-use Rattle.strm_head.specs.Heads.{head_in}
 use Rattle.strm_pair.specs.Pairs.{state_in}
 use Rattle.strm_pair.proofs.Sides.{none-left, renewed-beside, renewed-state}
 use Rattle.strm_pair.proofs.streams.Streams.open_slave.Goals as goal
@@ -14,40 +12,38 @@ use Rattle.strm_pair.proofs.streams.Streams.open_slave.Goals as goal
 pub open-requires : goal.open-requires
 open-requires g c = (c.requires.beside Slave).head.ready
 
-pub returns-then-not-is_empty-clause-held : goal.returns-then-not-is_empty-clause-held
-returns-then-not-is_empty-clause-held g c =
-    record { hand = c.open.ensures.keeps.hand ∙ c.requires.hand; beside = renewed-beside (g.B.Blocks.value c.args.store.now) (g.B.Blocks.value c.open.new.store) c.args.self.now c.open.new.self c.requires.beside Slave c.open.ensures.driver c.open.ensures.stack c.open.ensures.shelf c.open.ensures.keeps }
-
-pub returns-else-not-is_empty-clause-held : goal.returns-else-not-is_empty-clause-held
-returns-else-not-is_empty-clause-held g c =
-    record { hand = c.open.ensures.keeps.hand ∙ c.requires.hand; beside = renewed-beside (g.B.Blocks.value c.args.store.now) (g.B.Blocks.value c.open.new.store) c.args.self.now c.open.new.self c.requires.beside Slave c.open.ensures.driver c.open.ensures.stack c.open.ensures.shelf c.open.ensures.keeps }
-
-pub returns-then-not-is_empty-clause-state : goal.returns-then-not-is_empty-clause-state
-returns-then-not-is_empty-clause-state g c =
+pub returns-then-not-is_empty-clause-leads : goal.returns-then-not-is_empty-clause-leads
+returns-then-not-is_empty-clause-leads g c = λ told.
     let s = g.B.Blocks.value c.args.store.now in
     let t = g.B.Blocks.value c.open.new.store in
     let p = c.args.self.now in
     let st = state_in s p in
     let x = c.open.new.self in
     let e = c.open.ensures in
-    ap (λ (v : State ℕ). record v { enabled = c.enable.new.self })
-    (renewed-state s t p x c.requires.beside Slave e.driver e.stack e.shelf e.keeps
-    ∙ ap (λ (o : Openness). with_stream Slave (record (stream Slave st) { opened = o; head = head_in t x.head }) st) e.opened
-    ∙ ap (λ (h : Head ℕ). with_stream Slave (record (stream Slave st) { opened = Open; head = h }) st) e.head)
-    ∙ ap (λ names. record (with_stream Slave (record (stream Slave st) { opened = Open; head = new_head }) st) { enabled = names })
-    (c.enable.ensures ∙ ap (λ n. enable n p.enabled) c.driver.ensures ∙ sym (ap (λ b. enable_if b (driver_of Master) p.enabled) (ap not (none-left s t p.ends.master.driver.list (e.keeps.others p.ends.master.driver.list (λ same. let a = (c.requires.beside Master).driver_list in let b = (c.requires.beside Slave).head_list in absurd (omega arith)))) ∙ ap not (sym c.is_empty.ensures ∙ c.if-not-is_empty.true))))
+    record {
+      state = ap (λ (v : State ℕ). record v { enabled = c.enable.new.self })
+          (renewed-state s t p x c.requires.beside Slave Open e)
+          ∙ ap (λ names. record (with_stream Slave (record (stream Slave st) { opened = Open; head = new_head }) st) { enabled = names })
+          (c.enable.ensures ∙ ap (λ n. enable n p.enabled) c.driver.ensures ∙ sym (ap (λ b. enable_if b (driver_of Master) p.enabled) (ap not (none-left s t p.ends.master.driver.list (e.keeps.others p.ends.master.driver.list (λ same. let a = (c.requires.beside Master).driver_list in let b = (c.requires.beside Slave).head_list in absurd (omega arith)))) ∙ ap not (sym c.is_empty.ensures ∙ c.if-not-is_empty.true))));
+      tells = refl;
+      held = record { hand = e.keeps.hand ∙ c.requires.hand; beside = renewed-beside s t p x c.requires.beside Slave Open e };
+      pool = record { mblks = e.keeps.mblks; dblks = e.keeps.dblks };
+    }
 
-pub returns-else-not-is_empty-clause-state : goal.returns-else-not-is_empty-clause-state
-returns-else-not-is_empty-clause-state g c =
+pub returns-else-not-is_empty-clause-leads : goal.returns-else-not-is_empty-clause-leads
+returns-else-not-is_empty-clause-leads g c = λ told.
     let s = g.B.Blocks.value c.args.store.now in
     let t = g.B.Blocks.value c.open.new.store in
     let p = c.args.self.now in
     let st = state_in s p in
     let x = c.open.new.self in
     let e = c.open.ensures in
-    ap (λ (v : State ℕ). record v { enabled = p.enabled })
-    (renewed-state s t p x c.requires.beside Slave e.driver e.stack e.shelf e.keeps
-    ∙ ap (λ (o : Openness). with_stream Slave (record (stream Slave st) { opened = o; head = head_in t x.head }) st) e.opened
-    ∙ ap (λ (h : Head ℕ). with_stream Slave (record (stream Slave st) { opened = Open; head = h }) st) e.head)
-    ∙ ap (λ names. record (with_stream Slave (record (stream Slave st) { opened = Open; head = new_head }) st) { enabled = names })
-    (sym (ap (λ b. enable_if b (driver_of Master) p.enabled) (ap not (none-left s t p.ends.master.driver.list (e.keeps.others p.ends.master.driver.list (λ same. let a = (c.requires.beside Master).driver_list in let b = (c.requires.beside Slave).head_list in absurd (omega arith)))) ∙ ap not (sym c.is_empty.ensures ∙ c.if-not-is_empty.false))))
+    record {
+      state = ap (λ (v : State ℕ). record v { enabled = p.enabled })
+          (renewed-state s t p x c.requires.beside Slave Open e)
+          ∙ ap (λ names. record (with_stream Slave (record (stream Slave st) { opened = Open; head = new_head }) st) { enabled = names })
+          (sym (ap (λ b. enable_if b (driver_of Master) p.enabled) (ap not (none-left s t p.ends.master.driver.list (e.keeps.others p.ends.master.driver.list (λ same. let a = (c.requires.beside Master).driver_list in let b = (c.requires.beside Slave).head_list in absurd (omega arith)))) ∙ ap not (sym c.is_empty.ensures ∙ c.if-not-is_empty.false))));
+      tells = refl;
+      held = record { hand = e.keeps.hand ∙ c.requires.hand; beside = renewed-beside s t p x c.requires.beside Slave Open e };
+      pool = record { mblks = e.keeps.mblks; dblks = e.keeps.dblks };
+    }

@@ -19,38 +19,30 @@ put_on-requires-clause-may_stand g c =
     (ap (λ (x : State ℕ). (stream c.args.side x).modules) c.put_mode.ensures.state ∙ modules-stay c.args.side c.mode_on_push.result s)
     ∙ named
 
-pub returns-clause-state : goal.returns-clause-state
-returns-clause-state g c =
+pub returns-clause-leads : goal.returns-clause-leads
+returns-clause-leads g c =
     let s = state_in (g.B.Blocks.value c.args.store.now) c.args.self.now in
     let t = g.B.Blocks.value c.put_mode.new.store in
     let u = state_in t c.put_mode.new.self in
     let v = state_in t c.put_on.new.self in
     let name = c.in-Some.name in
+    let told = c.put_mode.ensures in
     let reads = is_some (place_of name) in
     let may = ap (λ (o : Option _). may_stand (named_by o) (stream c.args.side s).modules) (sym c.in-Some.is) ∙ c.requires.may_stand in
     let new = made-named name (stream c.args.side s).modules may in
+    let pushed = pushed-is c.args.side name new.0 s new.1 may in
     let stands : v ≡ with_modules c.args.side (new.0 ∷ (stream c.args.side u).modules) u =
     subst (λ o. IfSome o (λ p. v ≡ with_modules c.args.side (p ∷ (stream c.args.side u).modules) u)) new.1 c.put_on.ensures.state in
-    let told = c.put_mode.ensures.state ∙ ap (λ m. (mode_put c.args.side m s).state) c.mode_on_push.ensures in
+    let held = c.put_on.ensures.held in
     rw c.in-Some.is
-    (ap (λ (p : Streams). state_in t p) c.come_from_driver.ensures
-    ∙ ap (driver_comes reads c.args.side) stands
-    ∙ ap (λ (x : State ℕ). driver_comes reads c.args.side (with_modules c.args.side (new.0 ∷ (stream c.args.side x).modules) x)) told
-    ∙ sym (ap (λ (o : Carried ℕ (State ℕ)). o.state) (pushed-is c.args.side name new.0 s new.1 may)))
-
-pub returns-clause-told : goal.returns-clause-told
-returns-clause-told g c =
-    let s = state_in (g.B.Blocks.value c.args.store.now) c.args.self.now in
-    let name = c.in-Some.name in
-    let may = ap (λ (o : Option _). may_stand (named_by o) (stream c.args.side s).modules) (sym c.in-Some.is) ∙ c.requires.may_stand in
-    let new = made-named name (stream c.args.side s).modules may in
-    rw c.in-Some.is
-    (c.put_mode.ensures.told
-    ∙ ap (λ m. tallied (mode_put c.args.side m s).gone c.args.told.now) c.mode_on_push.ensures
-    ∙ sym (ap (λ (o : Carried ℕ (State ℕ)). tallied o.gone c.args.told.now) (pushed-is c.args.side name new.0 s new.1 may)))
-
-pub returns-clause-held : goal.returns-clause-held
-returns-clause-held g c =
-    let r = c.put_on.ensures.held in
-    subst (λ (p : Streams). AreHeld (g.B.Blocks.value c.put_mode.new.store) p) (sym c.come_from_driver.ensures)
-    (record { hand = r.hand; beside = r.beside })
+    (record {
+      state = ap (λ (p : Streams). state_in t p) c.come_from_driver.ensures
+          ∙ ap (driver_comes reads c.args.side) stands
+          ∙ ap (λ (x : State ℕ). driver_comes reads c.args.side (with_modules c.args.side (new.0 ∷ (stream c.args.side x).modules) x)) (told.state ∙ ap (λ m. (mode_put c.args.side m s).state) c.mode_on_push.ensures)
+          ∙ sym (ap (λ (o : Carried ℕ (State ℕ)). o.state) pushed);
+      tells = told.tells
+          ∙ ap (λ m. tallied (mode_put c.args.side m s).gone c.args.told.now) c.mode_on_push.ensures
+          ∙ sym (ap (λ (o : Carried ℕ (State ℕ)). tallied o.gone c.args.told.now) pushed);
+      held = subst (λ (p : Streams). AreHeld t p) (sym c.come_from_driver.ensures) (record { hand = held.hand; beside = held.beside });
+      pool = told.pool;
+    })

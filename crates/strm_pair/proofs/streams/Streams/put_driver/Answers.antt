@@ -19,10 +19,10 @@ use Rattle.strm_pair.proofs.streams.Streams.put_driver.Goals as goal
 use Rattle.strm_blocks.specs.Blocks.{token}
 
 pub put-acts-requires-clause-in_hand : goal.put-acts-requires-clause-in_hand
-put-acts-requires-clause-in_hand g c = can-in_hand (g.B.Blocks.value c.args.store.now) (token c.args.message) (kept_by c.args.self.now) c.audit.ensures c.requires.can_put
+put-acts-requires-clause-in_hand g c = can-in_hand (g.B.Blocks.value c.args.store.now) (token c.args.message) (kept_by c.args.self.now) c.audit.ensures c.requires.may.can_put
 
 pub put-acts-requires-clause-room : goal.put-acts-requires-clause-room
-put-acts-requires-clause-room g c = driver-room c.args.to.way (g.B.Blocks.value c.args.store.now) (token c.args.message) c.requires.chain c.requires.room
+put-acts-requires-clause-room g c = driver-room c.args.to.way (g.B.Blocks.value c.args.store.now) (token c.args.message) c.requires.may.chain c.requires.room
 
 pub returns : goal.returns
 returns g c =
@@ -38,7 +38,7 @@ returns g c =
     let e = c.put-acts.ensures in
     let end = record (end_at side p) { driver = c.put-acts.new.queue } in
     driver-by side s (g.B.Blocks.value c.put-acts.new.store) p c.note.new.self c.put-acts.new.queue (token c.args.message) c.args.to at c.across-across.result acts c.args.told.now c.put-acts.new.told
-    c.audit.ensures c.requires.can_put c.requires.chain refl (c.driver_place-at.ensures.place s) (c.across-across.ensures s) c.requires.beside
+    c.audit.ensures c.requires.may.can_put c.requires.may.chain refl (c.driver_place-at.ensures.place s) (c.across-across.ensures s) c.requires.may.beside
     (subst (λ (x : StreamEnd). queue_in t c.put-acts.new.queue ≡ (did x).state) is e.state)
     (subst (λ (x : StreamEnd). acts.notes.items ≡ (did x).notes) is e.notes)
     (subst (λ (x : StreamEnd). parcels_in t (sent_of acts.sent) ≡ (did x).sent) is e.sent)

@@ -19,4 +19,4 @@ returns g c =
     let to = c.args.to in
     let down = c.come-down.result in
     came-put s (g.B.Blocks.value c.come-down.new.store) (g.B.Blocks.value c.send_down.new.store) p c.come-down.new.self i (cond (is_there down) 1 0) (head_takes m) (sent_down to down) (sent_of c.send_down.result)
-    c.args.told.now c.come-down.new.told (put_at_head to.side to m (state_in s p)) c.requires.can_put c.come-down.ensures c.send_down.ensures (down-takes to.side to m (state_in s p) down c.come-down.ensures.down_is)
+    c.args.told.now c.come-down.new.told (put_at_head to.side to m (state_in s p)) c.requires.may.can_put c.come-down.ensures c.send_down.ensures (down-takes to.side to m (state_in s p) down c.come-down.ensures.down_is)

@@ -1,23 +1,21 @@
 -- The M_SETOPTS is alone in hand.
-use Rattle.std.proofs.Common.{ℕ, ◌≡◌, ◌≤◌, false, List, [], ◌∷◌, refl, ap, ◌∙◌, arith}
+use Rattle.std.proofs.Common.{ℕ, ◌≡◌, ◌≤◌, false, List, [], ◌∷◌, refl, ap, subst, ◌∙◌, arith}
 use Rattle.strm_types.specs.declared.names.Side.{Side}
 use Rattle.std.specs.Prelude.{None}
 use Rattle.strm_types.specs.declared.kinds.MsgKind.TheVariants.{Setopts}
-use Rattle.strm_types.specs.Cells.{plain}
-use Rattle.strm_types.specs.Deliver.{Carried, tallied}
+use Rattle.strm_types.specs.Deliver.{Carried}
 use Rattle.strm_types.specs.Flush.{is_data_kind}
-use Rattle.strm_types.specs.Message.{Message}
 use Rattle.strm_types.specs.Options.{mode_message}
 use Rattle.strm_laws.specs.Pushes.{head_above}
-use Rattle.strm_laws.specs.Puts.{delivered}
 use Rattle.strm_laws.specs.Spares.{spare}
 use Rattle.strm_types.specs.Costs.{most_cost}
 use Rattle.strm_laws.specs.State.{State}
 use Rattle.strm_blocks.specs.Blocks.{in_hand, token}
 use Rattle.strm_msg.specs.Messages.{message_of}
 use Rattle.strm_pair.specs.Pairs.{state_in}
+use Rattle.strm_pair.specs.Effects.{Leads}
 use Rattle.strm_pair.proofs.Modes.{mode-delivered}
-use Rattle.strm_pair.proofs.InHand.{made-alone, made-state}
+use Rattle.strm_pair.proofs.InHand.{made-alone, made-leads}
 use Rattle.strm_pair.proofs.PlaceCosts.{may-by}
 use Rattle.strm_pair.proofs.streams.Streams.put_mode.Goals as goal
 
@@ -28,7 +26,7 @@ make-message-requires-clause-kind g c = refl
 pub deliver_alone-requires-clause-alone : goal.deliver_alone-requires-clause-alone
 deliver_alone-requires-clause-alone g c =
     let made = c.make-message.ensures in
-    made-alone (g.B.Blocks.value c.args.store.now) (g.B.Blocks.value c.make-message.new.store) c.args.self.now c.requires.held c.requires.idle (token c.make-message.result) made.after made.chain
+    made-alone (g.B.Blocks.value c.args.store.now) (g.B.Blocks.value c.make-message.new.store) c.args.self.now c.requires.rests (token c.make-message.result) made.after made.chain
 
 -- at a head it takes none
 mode-free : (side : Side) (bytes : List ℕ) → most_cost {C = ℕ} (head_above side) (record { kind = Setopts; band = 0; control = None; body = None; plain = bytes }) ≤ 0
@@ -41,32 +39,16 @@ deliver_alone-requires-clause-room g c =
     may-by made (spare (state_in made c.args.self.now)) (head_above c.args.side) (message_of (in_hand made (token c.make-message.result))) (record { kind = Setopts; band = 0; control = None; body = None; plain = bytes }) 0
     c.make-message.ensures.shows (mode-free c.args.side bytes) (record { mblks = omega arith; dblks = omega arith }) (omega arith)
 
-pub returns-clause-state : goal.returns-clause-state
-returns-clause-state g c =
+pub returns : goal.returns
+returns g c =
     let s = g.B.Blocks.value c.args.store.now in
     let made = g.B.Blocks.value c.make-message.new.store in
+    let t = g.B.Blocks.value c.deliver_alone.new.store in
     let p = c.args.self.now in
+    let q = c.deliver_alone.new.self in
     let i = token c.make-message.result in
     let m = message_of (in_hand made i) in
-    let to = head_above c.args.side in
     let shown : m ≡ mode_message c.in-Some.mode false = c.make-message.ensures.shows ∙ ap (λ (n : ℕ). record { kind = Setopts; band = 0; control = None; body = None; plain = n ∷ 0 ∷ [] }) c.mode_number.ensures in
     rw c.in-Some.is
-    (c.deliver_alone.ensures.state
-    ∙ ap (λ v. (delivered plain to m v).state) (made-state s made p c.requires.held c.requires.idle i c.make-message.ensures.after)
-    ∙ ap (λ (x : Message _). (delivered plain to x (state_in s p)).state) shown
-    ∙ ap (λ (t : Carried _ (State _)). t.state) (mode-delivered c.args.side c.in-Some.mode (state_in s p)))
-
-pub returns-clause-told : goal.returns-clause-told
-returns-clause-told g c =
-    let s = g.B.Blocks.value c.args.store.now in
-    let made = g.B.Blocks.value c.make-message.new.store in
-    let p = c.args.self.now in
-    let i = token c.make-message.result in
-    let m = message_of (in_hand made i) in
-    let to = head_above c.args.side in
-    let shown : m ≡ mode_message c.in-Some.mode false = c.make-message.ensures.shows ∙ ap (λ (n : ℕ). record { kind = Setopts; band = 0; control = None; body = None; plain = n ∷ 0 ∷ [] }) c.mode_number.ensures in
-    rw c.in-Some.is
-    (c.deliver_alone.ensures.told
-    ∙ ap (λ v. tallied (delivered plain to m v).gone c.args.told.now) (made-state s made p c.requires.held c.requires.idle i c.make-message.ensures.after)
-    ∙ ap (λ (x : Message _). tallied (delivered plain to x (state_in s p)).gone c.args.told.now) shown
-    ∙ ap (λ (t : Carried _ (State _)). tallied t.gone c.args.told.now) (mode-delivered c.args.side c.in-Some.mode (state_in s p)))
+    (subst (λ (o : Carried ℕ (State ℕ)). Leads s t q c.args.told.now c.deliver_alone.new.told o.state o.gone) (mode-delivered c.args.side c.in-Some.mode (state_in s p))
+    (made-leads s made p c.requires.rests i c.make-message.ensures.after t q c.args.told.now c.deliver_alone.new.told (head_above c.args.side) (mode_message c.in-Some.mode false) shown c.deliver_alone.ensures.leads))

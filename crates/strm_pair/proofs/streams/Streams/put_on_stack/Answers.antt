@@ -29,11 +29,11 @@ put-requires g c =
         (
           omega (arith, c.requires.within, few, ap length same),
           (
-            rw is (c.requires.beside to.side).stack,
+            rw is (c.requires.may.beside to.side).stack,
             (
-              record { apart = λ i. omega (arith, c.requires.can_put.apart i, kept-parts to.side p i, ap (λ (e : StreamEnd). stack_keeps e.stack i) is) },
+              record { apart = λ i. omega (arith, c.requires.may.can_put.apart i, kept-parts to.side p i, ap (λ (e : StreamEnd). stack_keeps e.stack i) is) },
               (
-                c.requires.chain,
+                c.requires.may.chain,
                 subst (λ ms. HasRoom s (at_place (module_takes to (message_in s (token c.args.message))) 0 to.at ms)) same c.requires.room,
               ),
             ),

@@ -48,13 +48,13 @@ at-other : (n : ℕ) → (n ≡ 4 → ⊥) → (n == 4) ≡ false
 at-other n ne = grind (arith, nat_tests)
 
 pub kind-requires-clause-in_hand : goal.kind-requires-clause-in_hand
-kind-requires-clause-in_hand g c = can-in_hand (g.B.Blocks.value c.args.store.now) (token c.args.message) (kept_by c.args.self.now) c.audit.ensures c.requires.can_put
+kind-requires-clause-in_hand g c = can-in_hand (g.B.Blocks.value c.args.store.now) (token c.args.message) (kept_by c.args.self.now) c.audit.ensures c.requires.may.can_put
 
 pub put_driver-requires-clause-room : goal.put_driver-requires-clause-room
 put_driver-requires-clause-room g c =
     let s = g.B.Blocks.value c.args.store.now in
     let i = token c.args.message in
-    let flush : is_bare_flush (message_in s i) ≡ true = bare-is (in_hand s i) c.requires.chain ∙ ap is_flush (sym c.kind.ensures) ∙ sym c.is_flush.ensures ∙ c.if-is_flush.true in
+    let flush : is_bare_flush (message_in s i) ≡ true = bare-is (in_hand s i) c.requires.may.chain ∙ ap is_flush (sym c.kind.ensures) ∙ sym c.is_flush.ensures ∙ c.if-is_flush.true in
     let across : is_across c.args.to (message_in s i) ≡ true = ap (λ b. b && (c.args.to.at == 4)) flush ∙ at-place c.args.to.at c.if-to.true in
     let parts = has_parts (message_in s i) in
     subst (λ w. HasRoom s (below_takes w parts true)) (sym c.requires.up) (subst (λ b. HasRoom s (below_takes Up parts b)) across c.requires.room)
@@ -67,7 +67,7 @@ returns-then-is_flush g c =
     let p = c.args.self.now in
     let to = c.args.to in
     let m = message_in s i in
-    let flush : is_bare_flush m ≡ true = bare-is (in_hand s i) c.requires.chain ∙ ap is_flush (sym c.kind.ensures) ∙ sym c.is_flush.ensures ∙ c.if-is_flush.true in
+    let flush : is_bare_flush m ≡ true = bare-is (in_hand s i) c.requires.may.chain ∙ ap is_flush (sym c.kind.ensures) ∙ sym c.is_flush.ensures ∙ c.if-is_flush.true in
     let across : is_across to m ≡ true = ap (λ b. b && (to.at == 4)) flush ∙ at-place c.args.to.at c.if-to.true in
     let sent = sent_of c.put_driver.result in
     subst (λ b. PutBy s t p c.put_driver.new.self i (cond b 1 0) sent c.args.told.now c.put_driver.new.told (cond b (put_at_driver to.side to m (state_in s p)) (passed_up to m (state_in s p)))) (sym across)
@@ -84,7 +84,7 @@ returns g c =
     let f = c.args.told.now in
     let passes : is_across to m ≡ false = elim c.else-to.branch [
       | else-to-via-then-to+else-is_flush w ↦
-          (let flush : is_bare_flush m ≡ false = bare-is (in_hand s i) c.requires.chain ∙ ap is_flush (sym w.kind.ensures) ∙ sym w.is_flush.ensures ∙ w.if-is_flush.false in
+          (let flush : is_bare_flush m ≡ false = bare-is (in_hand s i) c.requires.may.chain ∙ ap is_flush (sym w.kind.ensures) ∙ sym w.is_flush.ensures ∙ w.if-is_flush.false in
           ap (λ b. b && (to.at == 4)) flush)
       | else-to-via-else-to w ↦ ap (λ b. is_bare_flush m && b) (at-other to.at w.if-to.false) ∙ and-false (is_bare_flush m)
     ] in

@@ -14,14 +14,11 @@ use Rattle.strm_laws.specs.State.{State, book, with_book}
 use Rattle.strm_laws.proofs.Balances.{parts-few}
 use Rattle.strm_blocks.specs.Blocks.{in_hand, token}
 use Rattle.strm_msg.specs.Messages.{message_of}
-use Rattle.strm_types.specs.Cells.{plain}
-use Rattle.strm_types.specs.Deliver.{tallied}
-use Rattle.strm_types.specs.Message.{part}
-use Rattle.strm_laws.specs.Puts.{delivered}
+use Rattle.strm_types.specs.Message.{part, Message}
 use Rattle.strm_types.specs.declared.names.Way.TheVariants.{Down}
 use Rattle.strm_types.specs.declared.spots.Spot.{Spot}
 use Rattle.strm_pair.specs.Pairs.{state_in}
-use Rattle.strm_pair.proofs.InHand.{made-alone, made-state}
+use Rattle.strm_pair.proofs.InHand.{made-alone, made-state, made-leads, made-left}
 use Rattle.strm_pair.proofs.PlaceCosts.{may-by}
 use Rattle.strm_pair.proofs.PutBooks.{book-low, put-state, put-told, sent-written, written-spare}
 use Rattle.strm_pair.proofs.streams.Streams.putmsg.Goals as goal
@@ -33,7 +30,7 @@ shown o = option_map (λ bytes. bytes.now) o
 pub deliver_alone-requires-clause-alone : goal.deliver_alone-requires-clause-alone
 deliver_alone-requires-clause-alone g c =
     let sends = c.in-Some.ensures.made in
-    made-alone (g.B.Blocks.value c.args.store.now) (g.B.Blocks.value c.make_message.new.store) c.args.self.now c.requires.held c.requires.idle (token c.in-Some.message) sends.after sends.chain
+    made-alone (g.B.Blocks.value c.args.store.now) (g.B.Blocks.value c.make_message.new.store) c.args.self.now c.requires.may.rests (token c.in-Some.message) sends.after sends.chain
 
 -- a message of parts takes no block on its way down, and no packet comes of it
 parts-free : (side : Side) (prio : Prio) (control body : Option (List ℕ)) → no_parts control body ≡ false → most_cost (record { side = side; at = 1; way = Down }) (put_message prio control body) ≡ 0
@@ -60,56 +57,40 @@ with_written-book-requires g c =
     let dir = direction_from c.args.side in
     let to : Spot = record { side = c.args.side; at = 1; way = Down } in
     let is = ap (λ (b : Book). b.written) (c.book_of.ensures t) in
-    let sent = ap (λ (v : State ℕ). (book dir v).written) c.deliver_alone.ensures.state in
+    let sent = ap (λ (v : State ℕ). (book dir v).written) c.deliver_alone.ensures.leads.state in
     let stays = sent-written to (message_of (in_hand made i)) dir (state_in made c.args.self.now) in
-    let same = ap (λ (v : State ℕ). (book dir v).written) (made-state s made c.args.self.now c.requires.held c.requires.idle i c.in-Some.ensures.made.after) in
+    let same = ap (λ (v : State ℕ). (book dir v).written) (made-state s made c.args.self.now c.requires.may.rests i c.in-Some.ensures.made.after) in
     let few = parts-few c.args.prio (shown c.args.control) (shown c.args.body) c.requires.allowed in
-    omega (arith, book-low c.args.side old c.requires.in_range, is, sent, stays, same, few, c.len_of.ensures.value, c.len_of-2.ensures.value)
+    omega (arith, book-low c.args.side old c.requires.may.range, is, sent, stays, same, few, c.len_of.ensures.value, c.len_of-2.ensures.value)
 
-pub returns-clause-held : goal.returns-clause-held
-returns-clause-held g c = c.keep_book.ensures.held (g.B.Blocks.value c.deliver_alone.new.store) c.deliver_alone.ensures.held
-
-pub returns-clause-left : goal.returns-clause-left
-returns-clause-left g c =
+pub returns-clause-delivers : goal.returns-clause-delivers
+returns-clause-delivers g c =
     let s = g.B.Blocks.value c.args.store.now in
     let made = g.B.Blocks.value c.make_message.new.store in
     let t = g.B.Blocks.value c.deliver_alone.new.store in
+    let p = c.args.self.now in
+    let q = c.deliver_alone.new.self in
     let i = token c.in-Some.message in
     let dir = direction_from c.args.side in
     let to : Spot = record { side = c.args.side; at = 1; way = Down } in
-    let sent = state_in t c.deliver_alone.new.self in
+    let control = shown c.args.control in
+    let body = shown c.args.body in
+    let m : Message ℕ = put_message c.args.prio control body in
     let n = c.len_of.result + c.len_of-2.result in
-    let kept = c.keep_book.ensures.state t
-    ∙ ap (λ (b : Book). with_book dir b sent) (c.with_written-book.ensures ∙ ap (with_written n) (c.book_of.ensures t)) in
-    let free = ap (most_cost to) c.in-Some.ensures.made.shows ∙ parts-free c.args.side c.args.prio (shown c.args.control) (shown c.args.body) c.in-Some.ensures.none in
-    let same = ap spare (made-state s made c.args.self.now c.requires.held c.requires.idle i c.in-Some.ensures.made.after) in
-    omega (arith, c.deliver_alone.ensures.takes.spare, free, same, ap spare kept, written-spare dir n sent)
-
-pub returns-clause-state : goal.returns-clause-state
-returns-clause-state g c =
-    let s = g.B.Blocks.value c.args.store.now in
-    let made = g.B.Blocks.value c.make_message.new.store in
-    let t = g.B.Blocks.value c.deliver_alone.new.store in
-    let p = c.args.self.now in
-    let i = token c.in-Some.message in
-    let m = message_of (in_hand made i) in
-    let same = made-state s made p c.requires.held c.requires.idle i c.in-Some.ensures.made.after in
-    let to : Spot = record { side = c.args.side; at = 1; way = Down } in
-    put-state c.args.side c.args.prio (shown c.args.control) (shown c.args.body) (state_in s p) c.in-Some.ensures.none m c.in-Some.ensures.made.shows
-    (state_in t c.deliver_alone.new.self) (state_in t c.keep_book.new.self) c.with_written-book.result (c.len_of.result + c.len_of-2.result)
-    (c.deliver_alone.ensures.state ∙ ap (λ v. (delivered plain to m v).state) same)
-    (c.keep_book.ensures.state t)
-    (c.with_written-book.ensures ∙ ap (with_written (c.len_of.result + c.len_of-2.result)) (c.book_of.ensures t))
-    (ap (λ n. n + c.len_of-2.result) c.len_of.ensures.value ∙ ap (λ n. length (part (shown c.args.control)) + n) c.len_of-2.ensures.value)
-
-pub returns-clause-told : goal.returns-clause-told
-returns-clause-told g c =
-    let s = g.B.Blocks.value c.args.store.now in
-    let made = g.B.Blocks.value c.make_message.new.store in
-    let p = c.args.self.now in
-    let i = token c.in-Some.message in
-    let m = message_of (in_hand made i) in
-    let same = made-state s made p c.requires.held c.requires.idle i c.in-Some.ensures.made.after in
-    let to : Spot = record { side = c.args.side; at = 1; way = Down } in
-    put-told c.args.side c.args.prio (shown c.args.control) (shown c.args.body) (state_in s p) c.in-Some.ensures.none m c.in-Some.ensures.made.shows
-    c.args.told.now c.deliver_alone.new.told (c.deliver_alone.ensures.told ∙ ap (λ v. tallied (delivered plain to m v).gone c.args.told.now) same)
+    let sends = c.in-Some.ensures in
+    let e = c.deliver_alone.ensures in
+    let sent = made-leads s made p c.requires.may.rests i sends.made.after t q c.args.told.now c.deliver_alone.new.told to m sends.made.shows e.leads in
+    let left = made-left s made p c.requires.may.rests i sends.made.after t q to m 0 sends.made.shows (omega (arith, parts-free c.args.side c.args.prio control body sends.none)) e.takes in
+    let kept = c.keep_book.ensures in
+    let is = c.with_written-book.ensures ∙ ap (with_written n) (c.book_of.ensures t) in
+    let booked = kept.state t ∙ ap (λ (b : Book). with_book dir b (state_in t q)) is in
+    record {
+      leads = record {
+        state = put-state c.args.side c.args.prio control body (state_in s p) sends.none m refl (state_in t q) (state_in t c.keep_book.new.self) c.with_written-book.result n sent.state (kept.state t) is
+            (ap (λ k. k + c.len_of-2.result) c.len_of.ensures.value ∙ ap (λ k. length (part control) + k) c.len_of-2.ensures.value);
+        tells = put-told c.args.side c.args.prio control body (state_in s p) sends.none m refl c.args.told.now c.deliver_alone.new.told sent.tells;
+        held = kept.held t sent.held;
+        pool = sent.pool;
+      };
+      left = omega (arith, left, ap spare booked, written-spare dir n (state_in t q));
+    }

@@ -16,34 +16,27 @@ returns-clause-answer g c =
     let s = g.B.Blocks.value c.args.store.now in
     read-answer c.args.side s c.args.self.now c.min-wanted.result c.args.n c.min-wanted.ensures c.read-goes.new.out.items (rw c.get_mut.ensures.value at c.read-goes.ensures.given)
 
-pub returns-clause-told : goal.returns-clause-told
-returns-clause-told g c =
-    let s = g.B.Blocks.value c.args.store.now in
-    let p = c.args.self.now in
-    let most = c.min-wanted.result in
-    let h = (end_at c.args.side p).head in
-    let dir = c.direction-direction.ensures ∙ ap direction_of c.head.ensures in
-    read-told c.args.side s p most c.args.n c.min-wanted.ensures c.args.told.now c.read-goes.new.fates
-    (rw c.get_mut.ensures.value at c.read-goes.ensures.told ∙ ap (λ d. tallied (read_gone d h.read_mode h.control_mode most (messages_on s h.queue.list)) c.args.told.now) dir)
-
-pub returns-clause-state : goal.returns-clause-state
-returns-clause-state g c =
+pub returns-clause-leads : goal.returns-clause-leads
+returns-clause-leads g c =
     let s = g.B.Blocks.value c.args.store.now in
     let t = g.B.Blocks.value c.read-goes.new.store in
     let p = c.args.self.now in
     let side = c.args.side in
+    let most = c.min-wanted.result in
+    let h = (end_at side p).head in
     let end = record (end_at side p) { head = c.read-goes.new.self } in
     let e = rw c.get_mut.ensures.value at c.read-goes.ensures in
-    ap (state_in t) (rw c.get_mut.ensures.value at (c.let_go.ensures s))
-    ∙ ap (λ ms. record (state_in t (with_end side end p)) { enabled = enable_some c.read-goes.result (before_among side Up 0 ms) p.enabled }) (modules-behind s p side end refl)
-    ∙ read-state side s p c.min-wanted.result c.args.n c.min-wanted.ensures t c.read-goes.new.self c.read-goes.result c.requires.held.beside e.keeps e.modes e.queue e.went
-
-pub returns-clause-held : goal.returns-clause-held
-returns-clause-held g c =
-    let s = g.B.Blocks.value c.args.store.now in
-    let e = rw c.get_mut.ensures.value at c.read-goes.ensures in
-    rw (c.let_go.ensures s, c.get_mut.ensures.value)
-    (record {
-      hand = e.keeps.hand ∙ c.requires.held.hand;
-      beside = read-beside c.args.side s c.args.self.now c.min-wanted.result c.args.n c.min-wanted.ensures (g.B.Blocks.value c.read-goes.new.store) c.read-goes.new.self c.read-goes.result c.requires.held.beside e.keeps e.modes e.ready;
-    })
+    let dir = c.direction-direction.ensures ∙ ap direction_of c.head.ensures in
+    record {
+      state = ap (state_in t) (rw c.get_mut.ensures.value at (c.let_go.ensures s))
+          ∙ ap (λ ms. record (state_in t (with_end side end p)) { enabled = enable_some c.read-goes.result (before_among side Up 0 ms) p.enabled }) (modules-behind s p side end refl)
+          ∙ read-state side s p most c.args.n c.min-wanted.ensures t c.read-goes.new.self c.read-goes.result c.requires.held.beside e.keeps e.modes e.queue e.went;
+      tells = read-told side s p most c.args.n c.min-wanted.ensures c.args.told.now c.read-goes.new.fates
+          (e.told ∙ ap (λ d. tallied (read_gone d h.read_mode h.control_mode most (messages_on s h.queue.list)) c.args.told.now) dir);
+      held = rw (c.let_go.ensures s, c.get_mut.ensures.value)
+          (record {
+            hand = e.keeps.hand ∙ c.requires.held.hand;
+            beside = read-beside side s p most c.args.n c.min-wanted.ensures t c.read-goes.new.self c.read-goes.result c.requires.held.beside e.keeps e.modes e.ready;
+          });
+      pool = record { mblks = e.keeps.mblks; dblks = e.keeps.dblks };
+    }

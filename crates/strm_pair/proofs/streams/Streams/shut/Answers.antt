@@ -1,77 +1,61 @@
 -- What goes from the queues, one after the other, and then the side is closed.
-use Rattle.std.proofs.Common.{ℕ, ◌++◌, sym, ap, subst, ◌∙◌}
+use Rattle.std.proofs.Common.{sym, subst}
 use Rattle.strm_types.specs.declared.names.Side.TheVariants.{Master, Slave}
 use Rattle.strm_types.specs.declared.rules.Rule.TheVariants.{EndClosed}
-use Rattle.strm_laws.specs.Closes.{head_emptied, driver_emptied, ended, hung_up_at, closed_at}
-use Rattle.strm_types.specs.Deliver.{tallied}
+use Rattle.strm_types.specs.declared.names.Side.{Side}
+use Rattle.strm_laws.specs.Closes.{and_then, closed_at, driver_emptied, ended, head_emptied, hung_up_at, stream_emptied}
 use Rattle.strm_types.specs.Emptied.{of_all}
-use Rattle.strm_laws.specs.Kept.{AreIdle}
 use Rattle.strm_laws.specs.Pushes.{modules_emptied}
-use Rattle.strm_laws.specs.State.{State}
 use Rattle.strm_pair.specs.Pairs.{state_in}
+use Rattle.strm_pair.specs.Effects.{Leads}
 use Rattle.strm_pair.proofs.Idle.{emptied-idle}
-use Rattle.strm_pair.proofs.Takings.{tallied-both}
+use Rattle.strm_pair.proofs.Leading.{leads-becoming, leads-quietly, leads-then, rests-behind}
 use Rattle.strm_pair.proofs.streams.Streams.shut.Goals as goal
 
-pub returns-in-Master-clause-state : goal.returns-in-Master-clause-state
-returns-in-Master-clause-state g c =
-    let s = state_in (g.B.Blocks.value c.args.store.now) c.args.self.now in
-    let head = c.clear_head.ensures.state ∙ ap (λ sd. (head_emptied EndClosed of_all sd s).state) c.in-Master.is in
-    let modules = c.clear_modules.ensures.state ∙ ap (λ sd. (modules_emptied EndClosed sd (state_in (g.B.Blocks.value c.clear_head.new.store) c.clear_head.new.self)).state) c.in-Master.is ∙ ap (λ (x : State ℕ). (modules_emptied EndClosed Master x).state) head in
-    let own = c.clear_driver.ensures.state ∙ ap (λ (x : State ℕ). (driver_emptied EndClosed of_all Master x).state) modules in
-    let other = c.clear_driver-in-Master.ensures.state ∙ ap (λ (x : State ℕ). (driver_emptied EndClosed of_all Slave x).state) own in
-    c.hang_up.ensures.state (g.B.Blocks.value c.end_side.new.store)
-    ∙ ap (hung_up_at Slave) (c.end_side.ensures.state ∙ ap (ended Master) other)
-    ∙ ap (λ sd. (closed_at sd s).state) (sym c.in-Master.is)
+pub clear_modules-requires : goal.clear_modules-requires
+clear_modules-requires g c =
+    let s = g.B.Blocks.value c.args.store.now in
+    let st = state_in s c.args.self.now in
+    let emptied = head_emptied EndClosed of_all c.args.side st in
+    rests-behind s (g.B.Blocks.value c.clear_head.new.store) c.clear_head.new.self c.args.told.now c.clear_head.new.told emptied.state emptied.gone c.clear_head.ensures (emptied-idle c.args.side st c.requires.idle)
 
-pub returns-in-Slave-clause-state : goal.returns-in-Slave-clause-state
-returns-in-Slave-clause-state g c =
-    let s = state_in (g.B.Blocks.value c.args.store.now) c.args.self.now in
-    let head = c.clear_head.ensures.state ∙ ap (λ sd. (head_emptied EndClosed of_all sd s).state) c.in-Slave.is in
-    let modules = c.clear_modules.ensures.state ∙ ap (λ sd. (modules_emptied EndClosed sd (state_in (g.B.Blocks.value c.clear_head.new.store) c.clear_head.new.self)).state) c.in-Slave.is ∙ ap (λ (x : State ℕ). (modules_emptied EndClosed Slave x).state) head in
-    c.end_side-in-Slave.ensures.state ∙ ap (ended Slave) modules ∙ ap (λ sd. (closed_at sd s).state) (sym c.in-Slave.is)
-
-pub returns-in-Master-clause-told : goal.returns-in-Master-clause-told
-returns-in-Master-clause-told g c =
-    let s = state_in (g.B.Blocks.value c.args.store.now) c.args.self.now in
+pub returns-in-Master-clause-leads : goal.returns-in-Master-clause-leads
+returns-in-Master-clause-leads g c =
+    let s = g.B.Blocks.value c.args.store.now in
+    let st = state_in s c.args.self.now in
     let f = c.args.told.now in
-    let emptied = head_emptied EndClosed of_all Master s in
-    let without = modules_emptied EndClosed Master emptied.state in
-    let own = driver_emptied EndClosed of_all Master without.state in
-    let other = driver_emptied EndClosed of_all Slave own.state in
-    let head = c.clear_head.ensures.state ∙ ap (λ sd. (head_emptied EndClosed of_all sd s).state) c.in-Master.is in
-    let first = c.clear_head.ensures.told ∙ ap (λ sd. tallied (head_emptied EndClosed of_all sd s).gone f) c.in-Master.is in
-    let above = state_in (g.B.Blocks.value c.clear_head.new.store) c.clear_head.new.self in
-    let modules = c.clear_modules.ensures.state ∙ ap (λ sd. (modules_emptied EndClosed sd above).state) c.in-Master.is ∙ ap (λ (x : State ℕ). (modules_emptied EndClosed Master x).state) head in
-    let second = c.clear_modules.ensures.told ∙ ap (λ sd. tallied (modules_emptied EndClosed sd above).gone c.clear_head.new.told) c.in-Master.is
-    ∙ ap (λ (x : State ℕ). tallied (modules_emptied EndClosed Master x).gone c.clear_head.new.told) head ∙ ap (λ v. tallied without.gone v) first in
-    let next = c.clear_driver.ensures.state ∙ ap (λ (x : State ℕ). (driver_emptied EndClosed of_all Master x).state) modules in
-    let third = c.clear_driver.ensures.told ∙ ap (λ (x : State ℕ). tallied (driver_emptied EndClosed of_all Master x).gone c.clear_modules.new.told) modules ∙ ap (λ v. tallied own.gone v) second in
-    let fourth = c.clear_driver-in-Master.ensures.told ∙ ap (λ (x : State ℕ). tallied (driver_emptied EndClosed of_all Slave x).gone c.clear_driver.new.told) next ∙ ap (λ v. tallied other.gone v) third in
-    fourth
-    ∙ ap (λ v. tallied other.gone (tallied own.gone v)) (sym (tallied-both emptied.gone without.gone f))
-    ∙ ap (λ v. tallied other.gone v) (sym (tallied-both (emptied.gone ++ without.gone) own.gone f))
-    ∙ sym (tallied-both ((emptied.gone ++ without.gone) ++ own.gone) other.gone f)
-    ∙ ap (λ sd. tallied (closed_at sd s).gone f) (sym c.in-Master.is)
+    let head = c.clear_head in
+    let modules = c.clear_modules in
+    let own = c.clear_driver in
+    let other = c.clear_driver-in-Master in
+    let end = c.end_side in
+    let t1 = g.B.Blocks.value head.new.store in
+    let t2 = g.B.Blocks.value modules.new.store in
+    let t3 = g.B.Blocks.value own.new.store in
+    let t4 = g.B.Blocks.value other.new.store in
+    let t5 = g.B.Blocks.value end.new.store in
+    let above = leads-then (modules_emptied EndClosed c.args.side) s t1 t2 head.new.self modules.new.self f head.new.told modules.new.told (head_emptied EndClosed of_all c.args.side st) head.ensures modules.ensures in
+    let stream = subst (λ (sd : Side). Leads s t2 modules.new.self f modules.new.told (stream_emptied sd st).state (stream_emptied sd st).gone) c.in-Master.is above in
+    let first = and_then (stream_emptied Master st) (driver_emptied EndClosed of_all Master) in
+    let both = and_then first (driver_emptied EndClosed of_all Slave) in
+    let one = leads-then (driver_emptied EndClosed of_all Master) s t2 t3 modules.new.self own.new.self f modules.new.told own.new.told (stream_emptied Master st) stream own.ensures in
+    let two = leads-then (driver_emptied EndClosed of_all Slave) s t3 t4 own.new.self other.new.self f own.new.told other.new.told first one other.ensures in
+    let shut = leads-quietly (ended Master) s t4 t5 other.new.self end.new.self f other.new.told both two (end.ensures other.new.told) in
+    let hung = leads-becoming (hung_up_at Slave) s t5 end.new.self c.hang_up.new.self f other.new.told (record { state = ended Master both.state; gone = both.gone }) shut c.hang_up.ensures in
+    subst (λ (sd : Side). Leads s t5 c.hang_up.new.self f other.new.told (closed_at sd st).state (closed_at sd st).gone) (sym c.in-Master.is) hung
 
-pub returns-in-Master-clause-held : goal.returns-in-Master-clause-held
-returns-in-Master-clause-held g c = c.hang_up.ensures.held (g.B.Blocks.value c.end_side.new.store) c.end_side.ensures.held
-
-pub returns-in-Slave-clause-told : goal.returns-in-Slave-clause-told
-returns-in-Slave-clause-told g c =
-    let s = state_in (g.B.Blocks.value c.args.store.now) c.args.self.now in
+pub returns-in-Slave-clause-leads : goal.returns-in-Slave-clause-leads
+returns-in-Slave-clause-leads g c =
+    let s = g.B.Blocks.value c.args.store.now in
+    let st = state_in s c.args.self.now in
     let f = c.args.told.now in
-    let emptied = head_emptied EndClosed of_all Slave s in
-    let without = modules_emptied EndClosed Slave emptied.state in
-    let head = c.clear_head.ensures.state ∙ ap (λ sd. (head_emptied EndClosed of_all sd s).state) c.in-Slave.is in
-    let first = c.clear_head.ensures.told ∙ ap (λ sd. tallied (head_emptied EndClosed of_all sd s).gone f) c.in-Slave.is in
-    let above = state_in (g.B.Blocks.value c.clear_head.new.store) c.clear_head.new.self in
-    c.clear_modules.ensures.told ∙ ap (λ sd. tallied (modules_emptied EndClosed sd above).gone c.clear_head.new.told) c.in-Slave.is
-    ∙ ap (λ (x : State ℕ). tallied (modules_emptied EndClosed Slave x).gone c.clear_head.new.told) head ∙ ap (λ v. tallied without.gone v) first
-    ∙ sym (tallied-both emptied.gone without.gone f)
-    ∙ ap (λ sd. tallied (closed_at sd s).gone f) (sym c.in-Slave.is)
-
-pub clear_modules-requires-clause-idle : goal.clear_modules-requires-clause-idle
-clear_modules-requires-clause-idle g c =
-    let s = state_in (g.B.Blocks.value c.args.store.now) c.args.self.now in
-    subst AreIdle (sym c.clear_head.ensures.state) (emptied-idle c.args.side s c.requires.idle)
+    let head = c.clear_head in
+    let modules = c.clear_modules in
+    let end = c.end_side-in-Slave in
+    let t1 = g.B.Blocks.value head.new.store in
+    let t2 = g.B.Blocks.value modules.new.store in
+    let t3 = g.B.Blocks.value end.new.store in
+    let above = leads-then (modules_emptied EndClosed c.args.side) s t1 t2 head.new.self modules.new.self f head.new.told modules.new.told (head_emptied EndClosed of_all c.args.side st) head.ensures modules.ensures in
+    let stream = subst (λ (sd : Side). Leads s t2 modules.new.self f modules.new.told (stream_emptied sd st).state (stream_emptied sd st).gone) c.in-Slave.is above in
+    let shut = leads-quietly (ended Slave) s t2 t3 modules.new.self end.new.self f modules.new.told (stream_emptied Slave st) stream (end.ensures modules.new.told) in
+    subst (λ (sd : Side). Leads s t3 end.new.self f modules.new.told (closed_at sd st).state (closed_at sd st).gone) (sym c.in-Slave.is) shut

@@ -17,6 +17,6 @@ returns-in-Driver-clause-few g c =
     let from = state_in (g.B.Blocks.value c.args.store.now) (record c.args.self.now { enabled = c.remove.new.self }) in
     let behind = driver_turned plain side from in
     let e = c.turn_driver.ensures in
-    subst FewBooked (sym e.state)
+    subst FewBooked (sym e.delivers.leads.state)
     (turn-few plain from behind.state behind.gone c.requires.range (serves-books plain side (stream side from).driver.queue.messages from)
-    (spare-low behind.state (omega (arith, e.left, ap spare e.state, range-spare from c.requires.range))))
+    (spare-low behind.state (omega (arith, e.delivers.left, ap spare e.delivers.leads.state, range-spare from c.requires.range))))

@@ -1,5 +1,5 @@
 -- Where the module may serve, its calls are those of the turn's definition.
-use Rattle.std.proofs.Common.{ℕ, ◌≡◌, [], false, sym, ap, subst, ◌∙◌, arith}
+use Rattle.std.proofs.Common.{ℕ, ◌≡◌, false, [], refl, sym, ap, subst, ◌∙◌, arith}
 use Rattle.std.specs.Prelude.{not, ◌==◌}
 use Rattle.strm_types.specs.declared.answers.Turn.TheVariants.{Moved}
 use Rattle.strm_types.specs.Cells.{plain}
@@ -35,11 +35,15 @@ overflow_cast-result g c =
 pub returns-in-Over-clause-turn : goal.returns-in-Over-clause-turn
 returns-in-Over-clause-turn g c = sym (ap (λ (t : TurnOutcome ℕ). t.turn) (c.in-Over.ensures.begins c.in-Over.turn))
 
-pub returns-in-Over-clause-state : goal.returns-in-Over-clause-state
-returns-in-Over-clause-state g c = sym (ap (λ (t : TurnOutcome ℕ). t.state) (c.in-Over.ensures.begins c.in-Over.turn))
-
-pub returns-in-Over-clause-told : goal.returns-in-Over-clause-told
-returns-in-Over-clause-told g c = sym (ap (λ (t : TurnOutcome ℕ). tallied t.gone c.args.told.now) (c.in-Over.ensures.begins c.in-Over.turn))
+pub returns-in-Over-clause-leads : goal.returns-in-Over-clause-leads
+returns-in-Over-clause-leads g c =
+    let is = c.in-Over.ensures.begins c.in-Over.turn in
+    record {
+      state = sym (ap (λ (t : TurnOutcome ℕ). t.state) is);
+      tells = sym (ap (λ (t : TurnOutcome ℕ). tallied t.gone c.args.told.now) is);
+      held = c.begin_module_turn.ensures.held;
+      pool = record { mblks = refl; dblks = refl };
+    }
 
 pub returns-in-Serves-clause-turn : goal.returns-in-Serves-clause-turn
 returns-in-Serves-clause-turn g c =
@@ -49,38 +53,26 @@ returns-in-Serves-clause-turn g c =
     (turned-by c.args.name c.in-Serves.here on.result (state_in s c.args.self.now) (state_in s c.begin_module_turn.new.self) (state_in (g.B.Blocks.value on.new.store) on.new.self)
     c.args.told.now on.new.told c.in-Serves.ensures.begins on.ensures.treats))
 
-pub returns-in-Serves-clause-state : goal.returns-in-Serves-clause-state
-returns-in-Serves-clause-state g c =
-    let s = g.B.Blocks.value c.args.store.now in
-    let on = c.call_on-bytes in
-    let st = state_in (g.B.Blocks.value on.new.store) on.new.self in
-    c.end_module_turn.ensures.state
-    ∙ ap (λ took. module_turn_ended c.args.name c.in-Serves.here took st) (some-taken on.result)
-    ∙ sym (ap (λ (t : TurnOutcome ℕ). t.state)
-    (turned-by c.args.name c.in-Serves.here on.result (state_in s c.args.self.now) (state_in s c.begin_module_turn.new.self) st
-    c.args.told.now on.new.told c.in-Serves.ensures.begins on.ensures.treats))
-
-pub returns-in-Serves-clause-told : goal.returns-in-Serves-clause-told
-returns-in-Serves-clause-told g c =
-    let s = g.B.Blocks.value c.args.store.now in
-    let on = c.call_on-bytes in
-    on.ensures.treats.tells
-    ∙ sym (ap (λ (t : TurnOutcome ℕ). tallied t.gone c.args.told.now)
-    (turned-by c.args.name c.in-Serves.here on.result (state_in s c.args.self.now) (state_in s c.begin_module_turn.new.self) (state_in (g.B.Blocks.value on.new.store) on.new.self)
-    c.args.told.now on.new.told c.in-Serves.ensures.begins on.ensures.treats))
-
 -- Nothing of a turn is under way behind it, so that nothing is in hand.
-pub returns-in-Serves-clause-held : goal.returns-in-Serves-clause-held
-returns-in-Serves-clause-held g c =
+pub returns-in-Serves-clause-leads : goal.returns-in-Serves-clause-leads
+returns-in-Serves-clause-leads g c =
     let s = g.B.Blocks.value c.args.store.now in
     let on = c.call_on-bytes in
     let t = g.B.Blocks.value on.new.store in
     let old = state_in s c.args.self.now in
+    let st = state_in t on.new.self in
     let q = c.end_module_turn.new.self in
-    let idle = subst AreIdle (sym (returns-in-Serves-clause-state g c)) (module_turned-rests plain c.args.name (Moved on.result) old c.requires.rests) in
+    let is = turned-by c.args.name c.in-Serves.here on.result old (state_in s c.begin_module_turn.new.self) st c.args.told.now on.new.told c.in-Serves.ensures.begins on.ensures.treats in
+    let state = c.end_module_turn.ensures.state ∙ ap (λ took. module_turn_ended c.args.name c.in-Serves.here took st) (some-taken on.result) ∙ sym (ap (λ (t : TurnOutcome ℕ). t.state) is) in
+    let idle = subst AreIdle (sym state) (module_turned-rests plain c.args.name (Moved on.result) old c.requires.rests.idle) in
     record {
-      hand = no-hand t.hand (λ i. on.ensures.hand i ∙ sym (c.end_module_turn.ensures.keeps i) ∙ rests t q c.end_module_turn.ensures.beside idle i);
-      beside = c.end_module_turn.ensures.beside;
+      state = state;
+      tells = on.ensures.treats.tells ∙ sym (ap (λ (t : TurnOutcome ℕ). tallied t.gone c.args.told.now) is);
+      held = record {
+        hand = no-hand t.hand (λ i. on.ensures.hand i ∙ sym (c.end_module_turn.ensures.keeps i) ∙ rests t q c.end_module_turn.ensures.beside idle i);
+        beside = c.end_module_turn.ensures.beside;
+      };
+      pool = on.ensures.pool;
     }
 
 -- no book goes round
