@@ -11,13 +11,14 @@ mod restarts;
 mod restoring;
 mod running;
 mod steps;
+mod texts;
 mod walk;
 
 use crate::tests::steps::*;
 use std::alloc::{AllocError, Global};
 use std::process::Abort;
 use std::test::Fail;
-use strm_blocks::{Reserve, TableStore};
+use strm_blocks::{Blocks, Reserve, TableStore};
 use strm_pair::Pair;
 use strm_types::{Answer, Band, Config, Event, FlushQueues, ModuleName, Refusal, Rule, Turn};
 
@@ -135,18 +136,23 @@ const FULL_OF_UNLOCKS: [Step<'static>; 2] = [
 ];
 
 // A pair is made with room for as many entries as it is asked for, and takes a call for each of them.
-fn fills_its_journal<B: Reserve>(rt: &impl Abort, alloc: Global) -> Result<(), AllocError> {
-    let mut pair: Pair<B> = opened(rt, alloc, MANY_ENTRIES)?;
+fn fills_its_journal<B: Blocks + Drop>(rt: &impl Abort, pair: &mut Pair<B>) {
+    follow(rt, pair, &OPENING);
     for _ in OPENING.len()..20000 {
-        follow(rt, &mut pair, &UNLOCKING);
+        follow(rt, pair, &UNLOCKING);
     }
-    follow(rt, &mut pair, &FULL_OF_UNLOCKS);
+    follow(rt, pair, &FULL_OF_UNLOCKS);
+}
+
+fn is_filled<B: Reserve>(rt: &impl Abort, alloc: Global) -> Result<(), AllocError> {
+    let mut pair: Pair<B> = new_pair(alloc, MANY_ENTRIES)?;
+    fills_its_journal(rt, &mut pair);
     Ok(())
 }
 
 #[test]
 fn a_journal_of_twenty_thousand_entries_is_filled(rt: HostRuntime) -> Result<(), Fail> {
-    Ok(fills_its_journal::<TableStore>(&rt, rt.alloc())?)
+    Ok(is_filled::<TableStore>(&rt, rt.alloc())?)
 }
 
 const BAD_CALLS: [Step<'static>; 15] = [

@@ -1,8 +1,7 @@
 //! The image of a pair.
 
-use super::steps::{
-    DONE, MASTER, MASTER_DRIVER, SIZES, SLAVE, Step, follow, image_of, new_pair, opened,
-};
+use super::steps::{DONE, MASTER, MASTER_DRIVER, OPENING, SIZES, SLAVE, Step, follow, new_pair};
+use super::texts::text_of;
 use std::alloc::{AllocError, Global};
 use std::process::Abort;
 use std::test::Fail;
@@ -25,53 +24,82 @@ fn is_new(text: &[u8]) -> bool {
         && text.iter().skip(FRONT.len()).all(|byte| *byte == 0)
 }
 
-// Writes an image of 421 bytes into a buffer of 512, and says whether those behind it stay.
-fn is_written<B: Blocks + Drop>(pair: &Pair<B>, out: &mut [u8; 512]) -> bool {
-    *out = [7; 512];
-    pair.image_into(out) == 421 && out.iter().skip(421).all(|byte| *byte == 7)
+// Writes an image of 421 bytes into a buffer of 512, and says whether it has these and those behind it stay.
+fn is_written<B: Blocks + Drop>(pair: &Pair<B>, image: &[u8]) -> bool {
+    let mut out = [7; 512];
+    pair.image_into(&mut out) == 421
+        && out.starts_with(image)
+        && out.iter().skip(421).all(|byte| *byte == 7)
 }
 
 // Whether an image of 421 bytes has these in a buffer that is too small.
 fn is_cut_off<B: Blocks + Drop>(pair: &Pair<B>, image: &[u8]) -> bool {
     let mut short = [7; 420];
-    pair.image_into(&mut short) == 421 && image.starts_with(&short)
+    pair.image_into(&mut short) == 421
+        && image.starts_with(&short)
+        && pair.image_into(&mut []) == 421
 }
 
-fn new_is_silent<B: Reserve>(rt: &impl Abort, alloc: Global) -> Result<(), AllocError> {
+// Whether an image that has memory of its own has these bytes.
+fn is_made<B: Blocks + Drop>(
+    alloc: Global,
+    pair: &Pair<B>,
+    image: &[u8],
+) -> Result<bool, AllocError> {
+    let Ok(text) = pair.image(alloc) else {
+        return Err(AllocError);
+    };
+    Ok(text.as_slice() == image)
+}
+
+// How many blocks the messages of an image take.
+fn blocks_in(image: &[u8]) -> Option<usize> {
+    let found = read(image)?;
+    Some(found.state.blocks())
+}
+
+fn is_silent<B: Reserve>(rt: &impl Abort, alloc: Global) -> Result<(), AllocError> {
     let pair: Pair<B> = new_pair(alloc, SIZES)?;
-    let mut out = [0; 512];
-    assert!(rt; is_written(&pair, &mut out));
-    assert!(rt; is_new(&out[..421]));
-    assert!(rt; is_cut_off(&pair, &out[..421]));
+    assert!(rt; is_new(text_of(&pair).as_slice()));
     Ok(())
 }
 
 #[test]
 fn the_image_of_a_new_pair_has_two_silent_streams(rt: HostRuntime) -> Result<(), Fail> {
-    Ok(new_is_silent::<TableStore>(&rt, rt.alloc())?)
+    Ok(is_silent::<TableStore>(&rt, rt.alloc())?)
 }
 
-fn takes_421_bytes<B: Reserve>(rt: &impl Abort, alloc: Global) -> Result<(), AllocError> {
-    let pair: Pair<B> = opened(rt, alloc, SIZES)?;
-    let image = image_of(alloc, &pair)?;
-    assert_eq!(rt; image.len(), 421);
-    assert!(rt; !is_new(image.as_slice()));
-    assert!(rt; read(image.as_slice()).is_some());
+fn takes_421_bytes(image: &[u8]) -> bool {
+    image.len() == 421 && !is_new(image) && blocks_in(image) == Some(0)
+}
+
+fn is_opened<B: Reserve>(rt: &impl Abort, alloc: Global) -> Result<(), AllocError> {
+    let mut pair: Pair<B> = new_pair(alloc, SIZES)?;
+    follow(rt, &mut pair, &OPENING);
+    assert!(rt; takes_421_bytes(text_of(&pair).as_slice()));
     Ok(())
 }
 
 #[test]
 fn an_opened_pair_takes_421_bytes(rt: HostRuntime) -> Result<(), Fail> {
-    Ok(takes_421_bytes::<TableStore>(&rt, rt.alloc())?)
+    Ok(is_opened::<TableStore>(&rt, rt.alloc())?)
+}
+
+fn is_written_and_made<B: Blocks + Drop>(
+    rt: &impl Abort,
+    alloc: Global,
+    pair: &Pair<B>,
+) -> Result<(), AllocError> {
+    let image = text_of(pair);
+    assert!(rt; is_written(pair, image.as_slice()));
+    assert!(rt; is_made(alloc, pair, image.as_slice())?);
+    Ok(())
 }
 
 fn goes_into_a_buffer<B: Reserve>(rt: &impl Abort, alloc: Global) -> Result<(), AllocError> {
-    let pair: Pair<B> = opened(rt, alloc, SIZES)?;
-    let image = image_of(alloc, &pair)?;
-    let mut out = [0; 512];
-    assert!(rt; is_written(&pair, &mut out));
-    assert!(rt; out.starts_with(image.as_slice()));
-    Ok(())
+    let mut pair: Pair<B> = new_pair(alloc, SIZES)?;
+    follow(rt, &mut pair, &OPENING);
+    is_written_and_made(rt, alloc, &pair)
 }
 
 #[test]
@@ -79,20 +107,16 @@ fn an_image_goes_into_a_buffer(rt: HostRuntime) -> Result<(), Fail> {
     Ok(goes_into_a_buffer::<TableStore>(&rt, rt.alloc())?)
 }
 
-fn is_cut_off_in_a_small_buffer<B: Reserve>(
-    rt: &impl Abort,
-    alloc: Global,
-) -> Result<(), AllocError> {
-    let pair: Pair<B> = opened(rt, alloc, SIZES)?;
-    let image = image_of(alloc, &pair)?;
-    assert!(rt; is_cut_off(&pair, image.as_slice()));
-    assert_eq!(rt; pair.image_into(&mut []), 421);
+fn has_no_room<B: Reserve>(rt: &impl Abort, alloc: Global) -> Result<(), AllocError> {
+    let mut pair: Pair<B> = new_pair(alloc, SIZES)?;
+    follow(rt, &mut pair, &OPENING);
+    assert!(rt; is_cut_off(&pair, text_of(&pair).as_slice()));
     Ok(())
 }
 
 #[test]
 fn a_buffer_that_is_too_small_has_the_first_bytes(rt: HostRuntime) -> Result<(), Fail> {
-    Ok(is_cut_off_in_a_small_buffer::<TableStore>(&rt, rt.alloc())?)
+    Ok(has_no_room::<TableStore>(&rt, rt.alloc())?)
 }
 
 // An ldterm, half a line on its way, and a byte behind it.
@@ -113,22 +137,16 @@ const TYPING: [Step<'static>; 4] = [
     Step::Call(MASTER, Event::Write { bytes: b"o" }, Ok(Answer::Count(1))),
 ];
 
-// How many blocks the messages of an image take.
-fn blocks_in(image: &[u8]) -> Option<usize> {
-    let found = read(image)?;
-    Some(found.state.blocks())
-}
-
 // "one\ntw" stands at the ldterm, and "o" at the driver.
-fn has_both<B: Reserve>(rt: &impl Abort, alloc: Global) -> Result<(), AllocError> {
-    let mut pair: Pair<B> = opened(rt, alloc, SIZES)?;
+fn has_two<B: Reserve>(rt: &impl Abort, alloc: Global) -> Result<(), AllocError> {
+    let mut pair: Pair<B> = new_pair(alloc, SIZES)?;
+    follow(rt, &mut pair, &OPENING);
     follow(rt, &mut pair, &TYPING);
-    let image = image_of(alloc, &pair)?;
-    assert_eq!(rt; blocks_in(image.as_slice()), Some(2));
+    assert!(rt; blocks_in(text_of(&pair).as_slice()) == Some(2));
     Ok(())
 }
 
 #[test]
 fn the_image_has_what_stands_on_queues(rt: HostRuntime) -> Result<(), Fail> {
-    Ok(has_both::<TableStore>(&rt, rt.alloc())?)
+    Ok(has_two::<TableStore>(&rt, rt.alloc())?)
 }

@@ -2,7 +2,7 @@
 //! what calls were answered, and of what stands on the queues. No ioctl is among them: the bytes of an M_IOCTL are none of a direction, but
 //! count in the sizes of a queue.
 
-use super::steps::opened;
+use super::steps::{OPENING, follow, new_pair};
 use std::alloc::{AllocError, Global};
 use std::process::Abort;
 use std::test::Fail;
@@ -300,7 +300,8 @@ const TYPED: [Rule; 8] = [
 ];
 
 fn goes_on_both_sides<B: Reserve>(rt: &impl Abort, alloc: Global) -> Result<(), AllocError> {
-    let pair: Pair<B> = opened(rt, alloc, ROOM_FOR_ALL)?;
+    let mut pair: Pair<B> = new_pair(alloc, ROOM_FOR_ALL)?;
+    follow(rt, &mut pair, &OPENING);
     let mut walk = Walk {
         pair,
         from_master: Recount::default(),

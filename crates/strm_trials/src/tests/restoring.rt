@@ -1,13 +1,13 @@
 //! Pairs that are made of images: what is told of them, how they go on, and the images to which that leads.
 
 use super::steps::{
-    MASTER, MASTER_DRIVER, ORDINARY, SIZES, SLAVE, SLAVE_DRIVER, SLAVE_HEAD, Step, follow,
-    image_of, store_of,
+    MASTER, MASTER_DRIVER, ORDINARY, SIZES, SLAVE, SLAVE_DRIVER, SLAVE_HEAD, Step, follow, store_of,
 };
+use super::texts::is_imaged;
 use std::alloc::{AllocError, Global};
 use std::process::Abort;
 use std::test::Fail;
-use strm_blocks::{Reserve, TableStore};
+use strm_blocks::{Blocks, Reserve, TableStore};
 use strm_pair::Pair;
 use strm_types::{
     Answer, Band, Config, Event, Place, Prio, QueueName, Refusal, Rule, Side, Turn, Wanted, Way,
@@ -73,35 +73,46 @@ fn joined(alloc: Global, parts: &[&[u8]]) -> Result<Vec<u8>, AllocError> {
     Ok(text)
 }
 
-fn restored<B: Reserve>(
+// Goes through the steps from one image to another one.
+fn goes<B: Blocks + Drop>(
     rt: &impl Abort,
-    alloc: Global,
-    sizes: Config,
-    text: &[u8],
-) -> Result<Pair<B>, AllocError> {
-    let store: B = store_of(alloc, &sizes)?;
-    let Ok(pair) = Pair::restore(alloc, sizes, text, store) else {
-        panic!(rt; "an image is refused")
-    };
-    Ok(pair)
+    pair: &mut Pair<B>,
+    from: &[u8],
+    steps: &[Step<'_>],
+    to: &[u8],
+) {
+    assert!(rt; is_imaged(pair, from), "as it is restored");
+    follow(rt, pair, steps);
+    assert!(rt; is_imaged(pair, to), "behind the steps");
 }
 
-// Makes a pair of an image and goes through the steps, which lead to another image. Both are said by their parts. The pair has forty
-// blocks.
-fn leads<B: Reserve>(
+// The same on a pair that is made of the first image.
+fn goes_from<B: Reserve>(
+    rt: &impl Abort,
+    alloc: Global,
+    from: &[u8],
+    steps: &[Step<'_>],
+    to: &[u8],
+) -> Result<(), AllocError> {
+    let store: B = store_of(alloc, &FORTY_BLOCKS)?;
+    let Ok(mut pair) = Pair::restore(alloc, FORTY_BLOCKS, from, store) else {
+        panic!(rt; "an image is refused")
+    };
+    goes(rt, &mut pair, from, steps, to);
+    Ok(())
+}
+
+// The same over tables, where both images are said by their parts.
+fn leads(
     rt: &impl Abort,
     alloc: Global,
     from: &[&[u8]],
     steps: &[Step<'_>],
     to: &[&[u8]],
 ) -> Result<(), AllocError> {
-    let first = joined(alloc, from)?;
-    let last = joined(alloc, to)?;
-    let mut pair: Pair<B> = restored(rt, alloc, FORTY_BLOCKS, first.as_slice())?;
-    assert!(rt; image_of(alloc, &pair)? == first);
-    follow(rt, &mut pair, steps);
-    assert!(rt; image_of(alloc, &pair)? == last);
-    Ok(())
+    let from = joined(alloc, from)?;
+    let to = joined(alloc, to)?;
+    goes_from::<TableStore>(rt, alloc, from.as_slice(), steps, to.as_slice())
 }
 
 const FORTY_BLOCKS: Config = Config {
@@ -179,7 +190,7 @@ const CROSSED: [&[u8]; 11] = [
 
 #[test]
 fn messages_stand_as_a_text_has_them(rt: HostRuntime) -> Result<(), Fail> {
-    Ok(leads::<TableStore>(&rt, rt.alloc(), &THREE_MESSAGES, &CROSSING, &CROSSED)?)
+    Ok(leads(&rt, rt.alloc(), &THREE_MESSAGES, &CROSSING, &CROSSED)?)
 }
 
 // At the slave's head an M_PROTO with both parts and an M_DATA, all of two blocks each.
@@ -250,7 +261,7 @@ const BUT_TWO_BYTES: [&[u8]; 19] = [
 
 #[test]
 fn messages_of_two_blocks_are_whole(rt: HostRuntime) -> Result<(), Fail> {
-    Ok(leads::<TableStore>(&rt, rt.alloc(), &TWO_BLOCKS, &GETTING, &BUT_TWO_BYTES)?)
+    Ok(leads(&rt, rt.alloc(), &TWO_BLOCKS, &GETTING, &BUT_TWO_BYTES)?)
 }
 
 // At the slave's head bands 5 and 7, for which writers wait; band 5 is full from 3 bytes on, and has 5. The master's driver isn't to be
@@ -318,7 +329,7 @@ const WRITERS_GONE: [&[u8]; 14] = [
 
 #[test]
 fn a_queue_is_as_a_text_has_it(rt: HostRuntime) -> Result<(), Fail> {
-    Ok(leads::<TableStore>(&rt, rt.alloc(), &WRITERS_WAIT, &GOING_ON, &WRITERS_GONE)?)
+    Ok(leads(&rt, rt.alloc(), &WRITERS_WAIT, &GOING_ON, &WRITERS_GONE)?)
 }
 
 // A stream whose one module is an ldterm, up to its head's queue: lines are edited, output stops and any byte starts it, and a TAB goes
@@ -395,5 +406,5 @@ const STARTED: [&[u8]; 18] = [
 
 #[test]
 fn an_ldterm_is_as_a_text_has_it(rt: HostRuntime) -> Result<(), Fail> {
-    Ok(leads::<TableStore>(&rt, rt.alloc(), &STOPPED, &STARTING, &STARTED)?)
+    Ok(leads(&rt, rt.alloc(), &STOPPED, &STARTING, &STARTED)?)
 }

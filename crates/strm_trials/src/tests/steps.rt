@@ -192,14 +192,6 @@ fn shows<B: Blocks + Drop>(pair: &Pair<B>, step: &Step<'_>) -> bool {
     }
 }
 
-/// The image of a pair.
-pub fn image_of<B: Blocks + Drop>(alloc: Global, pair: &Pair<B>) -> Result<Vec<u8>, AllocError> {
-    let Ok(text) = pair.image(alloc) else {
-        return Err(AllocError);
-    };
-    Ok(text)
-}
-
 /// Goes through the steps of a run.
 pub fn follow<B: Blocks + Drop>(rt: &impl Abort, pair: &mut Pair<B>, steps: &[Step<'_>]) {
     for index in 0..steps.len() {
@@ -217,7 +209,7 @@ pub fn store_of<B: Reserve>(alloc: Global, sizes: &Config) -> Result<B, AllocErr
     B::reserve(alloc, mblks, dblks)
 }
 
-/// A pair that nobody opened.
+/// A pair that nobody opened, of 1 to 65536 blocks of each kind.
 pub fn new_pair<B: Reserve>(alloc: Global, sizes: Config) -> Result<Pair<B>, AllocError> {
     let store: B = store_of(alloc, &sizes)?;
     let Ok(pair) = Pair::new(alloc, sizes, store) else {
@@ -232,17 +224,6 @@ pub const OPENING: [Step<'static>; 3] = [
     Step::Call(MASTER, Event::Unlock, DONE),
     Step::Call(MASTER, Event::OpenSlave, DONE),
 ];
-
-/// A pair of which both sides are open.
-pub fn opened<B: Reserve>(
-    rt: &impl Abort,
-    alloc: Global,
-    sizes: Config,
-) -> Result<Pair<B>, AllocError> {
-    let mut pair = new_pair(alloc, sizes)?;
-    follow(rt, &mut pair, &OPENING);
-    Ok(pair)
-}
 
 fn run_over<B: Reserve>(
     rt: &impl Abort,
