@@ -346,11 +346,26 @@ impl<B: Blocks + Drop> Walk<B> {
     }
 }
 
-// Room for any image of a pair here: all messages have some 12 kB.
-const MOST_IMAGED: usize = 65536;
+// A buffer with room for any image of a pair here: all messages have some 12 kB.
+fn buffer(alloc: Global) -> Result<Vec<u8>, AllocError> {
+    Vec::from_elem(alloc, 0, 65536)
+}
 
-// What is met on a walk of so many steps on a new pair of these sizes, and, after a replay of its whole journal, so
-// many more.
+// A walk that begins, on a new pair of these sizes.
+fn walk_of<B: Reserve>(alloc: Global, sizes: Config) -> Result<Walk<B>, AllocError> {
+    let text = buffer(alloc)?;
+    let pair: Pair<B> = new_pair(alloc, sizes)?;
+    Ok(Walk {
+        pair,
+        model: PlainPair::new(alloc, sizes),
+        out: Content::new(),
+        text,
+        random: 1,
+        met: NOTHING_MET,
+    })
+}
+
+// What is met on a walk of so many steps, and, after a replay of its whole journal, so many more.
 fn met_on_a_walk<B: Reserve>(
     rt: &impl Abort,
     alloc: Global,
@@ -358,15 +373,7 @@ fn met_on_a_walk<B: Reserve>(
     steps: u32,
     more: u32,
 ) -> Result<Met, AllocError> {
-    let pair: Pair<B> = new_pair(alloc, sizes)?;
-    let mut walk = Walk {
-        pair,
-        model: PlainPair::new(alloc, sizes),
-        out: Content::new(),
-        text: Vec::from_elem(alloc, 0, MOST_IMAGED)?,
-        random: 1,
-        met: NOTHING_MET,
-    };
+    let mut walk: Walk<B> = walk_of(alloc, sizes)?;
     walk.goes_on(rt, steps, PlainPair::new(alloc, sizes), more)?;
     Ok(walk.met)
 }
