@@ -33,6 +33,3 @@ mod writing;
 
 pub use pair::{Pair, Recorded};
 pub use running::Ran;
-
-#[cfg(test)]
-mod tests;

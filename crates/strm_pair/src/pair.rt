@@ -460,7 +460,5 @@ impl<B: Blocks + Drop> Pair<B> {
     }
 }
 
-#[cfg(test)]
-pub(crate) mod kept;
 mod restoring;
 mod tracing;

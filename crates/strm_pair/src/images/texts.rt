@@ -124,6 +124,3 @@ pub fn put_messages<'a, B: Blocks>(store: &B, queue: &Queue, out: Sink<'a>) -> S
     out.put(&(count.min(u32::MAX as usize) as u32).to_be_bytes());
     put_each(store, queue, out)
 }
-
-#[cfg(test)]
-mod tests;

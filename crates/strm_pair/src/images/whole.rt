@@ -65,6 +65,3 @@ pub(crate) fn image_into<B: Blocks>(
     put_behind(store, streams, fates, &mut sink);
     sink.count()
 }
-
-#[cfg(test)]
-mod tests;

@@ -1,25 +1,27 @@
 //! Long walks of calls and turns, some of them refused, each compared with a plain model that the pair's journal
 //! leads on.
 
-use crate::Pair;
-use crate::tests::over_tables;
+use crate::tests::kept::keep;
 use crate::tests::recount::PlainPair;
+use crate::tests::steps::new_pair;
 use std::alloc::{AllocError, Global};
 use std::process::Abort;
 use std::test::Fail;
-use strm_blocks::Blocks;
+use strm_blocks::{Blocks, Reserve, TableStore};
+use strm_pair::Pair;
 use strm_types::{
     Band, Caller, Config, Content, Entry, Event, FlushQueues, ModuleName, Place, QueueName,
     Refusal, Side, Turn, Way,
 };
 
-// A pair, the model to which its journal has led, what the last read gave, the last random number, and how often what
-// was met.
+// A pair, the model to which its journal has led, what the last read gave, a buffer for its images, the last random number, and how
+// often what was met.
 #[derive(Drop)]
 struct Walk<B: Blocks + Drop> {
     pair: Pair<B>,
     model: PlainPair,
     out: Content,
+    text: Vec<u8>,
     random: u64,
     met: Met,
 }
@@ -150,11 +152,11 @@ fn enables_alike<B: Blocks + Drop>(pair: &Pair<B>, model: &PlainPair) -> bool {
 
 // Whether a journal has led the model to its end, and the pair is the model's: its free blocks, its enabled queues, and
 // what its queues keep.
-fn are_alike<B: Blocks + Drop>(pair: &Pair<B>, model: &PlainPair) -> bool {
+fn are_alike<B: Blocks + Drop>(pair: &Pair<B>, model: &PlainPair, text: &mut [u8]) -> bool {
     model.is_at_the_end_of(pair.journal())
         && pair.free_blocks() == model.free_blocks()
         && enables_alike(pair, model)
-        && pair.kept() == model.kept()
+        && keep(pair, &model.kept(), text)
 }
 
 impl<B: Blocks + Drop> Walk<B> {
@@ -166,8 +168,8 @@ impl<B: Blocks + Drop> Walk<B> {
         self.random
     }
 
-    fn agrees(&self) -> bool {
-        are_alike(&self.pair, &self.model)
+    fn agrees(&mut self) -> bool {
+        are_alike(&self.pair, &self.model, self.text.as_mut_slice())
     }
 
     // Whether the model is refused so too, and the journal has no entry more.
@@ -344,22 +346,34 @@ impl<B: Blocks + Drop> Walk<B> {
     }
 }
 
-// What is met on a walk of so many steps on a new pair of these sizes, and, after a replay of its whole journal, so
-// many more.
-fn met_on_a_walk(
+// A buffer with room for any image of a pair here: all messages have some 12 kB.
+fn buffer(alloc: Global) -> Result<Vec<u8>, AllocError> {
+    Vec::from_elem(alloc, 0, 65536)
+}
+
+// A walk that begins, on a new pair of these sizes.
+fn walk_of<B: Reserve>(alloc: Global, sizes: Config) -> Result<Walk<B>, AllocError> {
+    let text = buffer(alloc)?;
+    let pair: Pair<B> = new_pair(alloc, sizes)?;
+    Ok(Walk {
+        pair,
+        model: PlainPair::new(alloc, sizes),
+        out: Content::new(),
+        text,
+        random: 1,
+        met: NOTHING_MET,
+    })
+}
+
+// What is met on a walk of so many steps, and, after a replay of its whole journal, so many more.
+fn met_on_a_walk<B: Reserve>(
     rt: &impl Abort,
     alloc: Global,
     sizes: Config,
     steps: u32,
     more: u32,
 ) -> Result<Met, AllocError> {
-    let mut walk = Walk {
-        pair: over_tables(alloc, sizes)?,
-        model: PlainPair::new(alloc, sizes),
-        out: Content::new(),
-        random: 1,
-        met: NOTHING_MET,
-    };
+    let mut walk: Walk<B> = walk_of(alloc, sizes)?;
     walk.goes_on(rt, steps, PlainPair::new(alloc, sizes), more)?;
     Ok(walk.met)
 }
@@ -375,7 +389,7 @@ const ROOM_IN_THE_JOURNAL: Config = Config {
 fn five_thousand_steps_agree_with_a_plain_replay_of_the_journal(
     rt: HostRuntime,
 ) -> Result<(), Fail> {
-    let met = met_on_a_walk(&rt, rt.alloc(), ROOM_IN_THE_JOURNAL, 5000, 100)?;
+    let met = met_on_a_walk::<TableStore>(&rt, rt.alloc(), ROOM_IN_THE_JOURNAL, 5000, 100)?;
     assert!(rt; met.is_varied());
     Ok(())
 }
@@ -396,9 +410,9 @@ const FEW_BYTES: Config = Config {
 
 #[test]
 fn a_short_journal_is_full_where_its_replay_says(rt: HostRuntime) -> Result<(), Fail> {
-    let few_entries = met_on_a_walk(&rt, rt.alloc(), FEW_ENTRIES, 400, 0)?;
+    let few_entries = met_on_a_walk::<TableStore>(&rt, rt.alloc(), FEW_ENTRIES, 400, 0)?;
     assert!(rt; few_entries.no_journal > 10);
-    let few_bytes = met_on_a_walk(&rt, rt.alloc(), FEW_BYTES, 400, 0)?;
+    let few_bytes = met_on_a_walk::<TableStore>(&rt, rt.alloc(), FEW_BYTES, 400, 0)?;
     assert!(rt; few_bytes.no_journal > 10);
     Ok(())
 }

@@ -1,9 +1,13 @@
 //! A journal that is full, and begins anew.
 
-use super::{FULL, MASTER, MASTER_DRIVER, OPENING, SLAVE, SLAVE_HEAD, Step, follow, over_tables};
-use crate::Pair;
+use super::steps::{
+    FULL, MASTER, MASTER_DRIVER, OPENING, SLAVE, SLAVE_HEAD, Step, follow, new_pair,
+};
+use std::alloc::{AllocError, Global};
+use std::process::Abort;
 use std::test::Fail;
-use strm_blocks::Blocks;
+use strm_blocks::{Blocks, Reserve, TableStore};
+use strm_pair::Pair;
 use strm_types::{Answer, Config, Dir, Event, Ledger, Rule, Turn};
 
 const FIVE_ENTRIES: Config = Config {
@@ -54,14 +58,22 @@ fn keeps_its_ledger<B: Blocks + Drop>(pair: &mut Pair<B>) -> bool {
     are_alike(&before, &pair.ledger(Dir::MasterToSlave))
 }
 
+fn goes_on<B: Blocks + Drop>(rt: &impl Abort, pair: &mut Pair<B>) {
+    follow(rt, pair, &OPENING);
+    follow(rt, pair, &FILLED);
+    assert!(rt; keeps_its_ledger(pair));
+    follow(rt, pair, &GOES_ON);
+    assert!(rt; keeps_its_ledger(pair));
+    follow(rt, pair, &GOES_ON_AGAIN);
+}
+
+fn begins_anew<B: Reserve>(rt: &impl Abort, alloc: Global) -> Result<(), AllocError> {
+    let mut pair: Pair<B> = new_pair(alloc, FIVE_ENTRIES)?;
+    goes_on(rt, &mut pair);
+    Ok(())
+}
+
 #[test]
 fn a_full_journal_begins_anew_and_the_call_goes_through(rt: HostRuntime) -> Result<(), Fail> {
-    let mut pair = over_tables(rt.alloc(), FIVE_ENTRIES)?;
-    follow(&rt, &mut pair, &OPENING);
-    follow(&rt, &mut pair, &FILLED);
-    assert!(rt; keeps_its_ledger(&mut pair));
-    follow(&rt, &mut pair, &GOES_ON);
-    assert!(rt; keeps_its_ledger(&mut pair));
-    follow(&rt, &mut pair, &GOES_ON_AGAIN);
-    Ok(())
+    Ok(begins_anew::<TableStore>(&rt, rt.alloc())?)
 }

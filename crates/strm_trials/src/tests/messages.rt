@@ -1,8 +1,9 @@
 //! Messages that cross a pair by putmsg(2) and getmsg(2), and the modes in which reads have them, with answers worked out by
 //! hand from the manual pages and from streamio(7I).
 
-use crate::tests::{
-    AGAIN, Came, DONE, INVALID, MASTER, MASTER_DRIVER, OPENING, SIZES, SLAVE, SLAVE_HEAD, Step, run,
+use super::steps::{
+    AGAIN, Came, DONE, INVALID, MASTER, MASTER_DRIVER, OPENING, ORDINARY, SIZES, SLAVE, SLAVE_HEAD,
+    Step, run,
 };
 use std::test::Fail;
 use strm_types::{Answer, Band, ControlMode, Event, Mode, Prio, Refusal, Rule, Turn, Wanted};
@@ -12,8 +13,6 @@ const AB: &[u8] = b"ab";
 const CDE: &[u8] = b"cde";
 
 const LONG: &[u8] = &[b'z'; 600];
-
-const ORDINARY: Prio = Prio::Band(Band(0));
 
 const BANDED: Prio = Prio::Band(Band(2));
 

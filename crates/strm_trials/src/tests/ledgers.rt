@@ -2,11 +2,12 @@
 //! what calls were answered, and of what stands on the queues. No ioctl is among them: the bytes of an M_IOCTL are none of a direction, but
 //! count in the sizes of a queue.
 
-use crate::Pair;
-use crate::tests::over_tables;
+use super::steps::{OPENING, follow, new_pair};
+use std::alloc::{AllocError, Global};
 use std::process::Abort;
 use std::test::Fail;
-use strm_blocks::Blocks;
+use strm_blocks::{Blocks, Reserve, TableStore};
+use strm_pair::Pair;
 use strm_types::{
     Answer, Band, Caller, Config, Content, Dir, Event, FlushQueues, Ledger, Mode, ModuleName,
     Place, Prio, QueueName, ReadMode, Rule, Side, Wanted, Way,
@@ -298,27 +299,18 @@ const TYPED: [Rule; 8] = [
     Rule::EndClosed,
 ];
 
-#[test]
-fn ledgers_are_a_plain_recount_behind_each_of_twenty_thousand_events(
-    rt: HostRuntime,
-) -> Result<(), Fail> {
+fn goes_on_both_sides<B: Reserve>(rt: &impl Abort, alloc: Global) -> Result<(), AllocError> {
+    let mut pair: Pair<B> = new_pair(alloc, ROOM_FOR_ALL)?;
+    follow(rt, &mut pair, &OPENING);
     let mut walk = Walk {
-        pair: over_tables(rt.alloc(), ROOM_FOR_ALL)?,
+        pair,
         from_master: Recount::default(),
         from_slave: Recount::default(),
         out: Content::new(),
         random: 1,
         in_lines: 0,
     };
-    for event in [Event::OpenMaster, Event::Unlock, Event::OpenSlave] {
-        let side = if event == Event::OpenSlave {
-            Side::Slave
-        } else {
-            Side::Master
-        };
-        walk.calls(side, &event);
-    }
-    walk.goes(&rt, 20000);
+    walk.goes(rt, 20000);
     assert!(rt; walk.in_lines > 20);
     for rule in TYPED {
         assert!(rt; walk.met(Side::Master, rule));
@@ -327,4 +319,11 @@ fn ledgers_are_a_plain_recount_behind_each_of_twenty_thousand_events(
         assert!(rt; walk.met(Side::Slave, rule));
     }
     Ok(())
+}
+
+#[test]
+fn ledgers_are_a_plain_recount_behind_each_of_twenty_thousand_events(
+    rt: HostRuntime,
+) -> Result<(), Fail> {
+    Ok(goes_on_both_sides::<TableStore>(&rt, rt.alloc())?)
 }

@@ -1,16 +1,11 @@
 //! Ioctls on both sides' streams, with answers worked out by hand from streamio(7I).
 
-use crate::tests::{
-    AGAIN, Came, DONE, INVALID, MASTER, MASTER_DRIVER, NOT_OPEN, OPENING, SIZES, SLAVE, Step, run,
+use super::steps::{
+    AGAIN, Came, DONE, INVALID, MASTER, MASTER_DRIVER, NOT_OPEN, OPENING, SIZES, SLAVE,
+    SLAVE_DRIVER, Step, run,
 };
 use std::test::Fail;
-use strm_types::{Answer, Config, Event, Place, QueueName, Refusal, Side, TIOCGWINSZ, Turn, Way};
-
-const SLAVE_DRIVER: QueueName = QueueName {
-    side: Side::Slave,
-    place: Place::Driver,
-    way: Way::Down,
-};
+use strm_types::{Answer, Config, Event, Refusal, TIOCGWINSZ, Turn};
 
 const ASK: Event<&'static [u8]> = Event::Ioctl {
     command: TIOCGWINSZ,
