@@ -12,6 +12,7 @@ use crate::differences::Difference;
 use crate::pairs::{played, restored};
 use crate::vectors::Vector;
 use std::alloc::{AllocError, Global};
+use strm_blocks::Reserve;
 use strm_types::Refusal;
 
 /// The most blocks of each kind that a store has.
@@ -27,11 +28,11 @@ struct Found {
 
 // What a text gives over a store that has room for every text of its length: a message of 12 bytes takes at most two blocks. A text of version 2
 // is its pair's image.
-fn found_in(alloc: Global, text: &[u8]) -> Result<Found, Difference>
+fn found_in<B: Reserve>(alloc: Global, text: &[u8]) -> Result<Found, Difference>
     ensures { IfOk result (λ f. (x : Imaged) × (IsImageOf text.now x × IsFound x f.image.items f.mblks f.dblks)) }
 {
     let room = (text.len() / 6 + 1).min(BLOCKS_MAX);
-    let pair = restored(alloc, text, room, room)?;
+    let pair = restored::<B>(alloc, text, room, room)?;
     let (mblks, dblks) = pair.free_blocks();
     let image = pair.image(alloc)?;
     if text.get(4) == Some(&2) && image.as_slice() != text {
@@ -45,7 +46,12 @@ fn found_in(alloc: Global, text: &[u8]) -> Result<Found, Difference>
 }
 
 // A text takes so many blocks of each kind, and no fewer of either.
-fn takes(alloc: Global, text: &[u8], found: &Found, blocks: u16) -> Result<(), Difference>
+fn takes<B: Reserve>(
+    alloc: Global,
+    text: &[u8],
+    found: &Found,
+    blocks: u16,
+) -> Result<(), Difference>
     ensures mblks { OnOk result (found.now.mblks ≡ blocks) }
     ensures dblks { OnOk result (found.now.dblks ≡ blocks) }
 {
@@ -57,23 +63,28 @@ fn takes(alloc: Global, text: &[u8], found: &Found, blocks: u16) -> Result<(), D
         });
     }
     if blocks > 0 {
-        let _pair = restored(alloc, text, blocks, blocks)?;
+        let _pair = restored::<B>(alloc, text, blocks, blocks)?;
     }
     if blocks > 1 {
-        is_short(alloc, text, blocks - 1, blocks)?;
-        is_short(alloc, text, blocks, blocks - 1)?;
+        is_short::<B>(alloc, text, blocks - 1, blocks)?;
+        is_short::<B>(alloc, text, blocks, blocks - 1)?;
     }
     Ok(())
 }
 
 // A text wants more blocks than these.
-fn is_short(alloc: Global, text: &[u8], mblks: usize, dblks: usize) -> Result<(), Difference>
+fn is_short<B: Reserve>(
+    alloc: Global,
+    text: &[u8],
+    mblks: usize,
+    dblks: usize,
+) -> Result<(), Difference>
     requires some_mblks { 0 < mblks }
     requires few_mblks { mblks ≤ 65536 }
     requires some_dblks { 0 < dblks }
     requires few_dblks { dblks ≤ 65536 }
 {
-    match restored(alloc, text, mblks, dblks) {
+    match restored::<B>(alloc, text, mblks, dblks) {
         Ok(_) => Err(Difference::Enough { mblks, dblks }),
         Err(Refusal::Enosr) => Ok(()),
         Err(why) => Err(Difference::Refused(why)),
@@ -81,21 +92,26 @@ fn is_short(alloc: Global, text: &[u8], mblks: usize, dblks: usize) -> Result<()
 }
 
 // The pair of a text has this image, and takes so many blocks.
-fn agrees(alloc: Global, text: &[u8], same: &[u8], blocks: u16) -> Result<(), Difference>
+fn agrees<B: Reserve>(
+    alloc: Global,
+    text: &[u8],
+    same: &[u8],
+    blocks: u16,
+) -> Result<(), Difference>
     ensures { OnOk result ((x : Imaged) × (IsImageOf text.now x × (IsTextOf image same.now (Second, x) × (image_blocks x ≡ blocks)))) }
 {
-    let found = found_in(alloc, text)?;
+    let found = found_in::<B>(alloc, text)?;
     if found.image.as_slice() != same {
         return Err(Difference::OtherImage);
     }
-    takes(alloc, text, &found, blocks)
+    takes::<B>(alloc, text, &found, blocks)
 }
 
 // No pair is made of a text.
-fn is_bad(alloc: Global, text: &[u8]) -> Result<(), Difference>
+fn is_bad<B: Reserve>(alloc: Global, text: &[u8]) -> Result<(), Difference>
     ensures { OnOk result (IsNoImage text.now) }
 {
-    let Err(why) = restored(alloc, text, 1, 1) else {
+    let Err(why) = restored::<B>(alloc, text, 1, 1) else {
         return Err(Difference::Restored);
     };
     says_no_image(why)
@@ -112,29 +128,29 @@ fn says_no_image(why: Refusal) -> Result<(), Difference>
 }
 
 /// Whether what a line says holds, and else the first thing that differs.
-pub fn check(alloc: Global, vector: &Vector) -> Result<(), Difference>
+pub fn check<B: Reserve>(alloc: Global, vector: &Vector) -> Result<(), Difference>
     ensures { OnOk result (Holds vector.now) }
 {
     match vector {
-        Vector::Bad { text } => is_bad(alloc, text.as_slice()),
+        Vector::Bad { text } => is_bad::<B>(alloc, text.as_slice()),
         Vector::Image {
             text,
             other,
             blocks,
         } => {
-            let other = found_in(alloc, other.as_slice())?;
-            agrees(alloc, text.as_slice(), other.image.as_slice(), *blocks)
+            let other = found_in::<B>(alloc, other.as_slice())?;
+            agrees::<B>(alloc, text.as_slice(), other.image.as_slice(), *blocks)
         }
         Vector::Script {
             script,
             text,
             blocks,
         } => {
-            let left = played(alloc, script.as_slice())?;
-            agrees(alloc, text.as_slice(), left.as_slice(), *blocks)
+            let left = played::<B>(alloc, script.as_slice())?;
+            agrees::<B>(alloc, text.as_slice(), left.as_slice(), *blocks)
         }
         Vector::Untold { text } => {
-            let _found = found_in(alloc, text.as_slice())?;
+            let _found = found_in::<B>(alloc, text.as_slice())?;
             Ok(())
         }
     }
@@ -142,8 +158,8 @@ pub fn check(alloc: Global, vector: &Vector) -> Result<(), Difference>
 
 /// What a text gives, in words: `image`, the image of its pair in hexadecimal, and how many message blocks and data blocks the pair took; or why
 /// there is none.
-pub fn restored_as(alloc: Global, text: &[u8]) -> Result<String, AllocError> {
-    match found_in(alloc, text) {
+pub fn restored_as<B: Reserve>(alloc: Global, text: &[u8]) -> Result<String, AllocError> {
+    match found_in::<B>(alloc, text) {
         Ok(found) => {
             let image = hex::encode(alloc, found.image.as_slice())?;
             format!(in alloc; "image {image} {} {}", found.mblks, found.dblks)

@@ -13,17 +13,18 @@ use crate::vectors::{Vector, vector_of};
 use anyhow::{Context, Result, bail};
 use std::alloc::Global;
 use std::io::{BufRead, BufReader};
+use strm_raw::RawStore;
 
 // Answers a line; whether what it says holds.
 fn answer(rt: &impl Print, alloc: Global, line: &str) -> Result<bool> {
     let fields: Vec<&str> = line.split('\t').collect(alloc)?;
     let vector = vector_of(alloc, fields.as_slice())?;
     if let Vector::Untold { text } = &vector {
-        let told = restored_as(alloc, text.as_slice())?;
+        let told = restored_as::<RawStore>(alloc, text.as_slice())?;
         println!(rt; "{told}")?;
         return Ok(true);
     }
-    match check(alloc, &vector) {
+    match check::<RawStore>(alloc, &vector) {
         Ok(()) => {
             println!(rt; "holds")?;
             Ok(true)

@@ -10,21 +10,18 @@ ghost use Rattle.strm_vectors.specs.Told.{IsPairOf};
 
 use crate::differences::Difference;
 use std::alloc::Global;
+use strm_blocks::Reserve;
 use strm_pair::Pair;
-use strm_raw::RawStore;
 use strm_script::Session;
 use strm_types::{Config, Refusal};
 
-/// The store of the program's pairs.
-type Store = RawStore;
-
 /// The pair that is made of an image over so many message blocks and data blocks. It is only looked at, so its journal has little room.
-pub fn restored(
+pub fn restored<B: Reserve>(
     alloc: Global,
     text: &[u8],
     mblks: usize,
     dblks: usize,
-) -> Result<Pair<Store>, Refusal>
+) -> Result<Pair<B>, Refusal>
     requires some_mblks { 0 < mblks }
     requires few_mblks { mblks ≤ 65536 }
     requires some_dblks { 0 < dblks }
@@ -32,7 +29,7 @@ pub fn restored(
     ensures einval { result ≡ Err Einval → IsNoImage text.now }
     ensures ok { IfOk result (λ p. (x : Imaged) × (IsImageOf text.now x × IsPairOf x mblks dblks p)) }
 {
-    let Ok(store) = Store::new(alloc, mblks, dblks) else {
+    let Ok(store) = B::reserve(alloc, mblks, dblks) else {
         return Err(Refusal::NoMemory);
     };
     let sizes = Config {
@@ -48,10 +45,10 @@ pub fn restored(
 }
 
 /// The image of the pair that a script leaves.
-pub fn played(alloc: Global, script: &[u8]) -> Result<Vec<u8>, Difference>
+pub fn played<B: Reserve>(alloc: Global, script: &[u8]) -> Result<Vec<u8>, Difference>
     ensures { IfOk result (λ text. (x : Imaged) × IsTextOf image text.items (Second, x)) }
 {
-    let mut session: Session<Store> = Session::new(alloc);
+    let mut session: Session<B> = Session::new(alloc);
     let Ok(()) = session.take(alloc, script) else {
         return Err(Difference::Ended);
     };

@@ -55,32 +55,44 @@ fn a_session_answers_line_by_line(rt: HostRuntime) {
     goes_by_line::<TableStore>(&rt, rt.alloc());
 }
 
-#[test]
-fn a_session_takes_any_piece_of_a_script(rt: HostRuntime) {
-    let mut session: Session<RawStore> = Session::new(rt.alloc());
+fn takes_pieces<B: Reserve>(rt: &impl Abort, alloc: Global) {
+    let mut session: Session<B> = Session::new(alloc);
     for piece in FIRST_RUN.chunks(7) {
-        let taken = session.take(rt.alloc(), piece);
+        let taken = session.take(alloc, piece);
         assert_eq!(rt; taken, Ok(()));
     }
-    let ended = session.finish(rt.alloc());
+    let ended = session.finish(alloc);
     assert_eq!(rt; ended, Ok(()));
     assert_eq!(rt; session.answers(), FIRST_ANSWERS);
 }
 
 #[test]
-fn a_session_stops_at_a_malformed_line(rt: HostRuntime) {
-    let mut session: Session<RawStore> = Session::new(rt.alloc());
-    let taken = session.take(rt.alloc(), b"open\nopen it\nslave\n");
+fn a_session_takes_any_piece_of_a_script(rt: HostRuntime) {
+    takes_pieces::<RawStore>(&rt, rt.alloc());
+}
+
+fn stops_at_a_line<B: Reserve>(rt: &impl Abort, alloc: Global) {
+    let mut session: Session<B> = Session::new(alloc);
+    let taken = session.take(alloc, b"open\nopen it\nslave\n");
     assert_eq!(rt; taken, Err(Stop::Malformed));
     assert_eq!(rt; session.answers(), b"ok\nerr line 2\n".as_slice());
 }
 
 #[test]
-fn a_session_stops_at_a_malformed_line_without_its_end(rt: HostRuntime) {
-    let mut session: Session<RawStore> = Session::new(rt.alloc());
-    let taken = session.take(rt.alloc(), b"opens");
+fn a_session_stops_at_a_malformed_line(rt: HostRuntime) {
+    stops_at_a_line::<RawStore>(&rt, rt.alloc());
+}
+
+fn stops_at_the_end<B: Reserve>(rt: &impl Abort, alloc: Global) {
+    let mut session: Session<B> = Session::new(alloc);
+    let taken = session.take(alloc, b"opens");
     assert_eq!(rt; taken, Ok(()));
-    let ended = session.finish(rt.alloc());
+    let ended = session.finish(alloc);
     assert_eq!(rt; ended, Err(Stop::Malformed));
     assert_eq!(rt; session.answers(), b"err line 1\n".as_slice());
+}
+
+#[test]
+fn a_session_stops_at_a_malformed_line_without_its_end(rt: HostRuntime) {
+    stops_at_the_end::<RawStore>(&rt, rt.alloc());
 }

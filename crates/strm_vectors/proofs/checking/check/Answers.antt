@@ -9,11 +9,11 @@ use Rattle.strm_vectors.proofs.PairRows.{on_ok, one_state}
 use Rattle.strm_vectors.proofs.checking.check.Goals as goal
 
 pub returns-in-Bad : goal.returns-in-Bad
-returns-in-Bad c =
+returns-in-Bad g c =
     subst (λ v. OnOk c.is_bad.result (Holds v)) (sym c.in-Bad.is) (subst (λ t. OnOk c.is_bad.result (IsNoImage t)) c.as_slice.ensures.value c.is_bad.ensures)
 
 pub returns-in_ok-other-in-Image : goal.returns-in_ok-other-in-Image
-returns-in_ok-other-in-Image c =
+returns-in_ok-other-in-Image g c =
     let y = c.in_ok-other-in-Image.ensures in
     let of_other = subst (λ t. IsImageOf t y.0) c.as_slice-in-Image.ensures.value y.1.0 in
     let same = subst (λ t. IsTextOf image t (Second, y.0)) (sym c.as_slice-in-Image-3.ensures.value) y.1.1.text_of in
