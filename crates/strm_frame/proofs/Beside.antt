@@ -58,6 +58,10 @@ change-held IsHeld owns s xs i x d y within is same held new = record {
   apart = λ j. let a = held.apart j in let e = sum_by-set (λ w. owns w j) xs i y d within in let f = ap (λ w. owns w j) is in let g = same j in omega arith;
 }
 
+-- one takes the place of another that counts as much of each
+pub set-same : {X : Type 0} (f : X → ℕ → ℕ) (xs : List X) (i : ℕ) (x d y : X) → i < length xs → x ≡ get_or xs i d → ((k : ℕ) → f y k ≡ f x k) → (k : ℕ) → all_of f (set xs i y) k ≡ all_of f xs k
+set-same f xs i x d y within is same k = let a = sum_by-set (λ w. f w k) xs i y d within in let e = ap (λ w. f w k) is in let g = same k in omega arith
+
 -- nothing is in hand, and one that clears its queues keeps nothing
 pub rest-in : (s : StoreValue) (keeps : ℕ → ℕ) → ((i : ℕ) → keeps i ≡ 0) → AreIn s (λ _. 0) keeps
 rest-in s keeps none = record { apart = λ i. let e = none i in omega arith }

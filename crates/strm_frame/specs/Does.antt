@@ -1,5 +1,5 @@
--- What a put, a delivery, a call of a service procedure and a pop did to a store and what stands beside it.
-use Rattle.std.specs.Prelude.{ℕ, ◌≡◌, ◌<◌, ◌≤◌, false, List, Option}
+-- What a put, a delivery, a call of a service procedure, the end of a turn and a pop did to a store and what stands beside it.
+use Rattle.std.specs.Prelude.{ℕ, ◌≡◌, ◌<◌, ◌≤◌, Bool, false, List, Option}
 use Rattle.std.specs.Bool.{OnTrue}
 use Rattle.strm_types.specs.declared.limits.TheConstants.{STOP_BLOCKS}
 use Rattle.strm_types.specs.declared.rules.Fates.{Fates}
@@ -17,14 +17,15 @@ use Rattle.strm_frame.specs.declared.modules.Acts.{Acts}
 use Rattle.strm_frame.specs.declared.modules.LetGo.{LetGo}
 use Rattle.strm_frame.specs.declared.parcels.Sent.{Sent}
 use Rattle.strm_frame.specs.declared.service.Served.{Served}
+use Rattle.strm_frame.specs.declared.service.TurnEnd.{TurnEnd}
 use Rattle.strm_frame.specs.Hands.{Handles, Hands, HasRoom, OnlyOwn, SamePool, Spends, Takes}
 use Rattle.strm_frame.specs.Outboxes.{message_in, sent_of, times_sent, parcels_in, AreChains}
 use Rattle.strm_frame.specs.Serves.{SameHand, least_free, later_cost}
 
 module _ {X P : Type 0} (plain : StoreValue → X → P) (IsHeld : StoreValue → X → Type 0) (keeps : X → ℕ → ℕ) (spare : P → ℕ) where
-  -- A put at a spot of stations did what a definition says: the message has gone, and what is sent on has come in hand, and has less before it. Of
-  -- blocks and of what else the stations count no more was taken than the message may take, and what may be taken by what is sent on is left.
-  pub record PutAt (height : Spot → Message ℕ → ℕ) (cost : Spot → Message ℕ → ℕ) (old new : StoreValue) (x y : X) (to : Spot) (message : ℕ) (sent_on : List Sent) (t t' : Fates) (is : Took ℕ P) : Type 0 where
+  -- A put at a spot did what a definition says: the message has gone, and what is sent on has come in hand, and has less before it. No more was taken
+  -- than the message may take, of blocks and of what else the stations count, and what the messages that are sent on may take is left.
+  pub record PutsAt (height : Spot → Message ℕ → ℕ) (cost : Spot → Message ℕ → ℕ) (old new : StoreValue) (x y : X) (to : Spot) (message : ℕ) (sent_on : List Sent) (t t' : Fates) (is : Took ℕ P) : Type 0 where
     pub state : plain new y ≡ is.state
     pub sent : parcels_in new sent_on ≡ is.sent
     pub told : t' ≡ tallied is.gone t
@@ -37,7 +38,7 @@ module _ {X P : Type 0} (plain : StoreValue → X → P) (IsHeld : StoreValue �
 
   -- A delivery led to what a definition says: what was delivered has gone, and nothing has come in hand but what the stations keep. No more was
   -- taken than `most`.
-  pub record Delivered (old new : StoreValue) (x y : X) (gone : ℕ → ℕ) (most : ℕ) (t t' : Fates) (is : Carried ℕ P) : Type 0 where
+  pub record Delivers (old new : StoreValue) (x y : X) (gone : ℕ → ℕ) (most : ℕ) (t t' : Fates) (is : Carried ℕ P) : Type 0 where
     pub state : plain new y ≡ is.state
     pub told : t' ≡ tallied is.gone t
     pub held : IsHeld new y
@@ -46,8 +47,8 @@ module _ {X P : Type 0} (plain : StoreValue → X → P) (IsHeld : StoreValue �
     pub pool : SamePool old new
 
 module _ {X P : Type 0} (plain : StoreValue → X → P) (IsHeld : StoreValue → X → Type 0) (owns keeps : X → ℕ → ℕ) where
-  -- A put procedure did what a definition says: the message has gone, and what is sent on has come in hand, and has less before it. Only its own lists
-  -- changed. No more blocks of each kind were taken than `most`, and where that many were free, `later` are free behind it.
+  -- A put procedure did what a definition says: the message has gone, and what is sent on has come in hand, and has less before it. Only the module's own
+  -- lists changed. No more blocks of each kind were taken than `most`, and where that many were free, `later` are free behind it.
   pub record Puts (height : Spot → Message ℕ → ℕ) (old new : StoreValue) (x y : X) (here : Spot) (message most later : ℕ) (acts : Acts) (t t' : Fates) (is : Acted ℕ P) : Type 0 where
     pub state : plain new y ≡ is.state
     pub notes : acts.notes.items ≡ is.notes
@@ -61,9 +62,9 @@ module _ {X P : Type 0} (plain : StoreValue → X → P) (IsHeld : StoreValue �
     pub spends : Spends old new most later
     pub pool : SamePool old new
 
-  -- A call of a service procedure did what a definition says: what is sent has come in hand, beside what the module keeps, and is lower than `top`. Only its
-  -- own lists changed. It stopped only where fewer blocks of some kind than a byte may take are left, at so many bytes as it may, and then it isn't
-  -- called again. Blocks are left for what it sent, and for the next call.
+  -- A call of a service procedure did what a definition says: what is sent has come in hand, beside what the module keeps, and has less than `top` before
+  -- it. Only the module's own lists changed. The call stopped within the message only where fewer than `STOP_BLOCKS` blocks of some kind are left, where it
+  -- may stop, and then it isn't called again. Blocks are left for what it sent, and for the next call of the turn.
   pub record Serves (height cost : Spot → Message ℕ → ℕ) (turn_cost : P → ℕ) (MayStop : ℕ → P → Type 0) (old new : StoreValue) (x y : X) (top : ℕ) (served : Served) (t t' : Fates) (is : Serving ℕ P) : Type 0 where
     pub state : plain new y ≡ is.acted.state
     pub notes : served.acts.notes.items ≡ is.acted.notes
@@ -81,6 +82,23 @@ module _ {X P : Type 0} (plain : StoreValue → X → P) (IsHeld : StoreValue �
     pub hands : Handles old new (λ _. 0) (keeps x) (keeps y) (λ i. times_sent i (sent_of served.acts.sent))
     pub room : HasRoom new (later_cost cost served.again (turn_cost (plain new y)) (parcels_in new (sent_of served.acts.sent)))
     pub pool : SamePool old new
+
+  -- A turn of a queue ended as a definition says, and told whether waiting writers were let go, and whether messages stand there. The module owns and
+  -- keeps what it did.
+  pub record EndsTurn (s : StoreValue) (x y : X) (end : TurnEnd) (relieves stands : Bool) (is : P) : Type 0 where
+    pub state : plain s y ≡ is
+    pub room : end.room ≡ relieves
+    pub more : end.more ≡ stands
+    pub held : IsHeld s y
+    pub owns_same : (k : ℕ) → owns y k ≡ owns x k
+    pub keeps_same : (i : ℕ) → keeps y i ≡ keeps x i
+
+  -- A module changed as a definition says, whatever the store holds, and fits it where it did. It owns and keeps what it did.
+  pub record Changes (x y : X) (change : P → P) : Type 0 where
+    pub state : (s : StoreValue) → plain s y ≡ change (plain s x)
+    pub held : (s : StoreValue) → IsHeld s x → IsHeld s y
+    pub owns_same : (k : ℕ) → owns y k ≡ owns x k
+    pub keeps_same : (i : ℕ) → keeps y i ≡ keeps x i
 
   -- A module let all go, as a definition says, and told whether the M_IOCTL of a number, where one is sought, stood among `below`. Only its own lists changed,
   -- it keeps nothing in hand, and no block was taken.

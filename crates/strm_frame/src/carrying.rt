@@ -7,7 +7,7 @@ ghost use Rattle.strm_blocks.specs.Blocks.{in_hand, token};
 ghost use Rattle.strm_msg.specs.Messages.{IsChain};
 ghost use Rattle.strm_types.specs.Costs.{cost_of};
 ghost use Rattle.strm_frame.specs.Outboxes.{AreChains, message_in, parcels_in, sent_of, times_sent};
-ghost use Rattle.strm_frame.specs.Does.{Delivered};
+ghost use Rattle.strm_frame.specs.Does.{Delivers};
 ghost use Rattle.strm_frame.specs.Hands.{AreIn, CanPut, MayTake, once};
 
 use crate::parcels::Outbox;
@@ -35,7 +35,7 @@ pub fn deliver<B: Blocks, S: Stations<B>>(
     requires room { let s = B.value store.old in let p = S.plain s stations.old in
         MayTake s (S.spare p) (S.cost p to (message_in s (token message))) }
     ensures { let s = B.value store.old in let p = S.plain s stations.old in let m = message_in s (token message) in
-        Delivered S.plain S.IsHeld S.keeps S.spare s (B.value store.new) stations.old stations.new (once (token message)) (S.cost p to m)
+        Delivers S.plain S.IsHeld S.keeps S.spare s (B.value store.new) stations.old stations.new (once (token message)) (S.cost p to m)
         told.old told.new (carried S.puts hops (record { to = to; message = m }) p) }
 {
     let sent = stations.put_at(store, to, message, told);
@@ -63,7 +63,7 @@ pub fn deliver_all<B: Blocks, S: Stations<B>>(
     requires room { let s = B.value store.old in let p = S.plain s stations.old in
         MayTake s (S.spare p) (cost_of (S.cost p) (parcels_in s (sent_of sent))) }
     ensures { let s = B.value store.old in let p = S.plain s stations.old in let parcels = parcels_in s (sent_of sent) in
-        Delivered S.plain S.IsHeld S.keeps S.spare s (B.value store.new) stations.old stations.new (λ i. times_sent i (sent_of sent))
+        Delivers S.plain S.IsHeld S.keeps S.spare s (B.value store.new) stations.old stations.new (λ i. times_sent i (sent_of sent))
         (cost_of (S.cost p) parcels) told.old told.new (in_turn (carried S.puts hops) parcels p) }
 {
     let mut left = sent;

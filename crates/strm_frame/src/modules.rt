@@ -17,7 +17,7 @@ ghost use Rattle.strm_types.specs.Service.{Serving, turn_ended, end_relieves, ha
 ghost use Rattle.strm_blocks.specs.Blocks.{StoreValue, in_hand, token};
 ghost use Rattle.strm_msg.specs.Messages.{IsChain};
 ghost use Rattle.strm_frame.specs.Outboxes.{message_in};
-ghost use Rattle.strm_frame.specs.Does.{Clears, Puts, Serves};
+ghost use Rattle.strm_frame.specs.Does.{Changes, Clears, EndsTurn, Puts, Serves};
 ghost use Rattle.strm_frame.specs.Serves.{stop_of};
 ghost use Rattle.strm_frame.specs.Hands.{AreIn, CanPut, SameOwn, HasRoom};
 
@@ -184,11 +184,7 @@ pub trait Module: Drop {
 
     /// Has a writer of a band wait at its queue of a way, until there is room again: want-write is set there.
     fn let_wait(&mut self, way: Way, band: Band)
-        ensures state { (s : StoreValue) →
-            plain s self.new ≡ waits queue_of with_queue way band.0 (plain s self.old) }
-        ensures held { (s : StoreValue) → IsHeld s self.old → IsHeld s self.new }
-        ensures owns { (k : ℕ) → owns self.new k ≡ owns self.old k }
-        ensures keeps { (i : ℕ) → keeps self.new i ≡ keeps self.old i };
+        ensures { Changes plain IsHeld owns keeps self.old self.new (waits queue_of with_queue way band.0) };
 
     /// What the first message of its queue of a way asks before it goes on. It has a queue that way. A message has no more
     /// bytes than all blocks of a store.
@@ -223,13 +219,9 @@ pub trait Module: Drop {
     /// too, as its queue is empty or its first message may not go on.
     fn end_turn<B: Blocks>(&mut self, store: &B, way: Way, took: bool) -> TurnEnd
         requires held { IsHeld (B.value store.now) self.old }
-        ensures state { let s = B.value store.now in
-            plain s self.new ≡ queue_changed queue_of with_queue way (turn_ended took) (plain s self.old) }
-        ensures room { result.room ≡ end_relieves queue_of took way (plain (B.value store.now) self.old) }
-        ensures more { result.more ≡ has_more queue_of way (plain (B.value store.now) self.old) }
-        ensures held { IsHeld (B.value store.now) self.new }
-        ensures owns { (k : ℕ) → owns self.new k ≡ owns self.old k }
-        ensures keeps { (i : ℕ) → keeps self.new i ≡ keeps self.old i };
+        ensures { let s = B.value store.now in let p = plain s self.old in
+            EndsTurn plain IsHeld owns keeps s self.old self.new result (end_relieves queue_of took way p) (has_more queue_of way p)
+            (queue_changed queue_of with_queue way (turn_ended took) p) };
 
     /// Lets all go that stands on its queues and in its line, before the module is taken off a side's stream. The bytes go by
     /// a rule. It tells which queues before its own have room again, and whether the M_IOCTL of a number stood on its write queue, where

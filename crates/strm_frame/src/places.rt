@@ -6,7 +6,7 @@ ghost use Rattle.strm_types.specs.Message.{Message};
 ghost use Rattle.strm_types.specs.Deliver.{Took};
 ghost use Rattle.strm_blocks.specs.Blocks.{StoreValue, in_hand, token};
 ghost use Rattle.strm_msg.specs.Messages.{IsChain};
-ghost use Rattle.strm_frame.specs.Does.{PutAt};
+ghost use Rattle.strm_frame.specs.Does.{PutsAt};
 ghost use Rattle.strm_frame.specs.Outboxes.{message_in, sent_of};
 ghost use Rattle.strm_frame.specs.Hands.{CanPut, SameFor, MayTake};
 
@@ -50,7 +50,7 @@ pub trait Stations<B: Blocks> {
         requires room { let s = B.value store.old in
             MayTake s (spare (plain s self.old)) (cost (plain s self.old) to (message_in s (token message))) }
         ensures { let s = B.value store.old in let p = plain s self.old in
-            PutAt plain IsHeld keeps spare height (cost p) s (B.value store.new) self.old self.new to (token message) (sent_of result)
+            PutsAt plain IsHeld keeps spare height (cost p) s (B.value store.new) self.old self.new to (token message) (sent_of result)
             told.old told.new (puts to (message_in s (token message)) p) };
 
     /// The stations stand for the same, and fit, wherever the lists are the same and what they keep in hand is.

@@ -1,7 +1,7 @@
 //! Room past a place of a stream, by the queues of its modules (canputnext(9F), bcanput(9F); STREAMS Programming Guide,
 //! "Flow Control"). Places count from the head's, 0, over the modules from the top; the first module's place is 1.
 
-ghost use Rattle.std.specs.Prelude.{ℕ, ◌≡◌, ◌<◌, ◌≤◌, ◌-◌, false, not, [], length, map, slice_index_or};
+ghost use Rattle.std.specs.Prelude.{◌≡◌, ◌<◌, ◌≤◌, ◌-◌, false, not, [], length, map, slice_index_or};
 ghost use Rattle.std.specs.List.{AllByRecursion, list_any};
 ghost use Rattle.strm_types.specs.Queue.{bytes_of, count_of, first_size};
 ghost use Rattle.strm_types.specs.declared.names.Way.TheVariants.{Up};
@@ -9,7 +9,8 @@ ghost use Rattle.strm_types.specs.Modules.{change_among};
 ghost use Rattle.strm_types.specs.Refused.{has_no_data};
 ghost use Rattle.strm_types.specs.ModuleQueues.{at_place, messages_at, full_at, waits, place_below, place_above, place_past, place_before, can_pass, room_at, waits_at, waits_past};
 ghost use Rattle.strm_blocks.specs.Blocks.{StoreValue};
-ghost use Rattle.strm_frame.specs.Stacks.{all_of, AreHeld, IsPlace};
+ghost use Rattle.strm_frame.specs.Does.{Changes};
+ghost use Rattle.strm_frame.specs.Stacks.{IsPlace, all_in, all_of, AreHeld};
 
 use crate::modules::Module;
 use crate::stack::Stream;
@@ -81,11 +82,8 @@ fn room_at<B: Blocks, M: Module>(
 fn let_wait_among<M: Module>(modules: &mut [M], at: usize, way: Way, band: Band)
     requires within { at < length modules.old }
     ensures length { length modules.new ≡ length modules.old }
-    ensures state { (s : StoreValue) → map (M.plain s) modules.new ≡
-        change_among (waits M.queue_of M.with_queue way band.0) at (map (M.plain s) modules.old) }
-    ensures held { (s : StoreValue) → AreHeld M.IsHeld M.owns s modules.old → AreHeld M.IsHeld M.owns s modules.new }
-    ensures owns { (k : ℕ) → all_of M.owns modules.new k ≡ all_of M.owns modules.old k }
-    ensures keeps { (i : ℕ) → all_of M.keeps modules.new i ≡ all_of M.keeps modules.old i }
+    ensures does { Changes (all_in M.plain) (AreHeld M.IsHeld M.owns) (all_of M.owns) (all_of M.keeps) modules.old modules.new
+        (change_among (waits M.queue_of M.with_queue way band.0) at) }
 {
     modules[at].let_wait(way, band);
 }
@@ -94,11 +92,8 @@ fn let_wait_among<M: Module>(modules: &mut [M], at: usize, way: Way, band: Band)
 fn let_wait_at<M: Module>(modules: &mut [M], place: Option<usize>, way: Way, band: Band)
     requires place { IsPlace (length modules.old) place }
     ensures length { length modules.new ≡ length modules.old }
-    ensures state { (s : StoreValue) → map (M.plain s) modules.new ≡
-        waits_at M.queue_of M.with_queue way band.0 (map (M.plain s) modules.old) place }
-    ensures held { (s : StoreValue) → AreHeld M.IsHeld M.owns s modules.old → AreHeld M.IsHeld M.owns s modules.new }
-    ensures owns { (k : ℕ) → all_of M.owns modules.new k ≡ all_of M.owns modules.old k }
-    ensures keeps { (i : ℕ) → all_of M.keeps modules.new i ≡ all_of M.keeps modules.old i }
+    ensures does { Changes (all_in M.plain) (AreHeld M.IsHeld M.owns) (all_of M.owns) (all_of M.keeps) modules.old modules.new
+        (λ ps. waits_at M.queue_of M.with_queue way band.0 ps place) }
 {
     match place {
         Some(place) => let_wait_among(modules, place - 1, way, band),
@@ -204,12 +199,8 @@ impl<M: Module + Default> Stream<M> {
     /// want-write is set there. Nothing where no module there has a queue.
     pub fn let_wait_past(&mut self, way: Way, band: Band, at: usize)
         ensures length { length self.new.modules.items ≡ length self.old.modules.items }
-        ensures state { (s : StoreValue) → map (M.plain s) self.new.modules.items ≡
-            waits_past M.queue_of M.with_queue way band.0 at (map (M.plain s) self.old.modules.items) }
-        ensures held { (s : StoreValue) → AreHeld M.IsHeld M.owns s self.old.modules.items →
-            AreHeld M.IsHeld M.owns s self.new.modules.items }
-        ensures owns { (k : ℕ) → all_of M.owns self.new.modules.items k ≡ all_of M.owns self.old.modules.items k }
-        ensures keeps { (i : ℕ) → all_of M.keeps self.new.modules.items i ≡ all_of M.keeps self.old.modules.items i }
+        ensures does { Changes (all_in M.plain) (AreHeld M.IsHeld M.owns) (all_of M.owns) (all_of M.keeps)
+            self.old.modules.items self.new.modules.items (waits_past M.queue_of M.with_queue way band.0 at) }
     {
         let place = self.place_past(way, at);
         let_wait_at(self.modules.as_mut_slice(), place, way, band);

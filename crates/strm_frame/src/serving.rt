@@ -2,14 +2,14 @@
 //! what the first message asks, and whether there is room past the place; it serves, delivers what was sent, and ends the
 //! turn.
 
-ghost use Rattle.std.specs.Prelude.{ℕ, ◌≡◌, ◌<◌, ◌≤◌, ◌-◌, true, false, length, map, slice_index_or, HoldsAt};
+ghost use Rattle.std.specs.Prelude.{◌≡◌, ◌<◌, ◌≤◌, ◌-◌, true, false, length, map, slice_index_or, HoldsAt};
 ghost use Rattle.strm_types.specs.declared.limits.TheConstants.{MODULES};
 ghost use Rattle.strm_types.specs.declared.spots.Asks.TheVariants.{Empty};
 ghost use Rattle.strm_types.specs.Modules.{change_among};
 ghost use Rattle.strm_types.specs.ModuleQueues.{at_place, messages_at, queue_changed};
 ghost use Rattle.strm_types.specs.Service.{turn_ended, end_relieves, has_more};
 ghost use Rattle.strm_types.specs.Queue.{first_size};
-ghost use Rattle.strm_frame.specs.Does.{Serves};
+ghost use Rattle.strm_frame.specs.Does.{EndsTurn, Serves};
 ghost use Rattle.strm_frame.specs.Hands.{AreIn, HasRoom};
 ghost use Rattle.strm_frame.specs.Serves.{served_among, stop_of};
 ghost use Rattle.strm_frame.specs.Stacks.{all_in, all_of, AreHeld};
@@ -42,15 +42,10 @@ fn end_turn_among<B: Blocks, M: Module>(
     requires within { at < length modules.old }
     requires held { AreHeld M.IsHeld M.owns (B.value store.now) modules.old }
     ensures length { length modules.new ≡ length modules.old }
-    ensures state { let s = B.value store.now in map (M.plain s) modules.new ≡
-        change_among (queue_changed M.queue_of M.with_queue way (turn_ended took)) at (map (M.plain s) modules.old) }
-    ensures room { result.room ≡ slice_index_or (map (end_relieves M.queue_of took way)
-        (map (M.plain (B.value store.now)) modules.old)) at false }
-    ensures more { result.more ≡ slice_index_or (map (has_more M.queue_of way)
-        (map (M.plain (B.value store.now)) modules.old)) at false }
-    ensures held { AreHeld M.IsHeld M.owns (B.value store.now) modules.new }
-    ensures owns { (k : ℕ) → all_of M.owns modules.new k ≡ all_of M.owns modules.old k }
-    ensures keeps { (i : ℕ) → all_of M.keeps modules.new i ≡ all_of M.keeps modules.old i }
+    ensures does { let s = B.value store.now in let ps = all_in M.plain s modules.old in
+        EndsTurn (all_in M.plain) (AreHeld M.IsHeld M.owns) (all_of M.owns) (all_of M.keeps) s modules.old modules.new result
+        (slice_index_or (map (end_relieves M.queue_of took way) ps) at false) (slice_index_or (map (has_more M.queue_of way) ps) at false)
+        (change_among (queue_changed M.queue_of M.with_queue way (turn_ended took)) at ps) }
 {
     modules[at].end_turn(store, way, took)
 }
@@ -140,16 +135,10 @@ impl<M: Module + Default> Stream<M> {
         requires within { place ≤ length self.old.modules.items }
         requires held { AreHeld M.IsHeld M.owns (B.value store.now) self.old.modules.items }
         ensures length { length self.new.modules.items ≡ length self.old.modules.items }
-        ensures state { let s = B.value store.now in map (M.plain s) self.new.modules.items ≡
-            change_among (queue_changed M.queue_of M.with_queue way (turn_ended took)) (place - 1)
-            (map (M.plain s) self.old.modules.items) }
-        ensures room { result.room ≡ at_place (end_relieves M.queue_of took way) false place
-            (map (M.plain (B.value store.now)) self.old.modules.items) }
-        ensures more { result.more ≡ at_place (has_more M.queue_of way) false place
-            (map (M.plain (B.value store.now)) self.old.modules.items) }
-        ensures held { AreHeld M.IsHeld M.owns (B.value store.now) self.new.modules.items }
-        ensures owns { (k : ℕ) → all_of M.owns self.new.modules.items k ≡ all_of M.owns self.old.modules.items k }
-        ensures keeps { (i : ℕ) → all_of M.keeps self.new.modules.items i ≡ all_of M.keeps self.old.modules.items i }
+        ensures does { let s = B.value store.now in let xs = self.old.modules.items in let ps = all_in M.plain s xs in
+            EndsTurn (all_in M.plain) (AreHeld M.IsHeld M.owns) (all_of M.owns) (all_of M.keeps) s xs self.new.modules.items result
+            (at_place (end_relieves M.queue_of took way) false place ps) (at_place (has_more M.queue_of way) false place ps)
+            (change_among (queue_changed M.queue_of M.with_queue way (turn_ended took)) (place - 1) ps) }
     {
         end_turn_among(store, self.modules.as_mut_slice(), place - 1, way, took)
     }

@@ -6,6 +6,7 @@ ghost use Rattle.strm_types.specs.ModuleQueues.{queue_changed};
 ghost use Rattle.strm_types.specs.Queue.{is_none_left};
 ghost use Rattle.strm_types.specs.Service.{turn_ended, turn_relieves, end_relieves, has_more};
 ghost use Rattle.strm_queue.specs.Stored.{queue_in, messages_on, IsReady};
+ghost use Rattle.strm_frame.specs.Does.{EndsTurn};
 ghost use Rattle.strm_ldterm.specs.Relieved.{AddsBytes};
 ghost use Rattle.strm_ldterm.specs.Stands.{ldterm_in, owns, keeps, IsHeld};
 ghost use Rattle.strm_ldterm.specs.Calls.{queue_of, with_queue};
@@ -63,13 +64,9 @@ fn end_with<B: Blocks>(
 /// bytes, waiting writers are let go. The turn's echo stands on the write queue.
 pub fn end_turn<B: Blocks>(ldterm: &mut Ldterm, store: &B, way: Way, took: bool) -> TurnEnd
     requires held { IsHeld (B.value store.now) ldterm.old }
-    ensures state { let s = B.value store.now in
-        ldterm_in s ldterm.new ≡ queue_changed queue_of with_queue way (turn_ended took) (ldterm_in s ldterm.old) }
-    ensures room { result.room ≡ end_relieves queue_of took way (ldterm_in (B.value store.now) ldterm.old) }
-    ensures more { result.more ≡ has_more queue_of way (ldterm_in (B.value store.now) ldterm.old) }
-    ensures held { IsHeld (B.value store.now) ldterm.new }
-    ensures owns { (k : ℕ) → owns ldterm.new k ≡ owns ldterm.old k }
-    ensures keeps { (i : ℕ) → keeps ldterm.new i ≡ keeps ldterm.old i }
+    ensures { let s = B.value store.now in let p = ldterm_in s ldterm.old in
+        EndsTurn ldterm_in IsHeld owns keeps s ldterm.old ldterm.new result (end_relieves queue_of took way p) (has_more queue_of way p)
+        (queue_changed queue_of with_queue way (turn_ended took) p) }
 {
     match way {
         Way::Up => end_queue_turn(store, &mut ldterm.read_queue, took),

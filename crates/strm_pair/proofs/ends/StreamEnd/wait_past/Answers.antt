@@ -12,15 +12,15 @@ use Rattle.strm_pair.specs.Streams.{stream_in}
 
 pub returns-in-Some-clause-side : goal.returns-in-Some-clause-side
 returns-in-Some-clause-side c = λ s first is.
-    let e = c.let_wait_past.ensures in
+    let e = c.let_wait_past.ensures.does in
     let end = c.args.self.now in
-    side-changed s first end c.let_wait_past.new.self is (e.held s is.stack) e.owns (ap (map module_name) (e.state s) ∙ waits-names c.args.way c.args.band.0 c.args.at (modules_in s end.stack))
+    side-changed s first end c.let_wait_past.new.self is (e.held s is.stack) e.owns_same (ap (map module_name) (e.state s) ∙ waits-names c.args.way c.args.band.0 c.args.at (modules_in s end.stack))
 
 pub returns-in-Some-clause-stream : goal.returns-in-Some-clause-stream
 returns-in-Some-clause-stream c = λ s.
     let x = c.args.self.now in
     let t = stream_in s x in
-    ap (λ (ms : List (Module ℕ)). record t { modules = ms }) (c.let_wait_past.ensures.state s)
+    ap (λ (ms : List (Module ℕ)). record t { modules = ms }) (c.let_wait_past.ensures.does.state s)
     ∙ ap (λ (o : Option ℕ). record t { modules = waits_at module_queue with_module_queue c.args.way c.args.band.0 t.modules o }) (sym (c.place_past.ensures.place s) ∙ c.in-Some.is)
     ∙ ap (λ o. waits_on c.args.way c.args.band.0 o t) (sym (sym (c.place_past.ensures.place s) ∙ c.in-Some.is))
 

@@ -31,7 +31,7 @@ returns-clause-keeps g c =
     let side = c.args.here.side in
     let r = c.get_mut.result.now in
     λ i. kept-with side (record r { stack = c.end_turn.new.self }) p i
-    ∙ ap (λ n. n + stack_keeps (end_at (other side) p).stack i) (c.end_turn.ensures.keeps i ∙ ap (λ (e : StreamEnd). stack_keeps e.stack i) c.get_mut.ensures.value)
+    ∙ ap (λ n. n + stack_keeps (end_at (other side) p).stack i) (c.end_turn.ensures.does.keeps_same i ∙ ap (λ (e : StreamEnd). stack_keeps e.stack i) c.get_mut.ensures.value)
     ∙ sym (kept-parts side p i)
 
 pub returns-clause-beside : goal.returns-clause-beside
@@ -40,9 +40,9 @@ returns-clause-beside g c =
     let p = c.args.self.now in
     let side = c.args.here.side in
     let end = end_at side p in
-    let e = rw c.get_mut.ensures.value at c.end_turn.ensures in
+    let e = rw c.get_mut.ensures.value at c.end_turn.ensures.does in
     rw c.get_mut.ensures.value
     (set-all (λ sd x. IsSide s (first_list sd) x) side (record end { stack = c.end_turn.new.self }) p.ends
-    (side-changed s (first_list side) end c.end_turn.new.self (c.requires.beside side) e.held e.owns
+    (side-changed s (first_list side) end c.end_turn.new.self (c.requires.beside side) e.held e.owns_same
     (ap (map module_name) e.state ∙ queue-names c.args.here.way (turn_ended c.args.took) (c.args.here.at - 1) (modules_in s end.stack)))
     c.requires.beside)

@@ -14,7 +14,7 @@ can_pass-requires g c = rw c.disable.ensures (omega arith, c.requires.rest.are.h
 pub end_turn-requires-then-eq-clause-rest : goal.end_turn-requires-then-eq-clause-rest
 end_turn-requires-then-eq-clause-rest g c = record {
   are = record {
-    held = c.let_wait_past.ensures.held (g.B.Blocks.value c.args.store.now) (rw c.disable.ensures c.requires.rest.are.held);
+    held = c.let_wait_past.ensures.does.held (g.B.Blocks.value c.args.store.now) (rw c.disable.ensures c.requires.rest.are.held);
     two = c.let_wait_past.ensures.length ∙ (rw c.disable.ensures c.requires.rest.are.two);
   };
   hand = c.requires.rest.hand;
