@@ -1,4 +1,4 @@
--- What calls and turns ask of the streams and their store, and what they lead to.
+-- What puts, calls and turns ask of the streams and their store, and what calls and turns lead to.
 use Rattle.std.specs.Prelude.{ℕ, ◌≡◌, ◌≤◌, ◌+◌, true, List}
 use Rattle.strm_types.specs.declared.rules.Fates.{Fates}
 use Rattle.strm_types.specs.Deliver.{Fate, tallied}
@@ -6,15 +6,22 @@ use Rattle.strm_laws.specs.Kept.{AreIdle}
 use Rattle.strm_laws.specs.Refusals.{in_range}
 use Rattle.strm_laws.specs.Spares.{spare}
 use Rattle.strm_laws.specs.State.{State}
-use Rattle.strm_blocks.specs.Blocks.{StoreValue}
-use Rattle.strm_frame.specs.Hands.{HasRoom}
+use Rattle.strm_blocks.specs.Blocks.{StoreValue, in_hand}
+use Rattle.strm_msg.specs.Messages.{IsChain}
+use Rattle.strm_frame.specs.Hands.{CanPut, HasRoom}
 use Rattle.strm_pair.specs.declared.streams.Streams.{Streams}
-use Rattle.strm_pair.specs.Pairs.{state_in, AreHeld, SamePool}
+use Rattle.strm_pair.specs.Pairs.{state_in, AreBeside, AreHeld, SamePool, kept_by}
 
 -- The streams are at rest: they fit the store, nothing is in hand, and nothing of a turn is under way at any module.
 pub record AreAtRest (s : StoreValue) (p : Streams) : Type 0 where
   pub held : AreHeld s p
   pub idle : AreIdle (state_in s p)
+
+-- A message may be put at a spot: it is in hand, beside what the stacks keep, and the streams fit the store.
+pub record MayPut (s : StoreValue) (p : Streams) (message : ℕ) : Type 0 where
+  pub beside : AreBeside s p
+  pub can_put : CanPut s message (kept_by p)
+  pub chain : IsChain (in_hand s message)
 
 -- A message may be delivered: the streams are at rest, so many blocks of each kind are free, and the books have room for what modules make
 -- of it.

@@ -68,9 +68,9 @@ MayBook here again s = call_units (bytes_left here.way again (ldterm_of (module_
 abbrev pub IsKeptAll : StoreValue → Streams → Type 0
 IsKeptAll s p = (i : ℕ) → times_in i s.hand ≡ kept_by p i
 
--- The module at a place may serve a call of the turn: it stands there and is at that call, the streams fit the store, which has blocks enough,
+-- A call of the turn may be made at a place: a module stands there and is at that call, the streams fit the store, which has blocks enough,
 -- and nothing else is in hand.
-pub record MayServe (s : StoreValue) (p : Streams) (here : Spot) (again : Bool) : Type 0 where
+pub record MayCall (s : StoreValue) (p : Streams) (here : Spot) (again : Bool) : Type 0 where
   pub inside : 0 < here.at
   pub within : here.at ≤ length (stream here.side (state_in s p)).modules
   pub begins : Begins here.way again (ldterm_of (module_at here (state_in s p)))

@@ -11,24 +11,17 @@ use Rattle.strm_types.specs.Modules.{put_among}
 use Rattle.strm_laws.specs.StackCosts.{module_leaves, module_takes}
 use Rattle.strm_laws.specs.Stacked.{Module, module_puts}
 use Rattle.strm_laws.specs.State.{State}
-use Rattle.strm_blocks.specs.Blocks.{StoreValue, in_hand}
-use Rattle.strm_msg.specs.Messages.{IsChain}
+use Rattle.strm_blocks.specs.Blocks.{StoreValue}
 use Rattle.strm_frame.specs.declared.parcels.Sent.{Sent}
 use Rattle.strm_frame.specs.declared.modules.Acts.{Acts}
 use Rattle.strm_frame.specs.Does.{Puts}
-use Rattle.strm_frame.specs.Hands.{once, CanPut, Handles, SamePool, Shifts, Spends}
+use Rattle.strm_frame.specs.Hands.{once, Handles, SamePool, Shifts, Spends}
 use Rattle.strm_frame.specs.Outboxes.{message_in, times_sent, parcels_in, AreChains}
 use Rattle.strm_frame.specs.Stacks.{all_in, all_of, AreHeld}
 use Rattle.strm_pair.specs.declared.streams.Streams.{Streams}
 use Rattle.strm_pair.specs.AnyModules.{IsHeld, keeps, module_in, owns}
 use Rattle.strm_pair.specs.Pairs.{state_in, AreBeside, kept_by}
 use Rattle.strm_pair.specs.Stacks.{modules_in, Stack}
-
--- A message may be put at a spot: it is in hand, beside what the stacks keep, and the streams fit the store.
-pub record MayPut (s : StoreValue) (p : Streams) (message : ℕ) : Type 0 where
-  pub beside : AreBeside s p
-  pub can_put : CanPut s message (kept_by p)
-  pub chain : IsChain (in_hand s message)
 
 -- A put did what a definition says: the message has gone, and what is sent on has come in hand, beside what the stacks keep. No more
 -- blocks of each kind were taken than `most`, and where that many were free, `later` are free behind it.

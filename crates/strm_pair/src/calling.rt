@@ -7,7 +7,7 @@ ghost use Rattle.strm_laws.specs.State.{stream};
 ghost use Rattle.strm_types.specs.LdtermCalls.{bytes_left};
 ghost use Rattle.strm_laws.specs.TurnCalls.{ldterm_of, module_at};
 ghost use Rattle.strm_frame.specs.Outboxes.{sent_of};
-ghost use Rattle.strm_pair.specs.ModuleServed.{ActsAs, BookTakes, CallsAs, IsKeptAll, MayBook, MayServe, StackServes, TreatsAs, between, call_of, with_more};
+ghost use Rattle.strm_pair.specs.ModuleServed.{ActsAs, BookTakes, CallsAs, IsKeptAll, MayBook, MayCall, StackServes, TreatsAs, between, call_of, with_more};
 
 use crate::stacks::place_at;
 use crate::streams::Streams;
@@ -94,7 +94,7 @@ impl Streams {
         again: bool,
         told: &mut Fates,
     ) -> Served
-        requires { MayServe (B.value store.old) self.old here again }
+        requires { MayCall (B.value store.old) self.old here again }
         ensures streams { self.new ≡ with_end here.side (record (end_at here.side self.old) { stack = (end_at here.side self.new).stack }) self.old }
         ensures serves { StackServes (B.value store.old) (B.value store.new) (end_at here.side self.old).stack (end_at here.side self.new).stack
             here again result told.old told.new }
@@ -108,7 +108,7 @@ impl Streams {
     // The module at a place serves a call of a turn: what it says of its queues goes by how the stream was before, and what it made is
     // booked.
     fn act<B: Blocks>(&mut self, store: &mut B, here: Spot, again: bool, told: &mut Fates) -> Served
-        requires may { MayServe (B.value store.old) self.old here again }
+        requires may { MayCall (B.value store.old) self.old here again }
         requires books { MayBook here again (state_in (B.value store.old) self.old) }
         ensures { ActsAs (B.value store.old) (B.value store.new) self.old self.new here again
             (call_of result) (sent_of result.acts.sent) told.old told.new }
@@ -131,7 +131,7 @@ impl Streams {
         again: bool,
         told: &mut Fates,
     ) -> Call
-        requires may { MayServe (B.value store.old) self.old here again }
+        requires may { MayCall (B.value store.old) self.old here again }
         requires low { here.at ≤ MODULES }
         requires books { MayBook here again (state_in (B.value store.old) self.old) }
         ensures { CallsAs (B.value store.old) (B.value store.new) self.old self.new here again result told.old told.new }

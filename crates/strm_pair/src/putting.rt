@@ -23,7 +23,8 @@ ghost use Rattle.strm_types.specs.Costs.{below_takes, cost_of, head_takes, is_ac
 ghost use Rattle.strm_types.specs.ModuleQueues.{at_place};
 ghost use Rattle.strm_laws.specs.Spares.{module_packs, spare};
 ghost use Rattle.strm_laws.specs.StackCosts.{module_leaves, module_takes, stack_cost, stands_of};
-ghost use Rattle.strm_pair.specs.PutBy.{MayPut, PutAs, PutBy, CameBy, StackTakes};
+ghost use Rattle.strm_pair.specs.Effects.{MayPut};
+ghost use Rattle.strm_pair.specs.PutBy.{PutAs, PutBy, CameBy, StackTakes};
 
 use crate::calling::Made;
 use crate::stacks::place_at;
