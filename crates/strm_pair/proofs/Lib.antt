@@ -3,6 +3,7 @@ pub mod Idle
 pub mod Leading
 pub mod InHand
 pub mod Sides
+pub mod Becoming
 pub mod MadeModules
 pub mod ModuleTaken
 pub mod Takings

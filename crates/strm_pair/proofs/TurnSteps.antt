@@ -1,7 +1,7 @@
 -- A turn of a driver, step by step.
 use Rattle.std.proofs.Common.{ℕ, ◌≡◌, ◌≤◌, ◌<◌, ◌+◌, Bool, true, false, cond, List, [], ◌∷◌, map, refl, sym, ap, ◌∙◌, arith}
 use Rattle.std.specs.Prelude.{not, ◌&&◌, ◌||◌, ◌==◌, Option, None, Some, MatchOption}
-use Rattle.strm_types.specs.declared.answers.Turn.TheVariants.{Blocked}
+use Rattle.strm_types.specs.declared.answers.Turn.TheVariants.{Blocked, Idle}
 use Rattle.strm_types.specs.declared.kinds.MsgKind.{MsgKind}
 use Rattle.strm_types.specs.declared.kinds.MsgKind.TheVariants.{Flush, Iocack, Ioctl}
 use Rattle.strm_types.specs.declared.names.Side.{Side}
@@ -25,7 +25,7 @@ use Rattle.strm_laws.specs.TurnOutcomes.{stayed_put}
 use Rattle.strm_laws.specs.Turns.{is_stopped_across, held_back, with_driver, moved_across, driver_serves, driver_turned, turn_ended}
 use Rattle.strm_laws.proofs.StackSpares.{same-spare}
 use Rattle.strm_laws.proofs.StepBooks.{driver-books, end-books, waits-books}
-use Rattle.strm_blocks.specs.Blocks.{Block, StoreValue, block_at, token}
+use Rattle.strm_blocks.specs.Blocks.{Block, StoreValue, block_at, list_at, token}
 use Rattle.strm_blocks.specs.Outcomes.{PeekedFirst}
 use Rattle.strm_blocks.specs.declared.asked.Peek.{Peek}
 use Rattle.strm_blocks.specs.declared.in_hand.InHand.{InHand}
@@ -159,9 +159,27 @@ serves-moved : (side : Side) (m : Message ℕ) (rest : List (Message ℕ)) (st :
     → driver_serves cells.plain side (m ∷ rest) st ≡ moved_across cells.plain side m rest st
 serves-moved side m rest st opened goes = rw (opened, goes) refl
 
+serves-closed : (side : Side) (m : Message ℕ) (rest : List (Message ℕ)) (st : State ℕ) → is_open (stream (other side) st).opened ≡ false
+    → driver_serves cells.plain side (m ∷ rest) st ≡ stayed_put Blocked (with_driver side (held_back (stream side st).driver.queue) st)
+serves-closed side m rest st closed = rw closed refl
+
 -- what is seen of both ends is what the state has
 opened-at : (s : StoreValue) (p : Streams) (side : Side) → (stream side (state_in s p)).opened ≡ (end_at side p).opened
 opened-at s p side = ap (λ (x : Stream ℕ). x.opened) (stream-is s p side)
+
+stands-on : (s : StoreValue) (p : Streams) (side : Side) (e : StreamEnd) → e ≡ end_at side p → (stream side (state_in s p)).driver.queue.messages ≡ messages_on s e.driver.list
+stands-on s p side e is = ap (λ (q : plain.Queue ℕ). q.messages) (driver-is s p side) ∙ ap (λ (y : StreamEnd). messages_on s y.driver.list) (sym is)
+
+-- nothing stands there, or the other side isn't open
+pub turned-none : (s : StoreValue) (p : Streams) (side : Side) (e : StreamEnd) → e ≡ end_at side p → list_at s e.driver.list ≡ []
+    → driver_turned cells.plain side (state_in s p) ≡ stayed_put Idle (with_driver side (record (stream side (state_in s p)).driver.queue { want_read = true }) (state_in s p))
+turned-none s p side e is none = ap (λ ms. driver_serves cells.plain side ms (state_in s p)) (stands-on s p side e is ∙ ap (map message_of) none)
+
+pub turned-closed : (s : StoreValue) (p : Streams) (side : Side) (e x : StreamEnd) → e ≡ end_at side p → x ≡ end_at (other side) p → is_open x.opened ≡ false
+    → (peek : Peek) → PeekedFirst s e.driver.list peek → driver_turned cells.plain side (state_in s p) ≡ stayed_put Blocked (with_driver side (held_back (stream side (state_in s p)).driver.queue) (state_in s p))
+turned-closed s p side e x e_is x_is closed peek seen =
+    ap (λ ms. driver_serves cells.plain side ms (state_in s p)) (stands-on s p side e e_is ∙ seen-before s e.driver.list peek seen)
+    ∙ serves-closed side (message_of seen.message) (map message_of seen.rest) (state_in s p) (ap is_open (opened-at s p (other side) ∙ ap (λ (y : StreamEnd). y.opened) (sym x_is)) ∙ closed)
 
 -- whether the next queue above a driver has no room for a band
 abbrev full_above : Side → State ℕ → ℕ → Bool
@@ -173,7 +191,7 @@ module _ (s : StoreValue) (p : Streams) (side : Side) (e x : StreamEnd) (e_is : 
   is-open-there = ap is_open (opened-at s p (other side) ∙ ap (λ (y : StreamEnd). y.opened) (sym x_is)) ∙ opened
 
   stands : (stream side (state_in s p)).driver.queue.messages ≡ message_of seen.message ∷ map message_of seen.rest
-  stands = ap (λ (q : plain.Queue ℕ). q.messages) (driver-is s p side) ∙ ap (λ (y : StreamEnd). messages_on s y.driver.list) (sym e_is) ∙ seen-before s e.driver.list peek seen
+  stands = stands-on s p side e e_is ∙ seen-before s e.driver.list peek seen
 
   stopped-is : is_stopped_across side (message_of seen.message) (state_in s p) ≡ stops
   stopped-is = sym (seen-stopped s e.driver.list peek seen (full_above side (state_in s p))) ∙ sym asked

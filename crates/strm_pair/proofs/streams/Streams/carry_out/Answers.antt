@@ -1,5 +1,5 @@
 -- Plain bytes have no origin: what goes down and what comes up are the bytes themselves.
-use Rattle.std.proofs.Common.{ℕ, ◌≡◌, List, take, refl, sym, ap, ◌∙◌, arith, rules}
+use Rattle.std.proofs.Common.{ℕ, ◌≡◌, List, take, refl, sym, ap, ◌∙◌, arith}
 use Rattle.std.proofs.Math.Seq.{take-length}
 use denote.Ref.{Bor}
 use Rattle.std.specs.Prelude.{option_map}
@@ -90,7 +90,7 @@ returns-in-OpenMaster-clause-leads g c =
     let is = c.requires.rests.held.beside Master in
     rw (c.in-OpenMaster.is, c.open_master.ensures.streams)
     (record {
-      state = search rules;
+      state = refl;
       tells = refl;
       held = held-with s p Master (record (end_at Master p) { opened = Open }) c.requires.rests.held (record {
         head_list = is.head_list;

@@ -1,12 +1,14 @@
 -- Nothing is left on the queue that was cleared.
-use Rattle.std.proofs.Common.{ℕ, refl, sym, ap, ◌∙◌, rules}
+use Rattle.std.proofs.Common.{ℕ, length, refl, sym, ap, ◌∙◌}
 use Rattle.strm_types.specs.declared.names.Way.TheVariants.{Down}
-use Rattle.strm_types.specs.Emptied.{of_all, queue_behind, writer_goes}
-use Rattle.strm_types.specs.Names.{enable_some}
+use Rattle.strm_types.specs.declared.rules.Rule.TheVariants.{EndClosed}
+use Rattle.strm_types.specs.Emptied.{of_all, queue_behind, writer_goes, cells_gone}
+use Rattle.strm_types.specs.Names.{enable_some, direction_of, driver_of}
 use Rattle.strm_types.specs.Queue.{Queue}
+use Rattle.strm_types.specs.Rules.{told_more}
 use Rattle.strm_laws.specs.Earlier.{before_among, before_at, before_driver}
 use Rattle.strm_laws.specs.State.{stream, with_driver_queue, with_stream}
-use Rattle.strm_queue.specs.Stored.{queue_in}
+use Rattle.strm_queue.specs.Stored.{queue_in, messages_on}
 use Rattle.strm_pair.specs.declared.streams.Streams.{Streams}
 use Rattle.strm_pair.specs.Pairs.{end_at, state_in, with_end}
 use Rattle.strm_pair.proofs.Sides.{driver-held, driver-is, driver-went, modules-behind, only-changed}
@@ -31,7 +33,9 @@ returns g c =
           ∙ ap (λ n. record (state_in t one) { enabled = enable_some room (before_at side Down n (state_in s p)) p.enabled }) (c.driver_place-at.ensures.place s)
           ∙ driver-went s t p c.requires.beside end.driver q (queue_behind of_all (queue_in s end.driver)) room (writer_goes of_all (queue_in s end.driver)) e.changes side refl e.queue e.room
           ∙ ap (λ (x : Queue ℕ). record (with_stream side (with_driver_queue (queue_behind of_all x) (stream side (state_in s p))) (state_in s p)) { enabled = enable_some (writer_goes of_all x) (before_driver side (state_in s p)) p.enabled }) (sym (driver-is s p side));
-      tells = search rules;
+      tells = e.told
+          ∙ ap (λ d. told_more d EndClosed (length (cells_gone of_all (messages_on s end.driver.list))) c.args.told.now) (c.direction-direction.ensures ∙ ap direction_of c.driver.ensures)
+          ∙ ap (λ (x : Queue ℕ). told_more (direction_of (driver_of side)) EndClosed (length (cells_gone of_all x.messages)) c.args.told.now) (sym (driver-is s p side));
       held = rw (c.let_go.ensures s, c.get_mut.ensures.value) (record { hand = held.hand; beside = held.beside });
       pool = record { mblks = e.changes.mblks; dblks = e.changes.dblks };
     }

@@ -1,12 +1,14 @@
 -- Nothing is left on the queue that was cleared.
-use Rattle.std.proofs.Common.{ℕ, refl, sym, ap, ◌∙◌, rules}
+use Rattle.std.proofs.Common.{ℕ, length, refl, sym, ap, ◌∙◌}
 use Rattle.strm_types.specs.declared.names.Way.TheVariants.{Up}
-use Rattle.strm_types.specs.Emptied.{of_all, queue_behind, writer_goes}
+use Rattle.strm_types.specs.declared.rules.Rule.TheVariants.{EndClosed}
+use Rattle.strm_types.specs.Emptied.{of_all, queue_behind, writer_goes, cells_gone}
 use Rattle.strm_types.specs.Heads.{Head}
-use Rattle.strm_types.specs.Names.{enable_some}
+use Rattle.strm_types.specs.Names.{enable_some, direction_of, head_of}
+use Rattle.strm_types.specs.Rules.{told_more}
 use Rattle.strm_laws.specs.Earlier.{before_among, before_head}
 use Rattle.strm_laws.specs.State.{stream, with_head_queue, with_stream}
-use Rattle.strm_queue.specs.Stored.{queue_in}
+use Rattle.strm_queue.specs.Stored.{queue_in, messages_on}
 use Rattle.strm_pair.specs.Framing.{still}
 use Rattle.strm_pair.specs.declared.streams.Streams.{Streams}
 use Rattle.strm_pair.specs.Pairs.{end_at, kept_by, state_in, with_end}
@@ -29,7 +31,9 @@ returns g c =
           ∙ ap (λ ms. record (state_in t one) { enabled = enable_some room (before_among side Up 0 ms) p.enabled }) (modules-behind s p side (record end { head = record end.head { queue = q } }) refl)
           ∙ head-went s t p c.requires.beside end.head.queue q (queue_behind of_all (queue_in s end.head.queue)) room (writer_goes of_all (queue_in s end.head.queue)) e.changes side refl e.queue e.room
           ∙ ap (λ (x : Head ℕ). record (with_stream side (with_head_queue (queue_behind of_all x.queue) (stream side (state_in s p))) (state_in s p)) { enabled = enable_some (writer_goes of_all x.queue) (before_head side (state_in s p)) p.enabled }) (sym (head-is s p side));
-      tells = search rules;
+      tells = e.told
+          ∙ ap (λ d. told_more d EndClosed (length (cells_gone of_all (messages_on s end.head.queue.list))) c.args.told.now) (c.direction-direction.ensures ∙ ap direction_of c.head.ensures)
+          ∙ ap (λ (x : Head ℕ). told_more (direction_of (head_of side)) EndClosed (length (cells_gone of_all x.queue.messages)) c.args.told.now) (sym (head-is s p side));
       held = rw (c.let_go.ensures s, c.get_mut.ensures.value)
           (record {
             hand = e.changes.hand ∙ c.requires.hand;

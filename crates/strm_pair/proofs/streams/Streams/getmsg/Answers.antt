@@ -1,12 +1,13 @@
 -- What the head of a side gives.
-use Rattle.std.proofs.Common.{refl, sym, ap, ◌∙◌, rules}
+use Rattle.std.proofs.Common.{ℕ, refl, sym, ap, ◌∙◌}
 use Rattle.std.specs.Prelude.{min}
 use Rattle.strm_types.specs.declared.limits.TheConstants.{READ_MAX}
 use Rattle.strm_types.specs.declared.names.Way.TheVariants.{Up}
-use Rattle.strm_types.specs.GetQueues.{get_lets_go, get_queue}
-use Rattle.strm_types.specs.Names.{enable_some}
+use Rattle.strm_types.specs.GetQueues.{get_lets_go, get_queue, get_gone}
+use Rattle.strm_types.specs.Names.{enable_some, direction_of, head_of}
 use Rattle.strm_types.specs.Heads as heads
 use Rattle.strm_types.specs.Queue as plain
+use Rattle.strm_types.specs.Deliver.{tallied}
 use Rattle.strm_laws.specs.Earlier.{before_among, before_head}
 use Rattle.strm_laws.specs.State.{stream, with_head_queue, with_stream}
 use Rattle.strm_queue.specs.Stored.{Changes, queue_in}
@@ -72,7 +73,11 @@ returns-clause-leads g c =
           (e.queue ∙ ap (λ n. get_queue wanted n c.min-most_data.result was) c.min-most.ensures ∙ ap (λ n. get_queue wanted most n was) c.min-most_data.ensures)
           (e.went ∙ ap (λ n. get_lets_go wanted n c.min-most_data.result was) c.min-most.ensures ∙ ap (λ n. get_lets_go wanted most n was) c.min-most_data.ensures)
           ∙ ap (λ (x : plain.Queue _). record (with_stream side (with_head_queue (get_queue wanted most most_data x) (stream side (state_in s p))) (state_in s p)) { enabled = enable_some (get_lets_go wanted most most_data x) (before_head side (state_in s p)) p.enabled }) (sym (ap (λ (h : heads.Head _). h.queue) (head-is s p side)));
-      tells = search rules;
+      tells = e.told
+          ∙ ap (λ d. tallied (get_gone d wanted c.min-most.result c.min-most_data.result was.messages) c.args.told.now) (c.direction-direction.ensures ∙ ap direction_of c.head.ensures)
+          ∙ ap (λ n. tallied (get_gone (direction_of (head_of side)) wanted n c.min-most_data.result was.messages) c.args.told.now) c.min-most.ensures
+          ∙ ap (λ n. tallied (get_gone (direction_of (head_of side)) wanted most n was.messages) c.args.told.now) c.min-most_data.ensures
+          ∙ ap (λ (h : heads.Head ℕ). tallied (get_gone (direction_of (head_of side)) wanted most most_data h.queue.messages) c.args.told.now) (sym (head-is s p side));
       held = rw (c.let_go.ensures s, c.get_mut.ensures.value)
           (record {
             hand = e.keeps.hand ∙ c.requires.held.hand;

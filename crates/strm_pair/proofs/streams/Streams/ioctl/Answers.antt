@@ -1,5 +1,5 @@
 -- What was held stays held, and what is told of an ioctl or of the group books nothing.
-use Rattle.std.proofs.Common.{ℕ, refl, ap, arith, rules}
+use Rattle.std.proofs.Common.{ℕ, refl, sym, ap, ◌∙◌, arith}
 use Rattle.strm_types.specs.Cells.{plain}
 use Rattle.strm_types.specs.Deliver.{Carried}
 use Rattle.strm_laws.specs.Calls.{group_at, ioctl_sent, ioctl_told}
@@ -19,7 +19,7 @@ returns-then-asks_group-clause-delivers g c =
     let old = state_in s p in
     let told = c.tell_group.ensures.becomes in
     record {
-      leads = search (rules, leads-alone (λ (v : State ℕ). (group_at c.args.side c.args.command c.args.body.now v).state) s p c.tell_group.new.self f c.requires.may.rests.held told);
+      leads = rw (sym c.asks_group.ensures ∙ c.if-asks_group.true) (leads-alone (λ (v : State ℕ). (group_at c.args.side c.args.command c.args.body.now v).state) s p c.tell_group.new.self f c.requires.may.rests.held told);
       left = omega (arith, ap spare (told.state s), same-spare old (group_at c.args.side c.args.command c.args.body.now old).state refl);
     }
 
@@ -32,6 +32,6 @@ returns-clause-delivers g c =
     let told = c.tell_ioctl.ensures.becomes in
     let is : Carried ℕ (State ℕ) = ioctl_sent plain c.args.side c.args.command c.args.body.now (state_in s c.args.self.now) in
     record {
-      leads = search (rules, leads-becoming (λ (v : State ℕ). (ioctl_told c.args.side v).state) s t c.send_ioctl.new.self c.tell_ioctl.new.self c.args.told.now c.send_ioctl.new.told is sends.leads told);
+      leads = rw (sym c.asks_group.ensures ∙ c.if-asks_group.false) (leads-becoming (λ (v : State ℕ). (ioctl_told c.args.side v).state) s t c.send_ioctl.new.self c.tell_ioctl.new.self c.args.told.now c.send_ioctl.new.told is sends.leads told);
       left = omega (arith, sends.left, ap spare (told.state t), same-spare sent (ioctl_told c.args.side sent).state (told-books c.args.side sent));
     }

@@ -1,10 +1,7 @@
 -- The queue of the head stays.
-use Rattle.std.proofs.Common.{rules}
-use Rattle.strm_pair.proofs.Sides.{head-held}
+use Rattle.strm_types.specs.Heads.{with_mode}
+use Rattle.strm_pair.proofs.Becoming.{head-becomes}
 use Rattle.strm_pair.proofs.streams.Streams.set_mode.Goals as goal
 
 pub returns : goal.returns
-returns c = record {
-  state = search rules;
-  held = λ s held. head-held s c.args.self.now c.args.side c.get_mut.result.now c.set_mode.new.self c.get_mut.ensures.value c.set_mode.ensures.queue held;
-}
+returns c = head-becomes c.args.side c.args.self.now c.get_mut.result.now c.get_mut.ensures.value c.set_mode.new.self (with_mode c.args.mode) c.set_mode.ensures.queue c.set_mode.ensures.mode

@@ -1,5 +1,5 @@
 -- What is seen of the first message says what becomes of it.
-use Rattle.std.proofs.Common.{ℕ, Bool, true, false, [], refl, sym, ap, subst, ◌∙◌, arith, rules}
+use Rattle.std.proofs.Common.{ℕ, Bool, true, false, [], refl, sym, ap, subst, ◌∙◌, arith}
 use Rattle.std.specs.Prelude.{not, ◌&&◌}
 use Rattle.strm_types.specs.declared.names.Way.TheVariants.{Up}
 use Rattle.strm_types.specs.declared.names.Side.{Side}
@@ -17,7 +17,7 @@ use Rattle.strm_blocks.specs.Blocks.{StoreValue}
 use Rattle.strm_pair.specs.declared.streams.Streams.{Streams}
 use Rattle.strm_pair.specs.Pairs.{state_in, end_at, AreHeld}
 use Rattle.strm_pair.specs.Effects.{Becomes, Delivers}
-use Rattle.strm_pair.proofs.TurnSteps.{taken-spare, turned-stopped, turned-moved, waits-spare}
+use Rattle.strm_pair.proofs.TurnSteps.{taken-spare, turned-closed, turned-moved, turned-none, turned-stopped, waits-spare}
 use Rattle.strm_pair.proofs.Leading.{leads-alone}
 use Rattle.strm_pair.proofs.streams.Streams.turn_driver.Goals as goal
 
@@ -106,8 +106,19 @@ stays-put side want_read s p q f held keeps =
 
 pub returns-in_default-clause-delivers : goal.returns-in_default-clause-delivers
 returns-in_default-clause-delivers g c =
-    search (rules, stays-put c.args.side true (g.B.Blocks.value c.args.store.now) c.args.self.now c.keep.new.self c.args.told.now c.requires.rests.held c.keep.ensures)
+    let s = g.B.Blocks.value c.args.store.now in
+    let p = c.args.self.now in
+    let f = c.args.told.now in
+    let is = turned-none s p c.args.side c.end.result.now c.end.ensures.end (rw c.in_default.is at c.peek.ensures) in
+    subst (λ (o : TurnOutcome ℕ). Delivers s s p c.keep.new.self f f o.state o.gone 8) (sym is) (stays-put c.args.side true s p c.keep.new.self f c.requires.rests.held c.keep.ensures)
 
 pub returns-then-not-is_open-clause-delivers : goal.returns-then-not-is_open-clause-delivers
 returns-then-not-is_open-clause-delivers g c =
-    search (rules, stays-put c.args.side false (g.B.Blocks.value c.args.store.now) c.args.self.now c.keep-then-not-is_open.new.self c.args.told.now c.requires.rests.held c.keep-then-not-is_open.ensures)
+    let s = g.B.Blocks.value c.args.store.now in
+    let p = c.args.self.now in
+    let f = c.args.told.now in
+    let q = c.keep-then-not-is_open.new.self in
+    let x_is = c.end-across.ensures.end ∙ ap (λ sd. end_at sd p) c.other-above.ensures in
+    let closed = sym c.is_open.ensures ∙ c.if-not-is_open.true in
+    let is = turned-closed s p c.args.side c.end.result.now c.end-across.result.now c.end.ensures.end x_is closed c.in-Some.first c.in-Some.ensures in
+    subst (λ (o : TurnOutcome ℕ). Delivers s s p q f f o.state o.gone 8) (sym is) (stays-put c.args.side false s p q f c.requires.rests.held c.keep-then-not-is_open.ensures)

@@ -1,14 +1,12 @@
 -- The other side stays.
-use Rattle.std.proofs.Common.{sym, subst, rules}
+use Rattle.strm_types.specs.ModuleQueues.{place_past}
+use Rattle.strm_laws.specs.Past.{waits_on}
+use Rattle.strm_laws.specs.Stacked.{module_queue}
 use Rattle.strm_pair.specs.Lists.{first_list}
-use Rattle.strm_pair.specs.Streams.{IsSide}
-use Rattle.strm_pair.proofs.Sides.{held-with}
+use Rattle.strm_pair.proofs.Becoming.{side-becomes}
 use Rattle.strm_pair.proofs.streams.Streams.wait_past.Goals as goal
 
 pub returns : goal.returns
 returns c =
-    let first = first_list c.args.side in
-    record {
-      state = search rules;
-      held = λ s held. held-with s c.args.self.now c.args.side c.wait_past.new.self held (c.wait_past.ensures.side s first (subst (IsSide s first) (sym c.get_mut.ensures.value) (held.beside c.args.side)));
-    }
+    side-becomes c.args.side c.args.self.now c.get_mut.result.now c.get_mut.ensures.value c.wait_past.new.self (λ t. waits_on c.args.way c.args.band.0 (place_past module_queue c.args.way c.args.at t.modules) t) c.wait_past.ensures.stream
+    (λ s is. c.wait_past.ensures.side s (first_list c.args.side) is)
