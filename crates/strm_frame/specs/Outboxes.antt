@@ -1,7 +1,6 @@
 -- Messages on their way, beside the store in which they are in hand.
 use Rattle.std.specs.Prelude.{ℕ, ◌+◌, List, [], ◌∷◌, ◌++◌}
 use Rattle.std.specs.Option.{option_to_list}
-use Rattle.strm_types.specs.declared.spots.Spot.{Spot}
 use Rattle.strm_types.specs.Message.{Message}
 use Rattle.strm_types.specs.Deliver.{Parcel}
 use Rattle.strm_blocks.specs.Blocks.{StoreValue, in_hand, token}

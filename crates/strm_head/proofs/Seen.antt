@@ -1,9 +1,8 @@
 -- What is seen of the messages of a head without taking them is what they have.
-use Rattle.std.proofs.Common.{ℕ, ◌≡◌, Bool, true, false, cond, List, [], ◌∷◌, ◌++◌, length, map, refl, sym, ap, ◌∙◌, arith}
+use Rattle.std.proofs.Common.{ℕ, ◌≡◌, Bool, true, false, cond, List, [], ◌∷◌, length, map, refl, sym, ap, ◌∙◌, arith}
 use Rattle.std.specs.Prelude.{Option, None, Some, is_none, is_some, unwrap_or, not, ◌==◌, ◌&&◌, ◌||◌, nat_le, nat_lt}
 use Rattle.std.specs.List.{AllByRecursion}
 use Rattle.std.proofs.lemmas.Bool.Decides.{nat_tests}
-use Rattle.std.proofs.lemmas.List.{length-append}
 use Rattle.strm_types.specs.declared.modes.ControlMode.{ControlMode}
 use Rattle.strm_types.specs.declared.modes.ControlMode.TheVariants.{Refuse, Data, Discard}
 use Rattle.strm_types.specs.declared.modes.Wanted.{Wanted}
@@ -14,7 +13,7 @@ use Rattle.strm_types.specs.Flush.{is_data_kind}
 use Rattle.strm_types.specs.Kinds.{is_control_kind}
 use Rattle.strm_types.specs.Message.{Message, part, cells_of, size_of, is_high_priority}
 use Rattle.strm_types.specs.Queue.{first_size, is_none_left}
-use Rattle.strm_types.specs.Reads.{is_there, is_passed, is_refused, no_cells, offered, finds_none, starts_refused, takes_none}
+use Rattle.strm_types.specs.Reads.{is_there, is_passed, is_refused, no_cells, finds_none, starts_refused, takes_none}
 use Rattle.strm_blocks.specs.Blocks.{Block, block_at}
 use Rattle.strm_blocks.specs.Outcomes.{Peeked}
 use Rattle.strm_blocks.specs.declared.asked.Peek.{Peek}

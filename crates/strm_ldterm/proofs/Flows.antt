@@ -1,5 +1,5 @@
 -- Bytes that go out one after the other into a buffer: runs of printed ones, and others.
-use Rattle.std.proofs.Common.{ℕ, ◌≡◌, ◌≤◌, ◌<◌, ◌+◌, ◌-◌, true, List, [], ◌∷◌, ◌++◌, length, take, drop, refl, sym, ap, subst, ◌∙◌, arith, append-nil, append_assoc, length-append, length-drop}
+use Rattle.std.proofs.Common.{ℕ, ◌≡◌, ◌≤◌, ◌+◌, true, List, [], ◌∷◌, ◌++◌, length, take, drop, refl, sym, ap, ◌∙◌, arith, append-nil, append_assoc, length-append, length-drop}
 use Rattle.std.proofs.Math.Seq.{take-add, take-length}
 use Rattle.std.specs.List.{AllByRecursion}
 use Rattle.strm_types.specs.declared.names.Dir.{Dir}
@@ -15,7 +15,7 @@ use Rattle.strm_types.specs.Output.{Output, post, posts, told_for, wrapped}
 use Rattle.strm_types.specs.OutputTurns.{output_dir}
 use Rattle.strm_types.proofs.Outputs.{in_front, posts-join, posts-same}
 use Rattle.strm_ldterm.specs.declared.flowing.Flow.{Flow}
-use Rattle.strm_ldterm.specs.Posting.{FlowsAs, bytes_given, is_printed, out_of}
+use Rattle.strm_ldterm.specs.Posting.{FlowsAs, bytes_given, is_printed}
 use Rattle.strm_ldterm.proofs.Pouring.{byte-out, run-out}
 use Rattle.strm_ldterm.proofs.Strikes.{told-append}
 

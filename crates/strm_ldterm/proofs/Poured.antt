@@ -1,11 +1,7 @@
 -- Output on a store: bytes of the message in work that go out, one after the other.
-use Rattle.std.proofs.Common.{ℕ, zero, suc, ◌≡◌, ◌≤◌, ◌<◌, ◌+◌, ◌-◌, true, List, [], ◌∷◌, ◌++◌, length, drop, take, refl, sym, ap, subst, ◌∙◌, arith, append-nil, length-append, length-drop, length-take}
+use Rattle.std.proofs.Common.{ℕ, zero, suc, ◌≡◌, ◌≤◌, ◌<◌, ◌+◌, ◌-◌, true, List, [], ◌++◌, length, drop, take, refl, sym, ap, subst, ◌∙◌, arith, append-nil, length-append, length-drop}
 use Rattle.std.specs.Prelude.{is_some}
-use Rattle.std.specs.List.{AllByRecursion}
-use Rattle.std.proofs.Math.Seq.{take-append_seam}
 use Rattle.strm_types.specs.declared.limits.TheConstants.{STOP_BLOCKS}
-use Rattle.strm_types.specs.declared.output.Posted.{Posted}
-use Rattle.strm_types.specs.declared.output.TheConstants.{COLUMN_MAX}
 use Rattle.strm_types.specs.declared.rules.Fates.{Fates}
 use Rattle.strm_types.specs.declared.spots.Spot.{Spot}
 use Rattle.strm_types.specs.Cells.{plain}
@@ -13,7 +9,7 @@ use Rattle.strm_types.specs.Deliver.{Acted, Fate, tallied}
 use Rattle.strm_types.specs.Input.{cells_left, with_left}
 use Rattle.strm_types.specs.Ldterms as ldterms
 use Rattle.strm_types.specs.Ldterms.{sends}
-use Rattle.strm_types.specs.Output.{Output, post, posts, told_for, wrapped}
+use Rattle.strm_types.specs.Output.{Output, posts}
 use Rattle.strm_types.specs.OutputTurns.{output_dir}
 use Rattle.strm_blocks.specs.Blocks.{StoreValue, IsStore}
 use Rattle.strm_frame.specs.declared.parcels.Sent.{Sent}

@@ -1,5 +1,5 @@
 -- The messages of a pair have 256 bytes at most for each block that a store has.
-use Rattle.std.proofs.Common.{ℕ, ◌≡◌, ◌≤◌, ◌+◌, Bool, true, false, cond, List, [], ◌∷◌, ◌++◌, length, length-append, map, refl, ap, sym, ◌∙◌, arith}
+use Rattle.std.proofs.Common.{ℕ, ◌≡◌, ◌≤◌, ◌+◌, Bool, true, false, cond, List, [], ◌∷◌, ◌++◌, length, length-append, map, refl, ap, sym, arith}
 use Rattle.std.specs.Prelude.{◌*◌, None, sum_by}
 use Rattle.std.proofs.lemmas.Bool.{false≢true}
 use Rattle.std.proofs.lemmas.List.Sums.{sum_by-append, sum_by-cons}
@@ -19,7 +19,6 @@ use Rattle.strm_msg.specs.Bytes.{control_blocks, data_blocks}
 use Rattle.strm_msg.specs.Messages.{message_of, part_of}
 use Rattle.strm_msg.proofs.Chains.{bytes-sum, control-body}
 use Rattle.strm_msg.proofs.Parts.{control-blocks-cons}
-use Rattle.strm_queue.specs.Stored.{messages_on}
 use Rattle.strm_queue.proofs.Bounds.{bytes-extent}
 use Rattle.strm_pair.specs.declared.streams.Streams.{Streams}
 use Rattle.strm_pair.specs.Named.{messages_queued}

@@ -1,15 +1,13 @@
 -- A visitor that is told of the blocks of a list measures one message of it.
 use Rattle.std.proofs.Common.{ℕ, ◌≡◌, ◌≤◌, ◌<◌, ◌+◌, ◌-◌, ◌^◌, Bool, true, false, cond, List, [], ◌∷◌, ◌++◌, length, map, refl, sym, ap, ◌∙◌, arith}
-use Rattle.std.specs.Prelude.{sum_by, min, not, ◌&&◌, ◌||◌, Option, None, Some, unwrap_or, filter}
+use Rattle.std.specs.Prelude.{sum_by, min, not, ◌&&◌, ◌||◌, Option, None, Some, unwrap_or}
 use Rattle.std.specs.List.{AllByRecursion}
 use Rattle.std.proofs.lemmas.List.Sums.{sum_by-cons}
 use Rattle.strm_types.specs.Kinds.{is_body_kind}
-use Rattle.strm_types.specs.declared.kinds.MsgKind.{MsgKind}
 use Rattle.strm_types.specs.Queue.{first_size}
 use Rattle.strm_blocks.specs.Blocks.{Block, StoreValue, IsStore, list_at}
 use Rattle.strm_blocks.specs.Outcomes.{SeenBlock, seen_in, seen_on, told}
 use Rattle.strm_msg.specs.Bytes.{length_of_part, data_blocks}
-use Rattle.strm_msg.specs.Bytes as msg
 use Rattle.strm_msg.specs.Messages.{message_of, IsChain}
 use Rattle.strm_msg.proofs.Chains.{bytes-sum, size-shown}
 use Rattle.strm_queue.specs.declared.lengths.Measure.{Measure}

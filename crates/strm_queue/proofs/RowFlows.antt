@@ -1,7 +1,6 @@
 -- The rows of bands as their flow control.
-use Rattle.std.proofs.Common.{ℕ, zero, suc, ◌≡◌, cond, ◌≢◌, ◌<◌, ◌≤◌, ◌+◌, ◌^◌, Bool, true, false, List, [], ◌∷◌, length, refl, sym, ap, subst, ◌∙◌, arith, length-set, get_or-set_same, get_or-set_other}
-use Rattle.std.specs.Prelude.{slice_set, map, nat_lt, ◌==◌}
-use Rattle.std.proofs.lemmas.Bool.Decides.{nat_tests}
+use Rattle.std.proofs.Common.{ℕ, zero, suc, ◌≡◌, cond, ◌≢◌, ◌<◌, ◌≤◌, ◌+◌, ◌^◌, Bool, false, List, [], ◌∷◌, length, refl, sym, ap, subst, ◌∙◌, arith, length-set}
+use Rattle.std.specs.Prelude.{slice_set, map}
 use Rattle.strm_types.specs.declared.limits.TheConstants.{BANDS}
 use Rattle.strm_queue.specs.declared.flow.Flow.{Flow}
 use Rattle.strm_queue.specs.declared.common.Row.{Row}
@@ -9,7 +8,7 @@ use Rattle.strm_queue.specs.declared.common.Common.{Common}
 use Rattle.strm_queue.specs.Flows.{count_in, IsMarked}
 use Rattle.strm_queue.specs.Kept.{flow_at, FewBytes}
 use Rattle.strm_queue.specs.Sets.{has}
-use Rattle.strm_queue.specs.Rows.{counts_of, row_flow, flows_from, row_at, no_row, AreRows}
+use Rattle.strm_queue.specs.Rows.{row_flow, flows_from, row_at, no_row, AreRows}
 
 pub flows-long : (c : Common) (at : ℕ) (rows : List Row) → length (flows_from c at rows) ≡ length rows
 flows-long c at [] = refl

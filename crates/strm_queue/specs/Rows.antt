@@ -1,5 +1,5 @@
 -- How the flow control of the bands above 0 is kept: what they have in common, and a row for each.
-use Rattle.std.specs.Prelude.{ℕ, suc, ◌≡◌, ◌+◌, false, nat_le, if◌then◌else◌, List, [], ◌∷◌, length, slice_index_or}
+use Rattle.std.specs.Prelude.{ℕ, suc, ◌≡◌, ◌+◌, nat_le, if◌then◌else◌, List, [], ◌∷◌, length, slice_index_or}
 use Rattle.strm_types.specs.declared.limits.TheConstants.{BANDS}
 use Rattle.strm_queue.specs.declared.flow.Flow.{Flow}
 use Rattle.strm_queue.specs.declared.common.Row.{Row}

@@ -4,7 +4,6 @@ use Rattle.strm_frame.specs.Hands.{Handles, SamePool, Takes}
 use Rattle.strm_types.specs.Costs.{cost_of}
 use Rattle.strm_frame.specs.Outboxes.{sent_of, times_sent, parcels_in, AreChains}
 use Rattle.strm_frame.proofs.carrying.+delivery.Given as goal
-use Rattle.strm_blocks.specs.Blocks.{token}
 
 abbrev pub decreases-deliver : goal.decreases-deliver
 decreases-deliver g l = 2 * l.hops

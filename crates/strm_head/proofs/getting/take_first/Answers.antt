@@ -4,7 +4,7 @@ use Rattle.strm_blocks.specs.Blocks.{in_hand, token}
 use Rattle.strm_msg.specs.Emptied.{without_emptied}
 use Rattle.strm_head.specs.Getting.{put_rest}
 use Rattle.strm_queue.proofs.Gotten.{has-list}
-use Rattle.strm_head.proofs.Took.{rest-some, rest-low, took, leaves, keeps}
+use Rattle.strm_head.proofs.Took.{rest-some, took, leaves, keeps}
 use Rattle.strm_head.proofs.getting.take_first.Goals as goal
 
 pub put_rest-requires-clause-some : goal.put_rest-requires-clause-some

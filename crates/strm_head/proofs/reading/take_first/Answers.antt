@@ -2,7 +2,7 @@
 use Rattle.std.proofs.Common.{◌-◌, ◌≡◌, ◌∙◌, ◌++◌, ◌<◌, true, false, map, length, take, min, refl, sym, ap, subst, arith}
 use Rattle.std.specs.Bool.{OnTrue, OnFalse}
 use Rattle.strm_types.specs.Queue as plain
-use Rattle.strm_types.specs.Flush.{is_data_kind, counted_band}
+use Rattle.strm_types.specs.Flush.{is_data_kind}
 use Rattle.strm_types.specs.Reads.{offered}
 use Rattle.strm_blocks.specs.Blocks.{placed, dropped, put_back, in_hand, list_at, block_at, token}
 use Rattle.strm_msg.specs.Bytes.{bytes_of, control_bytes}
@@ -15,7 +15,7 @@ use Rattle.strm_head.specs.Parted.{cut_by, shown_chain, rest_chain}
 use Rattle.strm_head.proofs.Draws.{kept, freed}
 use Rattle.strm_head.proofs.Left.{step-part, step-taken, taken-first}
 use Rattle.strm_head.proofs.Rests.{alike, rest-read}
-use Rattle.strm_head.proofs.Returned.{changed-once, held-is, freed-held, beside-held, put-rest, part-taken, held-messages, held-keeps, flags-taken, band-within}
+use Rattle.strm_head.proofs.Returned.{changed-once, held-is, freed-held, beside-held, put-rest, part-taken, held-messages, held-keeps, flags-taken}
 use Rattle.strm_head.proofs.Showing.{shows}
 use Rattle.strm_head.proofs.reading.take_first.Goals as goal
 

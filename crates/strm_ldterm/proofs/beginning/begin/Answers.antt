@@ -13,7 +13,6 @@ use Rattle.strm_ldterm.specs.Does.{Proceeds}
 use Rattle.strm_ldterm.proofs.Begun.{takes-more, room-stays}
 use Rattle.strm_ldterm.proofs.Proceeding.{proceeds-kept, proceeds-both}
 use Rattle.strm_ldterm.proofs.beginning.begin.Goals as goal
-use Rattle.strm_blocks.specs.Blocks.{token}
 
 pub begin_with-requires-clause-held : goal.begin_with-requires-clause-held
 begin_with-requires-clause-held g c = (c.next_byte.ensures.did no_fates).held

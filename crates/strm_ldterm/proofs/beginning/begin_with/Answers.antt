@@ -8,7 +8,6 @@ use Rattle.strm_ldterm.specs.Stands.{ldterm_in}
 use Rattle.strm_ldterm.proofs.Begun.{begins-quiet, begins-starts, start-plain}
 use Rattle.strm_ldterm.proofs.beginning.begin_with.Goals.{then-ldterm, else-ldterm}
 use Rattle.strm_ldterm.proofs.beginning.begin_with.Goals as goal
-use Rattle.strm_blocks.specs.Blocks.{token}
 
 pub make-message-requires-clause-kind : goal.make-message-requires-clause-kind
 make-message-requires-clause-kind g c = start-plain

@@ -12,7 +12,6 @@ use Rattle.strm_ldterm.specs.Stands.{ldterm_in, keeps, IsHeld}
 use Rattle.strm_ldterm.specs.Does.{Proceeds}
 use Rattle.strm_ldterm.proofs.EchoStands.{begins-proceeds}
 use Rattle.strm_ldterm.proofs.echoing.begin_echo.Goals as goal
-use Rattle.strm_blocks.specs.Blocks.{token}
 
 none-there : {A : Type 0} (o : Option A) → is_some o ≡ false → o ≡ None
 none-there None is = refl

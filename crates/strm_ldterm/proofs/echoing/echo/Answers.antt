@@ -12,7 +12,6 @@ use Rattle.strm_ldterm.specs.Does.{Proceeds}
 use Rattle.strm_ldterm.specs.Echoes.{echo_bytes}
 use Rattle.strm_ldterm.proofs.EchoStands.{proceeds-still, proceeds-told, echoed-none, echoed-full, echoed-room, stands-gone, told-lost, told-made, runs-enough, few-bytes}
 use Rattle.strm_ldterm.proofs.echoing.echo.Goals as goal
-use Rattle.strm_blocks.specs.Blocks.{token}
 
 pub returns-then-len-eq0 : goal.returns-then-len-eq0
 returns-then-len-eq0 g c =

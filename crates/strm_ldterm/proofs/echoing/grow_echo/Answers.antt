@@ -8,7 +8,6 @@ use Rattle.strm_ldterm.specs.Stands.{ldterm_in, IsHeld}
 use Rattle.strm_ldterm.specs.Does.{Proceeds}
 use Rattle.strm_ldterm.proofs.EchoStands.{grows-proceeds}
 use Rattle.strm_ldterm.proofs.echoing.grow_echo.Goals as goal
-use Rattle.strm_blocks.specs.Blocks.{token}
 
 pub returns : goal.returns
 returns g c = λ here f.

@@ -11,7 +11,6 @@ use Rattle.strm_ldterm.specs.Stands.{ldterm_in, keeps, IsHeld}
 use Rattle.strm_ldterm.specs.Does.{Proceeds}
 use Rattle.strm_ldterm.proofs.EchoStands.{begins-proceeds, grows-proceeds, stands-by}
 use Rattle.strm_ldterm.proofs.echoing.stand_run.Goals as goal
-use Rattle.strm_blocks.specs.Blocks.{token}
 
 pub returns-in-Some : goal.returns-in-Some
 returns-in-Some g c = λ here f.

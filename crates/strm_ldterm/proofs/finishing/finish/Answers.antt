@@ -14,7 +14,6 @@ use Rattle.strm_ldterm.proofs.Flushed.{alters-both, kept-still}
 use Rattle.strm_ldterm.proofs.Freeing.{none-freed-both}
 use Rattle.strm_ldterm.proofs.Proceeding.{proceeds-alters, proceeds-both, proceeds-staged}
 use Rattle.strm_ldterm.proofs.finishing.finish.Goals as goal
-use Rattle.strm_blocks.specs.Blocks.{token}
 
 pub return_work-requires-clause-kept : goal.return_work-requires-clause-kept
 return_work-requires-clause-kept g c =

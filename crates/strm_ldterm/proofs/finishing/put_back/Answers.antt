@@ -1,7 +1,6 @@
 -- The message stands on the list, and it is no longer in hand.
 use Rattle.std.proofs.Common.{◌<◌, length, arith}
-use Rattle.strm_blocks.specs.Blocks.{in_hand, token}
-use Rattle.strm_queue.proofs.Chains.{chain-low}
+use Rattle.strm_blocks.specs.Blocks.{token}
 use Rattle.strm_ldterm.proofs.Freeing.{back-none}
 use Rattle.strm_ldterm.proofs.Returning.{back-queue, back-changes, back-frees}
 use Rattle.strm_ldterm.proofs.finishing.put_back.Goals as goal

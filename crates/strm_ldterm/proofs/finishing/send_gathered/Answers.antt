@@ -8,7 +8,6 @@ use Rattle.strm_ldterm.specs.Stands.{ldterm_in}
 use Rattle.strm_ldterm.specs.Does.{Proceeds}
 use Rattle.strm_ldterm.proofs.Finished.{gathered-sent, gathered-none}
 use Rattle.strm_ldterm.proofs.finishing.send_gathered.Goals as goal
-use Rattle.strm_blocks.specs.Blocks.{token}
 
 pub returns-in_default : goal.returns-in_default
 returns-in_default g c = λ f.

@@ -18,7 +18,6 @@ use Rattle.strm_ldterm.specs.Does.{Flushes}
 use Rattle.strm_ldterm.proofs.Before.{none-chosen, gone-last, of-echo}
 use Rattle.strm_ldterm.proofs.Flushed.{flushes-down}
 use Rattle.strm_ldterm.proofs.flushing.flush_beside.Goals as goal
-use Rattle.strm_blocks.specs.Blocks.{token}
 
 above : (b : Band) → takes_band_0 (Some b) ≡ false → 0 < b.0
 above b is = grind (arith, nat_tests)

@@ -10,7 +10,6 @@ use Rattle.strm_types.specs.Emptied.{of_data, cells_gone}
 use Rattle.strm_queue.specs.Stored.{messages_on}
 use Rattle.strm_ldterm.proofs.Flushed.{flushes-up, line-after}
 use Rattle.strm_ldterm.proofs.flushing.flush_read.Goals as goal
-use Rattle.strm_blocks.specs.Blocks.{token}
 
 not-false : (v : Bool) → not v ≡ false → v ≡ true
 not-false true is = refl

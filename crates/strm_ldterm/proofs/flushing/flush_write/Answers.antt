@@ -7,7 +7,6 @@ use Rattle.strm_types.specs.declared.spots.Note.TheVariants.{Room}
 use Rattle.strm_ldterm.specs.Stands.{ldterm_in}
 use Rattle.strm_ldterm.proofs.Flushed.{write-after, settled-flushes}
 use Rattle.strm_ldterm.proofs.flushing.flush_write.Goals as goal
-use Rattle.strm_blocks.specs.Blocks.{token}
 
 not-false : (v : Bool) → not v ≡ false → v ≡ true
 not-false true is = refl

@@ -13,7 +13,6 @@ use Rattle.strm_ldterm.proofs.Flushed.{kept-still}
 use Rattle.strm_ldterm.proofs.Freeing.{none-freed-both}
 use Rattle.strm_ldterm.proofs.Proceeding.{proceeds-alters, proceeds-both}
 use Rattle.strm_ldterm.proofs.outgoing.let_go.Goals as goal
-use Rattle.strm_blocks.specs.Blocks.{token}
 
 pub send_output-requires-clause-held : goal.send_output-requires-clause-held
 send_output-requires-clause-held g c = c.return_output.ensures.alters.held

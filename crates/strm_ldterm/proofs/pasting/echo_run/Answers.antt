@@ -10,7 +10,6 @@ use Rattle.strm_ldterm.specs.Does.{Proceeds}
 use Rattle.strm_ldterm.proofs.EchoStands.{proceeds-still, proceeds-told, stands-gone, told-made}
 use Rattle.strm_ldterm.proofs.RunsDone.{echoed-so, unechoed}
 use Rattle.strm_ldterm.proofs.pasting.echo_run.Goals as goal
-use Rattle.strm_blocks.specs.Blocks.{token}
 
 pub returns : goal.returns
 returns g c =

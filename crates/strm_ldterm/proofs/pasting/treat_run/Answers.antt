@@ -11,7 +11,6 @@ use Rattle.strm_ldterm.proofs.Joining.{still-kept}
 use Rattle.strm_ldterm.proofs.RunsDone.{all-plain, front-short, line-room, no-run, run-begun, run-treated}
 use Rattle.strm_ldterm.proofs.Skipped.{no-bytes}
 use Rattle.strm_ldterm.proofs.pasting.treat_run.Goals as goal
-use Rattle.strm_blocks.specs.Blocks.{token}
 
 pub returns-then-is_empty-clause-does : goal.returns-then-is_empty-clause-does
 returns-then-is_empty-clause-does g c =

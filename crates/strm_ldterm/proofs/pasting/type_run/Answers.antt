@@ -6,7 +6,6 @@ use Rattle.strm_ldterm.specs.Does.{Proceeds}
 use Rattle.strm_ldterm.proofs.RunsDone.{typed-lines, typed-raw}
 use Rattle.strm_ldterm.proofs.Strikes.{line-proceeds}
 use Rattle.strm_ldterm.proofs.pasting.type_run.Goals as goal
-use Rattle.strm_blocks.specs.Blocks.{token}
 
 pub returns-then-contains : goal.returns-then-contains
 returns-then-contains g c = λ f.

@@ -8,7 +8,6 @@ use Rattle.strm_ldterm.specs.Stands.{ldterm_in}
 use Rattle.strm_ldterm.proofs.Joining.{stays-so, takes-more}
 use Rattle.strm_ldterm.proofs.Skipped.{no-bytes}
 use Rattle.strm_ldterm.proofs.posting.gather_flow.Goals as goal
-use Rattle.strm_blocks.specs.Blocks.{token}
 
 pub gather-requires-clause-some : goal.gather-requires-clause-some
 gather-requires-clause-some g c = (let e = sym c.is_empty.ensures ∙ c.if-not-is_empty.true in grind (arith, nat_tests))

@@ -1,6 +1,5 @@
 -- Bytes go out block by block, until none is left or blocks are few.
-use Rattle.std.proofs.Common.{◌≡◌, ◌≤◌, ◌-◌, true, [], sym, subst, ◌∙◌, arith}
-use Rattle.strm_ldterm.proofs.Bytes.{are-many}
+use Rattle.std.proofs.Common.{◌≤◌, [], arith}
 use Rattle.strm_ldterm.proofs.Joining.{still-kept}
 use Rattle.strm_ldterm.proofs.Poured.{pours-are, pours-more, pours-none, pours-some}
 use Rattle.strm_ldterm.proofs.posting.post_bytes.Goals as goal

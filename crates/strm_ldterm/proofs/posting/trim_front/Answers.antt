@@ -1,5 +1,5 @@
 -- The first block has fewer bytes, and goes where it has none.
-use Rattle.std.proofs.Common.{ℕ, ◌≡◌, ◌++◌, length, take, drop, sym, subst, arith, length-take}
+use Rattle.std.proofs.Common.{◌≡◌, ◌++◌, length, take, drop, subst, arith, length-take}
 use Rattle.strm_types.specs.Input.{left_of}
 use Rattle.strm_types.specs.Message.{cells_of}
 use Rattle.strm_blocks.specs.Blocks.{block_at, in_hand, token}

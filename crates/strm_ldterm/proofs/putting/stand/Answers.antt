@@ -1,7 +1,6 @@
 -- The message stands on the list, and it is no longer in hand.
 use Rattle.std.proofs.Common.{◌<◌, length, arith}
-use Rattle.strm_blocks.specs.Blocks.{in_hand, token}
-use Rattle.strm_queue.proofs.Chains.{chain-low}
+use Rattle.strm_blocks.specs.Blocks.{token}
 use Rattle.strm_queue.proofs.Joined.{joined-queue, joined-changes, joined-frees}
 use Rattle.strm_ldterm.proofs.Freeing.{put-none}
 use Rattle.strm_ldterm.proofs.putting.stand.Goals as goal

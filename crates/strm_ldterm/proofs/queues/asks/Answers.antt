@@ -6,7 +6,6 @@ use Rattle.strm_types.specs.Asking.{asked_by, ldterm_asks}
 use Rattle.strm_types.specs.declared.kinds.MsgKind.TheVariants.{Data}
 use Rattle.strm_ldterm.proofs.Asking.{asked-echo, asked-few}
 use Rattle.strm_ldterm.proofs.queues.asks.Goals as goal
-use Rattle.strm_blocks.specs.Blocks.{token}
 
 pub returns-in-None-asked_on-clause-asks : goal.returns-in-None-asked_on-clause-asks
 returns-in-None-asked_on-clause-asks g c =

@@ -7,7 +7,6 @@ use Rattle.strm_queue.specs.Stored.{messages_on}
 use Rattle.strm_ldterm.specs.Stands.{ldterm_in, kept_in}
 use Rattle.strm_ldterm.proofs.Last.{bytes-few, count-last, count-within, count-zero, count-other}
 use Rattle.strm_ldterm.proofs.queues.count.Goals as goal
-use Rattle.strm_blocks.specs.Blocks.{token}
 
 pub overflow_add-result : goal.overflow_add-result
 overflow_add-result g c =

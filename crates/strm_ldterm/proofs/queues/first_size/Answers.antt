@@ -8,7 +8,7 @@ use Rattle.std.proofs.lemmas.List.Sums.{sum_by-cons}
 use Rattle.strm_types.specs.Message.{Message, size_of}
 use Rattle.strm_types.specs.ModuleQueues.{messages_at}
 use Rattle.strm_types.specs.Queue.{bytes_of, first_size}
-use Rattle.strm_blocks.specs.Blocks.{list_at, token}
+use Rattle.strm_blocks.specs.Blocks.{list_at}
 use Rattle.strm_msg.specs.Messages.{message_of}
 use Rattle.strm_queue.specs.Stored.{messages_on}
 use Rattle.strm_ldterm.specs.Calls.{queue_of}

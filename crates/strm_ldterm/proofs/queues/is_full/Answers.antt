@@ -8,7 +8,6 @@ use Rattle.strm_queue.specs.Stored.{queue_in}
 use Rattle.strm_ldterm.specs.Stands.{ldterm_in, kept_in}
 use Rattle.strm_ldterm.proofs.Last.{count-last, count-zero, count-other}
 use Rattle.strm_ldterm.proofs.queues.is_full.Goals as goal
-use Rattle.strm_blocks.specs.Blocks.{token}
 
 pub returns-in-Down : goal.returns-in-Down
 returns-in-Down g c =

@@ -8,7 +8,6 @@ use Rattle.strm_ldterm.specs.Does.{Proceeds}
 use Rattle.strm_ldterm.specs.Stands.{ldterm_in}
 use Rattle.strm_ldterm.proofs.Sends.{tells, key-told}
 use Rattle.strm_ldterm.proofs.sending.end_file.Goals as goal
-use Rattle.strm_blocks.specs.Blocks.{token}
 
 pub returns : goal.returns
 returns g c =

@@ -9,7 +9,6 @@ use Rattle.strm_types.specs.Typing.{bare}
 use Rattle.strm_ldterm.specs.Stands.{ldterm_in}
 use Rattle.strm_ldterm.proofs.Sends.{sends-made, sends-none, held-stopped, stop-plain, key-told}
 use Rattle.strm_ldterm.proofs.sending.stop.Goals as goal
-use Rattle.strm_blocks.specs.Blocks.{token}
 
 pub make-message-requires-clause-kind : goal.make-message-requires-clause-kind
 make-message-requires-clause-kind g c = stop-plain

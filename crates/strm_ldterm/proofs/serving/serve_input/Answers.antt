@@ -8,7 +8,6 @@ use Rattle.strm_ldterm.specs.Turns.{stages_left}
 use Rattle.strm_ldterm.proofs.Joining.{still-kept}
 use Rattle.strm_ldterm.proofs.Turned.{between-needs, first-serves, whole-serves, work-in, work-treats}
 use Rattle.strm_ldterm.proofs.serving.serve_input.Goals as goal
-use Rattle.strm_blocks.specs.Blocks.{token}
 
 pub treat-requires-clause-held : goal.treat-requires-clause-held
 treat-requires-clause-held g c = (c.in-InWork.ensures.works c.args.told.now).held

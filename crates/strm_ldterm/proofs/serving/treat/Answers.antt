@@ -7,7 +7,6 @@ use Rattle.strm_ldterm.proofs.Bytes.{kept-some, lower}
 use Rattle.strm_ldterm.proofs.Calls.{resumed-between, resumed-goes-on, resumed-sends, resumed-short, resumed-work}
 use Rattle.strm_ldterm.proofs.Struck.{some-left}
 use Rattle.strm_ldterm.proofs.serving.treat.Goals as goal
-use Rattle.strm_blocks.specs.Blocks.{token}
 
 pub returns-then-not-is_empty : goal.returns-then-not-is_empty
 returns-then-not-is_empty g c =

@@ -7,7 +7,6 @@ use Rattle.strm_ldterm.specs.Does.{Proceeds}
 use Rattle.strm_ldterm.specs.Stands.{ldterm_in}
 use Rattle.strm_ldterm.proofs.Signals.{flush-plain, flush-proceeds}
 use Rattle.strm_ldterm.proofs.signalling.flush_typed.Goals as goal
-use Rattle.strm_blocks.specs.Blocks.{token}
 
 pub send_up-requires-clause-kind : goal.send_up-requires-clause-kind
 send_up-requires-clause-kind g c = flush-plain

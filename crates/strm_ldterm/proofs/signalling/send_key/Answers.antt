@@ -10,7 +10,6 @@ use Rattle.strm_ldterm.specs.Stands.{ldterm_in}
 use Rattle.strm_ldterm.proofs.Sends.{tells, key-told}
 use Rattle.strm_ldterm.proofs.Signals.{signal-plain}
 use Rattle.strm_ldterm.proofs.signalling.send_key.Goals as goal
-use Rattle.strm_blocks.specs.Blocks.{token}
 
 pub send_up-requires-clause-kind : goal.send_up-requires-clause-kind
 send_up-requires-clause-kind g c = signal-plain

@@ -5,7 +5,6 @@ use Rattle.strm_types.specs.Rules.{no_fates}
 use Rattle.strm_ldterm.proofs.Proceeding.{proceeds-kept}
 use Rattle.strm_ldterm.proofs.Signals.{signal-keeps, signal-flushes, room-behind, room-one}
 use Rattle.strm_ldterm.proofs.signalling.signal_with.Goals as goal
-use Rattle.strm_blocks.specs.Blocks.{token}
 
 pub send_key-requires-clause-held : goal.send_key-requires-clause-held
 send_key-requires-clause-held g c = (c.send_gathered-first.ensures no_fates).held

@@ -6,7 +6,6 @@ use Rattle.strm_ldterm.specs.Turns.{ahead, stages_left}
 use Rattle.strm_ldterm.proofs.striking.resume.Goals as goal
 use Rattle.strm_ldterm.proofs.Joining.{takes-more}
 use Rattle.strm_ldterm.proofs.Struck.{answered-ahead, begun-ahead}
-use Rattle.strm_blocks.specs.Blocks.{token}
 
 pub returns-in-Some-clause-does : goal.returns-in-Some-clause-does
 returns-in-Some-clause-does g c =

@@ -8,7 +8,6 @@ use Rattle.strm_ldterm.specs.Does.{Proceeds}
 use Rattle.strm_ldterm.specs.Turns.{one_after}
 use Rattle.strm_ldterm.proofs.striking.strike.Goals as goal
 use Rattle.strm_ldterm.proofs.Struck.{join-room, next-short, sends-first, some-left, then-answers, wakes-short}
-use Rattle.strm_blocks.specs.Blocks.{token}
 
 pub join-requires : goal.join-requires
 join-requires g c =

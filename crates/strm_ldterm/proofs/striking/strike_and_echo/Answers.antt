@@ -10,7 +10,6 @@ use Rattle.strm_types.specs.Ldterms as ldterms
 use Rattle.strm_ldterm.proofs.Struck.{echo-chunks, echoed-short, join-room, may-leave, quiet-proceeds, wakes-short}
 use Rattle.strm_ldterm.specs.declared.ldterm.Stage.TheVariants as stages
 use Rattle.strm_ldterm.proofs.striking.strike_and_echo.Goals as goal
-use Rattle.strm_blocks.specs.Blocks.{token}
 
 -- the line that the key has left
 pub echo-notes-requires-clause-room : goal.echo-notes-requires-clause-room

@@ -1,7 +1,6 @@
 use Rattle.strm_frame.specs.Outboxes.{sent_of}
 use Rattle.strm_ldterm.proofs.Struck.{sent-proceeds}
 use Rattle.strm_ldterm.proofs.striking.strike_and_send.Goals as goal
-use Rattle.strm_blocks.specs.Blocks.{token}
 
 pub returns-clause-does : goal.returns-clause-does
 returns-clause-does g c =

@@ -7,7 +7,6 @@ use Rattle.strm_ldterm.proofs.striking.treat_byte.Goals as goal
 use Rattle.strm_frame.specs.Outboxes.{times_sent}
 use Rattle.strm_ldterm.proofs.Struck.{some-left}
 use Rattle.strm_ldterm.proofs.Treated.{begun-left, byte-goes-on, byte-starts, few-leaves, few-needs}
-use Rattle.strm_blocks.specs.Blocks.{token}
 
 pub returns-then-not-is_empty-clause-does : goal.returns-then-not-is_empty-clause-does
 returns-then-not-is_empty-clause-does g c =

@@ -9,7 +9,6 @@ use Rattle.strm_ldterm.proofs.Sends.{sends-none}
 use Rattle.strm_ldterm.proofs.Signals.{flush-plain}
 use Rattle.strm_ldterm.proofs.TakingUp.{input-flushes, input-stays}
 use Rattle.strm_ldterm.proofs.taking_up.flush_input.Goals as goal
-use Rattle.strm_blocks.specs.Blocks.{token}
 
 pub returns-then-not-flushes_input : goal.returns-then-not-flushes_input
 returns-then-not-flushes_input g c =

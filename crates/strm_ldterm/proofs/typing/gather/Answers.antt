@@ -7,7 +7,6 @@ use Rattle.strm_ldterm.specs.Stands.{ldterm_in, kept_in, cells_kept, keeps, IsHe
 use Rattle.strm_ldterm.specs.Does.{Proceeds}
 use Rattle.strm_ldterm.proofs.Gathered.{new-gathered, grown-gathered}
 use Rattle.strm_ldterm.proofs.typing.gather.Goals as goal
-use Rattle.strm_blocks.specs.Blocks.{token}
 
 pub returns-in-None : goal.returns-in-None
 returns-in-None g c = λ f.

@@ -4,7 +4,6 @@ use Rattle.strm_ldterm.specs.Stands.{ldterm_in}
 use Rattle.strm_ldterm.specs.Does.{Proceeds}
 use Rattle.strm_ldterm.proofs.Strikes.{added-raw}
 use Rattle.strm_ldterm.proofs.typing.strike_ordinary.Goals as goal
-use Rattle.strm_blocks.specs.Blocks.{token}
 
 pub returns-else-contains : goal.returns-else-contains
 returns-else-contains g c =

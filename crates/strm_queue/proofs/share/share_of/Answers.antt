@@ -1,6 +1,6 @@
 -- A message has 16 MiB at most.
 use Rattle.std.proofs.Common.{ap, arith}
-use Rattle.strm_blocks.specs.Blocks.{in_hand, token}
+use Rattle.strm_blocks.specs.Blocks.{token}
 use Rattle.strm_blocks.specs.declared.asked.Summary.{Summary}
 use Rattle.strm_queue.proofs.Bounds.{few-bytes}
 use Rattle.strm_queue.proofs.share.share_of.Goals as goal

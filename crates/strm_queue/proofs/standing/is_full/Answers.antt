@@ -1,5 +1,5 @@
 -- The kept flag is that of the messages on the list.
-use Rattle.std.proofs.Common.{◌∙◌, rules}
+use Rattle.std.proofs.Common.{◌∙◌}
 use Rattle.strm_blocks.specs.Blocks.{list_at}
 use Rattle.strm_queue.proofs.FlowControl.{full-same}
 use Rattle.strm_queue.proofs.standing.is_full.Goals as goal

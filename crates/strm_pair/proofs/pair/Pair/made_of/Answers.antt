@@ -3,8 +3,6 @@ use Rattle.std.proofs.Common.{◌≡◌, ◌∙◌, ℕ, [], ap, arith, refl, sy
 use Rattle.strm_types.specs.declared.limits.Config.{Config}
 use Rattle.strm_types.specs.declared.rules.Fates.{Fates}
 use Rattle.strm_laws.specs.State.{State}
-use Rattle.strm_image.specs.HasImage.{HasImage}
-use Rattle.strm_image.specs.Image.{Imaged}
 use Rattle.strm_image.specs.ImageTexts.{imaged_now}
 use Rattle.strm_image.proofs.FittedImages.{image_base, image_told}
 use Rattle.strm_pair.specs.BaseTexts.{begun_at, start_in}

@@ -1,5 +1,5 @@
 -- A pair over a store with nothing in it is as new.
-use Rattle.std.proofs.Common.{◌≡◌, ◌≤◌, ◌∙◌, ap, sym, refl, arith, rules}
+use Rattle.std.proofs.Common.{◌≡◌, ◌∙◌, ap, sym, refl, arith, rules}
 use Rattle.strm_types.specs.declared.limits.Config.{Config}
 use Rattle.strm_laws.specs.Refusals.{Free}
 use Rattle.strm_blocks.specs.Blocks.{empty_store}
