@@ -16,8 +16,8 @@ use std::marker::Model;
 use std::sync::Wait;
 use std::sync::atomic::{AtomicU64, Ordering};
 
-// How many words a lock has, and the one of them that is used: a line of the cache, which is eight words of 8 bytes, lies free before it and
-// one behind it. So threads that take different locks don't wait for each other's line, wherever the allocator laid the words.
+// How many words a lock has, and the one of them that is used. A line of the cache is eight words, so wherever the allocator laid these,
+// the line of the one that is used has nothing but words of this lock: threads that take different locks don't wait for each other's line.
 const WORDS: usize = 16;
 
 const WORD: usize = 8;
