@@ -132,6 +132,7 @@ static strm_refusal sets(strm_host *h, host_asker *a)
     if (e) return e;
     if (when == STRM_TCSETSF) drops_input(h);
     host_takes(h, &a->ask.modes);
+    if (a->fd >= 0) h->doubt = false;
     host_mirrors(h);
     return STRM_OK;
 }

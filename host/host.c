@@ -172,7 +172,7 @@ int strm_host_spawn(strm_host **made, strm_pair *pair, char *const words[], char
     int why;
     if (!h) return ENOMEM;
     h->pair = pair, h->reaped = true;
-    h->master = h->slave = h->taken = h->listens = h->ready = h->ends = -1;
+    h->master = h->slave = h->taken = h->listens = h->ready = h->ends = h->timer = -1;
     why = host_shim(shim, sizeof shim);
     if (!why) why = takes_over(h, size);
     if (!why) why = opens_terminal(h);
@@ -194,7 +194,14 @@ int strm_host_fd(const strm_host *h) { return h->ready; }
 
 pid_t strm_host_pid(const strm_host *h) { return h->child; }
 
-bool strm_host_ended(const strm_host *h) { return h->reaped && h->silent && h->down_at == h->down_n && strm_enabled(h->pair, 0) == STRM_NO_QUEUE; }
+bool strm_host_ended(const strm_host *h)
+{
+    strm_standing processed = { 0, 0 }, driven = { 0, 0 };
+    if (!h->reaped || !h->silent || h->down_at != h->down_n || strm_enabled(h->pair, 0) != STRM_NO_QUEUE) return false;
+    strm_sizes(h->pair, STRM_S_LDTERM_W, &processed);
+    strm_sizes(h->pair, STRM_S_DRV_W, &driven);
+    return !processed.messages && !driven.messages;
+}
 
 pid_t strm_host_group(const strm_host *h)
 {
@@ -269,5 +276,6 @@ void strm_host_close(strm_host *h)
     closes(&h->master);
     buries(h);
     closes(&h->ends);
+    closes(&h->timer);
     free(h);
 }

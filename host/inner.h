@@ -4,6 +4,7 @@
 
 #include "asks.h"
 #include "strm_host.h"
+#include <time.h>
 
 /* How many programs may ask at once; others wait in the socket's queue. */
 #define HOST_ASKERS 16
@@ -24,18 +25,22 @@ typedef struct host_asker {
 
 struct strm_host {
     strm_pair *pair;
-    int master, slave, taken, listens, ready, ends; /* taken: the master again, for edges; ends: a pidfd, or -1 */
+    int master, slave, taken, listens, ready, ends, timer; /* taken: the master again, for edges; ends: a pidfd; -1 for none */
     unsigned device;
     pid_t child, group;
     int status;
     bool reaped, silent;       /* the program has ended; its terminal was hung up */
     bool told, signalled;      /* the kernel told of modes; signals may have come up */
-    bool holds, armed, blocked; /* input waits till the program takes some, and its edge is watched; output waits till the master is read */
+    bool holds, armed;         /* input waits till the program takes some, and its edge is watched */
+    bool blocked, deaf;        /* output waits till the master is read, and isn't watched */
+    bool bulk, doubt;          /* the kernel isn't told of OPOST; nor is it till ICANON is set, as somebody took its modes over */
     bool eof;                  /* what the kernel was given last is an EOF key */
     strm_termios modes;
     uint8_t vmin, vtime;
     host_modes kernel;
     uint64_t read, signal_keys; /* bytes of output, and signal keys of which the signals were handed on */
+    uint64_t weighed; /* what was read when it was last looked how much comes, and the time */
+    struct timespec weighed_at;
     size_t askers;
     host_asker asker[HOST_ASKERS];
     size_t down_at, down_n, up_at, up_n;
@@ -61,6 +66,10 @@ bool host_output_waits(const strm_host *h);
 size_t host_unread(const strm_host *h);                     /* bytes that the kernel has for the program */
 strm_refusal host_signals(strm_host *h);
 void host_watches(strm_host *h, int fd, uint32_t events, bool anew);
+
+/* bulk.c */
+void host_weighs(strm_host *h);                             /* whether much is put out */
+void host_ticks(strm_host *h);                              /* whether it still is */
 
 /* environment.c */
 int host_shim(char *path, size_t room);

@@ -49,6 +49,7 @@ int host_mirrors(strm_host *h)
 {
     host_modes kernel = host_shown(h);
     kernel.oflag &= ~(uint32_t)HOST_OUTPUT;
+    if (h->bulk) kernel.oflag &= ~(uint32_t)STRM_OPOST;
     kernel.lflag |= HOST_EXTPROC;
     if (kernel.lflag & STRM_ICANON) kernel.cc[LINUX_MIN] = 1, kernel.cc[LINUX_TIME] = 0; /* under EXTPROC poll(2) looks at them */
     if (ioctl(h->slave, TCSETS, &kernel) || ioctl(h->slave, TCGETS, &h->kernel)) return -1;
@@ -71,6 +72,7 @@ bool host_unseen(strm_host *h, host_modes *modes)
     modes->lflag = changed(modes->lflag, put.lflag, found.lflag);
     for (k = 0; k < sizeof put.cc; k++)
         if (found.cc[k] != put.cc[k]) modes->cc[k] = found.cc[k];
+    h->doubt = h->bulk && !(found.lflag & STRM_ICANON);
     h->kernel = found;
     return true;
 }

@@ -18,7 +18,8 @@
 /* The kernel's buffer has 4096; more than a half of it isn't given to a program that doesn't read. */
 #define HOST_UNREAD 2048u
 #define HOST_ROUNDS 64
-#define HOST_PIECE 256u
+#define HOST_PIECE 512u
+#define HOST_BLOCK 256u
 
 void host_watches(strm_host *h, int fd, uint32_t events, bool anew)
 {
@@ -65,16 +66,18 @@ static bool fetches(strm_host *h)
     }
     h->down_at = 1, h->down_n = (size_t)n;
     h->read += (size_t)n - 1;
+    host_weighs(h);
     return true;
 }
 
-/* What was fetched goes down the slave's stream; a pool with few blocks takes it in pieces. */
+/* What was fetched goes down the slave's stream in pieces that ldterm takes whole, as the journal has what a write brought; a pool with few
+ * blocks takes smaller ones. */
 static strm_refusal goes_down(strm_host *h)
 {
     strm_reply r;
     size_t n = h->down_n - h->down_at;
-    strm_refusal e = strm_write(h->pair, STRM_SLAVE, h->down + h->down_at, n, &r);
-    if (e == STRM_ENOSR && n > HOST_PIECE) e = strm_write(h->pair, STRM_SLAVE, h->down + h->down_at, HOST_PIECE, &r);
+    strm_refusal e = strm_write(h->pair, STRM_SLAVE, h->down + h->down_at, n < HOST_PIECE ? n : HOST_PIECE, &r);
+    if (e == STRM_ENOSR && n > HOST_BLOCK) e = strm_write(h->pair, STRM_SLAVE, h->down + h->down_at, HOST_BLOCK, &r);
     if (!e) h->down_at += r.value;
     if (e == STRM_ENXIO) h->down_at = h->down_n; /* nobody reads it any more */
     return e == STRM_ENXIO ? STRM_OK : e;
@@ -226,10 +229,13 @@ static void reaps(strm_host *h)
     h->ends = -1;
 }
 
-static void rounds_off(strm_host *h, bool was_blocked, uint32_t *what)
+static void rounds_off(strm_host *h, uint32_t *what)
 {
     strm_standing standing = { 0, 0 };
-    if (h->blocked != was_blocked && !h->silent) host_watches(h, h->master, h->blocked ? 0u : (uint32_t)EPOLLIN, false);
+    /* Output that waits for a reader of the master is watched till a pump came in vain. */
+    bool deaf = h->blocked && !*what;
+    if (deaf != h->deaf && !h->silent) host_watches(h, h->master, deaf ? 0u : (uint32_t)EPOLLIN, false);
+    h->deaf = deaf;
     if (h->armed && !h->holds) {
         host_watches(h, h->taken, 0, false);
         h->armed = false;
@@ -239,27 +245,40 @@ static void rounds_off(strm_host *h, bool was_blocked, uint32_t *what)
     if (strm_host_ended(h)) *what |= STRM_HOST_ENDED;
 }
 
+/* What the descriptor is readable for: who asks, and the program's end. Output is looked at anyhow. */
+static void looks(strm_host *h)
+{
+    struct epoll_event events[HOST_ASKERS + 4];
+    int n = epoll_wait(h->ready, events, HOST_ASKERS + 4, 0), k;
+    bool asks = false, ends = h->ends < 0;
+    for (k = 0; k < n; k++) {
+        if (events[k].data.fd == h->ends) ends = true;
+        else if (events[k].data.fd == h->timer) host_ticks(h);
+        else if (events[k].data.fd != h->master && events[k].data.fd != h->taken) asks = true;
+    }
+    if (asks) host_hears(h);
+    if (ends) reaps(h);
+}
+
 strm_refusal strm_host_pump(strm_host *h, uint32_t *what)
 {
-    struct epoll_event events[HOST_ASKERS];
-    bool moved = true, was_blocked = h->blocked;
+    bool moved = true;
+    uint64_t before = h->read;
     strm_refusal e = STRM_OK;
     int k;
     *what = 0;
-    epoll_wait(h->ready, events, HOST_ASKERS, 0);
-    reaps(h);
+    looks(h);
     for (k = 0; moved && !e && k < HOST_ROUNDS; k++) {
         moved = false;
         e = runs(h, &moved);
         if (!e) e = host_signals(h);
         if (!e) e = writes(h, &moved);
         if (!e) e = runs(h, &moved);
-        host_hears(h);
         if (!e && (h->askers || h->told)) e = host_answers(h, &moved);
         if (!e) e = reads(h, &moved);
         if (moved) *what |= STRM_HOST_MOVED;
-        if (!e && moved) e = regroups(h);
     }
-    rounds_off(h, was_blocked, what);
+    if (!e && *what && h->read == before) e = regroups(h);
+    rounds_off(h, what);
     return e;
 }

@@ -195,7 +195,13 @@ SHOWN int tcsetattr(int fd, int when, const struct termios *t)
     if (!ours(fd) || when < TCSANOW || when > TCSAFLUSH) return usual(fd, when, t);
     modes.iflag = t->c_iflag, modes.oflag = t->c_oflag, modes.cflag = t->c_cflag, modes.lflag = t->c_lflag, modes.line = t->c_line;
     memcpy(modes.cc, t->c_cc, sizeof modes.cc);
-    return modes_of(fd, when == TCSANOW ? TCSETS : when == TCSADRAIN ? TCSETSW : TCSETSF, &modes);
+    if (modes_of(fd, when == TCSANOW ? TCSETS : when == TCSADRAIN ? TCSETSW : TCSETSF, &modes)) return -1;
+    /* As glibc tells of what a pty doesn't do: fewer than eight bits, parity, no input. All else was set. */
+    if ((t->c_cflag & (PARENB | CREAD)) != CREAD || (t->c_cflag & CSIZE && (t->c_cflag & CSIZE) != CS8)) {
+        errno = EINVAL;
+        return -1;
+    }
+    return 0;
 }
 
 SHOWN int tcflush(int fd, int which) { return any_ioctl(fd, TCFLSH, (void *)(long)which); }

@@ -42,7 +42,8 @@
  *
  *   Programs that no preloaded object reaches (static ones, those that call the system by themselves, those with set-user-ID for another user,
  *   glibc's getpass) see and set the kernel's modes. It keeps EXTPROC, by which it tells of each change, and the host takes up what was
- *   changed. To them OLCUC, ONLCR, OCRNL, ONOCR, ONLRET and XTABS are always off, and bytes may pass a change of modes that is taken back at once.
+ *   changed. To them OLCUC, ONLCR, OCRNL, ONOCR, ONLRET and XTABS are always off, and so is OPOST while much is put out; and bytes may pass a change
+ *   of modes that is taken back at once.
  *   A program that forbids socket(2) to itself by seccomp(2) is one of these.
  *
  * ERRORS
@@ -84,7 +85,7 @@ typedef struct strm_host strm_host;
 int strm_host_spawn(strm_host **made, strm_pair *pair, char *const words[], char *const environment[], const strm_winsize *size);
 
 /* What a pump has seen. SHOWS: bytes wait at the master's head, and a read takes them. MOVED: something went on, in either direction. ENDED: the
- * program has ended, and all that it wrote stands in the pair. */
+ * program has ended, and all that it wrote stands at the master's head, or was read. */
 enum { STRM_HOST_SHOWS = 1, STRM_HOST_MOVED = 2, STRM_HOST_ENDED = 4 };
 
 /* Carries what is there, both ways, makes the turns, hands signals on and answers the program's ioctls, and doesn't wait. It is called where
@@ -103,7 +104,7 @@ bool strm_host_waits(strm_host *h);
 /* The same of the foreground of any pseudoterminal by its master, and nothing else: whether a process there asks it for input. */
 bool strm_host_asks(int master);
 
-/* Whether the program has ended, and its output was carried. */
+/* Whether the program has ended, and its output was carried to the master's head: output that a STOP key holds isn't. */
 bool strm_host_ended(const strm_host *h);
 
 /* The process that was started, and the foreground process group of its terminal, 0 where there is none. */

@@ -180,12 +180,13 @@ class Bridge:
         """Whether nothing is under way, and a process of the foreground asks for input without a time-out; or the program has ended."""
         return self.library.waits(self._at)
 
-    def step(self, seconds=20.0):
-        """Carries on until something was shown, or went on. False: the program waits or has ended, or the time is over."""
+    def step(self, seconds=20.0, looks_at=True):
+        """Carries on until something was shown, or went on. False: the program waits or has ended, or the time is over; where `looks_at` is False the
+        time alone tells, as a relay (ssh, script, tmux) asks for keys while another program is at work."""
         end, looks = time.monotonic() + seconds, 0
         while not self.pump():
             left = end - time.monotonic()
-            if self.waits() or left <= 0:
+            if left <= 0 or (self.waits() if looks_at else self.ended):
                 return False
             select.select([self.fileno()], [], [], min(left, LOOK_SECONDS[min(looks, len(LOOK_SECONDS) - 1)]))
             looks += 1
