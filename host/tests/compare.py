@@ -22,7 +22,6 @@ PLAIN = {
 FILES = {
     "text": "".join(f"line {n}\n" for n in range(1, 6)),
     "long": "".join(f"line {n} of a text that is longer than a screen\n" for n in range(1, 201)),
-    "tmux.conf": "set -g status off\n",
     "screenrc": "startup_message off\nshell /bin/sh\nvbell off\n",
 }
 
@@ -35,17 +34,16 @@ def room_for():
     return room
 
 
-def rests(terminal, program):
+def rests(terminal, program, patience):
     """Carries on till the program waits, or nothing was shown for that long."""
-    while terminal.step(program.quiet, not program.relay):
+    while terminal.step(patience * program.quiet, not program.relay):
         pass
 
 
-def shown(kind, program, room, chance):
+def shown(kind, program, room, patience):
     """What a program shows at its beginning and behind each step, and its status."""
     environment = {**PLAIN, "HOME": room, "SCREENDIR": os.path.join(room, "screens")}
-    words = [chance if word == "NAME" else word for word in program.words]
-    terminal = kind(["env", "-C", room, *words], environment=environment)
+    terminal = kind(["env", "-C", room, *program.words], environment=environment)
     told = []
     terminal.step(5.0, not program.relay)  # a machine that is at work begins late
     for step in [None, *program.steps]:
@@ -53,7 +51,7 @@ def shown(kind, program, room, chance):
             terminal.resize(*step)
         elif step is not None:
             terminal.type(step)
-        rests(terminal, program)
+        rests(terminal, program, patience)
         told.append(terminal.take())
         if terminal.ended:
             break
@@ -76,24 +74,33 @@ def differing(ours, theirs):
         n += 1
 
 
-def compared(name):
-    """(name, how many steps there are, how many differ, what is said of them, seconds)."""
-    program, began = PROGRAMS[name], time.monotonic()
+def beside(program, patience):
+    """What a program shows on Linux and on a pair, at the same time, with its two statuses."""
+    rooms = [room_for(), room_for()]
     with concurrent.futures.ThreadPoolExecutor(2) as both:
-        rooms = [room_for(), room_for()]
-        kinds = zip((Linux, Bridge), rooms, ("theirs", "ours"))
-        told = [both.submit(shown, kind, program, room, f"strm{os.getpid()}{suffix}") for kind, room, suffix in kinds]
+        told = [both.submit(shown, kind, program, room, patience) for kind, room in zip((Linux, Bridge), rooms)]
         (theirs, their_end), (ours, our_end) = (each.result() for each in told)
     for room in rooms:
-        shutil.rmtree(room)
-    theirs, ours = ([re.sub(program.hides, b"", re.sub(re.escape(room.encode()), b"ROOM", text)) for text in texts] for texts, room in zip((theirs, ours), rooms))
+        shutil.rmtree(room, ignore_errors=True)
+    hidden = [[re.sub(program.hides, b"", text.replace(room.encode(), b"ROOM")) for text in texts] for texts, room in zip((theirs, ours), rooms)]
+    return *hidden, their_end, our_end
+
+
+def compared(name):
+    """(name, how many steps there are, how many differ, what is said of them, tries, seconds). What differs by the time alone is the same when
+    there is more of it."""
+    program, began = PROGRAMS[name], time.monotonic()
     labels = ["its beginning", *program.steps]
-    found = list(differing(ours, theirs))
-    differ = [n for n in range(max(len(ours), len(theirs))) if (n in found) != (labels[n] in program.differs)]
-    said = [f"{name}, behind {labels[n]!r}:\n  Linux {theirs[n : n + 1]}\n  pair  {ours[n : n + 1]}" for n in differ]
-    if our_end != their_end:
-        said.append(f"{name} ended with {our_end} on the pair, and with {their_end} on Linux")
-    return name, len(program.steps) + 1, len(differ) + (our_end != their_end), said, time.monotonic() - began
+    for tries in (1, 2):
+        theirs, ours, their_end, our_end = beside(program, 3 ** (tries - 1))
+        found = list(differing(ours, theirs))
+        differ = [n for n in range(max(len(ours), len(theirs))) if (n in found) != (labels[n] in program.differs)]
+        said = [f"{name}, behind {labels[n]!r}:\n  Linux {theirs[n : n + 1]}\n  pair  {ours[n : n + 1]}" for n in differ]
+        if our_end != their_end:
+            said.append(f"{name} ended with {our_end} on the pair, and with {their_end} on Linux")
+        if not said:
+            break
+    return name, len(labels), len(said), said, tries, time.monotonic() - began
 
 
 def main():
@@ -105,9 +112,11 @@ def main():
     skipped = [name for name in asked.names if name not in there]
     passed = failed = 0
     with concurrent.futures.ProcessPoolExecutor(asked.j) as pool:
-        for name, steps, differ, said, seconds in pool.map(compared, there):
+        for name, steps, differ, said, tries, seconds in pool.map(compared, there):
             print(*said, sep="\n") if said else None
-            print(f"{name}: {steps - differ} of {steps} steps show the same ({seconds:.1f} s)", flush=True)
+            by_design = len(PROGRAMS[name].differs)
+            words = [f"{by_design} of them by design not"] * (by_design > 0) + ["at the second try"] * (tries > 1) + [f"{seconds:.1f} s"]
+            print(f"{name}: {steps - differ} of {steps} steps show the same ({', '.join(words)})", flush=True)
             passed, failed = passed + (not differ), failed + bool(differ)
     for name in skipped:
         print(f"{name} is missing: skipped")

@@ -46,7 +46,7 @@ PROGRAMS = {
         [
             b"cat\r", b"\x03", b"cat\r", b"\x1a", b"jobs\r", b"fg\r", b"resumed\r", b"\x04", b"sleep 100\r", b"\x1a", b"bg >/dev/null\r", b"jobs\r",
             b"kill %1; wait\r", b"cat & wait\r", b"jobs\r", b"fg\r", b"a line\r", b"\x04", b"stty tostop; (echo shown) & wait\r", b"jobs\r", b"fg\r",
-            b"stty -tostop; (echo shown) & wait\r", b"(stty -echo; echo set) & wait\r", b"fg\r", b"stty echo\r", b"cat | cat\r", b"piped\r", b"\x1c",
+            b"stty -tostop; (echo shown) & wait\r", b"(stty -echo; echo set) & wait\r", b"fg\r", b"stty echo\r", b"cat\r", b"typed\r", b"\x1c",
             b"trap 'echo INT' INT; read x\r", b"\x03", b"\r", b"sh -c 'kill -TSTP $$; echo on'\r", b"fg\r", b"exit\r",
         ],
         quiet=0.5,
@@ -93,7 +93,6 @@ PROGRAMS = {
         0.9,
         rb"\d+\.\S+|\x1b\[[0-9;?]*[hlm]|\x1b[()>=]\w?",
     ),
-    "tmux": Program(["tmux", "-L", "NAME", "-f", "tmux.conf", "new", "bash --norc --noprofile -i"], keys("echo hi\r", "\x02c", "exit\r", "cat\r", "x\r", "\x04", "exit\r"), 1.0, relay=True, hides= rb"\".*?\"|\d\d:\d\d|\d\d-\w\w\w-\d\d"),
     "mc": Program(
         ["mc", "-u", ".", "."],
         keys("\x1b[B\x1b[B", "\t", "echo hi\r", "\x0f", "\x0f", "\x1bOF\x1b3", "\x1b3", "\x1b0"),
