@@ -264,10 +264,11 @@ static void buries(strm_host *h)
     h->reaped = true;
 }
 
-void strm_host_close(strm_host *h)
+int strm_host_close(strm_host *h)
 {
     size_t k;
-    if (!h) return;
+    int status;
+    if (!h) return 0;
     for (k = 0; k < h->askers; k++) closes(&h->asker[k].fd);
     closes(&h->ready);
     closes(&h->listens);
@@ -277,5 +278,7 @@ void strm_host_close(strm_host *h)
     buries(h);
     closes(&h->ends);
     closes(&h->timer);
+    status = h->status;
     free(h);
+    return status;
 }

@@ -125,8 +125,8 @@ void strm_host_tcgetattr(const strm_host *h, strm_termios *t);
 int strm_host_tcsetattr(strm_host *h, const strm_termios *t);
 
 /* Hangs up: the session gets SIGHUP, and who doesn't end by it within a tenth of a second is killed. All memory and descriptors are given back;
- * the pair stays. NULL is taken too. */
-void strm_host_close(strm_host *h);
+ * the pair stays. It gives the status of the program's end. NULL is taken too. */
+int strm_host_close(strm_host *h);
 
 /* ------------------------------------------------------------------------------------------------------------- journals */
 

@@ -50,7 +50,7 @@ def prototypes():
         ("resize", number, (pointer, pointer)),
         ("tcgetattr", None, (pointer, pointer)),
         ("tcsetattr", number, (pointer, pointer)),
-        ("close", None, (pointer,)),
+        ("close", number, (pointer,)),
     )
 
 
@@ -120,6 +120,7 @@ class Bridge:
         arguments = (self.pair._at, _texts(list(words)), _texts(texts), ctypes.addressof(size))
         self._again(lambda: self.library.spawn(ctypes.addressof(made), *arguments))
         self._at = made.value
+        self.pid = self.library.pid(self._at)
 
     def __enter__(self):
         return self
@@ -141,16 +142,19 @@ class Bridge:
 
     def fileno(self):
         """For select: readable where there is something to pump."""
-        return self.library.fd(self._at)
+        return self.library.fd(self.at)
 
     @property
-    def pid(self):
-        return self.library.pid(self._at)
+    def at(self):
+        """The host's address. ValueError: the bridge was closed."""
+        if self._at is None:
+            raise ValueError("the bridge was closed")
+        return self._at
 
     @property
     def group(self):
         """The foreground process group; 0 where there is none."""
-        return self.library.group(self._at)
+        return self.library.group(self.at)
 
     @property
     def ended(self):
@@ -158,10 +162,10 @@ class Bridge:
 
     def pump(self):
         """Carries what is there, both ways. Whether something was shown, or went on."""
-        refused = self.library.pump(self._at, self._what_at)
+        refused = self.library.pump(self.at, self._what_at)
         if refused == 7 and not self.pair.keeps:
             self.pair.restart()
-            refused = self.library.pump(self._at, self._what_at)
+            refused = self.library.pump(self.at, self._what_at)
         if refused:
             raise Refused(refused, "pump")
         what = self._what.value
@@ -173,12 +177,12 @@ class Bridge:
 
     def _told(self):
         status = ctypes.c_int()
-        if self.status is None and self.library.wait(self._at, ctypes.addressof(status)) == 0:
+        if self.status is None and self.library.wait(self.at, ctypes.addressof(status)) == 0:
             self.status = os.waitstatus_to_exitcode(status.value)
 
     def waits(self):
         """Whether nothing is under way, and a process of the foreground asks for input without a time-out; or the program has ended."""
-        return self.library.waits(self._at)
+        return self.library.waits(self.at)
 
     def step(self, seconds=20.0, looks_at=True):
         """Carries on until something was shown, or went on. False: the program waits or has ended, or the time is over; where `looks_at` is False the
@@ -219,13 +223,13 @@ class Bridge:
 
     def resize(self, rows, columns):
         size = Window(rows, columns, 0, 0)
-        self._again(lambda: self.library.resize(self._at, ctypes.addressof(size)))
+        self._again(lambda: self.library.resize(self.at, ctypes.addressof(size)))
         self.pump()
 
     def tcgetattr(self):
         """The modes of the terminal."""
         modes = Modes()
-        self.library.tcgetattr(self._at, ctypes.addressof(modes))
+        self.library.tcgetattr(self.at, ctypes.addressof(modes))
         words = b"".join(getattr(modes, name).to_bytes(4, "big") for name in ("iflag", "oflag", "cflag", "lflag"))
         return Termios.of_wire(words + bytes(modes.cc))
 
@@ -233,18 +237,19 @@ class Bridge:
         """Sets them, as if the program had done so at once."""
         wire = termios.wire()
         modes = Modes(*(int.from_bytes(wire[at : at + 4], "big") for at in (0, 4, 8, 12)), (ctypes.c_uint8 * 19)(*wire[16:35]))
-        self._again(lambda: self.library.tcsetattr(self._at, ctypes.addressof(modes)))
+        self._again(lambda: self.library.tcsetattr(self.at, ctypes.addressof(modes)))
 
     def kill(self, number=signal.SIGTERM):
         """Sends a signal to the foreground process group. ProcessLookupError: there is none."""
-        _done(self.library.kill(self._at, int(number)))
+        _done(self.library.kill(self.at, int(number)))
 
     def close(self):
         """Hangs up, and gives all back but a pair that was handed in."""
         if self._at is None:
             return
         at, self._at = self._at, None
-        self.library.close(at)
+        status = self.library.close(at)
+        self.status = os.waitstatus_to_exitcode(status) if self.status is None else self.status
         if self.owned:
             self.pair.free()
 

@@ -94,14 +94,14 @@ static size_t by_pair(char *words[])
     return total;
 }
 
-int main(int n, char **words)
+/* The best of some rounds, by turns, with lines of a length. */
+static int compares(char *path, long megabytes, long rounds, const char *line)
 {
     char pieces[32];
-    char *program[] = { n > 1 ? words[1] : NULL, (char *)"floods", pieces, NULL };
-    long megabytes = n > 2 ? atol(words[2]) : 16, rounds = n > 3 ? atol(words[3]) : 5, k;
+    char *program[] = { path, (char *)"floods", pieces, (char *)line, NULL };
     double best[2] = { 0, 0 }, least[2] = { 0, 0 };
     size_t total[2] = { 0, 0 };
-    if (n < 2) return 2;
+    long k;
     snprintf(pieces, sizeof pieces, "%ld", megabytes * 256);
     for (k = 0; k < 2 * rounds; k++) {
         double began = now(), worked = work(), rate;
@@ -111,8 +111,18 @@ int main(int n, char **words)
         if (rate > best[k % 2]) best[k % 2] = rate;
         if (k < 2 || worked < least[k % 2]) least[k % 2] = worked;
     }
-    printf("bulk output: Linux %.1f MB/s, on a pair %.1f MB/s, %.2f times\n", best[0], best[1], best[1] / best[0]);
-    printf("of the processor, both ends: Linux %.2f ms a MB, on a pair %.2f\n", least[0], least[1]);
+    printf("bulk output in lines of %s: Linux %.1f MB/s, on a pair %.1f MB/s, %.2f times; of the processor, both ends, %.2f and %.2f ms a MB\n", line,
+           best[0], best[1], best[1] / best[0], least[0], least[1]);
     if (total[0] != total[1]) printf("Linux %zu bytes, on a pair %zu\n", total[0], total[1]);
     return total[0] != total[1];
+}
+
+int main(int n, char **words)
+{
+    static const char *const lines[] = { "8", "32", "64" };
+    int differs = 0;
+    size_t k;
+    if (n < 2) return 2;
+    for (k = 0; k < 3; k++) differs |= compares(words[1], n > 2 ? atol(words[2]) : 8, n > 3 ? atol(words[3]) : 5, lines[k]);
+    return differs;
 }

@@ -196,11 +196,11 @@ static int asks(const char *how)
     return read(0, &c, 1) < 0;
 }
 
-static int floods(long n)
+static int floods(long n, unsigned line)
 {
     static char text[4096];
     size_t k;
-    for (k = 0; k < sizeof text; k++) text[k] = k % 64 == 63 ? '\n' : 'x';
+    for (k = 0; k < sizeof text; k++) text[k] = k % line == line - 1 ? '\n' : 'x';
     for (; n > 0; n--)
         if (write(1, text, sizeof text) != (ssize_t)sizeof text) return 1;
     return 0;
@@ -226,7 +226,7 @@ int main(int n, char **words)
     if (!strcmp(what, "count")) return count();
     if (!strcmp(what, "fails")) return fails();
     if (!strcmp(what, "asks")) return asks(more);
-    if (!strcmp(what, "floods")) return floods(atol(more));
+    if (!strcmp(what, "floods")) return floods(atol(more), n > 3 ? (unsigned)atoi(words[3]) : 64);
     if (!strcmp(what, "stays")) return stays();
     return 2;
 }
