@@ -95,6 +95,7 @@ static int watches(strm_host *h)
     host_watches(h, h->master, EPOLLIN, true);
     host_watches(h, h->taken, 0, true);
     host_watches(h, h->listens, EPOLLIN, true);
+    h->ends = -1;
 #ifdef SYS_pidfd_open
     h->ends = (int)syscall(SYS_pidfd_open, h->child, 0);
     if (h->ends >= 0) {
@@ -102,7 +103,18 @@ static int watches(strm_host *h)
         host_watches(h, h->ends, EPOLLIN, true);
     }
 #endif
+    if (h->ends < 0) host_beats(h);
     return 0;
+}
+
+void host_reopens(strm_host *h)
+{
+    char name[64];
+    int fd = ptsname_r(h->master, name, sizeof name) ? -1 : open(name, O_RDWR | O_NOCTTY | O_CLOEXEC);
+    if (fd < 0) return;
+    close(h->slave);
+    h->slave = fd;
+    host_mirrors(h);
 }
 
 /* ------------------------------------------------------------------------------------------------------------- the program */
@@ -197,7 +209,7 @@ pid_t strm_host_pid(const strm_host *h) { return h->child; }
 bool strm_host_ended(const strm_host *h)
 {
     strm_standing processed = { 0, 0 }, driven = { 0, 0 };
-    if (!h->reaped || !h->silent || h->down_at != h->down_n || strm_enabled(h->pair, 0) != STRM_NO_QUEUE) return false;
+    if (!h->reaped || !h->drained || h->down_at != h->down_n || strm_enabled(h->pair, 0) != STRM_NO_QUEUE) return false;
     strm_sizes(h->pair, STRM_S_LDTERM_W, &processed);
     strm_sizes(h->pair, STRM_S_DRV_W, &driven);
     return !processed.messages && !driven.messages;

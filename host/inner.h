@@ -29,7 +29,7 @@ struct strm_host {
     unsigned device;
     pid_t child, group;
     int status;
-    bool reaped, silent;       /* the program has ended; its terminal was hung up */
+    bool reaped, drained, silent; /* the program has ended; its output was read; nobody has the terminal open */
     bool told, signalled;      /* the kernel told of modes; signals may have come up */
     bool holds, armed;         /* input waits till the program takes some, and its edge is watched */
     bool blocked, deaf;        /* output waits till the master is read, and isn't watched */
@@ -63,13 +63,17 @@ strm_refusal host_ioctl(strm_host *h, uint32_t side, uint32_t command, const uin
 
 /* pump.c */
 bool host_output_waits(const strm_host *h);
-size_t host_unread(const strm_host *h);                     /* bytes that the kernel has for the program */
+size_t host_unread(strm_host *h);                           /* bytes that the kernel has for the program */
 strm_refusal host_signals(strm_host *h);
 void host_watches(strm_host *h, int fd, uint32_t events, bool anew);
 
 /* bulk.c */
 void host_weighs(strm_host *h);                             /* whether much is put out */
 void host_ticks(strm_host *h);                              /* whether it still is */
+void host_beats(strm_host *h);                              /* a tick now and then, where no descriptor tells of the program's end */
+
+/* host.c */
+void host_reopens(strm_host *h);                            /* the terminal, which a vhangup(2) took from all who had it, as login(1) makes one */
 
 /* environment.c */
 int host_shim(char *path, size_t room);
