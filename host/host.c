@@ -43,7 +43,7 @@ static int takes_over(strm_host *h, const strm_winsize *size)
         h->modes.cflag = LINUX_CFLAG, h->modes.cc[VDISCARD] = 'O' & 31;
         e = host_sets(h, STRM_TCSETS, &h->modes, &pending);
     }
-    if (!e && size) e = host_sizes(h, STRM_MASTER, size);
+    if (!e && size) e = host_sizes(h, STRM_MASTER, size, &pending);
     if (!e) e = strm_signals(h->pair, STRM_SLAVE, numbers, &n);
     if (!e) e = strm_ledger(h->pair, STRM_MASTER, &books);
     if (e) return told(e);
@@ -238,7 +238,9 @@ int strm_host_wait(strm_host *h, int *status)
 
 int strm_host_resize(strm_host *h, const strm_winsize *size)
 {
-    strm_refusal e = host_sizes(h, STRM_MASTER, size);
+    bool behind = h->sizing != 0; /* the one before was asked for, and its answer wasn't here */
+    strm_refusal e = host_sizes(h, STRM_MASTER, size, &h->sizing);
+    if (!e && behind) e = host_sizes(h, STRM_MASTER, size, &h->sizing);
     if (!e) e = host_signals(h);
     return told(e);
 }
@@ -247,8 +249,9 @@ void strm_host_tcgetattr(const strm_host *h, strm_termios *t) { *t = h->modes; }
 
 int strm_host_tcsetattr(strm_host *h, const strm_termios *t)
 {
-    uint32_t pending = 0;
-    strm_refusal e = host_sets(h, STRM_TCSETS, t, &pending);
+    bool behind = h->setting != 0;
+    strm_refusal e = host_sets(h, STRM_TCSETS, t, &h->setting);
+    if (!e && behind) e = host_sets(h, STRM_TCSETS, t, &h->setting);
     if (e) return told(e);
     h->modes = *t;
     return h->silent || !host_mirrors(h) ? 0 : errno;

@@ -28,6 +28,7 @@ struct strm_host {
     int master, slave, taken, listens, ready, ends, timer; /* taken: the master again, for edges; ends: a pidfd; -1 for none */
     unsigned device;
     pid_t child, group;
+    uint32_t sizing, setting; /* numbers of pending ioctls of the caller, 0 where none is */
     int status;
     bool reaped, drained, silent; /* the program has ended; its output was read; nobody has the terminal open */
     bool told, signalled;      /* the kernel told of modes; signals may have come up */
@@ -57,8 +58,8 @@ bool host_unseen(strm_host *h, host_modes *modes);          /* whether the kerne
 /* asks.c */
 void host_hears(strm_host *h);                              /* takes in who asks */
 strm_refusal host_answers(strm_host *h, bool *moved);
-strm_refusal host_sets(strm_host *h, uint32_t when, const strm_termios *t, uint32_t *pending); /* AGAIN while it is pending */
-strm_refusal host_sizes(strm_host *h, uint32_t side, const strm_winsize *w);
+strm_refusal host_sets(strm_host *h, uint32_t when, const strm_termios *t, uint32_t *pending); /* EAGAIN while it is pending */
+strm_refusal host_sizes(strm_host *h, uint32_t side, const strm_winsize *w, uint32_t *pending);
 strm_refusal host_ioctl(strm_host *h, uint32_t side, uint32_t command, const uint8_t *body, size_t n, uint32_t *pending);
 
 /* pump.c */
