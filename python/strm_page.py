@@ -14,10 +14,10 @@ import os
 import re
 import sys
 
-from strm import ANY, HIGH, MASTER, SLAVE, Call, Pair, Refused
+from strm import ANY, HIGH, MASTER, SLAVE, Call, Cursor, Pair, Refused
 from strm_image import read_image
 from strm_prompt import text_of
-from strm_record import read_journal
+from strm_record import Journal, read_journal  # noqa: F401
 
 TEMPLATE = os.path.join(os.path.dirname(os.path.abspath(__file__)), "strm_page.html")
 # A character, or a control sequence as one.
@@ -173,14 +173,25 @@ def _progress(at, count):
         print(f"\r{at} of {count} entries", end="\n" if at == count else "", file=sys.stderr, flush=True)
 
 
-def main(words=None):
+def is_journal(path):
+    with open(path, "rb") as file:
+        return file.read(1) == b"{"
+
+
+def entries_of(pair):
+    """The entries of a pair's journal."""
+    return list(iter(Cursor(pair).next, None))
+
+
+def main(words=None, of_script=None):
+    """`of_script` makes the journal of a file that is none, but a script."""
     what, example = "One file of HTML that shows a journal at work.", "example: strm page bug.jsonl -o bug.html"
     parser = argparse.ArgumentParser(prog="strm page", description=what, epilog=example)
-    parser.add_argument("journal", help="a journal's file, as `strm record` writes it")
+    parser.add_argument("journal", help="a journal's file, as `strm record` writes it, or a script")
     parser.add_argument("-o", "--output", default="page.html")
     parser.add_argument("--title", default=None)
     asked = parser.parse_args(words)
-    journal = read_journal(asked.journal)
+    journal = of_script(asked.journal) if of_script and not is_journal(asked.journal) else read_journal(asked.journal)
     title = asked.title or getattr(journal, "header", {}).get("title") or os.path.basename(asked.journal)
     differ = make_page(journal, asked.output, title, _progress)
     print(f"{asked.output}: {len(journal)} entries, {differ} made again otherwise, {os.path.getsize(asked.output)} bytes")
