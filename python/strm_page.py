@@ -138,7 +138,8 @@ def frames(journal, progress=None):
         told = told if made == entry else f"{told}; made again: {label_of(made)[1]}"
         queue = None if isinstance(entry, Call) else entry.queue
         screen = screen_of(bytes(seen[-SCREEN:]))
-        steps.append({"what": what, "told": told, "at": time, "state": number_of(state_of(pair)), "screen": screen, "same": made == entry, "queue": queue})
+        step = {"what": what, "told": told, "at": time, "state": number_of(state_of(pair)), "screen": screen}
+        steps.append({**step, "same": made == entry, "queue": queue})
     return states, steps
 
 
