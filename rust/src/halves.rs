@@ -1,0 +1,149 @@
+//! The two ends of a pair as files.
+use std::io::{self, Read, Write};
+use std::sync::{Arc, Mutex, MutexGuard, PoisonError};
+
+use crate::{Caller, Pair, Refused, Side, Termios, When, Winsize};
+
+struct Half {
+    pair: Arc<Mutex<Pair>>,
+    side: Side,
+    caller: Caller,
+}
+
+impl Half {
+    fn pair(&self) -> MutexGuard<'_, Pair> {
+        self.pair.lock().unwrap_or_else(PoisonError::into_inner)
+    }
+
+    // Makes a call of the half's caller between turns. A refusal of the turns behind it comes by the next call.
+    fn makes<T>(&self, call: impl FnOnce(&mut Pair) -> Result<T, Refused>) -> Result<T, Refused> {
+        let mut pair = self.pair();
+        pair.runqueues()?;
+        let before = std::mem::replace(&mut pair.caller, self.caller);
+        let made = call(&mut pair);
+        pair.caller = before;
+        let _ = pair.runqueues();
+        made
+    }
+
+    fn read(&self, out: &mut [u8]) -> io::Result<usize> {
+        match out {
+            [] => Ok(0),
+            _ => Ok(self.makes(|pair| pair.read(self.side, out))?),
+        }
+    }
+
+    fn write(&self, bytes: &[u8]) -> io::Result<usize> {
+        match bytes {
+            [] => Ok(0),
+            _ => Ok(self.makes(|pair| pair.write(self.side, bytes))?),
+        }
+    }
+}
+
+/// Dropped, it closes its side: the other one reads what it wrote, and then the end of input.
+impl Drop for Half {
+    fn drop(&mut self) {
+        let _ = self.makes(|pair| pair.close(self.side));
+    }
+}
+
+macro_rules! half {
+    ($(#[$what:meta])* $name:ident) => {
+        $(#[$what])*
+        ///
+        /// Reads and writes never wait: `WouldBlock` is EAGAIN. Each makes the turns that are to be made before it and behind it, so what one
+        /// half wrote the other reads. A half may move to another thread; the pair is locked during each call. Dropped, a half closes its
+        /// side, and what the other one reads then is what was written, and then the end of input.
+        pub struct $name(Half);
+
+        impl $name {
+            /// Sets who calls, for job control: nobody, where it isn't set.
+            pub fn set_caller(&mut self, caller: Caller) {
+                self.0.caller = caller;
+            }
+
+            /// The pair of both halves, locked till the guard is dropped: for all calls that a half doesn't have.
+            pub fn pair(&self) -> MutexGuard<'_, Pair> {
+                self.0.pair()
+            }
+        }
+
+        impl Read for $name {
+            fn read(&mut self, out: &mut [u8]) -> io::Result<usize> {
+                self.0.read(out)
+            }
+        }
+
+        impl Write for $name {
+            fn write(&mut self, bytes: &[u8]) -> io::Result<usize> {
+                self.0.write(bytes)
+            }
+
+            /// Makes the turns that are to be made. What was written has reached the other half as far as flow control lets it.
+            fn flush(&mut self) -> io::Result<()> {
+                self.0.pair().runqueues()?;
+                Ok(())
+            }
+        }
+    };
+}
+
+half! {
+    /// The master's end of a pair: of a terminal emulator, or of a login server.
+    Master
+}
+
+half! {
+    /// The slave's end of a pair: of a program. Under ICANON a read is one line, and a read of no bytes an EOF key.
+    Slave
+}
+
+impl Master {
+    /// Sets the window: where its size changes, SIGWINCH comes to the slave.
+    pub fn set_winsize(&mut self, size: Winsize) -> Result<(), Refused> {
+        self.0.makes(|pair| pair.set_winsize(Side::Master, size))
+    }
+}
+
+impl Slave {
+    /// The modes of the terminal.
+    pub fn tcgetattr(&mut self) -> Result<Termios, Refused> {
+        self.0.makes(|pair| pair.tcgetattr(Side::Slave))
+    }
+
+    /// Sets the modes of the terminal.
+    pub fn tcsetattr(&mut self, when: When, termios: &Termios) -> Result<(), Refused> {
+        self.0.makes(|pair| pair.tcsetattr(Side::Slave, when, termios))
+    }
+
+    /// The window of the terminal.
+    pub fn get_winsize(&mut self) -> Result<Winsize, Refused> {
+        self.0.makes(|pair| pair.get_winsize(Side::Slave))
+    }
+}
+
+impl Pair {
+    /// The two ends of the pair as files, each of its own, for one thread or for two.
+    ///
+    /// ```
+    /// use std::io::{Read, Write};
+    /// # use strm::Pair;
+    /// let (mut master, mut slave) = Pair::terminal()?.split();
+    /// master.write_all(b"ls\r")?;
+    /// let mut line = [0; 256];
+    /// let n = slave.read(&mut line)?;
+    /// assert_eq!(&line[..n], b"ls\n");
+    /// assert_eq!(slave.read(&mut line).unwrap_err().kind(), std::io::ErrorKind::WouldBlock);
+    /// drop(slave); // closes it
+    /// let mut shown = String::new();
+    /// master.read_to_string(&mut shown)?;
+    /// assert_eq!(shown, "ls\r\n");
+    /// # Ok::<(), std::io::Error>(())
+    /// ```
+    pub fn split(self) -> (Master, Slave) {
+        let pair = Arc::new(Mutex::new(self));
+        let half = |side| Half { pair: Arc::clone(&pair), side, caller: Caller::NOBODY };
+        (Master(half(Side::Master)), Slave(half(Side::Slave)))
+    }
+}
