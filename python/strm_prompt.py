@@ -121,9 +121,7 @@ class Picture:
         yield f"enabled, in order: {', '.join(self.enabled)}" if self.enabled else "at rest: no queue is enabled"
 
     def contents(self):
-        """The messages of each queue, the first one first, and the unfinished lines, where the library gives images."""
-        if not hasattr(self.pair.library, "image"):
-            return
+        """The messages of each queue, the first one first, and the unfinished lines."""
         image = read_image(self.pair.image())
         for name, queue in image.queues.items():
             if queue.messages:
@@ -296,7 +294,7 @@ class Prompt(cmd.Cmd):
 
     def do_mode(self, line):
         """mode X MODE         norm, msgn, msgd, protnorm, protdat or protdis: I_SRDOPT"""
-        self.pair.mode(*self.words(line, self.side, str))
+        self.pair.srdopt(*self.words(line, self.side, str))
 
     def do_signals(self, line):
         """signals [X]         the signals that came up"""
@@ -307,7 +305,7 @@ class Prompt(cmd.Cmd):
         """size [ROWS COLUMNS]  the window; with numbers the master sets it"""
         if line:
             self.pair.set_winsize(*self.words(line, int, int))
-        self.say("{} rows, {} columns".format(*self.pair.winsize()))
+        self.say("{} rows, {} columns".format(*self.pair.get_winsize()))
 
     def do_stty(self, line):
         """stty [FLAG..]       the terminal's modes; echo sets one, -echo clears it"""
@@ -349,7 +347,7 @@ class Prompt(cmd.Cmd):
 
     def do_new(self, line):
         """new [BLOCKS]        frees this pair, and makes another one"""
-        blocks, = self.words(line, (int, 256))
+        blocks, = self.words(line, (int, strm.TERMINAL_BLOCKS))
         pair = Pair(blocks)
         self.do_record("off")
         self.pair.free()

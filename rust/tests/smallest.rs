@@ -1,5 +1,6 @@
 //! 10 MB go through the smallest pair, by a loop of writes, turns and reads that knows one refusal alone: that a call would have to wait.
-use strm::{Pair, Plan, Refused, Side, BLOCKS_LEAST, JOURNAL_LEAST};
+use strm::termios::ECHO;
+use strm::{Pair, Plan, Refused, Side, When, BLOCKS_LEAST, JOURNAL_LEAST};
 
 const SMALLEST: Plan = Plan { blocks: BLOCKS_LEAST, entries: 1, bytes: JOURNAL_LEAST, reserve: [0, 0], begins_anew: true };
 const TEN_MEGABYTES: usize = 10_000_000;
@@ -18,9 +19,14 @@ fn moved(pair: &mut Pair, from: Side, to: Side, text: &[u8]) -> Result<Vec<u8>, 
         let taken = if rest.is_empty() { 0 } else { now(pair.write(from, rest))? };
         rest = &rest[taken..];
         let turns = pair.runqueues()?;
-        let came = now(pair.read(to, &mut room))?;
-        got.extend_from_slice(&room[..came]);
-        if taken + turns + came == 0 {
+        let before = got.len();
+        loop {
+            match now(pair.read(to, &mut room))? {
+                0 => break,
+                came => got.extend_from_slice(&room[..came]),
+            }
+        }
+        if taken + turns == 0 && got.len() == before {
             return Ok(got);
         }
     }
@@ -46,5 +52,18 @@ fn ten_megabytes_of_lines_are_shown_on_the_smallest_terminal() -> Result<(), Ref
     let got = moved(&mut pair, Side::Slave, Side::Master, &text)?;
     assert_eq!(got.len(), text.len() + text.len() / 80);
     assert!(got.into_iter().filter(|byte| *byte != b'\r').eq(text));
+    Ok(())
+}
+
+#[test]
+fn lines_are_typed_on_the_smallest_terminal() -> Result<(), Refused> {
+    let mut pair = Pair::make(&SMALLEST)?;
+    pair.open_terminal()?;
+    let mut modes = pair.tcgetattr(Side::Slave)?;
+    modes.lflag &= !ECHO;
+    pair.tcsetattr(Side::Slave, When::Now, &modes)?;
+    let text: Vec<u8> = (0..1_000_000).map(|number| if number % 100 == 99 { b'\r' } else { b'y' }).collect();
+    let got = moved(&mut pair, Side::Master, Side::Slave, &text)?;
+    assert!(got.into_iter().map(|byte| if byte == b'\n' { b'\r' } else { byte }).eq(text));
     Ok(())
 }
