@@ -25,6 +25,11 @@ from strm_library import Ask, Counts, Entry, Handle, Left, Library, Made, Place,
 from strm_words import *
 
 
+def version(library=None):
+    """The version of the library: its major and its minor number."""
+    return divmod(Library.at(library).version(), 65536)
+
+
 class Pair:
     """A master and a slave. `blocks` of each kind are its pool, `entries` and `journal_bytes` the room of its journal, `reserve` and `begins_anew`
     as Plan has them: a pair costs the memory that it touches, so many blocks cost addresses alone. All memory is taken here; `free`, or the

@@ -2,7 +2,8 @@
 import unittest
 
 from strm import (
-    BLOCKS_LEAST, BLOCKS_MOST, COMMANDS, HIGH, JOURNAL_LEAST, MASTER, SLAVE, TERMINAL, TERMINAL_BLOCKS, WRITE_MOST, Pair, Plan, Ready, Refused,
+    BLOCKS_LEAST, BLOCKS_MOST, COMMANDS, HIGH, JOURNAL_LEAST, MASTER, SLAVE, TERMINAL, TERMINAL_BLOCKS, WRITE_MOST, Pair, Plan, Ready,
+    Refused, Winsize,
 )  # fmt: skip
 
 SMALLEST = Plan(BLOCKS_LEAST, 1, JOURNAL_LEAST, begins_anew=True)
@@ -122,11 +123,12 @@ class Readiness(unittest.TestCase):
         self.assertFalse(self.pair.ready(SLAVE) & Ready.HAS_SIGNALS)
 
     def test_an_answer_waits(self):
-        told = self.pair.call("ioctl", MASTER, COMMANDS["TIOCGWINSZ"])
+        told = self.pair.call("ioctl", MASTER, COMMANDS["TIOCSWINSZ"], data=Winsize(3, 4).wire())
         self.assertEqual((told.kind, self.pair.ready(MASTER) & Ready.HAS_ANSWER), ("pending", 0))
         self.pair.runqueues()
         self.assertTrue(self.pair.ready(MASTER) & Ready.HAS_ANSWER)
-        self.pair.ioctl_result(MASTER, told.value)
+        self.assertEqual(self.pair.ioctl_result(MASTER, told.value), b"")
+        self.assertEqual(self.pair.get_winsize(), (3, 4, 0, 0))
         self.assertFalse(self.pair.ready(MASTER) & Ready.HAS_ANSWER)
 
     def test_flow_control_holds_writes(self):

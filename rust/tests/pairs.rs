@@ -229,13 +229,16 @@ fn job_control_asks_the_caller() -> Result<(), Refused> {
 #[test]
 fn an_ioctl_waits_for_its_answer() -> Result<(), Refused> {
     let mut pair = Pair::terminal()?;
-    let Answer::Pending(number) = pair.call(&Call::new(Master, Event::Ioctl(Command::TIOCGWINSZ, Vec::new())))? else {
+    let Answer::Pending(number) =
+        pair.call(&Call::new(Master, Event::Ioctl(Command::TIOCSWINSZ, Winsize::new(3, 4).to_wire().to_vec())))?
+    else {
         panic!("the slave's ptem answers");
     };
     assert_eq!(refused(pair.ioctl_result(Master, number)), "EAGAIN");
     pair.runqueues()?;
     assert!(pair.ready(Master).has_answer());
-    assert_eq!(pair.ioctl_result(Master, number)?.len(), Winsize::SIZE);
+    assert_eq!(pair.ioctl_result(Master, number)?, b"");
+    assert_eq!(pair.get_winsize(Slave)?, Winsize::new(3, 4));
     assert!(!pair.ready(Master).has_answer());
     assert_eq!(refused(pair.ioctl_result(Master, number)), "EINVAL");
     Ok(())
