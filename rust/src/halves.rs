@@ -1,28 +1,71 @@
 //! The two ends of a pair as files.
 use std::io::{self, Read, Write};
+use std::ops::{Deref, DerefMut};
 use std::sync::{Arc, Mutex, MutexGuard, PoisonError};
 
-use crate::{Caller, Pair, Refused, Side, Termios, When, Winsize};
+use crate::{Caller, Pair, Queue, Refused, Side, Termios, When, Winsize};
+
+// The pair of two halves, and whether the slave's was dropped while its modules still hold what it wrote.
+struct Shared {
+    pair: Pair,
+    slave_lingers: bool,
+}
+
+impl Shared {
+    // A close takes what stands in the modules, so the slave's waits until that has gone on.
+    fn closes_slave(&mut self) {
+        let holds = self.pair.sizes(Queue::SlaveLdtermWrite).is_ok_and(|standing| standing.messages > 0);
+        self.slave_lingers = holds && self.pair.is_open() && !self.pair.ready(Side::Slave).is_hung_up();
+        if !self.slave_lingers {
+            let _ = self.pair.close(Side::Slave);
+        }
+    }
+
+    // Makes turns. What can't go on goes on behind a later call.
+    fn runs(&mut self) {
+        let _ = self.pair.runqueues();
+        if self.slave_lingers {
+            self.closes_slave();
+        }
+    }
+}
+
+/// The pair of two halves, locked till this is dropped.
+pub struct Locked<'a>(MutexGuard<'a, Shared>);
+
+impl Deref for Locked<'_> {
+    type Target = Pair;
+
+    fn deref(&self) -> &Pair {
+        &self.0.pair
+    }
+}
+
+impl DerefMut for Locked<'_> {
+    fn deref_mut(&mut self) -> &mut Pair {
+        &mut self.0.pair
+    }
+}
 
 struct Half {
-    pair: Arc<Mutex<Pair>>,
+    shared: Arc<Mutex<Shared>>,
     side: Side,
     caller: Caller,
 }
 
 impl Half {
-    fn pair(&self) -> MutexGuard<'_, Pair> {
-        self.pair.lock().unwrap_or_else(PoisonError::into_inner)
+    fn locked(&self) -> MutexGuard<'_, Shared> {
+        self.shared.lock().unwrap_or_else(PoisonError::into_inner)
     }
 
-    // Makes a call of the half's caller between turns. A refusal of the turns behind it comes by the next call.
+    // Makes a call of the half's caller between turns.
     fn makes<T>(&self, call: impl FnOnce(&mut Pair) -> Result<T, Refused>) -> Result<T, Refused> {
-        let mut pair = self.pair();
-        pair.runqueues()?;
-        let before = std::mem::replace(&mut pair.caller, self.caller);
-        let made = call(&mut pair);
-        pair.caller = before;
-        let _ = pair.runqueues();
+        let mut shared = self.locked();
+        shared.runs();
+        let before = std::mem::replace(&mut shared.pair.caller, self.caller);
+        let made = call(&mut shared.pair);
+        shared.pair.caller = before;
+        shared.runs();
         made
     }
 
@@ -41,10 +84,15 @@ impl Half {
     }
 }
 
-/// Dropped, it closes its side: the other one reads what it wrote, and then the end of input.
 impl Drop for Half {
     fn drop(&mut self) {
-        let _ = self.makes(|pair| pair.close(self.side));
+        let mut shared = self.locked();
+        shared.runs();
+        match self.side {
+            Side::Master => drop(shared.pair.close(Side::Master)),
+            Side::Slave => shared.closes_slave(),
+        }
+        shared.runs();
     }
 }
 
@@ -54,7 +102,7 @@ macro_rules! half {
         ///
         /// Reads and writes never wait: `WouldBlock` is EAGAIN. Each makes the turns that are to be made before it and behind it, so what one
         /// half wrote the other reads. A half may move to another thread; the pair is locked during each call. Dropped, a half closes its
-        /// side, and what the other one reads then is what was written, and then the end of input.
+        /// side: the other one reads what was written, and then the end of input.
         pub struct $name(Half);
 
         impl $name {
@@ -64,8 +112,8 @@ macro_rules! half {
             }
 
             /// The pair of both halves, locked till the guard is dropped: for all calls that a half doesn't have.
-            pub fn pair(&self) -> MutexGuard<'_, Pair> {
-                self.0.pair()
+            pub fn pair(&self) -> Locked<'_> {
+                Locked(self.0.locked())
             }
         }
 
@@ -80,9 +128,10 @@ macro_rules! half {
                 self.0.write(bytes)
             }
 
-            /// Makes the turns that are to be made. What was written has reached the other half as far as flow control lets it.
+            /// Makes the turns that are to be made, and says why they stop, as reads and writes don't. What was written has reached the other half
+            /// as far as flow control lets it.
             fn flush(&mut self) -> io::Result<()> {
-                self.0.pair().runqueues()?;
+                self.pair().runqueues()?;
                 Ok(())
             }
         }
@@ -142,8 +191,8 @@ impl Pair {
     /// # Ok::<(), std::io::Error>(())
     /// ```
     pub fn split(self) -> (Master, Slave) {
-        let pair = Arc::new(Mutex::new(self));
-        let half = |side| Half { pair: Arc::clone(&pair), side, caller: Caller::NOBODY };
+        let shared = Arc::new(Mutex::new(Shared { pair: self, slave_lingers: false }));
+        let half = |side| Half { shared: Arc::clone(&shared), side, caller: Caller::NOBODY };
         (Master(half(Side::Master)), Slave(half(Side::Slave)))
     }
 }

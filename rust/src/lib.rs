@@ -37,7 +37,7 @@ pub mod termios;
 mod turn;
 
 pub use call::{Answer, Call, Caller, Event, Message};
-pub use halves::{Master, Slave};
+pub use halves::{Locked, Master, Slave};
 pub use journal::{Cursor, Entry};
 pub use look::{Books, Ready, Room, Standing, RULES};
 pub use names::{Flush, Mode, Module, Priority, Queue, Side, Signal, Wanted};

@@ -40,6 +40,20 @@ fn a_half_that_is_dropped_closes_its_side() -> Outcome {
 }
 
 #[test]
+fn what_a_dropped_slave_wrote_is_read_to_its_end() -> Outcome {
+    let (mut master, mut slave) = Pair::terminal()?.split();
+    let mut written = 0;
+    while let Ok(taken) = slave.write(&[b'x'; 1000]) {
+        written += taken;
+    }
+    drop(slave);
+    assert!(written > 5120);
+    let mut shown = Vec::new();
+    assert_eq!((master.read_to_end(&mut shown)?, shown.iter().all(|byte| *byte == b'x')), (written, true));
+    Ok(())
+}
+
+#[test]
 fn errors_are_those_of_files_with_the_refusal_inside() -> Outcome {
     let (mut master, mut slave) = Pair::terminal()?.split();
     let error: io::Error = master.read(&mut [0; 9]).unwrap_err();
@@ -75,7 +89,7 @@ fn turns_that_do_not_end_are_an_error() -> Outcome {
     pair.push(Side::Master, Module::Ldterm)?;
     let (mut master, _slave) = pair.split();
     assert_eq!(master.write(b"x")?, 1);
-    assert_eq!(master.write(b"x").unwrap_err().kind(), ErrorKind::WouldBlock);
+    assert_eq!(master.flush().unwrap_err().kind(), ErrorKind::WouldBlock);
     Ok(())
 }
 
