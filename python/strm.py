@@ -115,7 +115,7 @@ class Pair:
 
     def __del__(self):
         if getattr(self, "_at", None) is not None:
-            self.free()
+            self.library.free(self._at)
 
     def __reduce_ex__(self, _):
         raise TypeError("a pair isn't copied: its image is (Pair.image, Pair(image=..))")
@@ -443,8 +443,8 @@ class Pair:
 
     def repeat(self, entry):
         """Makes a call or a turn of a journal again: the same entry with the answer that this pair gives. A pair that begins where the journal's
-        does gives the same answers, as long as the blocks of both are ample: which blocks messages take is in no image, so near the end of a pool two
-        pairs of one state may differ in which calls are ENOSR."""
+        did gives the same answers, as long as the blocks of both are ample: of two with few that are free, of which one has fewer or is made of an
+        image, which doesn't say how messages stand in blocks, one may refuse by ENOSR what the other grants."""
         if isinstance(entry, Turn):
             return self.turn(entry.queue)
         told = self.call(entry.op, entry.side, entry.a, entry.b, entry.c, entry.bytes, entry.caller)

@@ -9,8 +9,8 @@
 
     differences = replay(read_journal("bug.jsonl"))     # [] where a new pair gives every answer of the file
 
-A new pair gives every answer as long as the blocks of both are ample. How messages stand in blocks is no part of the calls, so near the end of a
-pool two pairs on which the same calls were made may differ in which are ENOSR.
+Two pairs of one journal replay alike only with ample blocks: a pair that has fewer, or that is made of an image, which doesn't say how messages
+stand in blocks, may refuse by ENOSR what the recorded one granted.
 
 A recorder takes the journal's entries through a cursor, each once: when `drain` is called, when the pair's journal is full and begins anew,
 and at the end. So a session of any length takes no more memory, and no entry is lost. An entry's time is that of the drain which takes it.

@@ -70,8 +70,8 @@ impl Pair {
 
     /// Makes a call or a turn of a journal again, by the caller that it names: the entry with the answer that this pair gives.
     ///
-    /// A pair that begins where the journal's does gives the same answers, as long as the blocks of both are ample: how many blocks messages
-    /// take isn't in an image, so near the end of a pool two pairs of one state may differ in which calls are ENOSR.
+    /// A pair that begins where the journal's did gives the same answers, as long as the blocks of both are ample: of two with few that are free,
+    /// of which one has fewer or is made of an image, which doesn't say how messages stand in blocks, one may refuse by ENOSR what the other grants.
     pub fn repeat(&mut self, entry: &Entry) -> Result<Entry, Refused> {
         match entry {
             Entry::Call(call, _) => self.call(call).map(|answer| Entry::Call(call.clone(), answer)),
