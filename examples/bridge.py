@@ -321,7 +321,7 @@ def interacts(bridge, recorder):
     wakes, woken = os.pipe()
     os.set_blocking(woken, False)
     signal.set_wakeup_fd(woken)
-    signal.signal(signal.SIGWINCH, lambda *_: bridge.resize(*reversed(shutil.get_terminal_size())))
+    signal.signal(signal.SIGWINCH, lambda *_: None)  # woken is told of it: no call is made in a handler, in the middle of another one
     tty.setraw(0)
     try:
         while not bridge.ended or bridge.pump():
@@ -330,8 +330,8 @@ def interacts(bridge, recorder):
                 ready, _, _ = select.select([0, bridge.master, wakes], [], [], 0.05)
                 if 0 in ready:
                     bridge.type(os.read(0, 1024))
-                if wakes in ready:
-                    os.read(wakes, 64)
+                if wakes in ready and signal.SIGWINCH in os.read(wakes, 64):
+                    bridge.resize(*reversed(shutil.get_terminal_size()))
             os.write(1, bridge.take())
             recorder.drain()
     finally:

@@ -337,6 +337,15 @@ class Prompt(cmd.Cmd):
         gone = ", ".join(f"{rule} {count}" for rule, count in books.gone.items())
         self.say(f"written {books.written} + made {books.made} = queued {books.queued} + in a line {books.inlined} + gone ({gone or 'none'})")
 
+    def do_ready(self, line):
+        """ready X             what a side is ready for"""
+        told = self.pair.ready(*self.words(line, self.side))
+        self.say(", ".join(each.name.lower().replace("_", " ") for each in strm.Ready if each & told) or "nothing")
+
+    def do_room(self, _line):
+        """room                free blocks, and what the journal takes yet"""
+        self.say("{} blocks, {} entries, {} bytes".format(*self.pair.room()))
+
     def do_show(self, _line):
         """show                draws the two streams"""
         self.say("\n".join(Picture(self.pair, self.stacks).lines()))
