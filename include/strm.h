@@ -197,7 +197,9 @@ strm_refusal strm_runqueues(strm_pair *p, size_t *turns);
 /* ------------------------------------------------------------------------------------------------------------- the journal */
 
 /* Every call that wasn't refused and every turn is an entry, in order, with the bytes that the call brought and those that it was answered. A
- * recorder takes the entries one by one through a cursor of its own, and then empties the journal, which takes no memory. */
+ * recorder takes the entries one by one through a cursor of its own, and then empties the journal, which takes no memory.
+ * Two pairs of one journal give the same answers only with ample blocks: near the end of a pool one that has fewer, or was made of an image, which
+ * doesn't say which blocks messages take, may refuse by ENOSR what the other grants. */
 
 /* How many entries and how many of their bytes were taken. Zeroed, it stands at the first entry since strm_new or strm_restart. */
 typedef struct strm_cursor {

@@ -75,7 +75,7 @@ pub struct Left {
 }
 
 #[repr(C)]
-#[derive(Clone, Default)]
+#[derive(Clone, Debug, Default)]
 pub struct Cursor {
     pub entry: usize,
     pub byte: usize,

@@ -3,9 +3,10 @@ use std::io::{self, Read, Write};
 use std::ops::{Deref, DerefMut};
 use std::sync::{Arc, Mutex, MutexGuard, PoisonError};
 
-use crate::{Caller, Pair, Queue, Refused, Side, Termios, When, Winsize};
+use crate::{Caller, Pair, Queue, Ready, Refused, Side, Termios, When, Winsize};
 
 // The pair of two halves, and whether the slave's was dropped while its modules still hold what it wrote.
+#[derive(Debug)]
 struct Shared {
     pair: Pair,
     slave_lingers: bool,
@@ -31,6 +32,7 @@ impl Shared {
 }
 
 /// The pair of two halves, locked till this is dropped.
+#[derive(Debug)]
 pub struct Locked<'a>(MutexGuard<'a, Shared>);
 
 impl Deref for Locked<'_> {
@@ -47,6 +49,7 @@ impl DerefMut for Locked<'_> {
     }
 }
 
+#[derive(Debug)]
 struct Half {
     shared: Arc<Mutex<Shared>>,
     side: Side,
@@ -67,6 +70,12 @@ impl Half {
         shared.pair.caller = before;
         shared.runs();
         made
+    }
+
+    fn ready(&self) -> Ready {
+        let mut shared = self.locked();
+        shared.runs();
+        shared.pair.ready(self.side)
     }
 
     fn read(&self, out: &mut [u8]) -> io::Result<usize> {
@@ -103,12 +112,18 @@ macro_rules! half {
         /// Reads and writes never wait: `WouldBlock` is EAGAIN. Each makes the turns that are to be made before it and behind it, so what one
         /// half wrote the other reads. A half may move to another thread; the pair is locked during each call. Dropped, a half closes its
         /// side: the other one reads what was written, and then the end of input.
+        #[derive(Debug)]
         pub struct $name(Half);
 
         impl $name {
             /// Sets who calls, for job control: nobody, where it isn't set.
             pub fn set_caller(&mut self, caller: Caller) {
                 self.0.caller = caller;
+            }
+
+            /// What the half is ready for, behind the turns that are to be made.
+            pub fn ready(&self) -> Ready {
+                self.0.ready()
             }
 
             /// The pair of both halves, locked till the guard is dropped: for all calls that a half doesn't have.

@@ -17,7 +17,7 @@ pub enum Entry {
 /// A recorder takes the entries one by one. It sets [`Pair::keeps`], takes all entries where a call is refused with `JournalFull`, and
 /// restarts the journal itself; else a full journal begins anew, and entries that weren't taken are gone. Of a pair whose plan has
 /// `begins_anew` a cursor means nothing.
-#[derive(Default)]
+#[derive(Debug, Default)]
 pub struct Cursor {
     place: ffi::Cursor,
     restarts: u64,

@@ -1,5 +1,5 @@
 //! A pair, and its calls.
-use std::ptr;
+use std::{fmt, ptr};
 
 use crate::call::parts_of;
 use crate::ffi::{self, Ask, Reply};
@@ -264,6 +264,13 @@ impl Pair {
     /// The bytes that answer the ioctl of a number, given once. EAGAIN: it isn't answered.
     pub fn ioctl_result(&mut self, side: Side, number: u32) -> Result<Vec<u8>, Refused> {
         self.asks(side, Event::IoctlResult(number)).and_then(given)
+    }
+}
+
+impl fmt::Debug for Pair {
+    fn fmt(&self, f: &mut fmt::Formatter<'_>) -> fmt::Result {
+        let told = (self.is_open(), self.keeps, self.caller);
+        f.debug_struct("Pair").field("is_open", &told.0).field("keeps", &told.1).field("caller", &told.2).finish_non_exhaustive()
     }
 }
 

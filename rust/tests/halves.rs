@@ -25,6 +25,21 @@ fn what_one_half_writes_the_other_reads() -> Outcome {
 }
 
 #[test]
+fn a_half_says_what_it_is_ready_for() -> Outcome {
+    let (mut master, mut slave) = Pair::terminal()?.split();
+    assert!(slave.ready().can_write() && !slave.ready().can_read());
+    master.pair().write(Side::Master, b"x\r\x04")?;
+    assert!(slave.ready().can_read() && master.ready().can_read());
+    let mut line = [0; 9];
+    assert_eq!((slave.read(&mut line)?, slave.read(&mut line)?), (2, 0)); // the EOF key
+    assert!(!slave.ready().can_read());
+    drop(slave);
+    assert_eq!(master.read(&mut line)?, 3);
+    assert!(master.ready().can_read() && master.read(&mut line)? == 0);
+    Ok(())
+}
+
+#[test]
 fn a_half_that_is_dropped_closes_its_side() -> Outcome {
     let (mut master, mut slave) = Pair::terminal()?.split();
     slave.write_all(b"bye\n")?;
