@@ -19,15 +19,15 @@ fn main() {
     for name in ["STRM_LIB_DIR", "STRM_SHARED", "PKG_CONFIG_PATH", "HOME"] {
         println!("cargo:rerun-if-env-changed={name}");
     }
-    let is_shared = env::var("STRM_SHARED").is_ok_and(|told| told == "1");
+    let is_shared = env::var("STRM_SHARED").map_or(false, |told| told == "1");
     let wanted = if is_shared { ["libstrm.so", "libstrm.so"] } else { ["libstrm.a", "libstrm.so"] };
     let places = places();
     let found = places.iter().flat_map(|place| wanted.map(|name| place.join(name))).find(|path| path.exists());
-    let Some(path) = found.and_then(|path| fs::canonicalize(path.parent()?).ok().map(|folder| (folder, path))) else {
+    let file = found.unwrap_or_else(|| {
         panic!("libstrm is in none of {places:?}: tools/library PREFIX makes it, and STRM_LIB_DIR=PREFIX/lib names it");
-    };
-    let (folder, file) = path;
-    let kind = if file.extension().is_some_and(|end| end == "a") { "static" } else { "dylib" };
+    });
+    let folder = fs::canonicalize(file.parent().unwrap_or(&file)).expect("the folder is there");
+    let kind = if file.extension().map_or(false, |end| end == "a") { "static" } else { "dylib" };
     println!("cargo:rerun-if-changed={}", file.display());
     println!("cargo:rustc-link-search=native={}", folder.display());
     println!("cargo:rustc-link-lib={kind}=strm");

@@ -15,7 +15,7 @@ struct Shared {
 impl Shared {
     // A close takes what stands in the modules, so the slave's waits until that has gone on.
     fn closes_slave(&mut self) {
-        let holds = self.pair.sizes(Queue::SlaveLdtermWrite).is_ok_and(|standing| standing.messages > 0);
+        let holds = self.pair.sizes(Queue::SlaveLdtermWrite).map_or(false, |standing| standing.messages > 0);
         self.slave_lingers = holds && self.pair.is_open() && !self.pair.ready(Side::Slave).is_hung_up();
         if !self.slave_lingers {
             let _ = self.pair.close(Side::Slave);

@@ -23,6 +23,7 @@
 //!
 //! A [`Pair`] may move to another thread (`Send`), and each call takes it alone (`&mut self`). All memory is taken where a pair is made; beside
 //! that, calls that give a `Vec` take its bytes. include/strm.h is the manual of each call, and has the same names.
+#![deny(missing_docs, missing_debug_implementations, clippy::undocumented_unsafe_blocks)]
 
 mod call;
 mod ffi;

@@ -73,7 +73,7 @@ fn errors_are_those_of_files_with_the_refusal_inside() -> Outcome {
     let (mut master, mut slave) = Pair::terminal()?.split();
     let error: io::Error = master.read(&mut [0; 9]).unwrap_err();
     let inside = error.get_ref().and_then(|inside| inside.downcast_ref::<Refused>());
-    assert!(inside.is_some_and(|refused| refused.would_wait() && refused.name() == "EAGAIN"));
+    assert!(inside.map_or(false, |refused| refused.would_wait() && refused.name() == "EAGAIN"));
     assert_eq!(error.to_string(), "the call would have to wait (EAGAIN)");
     slave.pair().tcsetpgrp(Side::Slave, 7)?;
     slave.set_caller(Caller { group: 8, ..Caller::NOBODY });
@@ -145,6 +145,6 @@ fn two_threads_move_a_megabyte() -> Outcome {
     let sent = text.clone();
     let writer = thread::spawn(move || writes(master, &sent));
     let got = reads(slave, text.len())?;
-    assert!(writer.join().is_ok_and(|written| written.is_ok()) && got == text);
+    assert!(writer.join().map_or(false, |written| written.is_ok()) && got == text);
     Ok(())
 }

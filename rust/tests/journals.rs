@@ -1,5 +1,7 @@
 //! Journals and images: entries, those that are made again, full journals, and pairs that go on.
-use strm::{Answer, Caller, Cursor, Entry, Event, Flush, Mode, Module, Pair, Plan, Priority, Queue, Refused, Side, Sizes, Wanted, Winsize};
+use strm::{
+    Answer, Call, Caller, Cursor, Entry, Event, Flush, Mode, Module, Pair, Plan, Priority, Queue, Refused, Side, Sizes, Wanted, Winsize,
+};
 use Side::{Master, Slave};
 
 fn read(pair: &mut Pair, side: Side) -> Result<Vec<u8>, Refused> {
@@ -62,10 +64,9 @@ fn entries_are_calls_and_turns_in_order() -> Result<(), Refused> {
     let told = pair.entries()?;
     let names: Vec<_> = told.iter().map(name).collect();
     assert_eq!(names, ["OpenMaster", "Write", "Unlock", "OpenSlave", "MasterDriver", "Read"]);
-    let Entry::Call(call, answer) = &told[1] else { panic!("a write is a call") };
-    assert_eq!((&call.event, answer), (&Event::Write(b"x\0y".to_vec()), &Answer::Count(3)));
-    let Entry::Call(call, answer) = &told[5] else { panic!("a read is a call") };
-    assert_eq!((&call.event, answer), (&Event::Read(2), &Answer::Bytes(b"x\0".to_vec())));
+    let call = |side, event, answer| Entry::Call(Call::new(side, event), answer);
+    assert_eq!(told[1], call(Master, Event::Write(b"x\0y".to_vec()), Answer::Count(3)));
+    assert_eq!(told[5], call(Slave, Event::Read(2), Answer::Bytes(b"x\0".to_vec())));
     Ok(())
 }
 

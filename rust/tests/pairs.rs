@@ -1,8 +1,8 @@
 //! Calls of a pair, by name.
 use strm::{termios, Termios};
 use strm::{
-    Answer, Call, Caller, Command, Event, Flush, Message, Mode, Module, Pair, Plan, Priority, Queue, Refusal, Refused, Side, Signal, Sizes,
-    Standing, Turn, Wanted, When, Winsize, BLOCKS_LEAST, BLOCKS_MOST, WRITE_MOST,
+    Answer, Call, Caller, Command, Entry, Event, Flush, Message, Mode, Module, Pair, Plan, Priority, Queue, Refusal, Refused, Side, Signal,
+    Sizes, Standing, Turn, Wanted, When, Winsize, BLOCKS_LEAST, BLOCKS_MOST, WRITE_MOST,
 };
 use Side::{Master, Slave};
 
@@ -229,10 +229,10 @@ fn job_control_asks_the_caller() -> Result<(), Refused> {
 #[test]
 fn an_ioctl_waits_for_its_answer() -> Result<(), Refused> {
     let mut pair = Pair::terminal()?;
-    let Answer::Pending(number) =
-        pair.call(&Call::new(Master, Event::Ioctl(Command::TIOCSWINSZ, Winsize::new(3, 4).to_wire().to_vec())))?
-    else {
-        panic!("the slave's ptem answers");
+    let event = Event::Ioctl(Command::TIOCSWINSZ, Winsize::new(3, 4).to_wire().to_vec());
+    let number = match pair.call(&Call::new(Master, event))? {
+        Answer::Pending(number) => number,
+        other => panic!("the slave's ptem answers, and not {other:?}"),
     };
     assert_eq!(refused(pair.ioctl_result(Master, number)), "EAGAIN");
     pair.runqueues()?;
@@ -273,8 +273,8 @@ fn the_books_balance() -> Result<(), Refused> {
 fn a_write_brings_its_first_bytes() -> Result<(), Refused> {
     let mut pair = plain()?;
     assert_eq!(pair.write(Master, &[b'x'; 60_000])?, 512);
-    let Some(strm::Entry::Call(call, _)) = pair.entries()?.pop() else { panic!("the write is an entry") };
-    assert_eq!(call.event, Event::Write(vec![b'x'; WRITE_MOST]));
+    let call = Call::new(Master, Event::Write(vec![b'x'; WRITE_MOST]));
+    assert_eq!(pair.entries()?.pop(), Some(Entry::Call(call, Answer::Count(512))));
     assert_eq!(refused(pair.write(Master, &[b'x'; 60_000])), "EAGAIN");
     Ok(())
 }
