@@ -34,7 +34,7 @@ import tty
 
 sys.path.insert(0, str(pathlib.Path(__file__).parent.parent / "python"))
 
-from strm import KEYS, MASTER, SLAVE, Pair, Refused, Signal  # noqa: E402
+from strm import KEYS, MASTER, SLAVE, TERMINAL, Pair, Refused, Signal  # noqa: E402
 from strm_record import AdvancedTypescriptWriter, AsciicastWriter, JournalWriter, Recorder  # noqa: E402
 
 EXTPROC, TIOCPKT, TIOCSIG, PKT_IOCTL = 0x10000, 0x5420, 0x40045436, 0x40
@@ -248,7 +248,7 @@ class Bridge(Linux):
         try:
             self.down = self.down[self.pair.write(SLAVE, self.down) :]
         except Refused as refusal:
-            if refusal.name not in ("EAGAIN", "ENOSR"):
+            if not refusal.would_wait:
                 raise
             return False
         return True
@@ -283,7 +283,7 @@ class Bridge(Linux):
     def _signals(self):
         for number in self.pair.signals(SLAVE):
             if number == Signal.WINCH:
-                self._sized(*self.pair.winsize()[:2])
+                self._sized(*self.pair.get_winsize()[:2])
             elif number in (Signal.INT, Signal.QUIT, Signal.TSTP):
                 if not self.modes["NOFLSH"]:
                     self.up = b""
@@ -305,7 +305,7 @@ class Bridge(Linux):
             try:
                 data = data[self.pair.write(MASTER, data) :]
             except Refused as refusal:
-                if refusal.name not in ("EAGAIN", "ENOSR"):
+                if not refusal.would_wait:
                     raise
             if not self.pump() and data:
                 time.sleep(LOOK_SECONDS)
@@ -321,7 +321,7 @@ def interacts(bridge, recorder):
     wakes, woken = os.pipe()
     os.set_blocking(woken, False)
     signal.set_wakeup_fd(woken)
-    signal.signal(signal.SIGWINCH, lambda *_: bridge.resize(*reversed(shutil.get_terminal_size())))
+    signal.signal(signal.SIGWINCH, lambda *_: None)  # woken is told of it: no call is made in a handler, in the middle of another one
     tty.setraw(0)
     try:
         while not bridge.ended or bridge.pump():
@@ -330,8 +330,8 @@ def interacts(bridge, recorder):
                 ready, _, _ = select.select([0, bridge.master, wakes], [], [], 0.05)
                 if 0 in ready:
                     bridge.type(os.read(0, 1024))
-                if wakes in ready:
-                    os.read(wakes, 64)
+                if wakes in ready and signal.SIGWINCH in os.read(wakes, 64):
+                    bridge.resize(*reversed(shutil.get_terminal_size()))
             os.write(1, bridge.take())
             recorder.drain()
     finally:
@@ -349,7 +349,7 @@ def main():
     writers = [JournalWriter(asked.journal)] if asked.journal else []
     writers += [AsciicastWriter(asked.cast, columns, rows)] if asked.cast else []
     writers += [AdvancedTypescriptWriter(*asked.script, columns, rows)] if asked.script else []
-    pair = Pair()
+    pair = Pair.make(TERMINAL._replace(entries=8192, bytes=262144, begins_anew=False))  # a recorder takes its journal
     recorder = Recorder(pair, writers)
     pair.open_terminal()
     words = asked.words[1:] if asked.words[:1] == ["--"] else asked.words

@@ -197,7 +197,9 @@ strm_refusal strm_runqueues(strm_pair *p, size_t *turns);
 /* ------------------------------------------------------------------------------------------------------------- the journal */
 
 /* Every call that wasn't refused and every turn is an entry, in order, with the bytes that the call brought and those that it was answered. A
- * recorder takes the entries one by one through a cursor of its own, and then empties the journal, which takes no memory. */
+ * recorder takes the entries one by one through a cursor of its own, and then empties the journal, which takes no memory.
+ * Two pairs of one journal give the same answers only with ample blocks: near the end of a pool one that has fewer, or was made of an image, which
+ * doesn't say which blocks messages take, may refuse by ENOSR what the other grants. */
 
 /* How many entries and how many of their bytes were taken. Zeroed, it stands at the first entry since strm_new or strm_restart. */
 typedef struct strm_cursor {
@@ -289,6 +291,23 @@ static inline strm_refusal strm_pop(strm_pair *p, uint32_t side) { strm_reply r;
 static inline strm_refusal strm_flush(strm_pair *p, uint32_t side, uint32_t what, uint32_t band) { strm_reply r; return strm_do(p, STRM_OP_FLUSH, side, what, band, &r); }
 static inline strm_refusal strm_srdopt(strm_pair *p, uint32_t side, uint32_t mode) { strm_reply r; return strm_do(p, STRM_OP_MODE, side, mode, 0, &r); }
 
+/* I_LOOK: the module on top; EINVAL where there is none. I_NREAD: how many messages stand at the head, and how many bytes of data the first has. */
+static inline strm_refusal strm_look(strm_pair *p, uint32_t side, uint32_t *module)
+{
+    strm_reply r;
+    strm_refusal e = strm_do(p, STRM_OP_LOOK, side, 0, 0, &r);
+    if (!e) *module = r.value;
+    return e;
+}
+
+static inline strm_refusal strm_nread(strm_pair *p, uint32_t side, size_t *messages, size_t *bytes)
+{
+    strm_reply r;
+    strm_refusal e = strm_do(p, STRM_OP_NREAD, side, 0, 0, &r);
+    if (!e) *messages = r.value, *bytes = r.size;
+    return e;
+}
+
 /* A terminal as a shell expects it: both sides open, ptem and ldterm on the slave. */
 static inline strm_refusal strm_open_terminal(strm_pair *p)
 {
@@ -346,6 +365,19 @@ enum {
 /* Beside a refusal's number: the ioctl was answered with M_IOCNAK for that reason. */
 #define STRM_NAKED 0x100u
 
+/* What answers the pending ioctl of a number, given once: *given bytes of it stand in out. EAGAIN: it isn't answered. */
+static inline strm_refusal strm_ioctl_result(strm_pair *p, uint32_t side, uint32_t number, uint8_t out[256], size_t *given)
+{
+    strm_ask ask = { STRM_OP_IOCTL_RESULT, side, number, 0, 0, 0, false, false };
+    uint8_t none[1] = { 0 };
+    strm_reply r;
+    strm_refusal e = strm_call(p, &ask, none, 0, out, 256, &r);
+    *given = 0;
+    if (e) return e;
+    *given = r.bytes;
+    return r.kind == STRM_NAK ? (STRM_NAKED | r.value) : 0u;
+}
+
 /* I_STR: an ioctl that is waited for by turns. *given bytes of its answer stand in out. */
 static inline strm_refusal strm_ioctl(strm_pair *p, uint32_t side, uint32_t command, const void *body, size_t n, uint8_t out[256], size_t *given)
 {
@@ -355,10 +387,8 @@ static inline strm_refusal strm_ioctl(strm_pair *p, uint32_t side, uint32_t comm
     strm_refusal e = strm_call(p, &ask, n ? body : none, n, out, 256, &r);
     *given = 0;
     if (!e && r.kind == STRM_PENDING) {
-        ask.op = STRM_OP_IOCTL_RESULT;
-        ask.a = r.value;
         e = strm_run(p);
-        if (!e) e = strm_call(p, &ask, none, 0, out, 256, &r);
+        return e ? e : strm_ioctl_result(p, side, r.value, out, given);
     }
     if (e) return e;
     *given = r.bytes;
@@ -440,6 +470,24 @@ static inline strm_refusal strm_set_winsize(strm_pair *p, uint32_t side, const s
     size_t n;
     strm_put_word(b, (uint32_t)w->rows << 16 | w->columns), strm_put_word(b + 4, (uint32_t)w->width << 16 | w->height);
     return strm_ioctl(p, side, STRM_TIOCSWINSZ, b, sizeof b, out, &n);
+}
+
+/* TIOCGPGRP and TIOCSPGRP of tcgetpgrp(3C): the foreground group of the slave, 0 where there is none. */
+static inline strm_refusal strm_tcgetpgrp(strm_pair *p, uint32_t side, uint32_t *group)
+{
+    uint8_t b[256] = { 0 };
+    size_t n;
+    strm_refusal e = strm_ioctl(p, side, STRM_TIOCGPGRP, b, 0, b, &n);
+    if (!e) *group = strm_get_word(b);
+    return e;
+}
+
+static inline strm_refusal strm_tcsetpgrp(strm_pair *p, uint32_t side, uint32_t group)
+{
+    uint8_t b[4], out[256];
+    size_t n;
+    strm_put_word(b, group);
+    return strm_ioctl(p, side, STRM_TIOCSPGRP, b, sizeof b, out, &n);
 }
 
 /* Names, as scripts and the README have them; "?" for a number that has none. */

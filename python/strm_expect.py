@@ -89,7 +89,7 @@ class Terminal(io.RawIOBase):
         """Raises what the signals that came up mean."""
         for number in self.pair.signals(SLAVE):
             if number is Signal.WINCH:
-                window = self.pair.winsize(SLAVE)
+                window = self.pair.get_winsize(SLAVE)
                 self.resized(window.rows, window.columns)
             elif number is Signal.INT:
                 raise KeyboardInterrupt
@@ -148,7 +148,7 @@ class Hosted:
                 self.calls += 1
                 return made
             except Refused as refusal:
-                if refusal.name not in ("EAGAIN", "ENOSR"):
+                if not refusal.would_wait:
                     raise
             self._lets_run()
 
@@ -179,9 +179,9 @@ class Hosted:
         """Writes keys to the master. AtRest: the program doesn't read them."""
         while data:
             try:
-                data = data[self.pair.write(MASTER, data[:2048]) :]
+                data = data[self.pair.write(MASTER, data) :]
             except Refused as refusal:
-                if refusal.name not in ("EAGAIN", "ENOSR") or not self.step():
+                if not refusal.would_wait or not self.step():
                     raise AtRest(f"nobody reads, and these keys weren't taken: {data!r}") from None
 
     def take(self):
@@ -396,7 +396,7 @@ class spawn:
         resize(rows, columns) if resize else self.session.pair.set_winsize(rows, columns)
 
     def getwinsize(self):
-        return tuple(self.session.pair.winsize(SLAVE))[:2]
+        return tuple(self.session.pair.get_winsize(SLAVE))[:2]
 
     def getecho(self):
         return self.session.pair.tcgetattr(SLAVE)["ECHO"]

@@ -141,9 +141,7 @@ class Picture:
         yield f"enabled, in order: {', '.join(self.enabled)}" if self.enabled else "at rest: no queue is enabled"
 
     def contents(self):
-        """The messages of each queue, the first one first, and the unfinished lines, where the library gives images."""
-        if not hasattr(self.pair.library, "image"):
-            return
+        """The messages of each queue, the first one first, and the unfinished lines."""
         image = read_image(self.pair.image())
         for name, queue in image.queues.items():
             if queue.messages:
@@ -320,7 +318,7 @@ class Prompt(cmd.Cmd):
 
     def do_mode(self, line):
         """mode X MODE         norm, msgn, msgd, protnorm, protdat or protdis: I_SRDOPT"""
-        self.pair.mode(*self.words(line, self.side, str))
+        self.pair.srdopt(*self.words(line, self.side, str))
 
     def do_signals(self, line):
         """signals [X]         the signals that came up"""
@@ -331,7 +329,7 @@ class Prompt(cmd.Cmd):
         """size [ROWS COLUMNS]  the window; with numbers the master sets it"""
         if line:
             self.pair.set_winsize(*self.words(line, int, int))
-        self.say("{} rows, {} columns".format(*self.pair.winsize()))
+        self.say("{} rows, {} columns".format(*self.pair.get_winsize()))
 
     def do_stty(self, line):
         """stty [FLAG..]       the terminal's modes; echo sets one, -echo clears it"""
@@ -363,6 +361,15 @@ class Prompt(cmd.Cmd):
         gone = ", ".join(f"{rule} {count}" for rule, count in books.gone.items())
         self.say(f"written {books.written} + made {books.made} = queued {books.queued} + in a line {books.inlined} + gone ({gone or 'none'})")
 
+    def do_ready(self, line):
+        """ready X             what a side is ready for"""
+        told = self.pair.ready(*self.words(line, self.side))
+        self.say(", ".join(each.name.lower().replace("_", " ") for each in strm.Ready if each & told) or "nothing")
+
+    def do_room(self, _line):
+        """room                free blocks, and what the journal takes yet"""
+        self.say("{} blocks, {} entries, {} bytes".format(*self.pair.room()))
+
     def do_show(self, _line):
         """show                draws the two streams"""
         self.say("\n".join(Picture(self.pair, self.stacks).lines()))
@@ -373,7 +380,7 @@ class Prompt(cmd.Cmd):
 
     def do_new(self, line):
         """new [BLOCKS]        frees this pair, and makes another one"""
-        blocks, = self.words(line, (int, 256))
+        blocks, = self.words(line, (int, strm.TERMINAL_BLOCKS))
         pair = Pair(blocks)
         self.do_record("off")
         self.pair.free()
