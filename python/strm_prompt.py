@@ -410,8 +410,7 @@ class Prompt(cmd.Cmd):
         """undo                takes the last command back that changed the pair: the pair is made of its image from before"""
         if not self.before:
             raise Wrong("nothing to take back")
-        blocks, entries, journal_bytes = self.pair.room
-        pair = Pair(blocks, entries, journal_bytes, image=self.before.pop())
+        pair = Pair.remake(self.pair.plan, self.before.pop())
         self.do_record("off")
         self.pair.free()
         self.use(pair)
