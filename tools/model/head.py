@@ -1,6 +1,6 @@
 """A stream head: what it does with what comes up, read(2) and getmsg(2) of it, streamio(7I)."""
 from .messages import FLUSHBAND, FLUSHR, FLUSHW, M_DATA, M_FLUSH, M_HANGUP, M_IOCACK, M_IOCNAK, M_IOCTL, M_PCPROTO, M_PCSIG, M_PROTO, M_SETOPTS
-from .messages import Message, Queue, flushes, size_of
+from .messages import Queue, flushes, size_of
 from .modules import asked, message, other, refused
 
 RNORM, RMSGD, RMSGN = range(3)
@@ -27,7 +27,7 @@ class Head:
         self.r = Queue(5120, 1024)
 
     def put_up(self, it):
-        """What comes up; what it sends down."""
+        """What comes up."""
         pool = self.pair.pool
         if it.kind in (M_DATA, M_PROTO, M_PCPROTO):
             if it.kind == M_PCPROTO and any(stands.kind == M_PCPROTO for stands in self.r.messages):
@@ -36,14 +36,12 @@ class Head:
                 self.r.put(it)
                 return []
         elif it.kind == M_IOCTL and it.size >= 16 and asked(it)[1] != 0:
-            return [refused(pool, it)]
+            return [(False, refused(pool, it))]
         else:
             self.takes(it.kind, it.text)
-            pool.free(it.chain)
-            if it.kind == M_FLUSH and it.text[0] & FLUSHW:
-                return [message(pool, M_FLUSH, bytes([it.text[0] & ~FLUSHR]) + it.text[1:])]
-            return []
         pool.free(it.chain)
+        if it.kind == M_FLUSH and it.text[0] & FLUSHW:
+            return [(False, message(pool, M_FLUSH, bytes([it.text[0] & ~FLUSHR]) + it.text[1:]))]
         return []
 
     def takes(self, kind, text):
@@ -60,31 +58,26 @@ class Head:
             if int.from_bytes(text[4:8], "big") == self.waits.number:
                 self.waits.answer = kind == M_IOCACK, text[16:]
 
-    def ends(self):
-        """Whether an empty queue is the end of input."""
-        return self.hung_up or self.pair.slave_went(self.side)
-
-    def waiting(self):
-        raise Refused("EAGAIN")
+    def at_the_end(self):
+        """An empty queue is the end of input behind a hang-up; at a master whose slave was closed, where no M_DATA or M_PROTO stands towards it."""
+        if not self.hung_up and (self.side == "s" or not self.pair.slave_went()):
+            raise Refused("EAGAIN")
 
     def gone(self, rule, count):
         self.pair.gone(other(self.side), rule, count)
 
-    # read(2)
-
     def readable(self):
         """The place of the first message that a read may take from; None where there is none."""
-        for at, it in enumerate(self.r.messages):
-            if self.control_mode != RPROTDIS or it.data is not None:
-                return at
-        return None
+        places = (at for at, it in enumerate(self.r.messages) if self.control_mode != RPROTDIS or it.data is not None)
+        return next(places, None)
 
     def read(self, count):
         if count == 0:
             return b""
         at = self.readable()
         if at is None:
-            return b"" if self.ends() else self.waiting()
+            self.at_the_end()
+            return b""
         if self.control_mode == RPROTNORM and self.r.messages[at].control is not None:
             raise Refused("EBADMSG")
         before, text = self.r.size, b""
@@ -106,8 +99,10 @@ class Head:
     def read_one(self, at, count):
         """Takes up to so many bytes of the message at a place: (these, whether none of it is left)."""
         pool = self.pair.pool
-        for _ in range(at):
-            self.discard(self.r.take())
+        passed = [self.r.take() for _ in range(at)]
+        self.gone("control-dropped", sum(it.size for it in passed))
+        for it in passed:
+            pool.free(it.chain)
         it = self.r.take()
         text = b""
         if self.control_mode == RPROTDIS:
@@ -136,24 +131,18 @@ class Head:
             return text, None
         return text, chain
 
-    def discard(self, it):
-        """A message without a data part that is passed over."""
-        self.gone("control-dropped", it.size)
-        self.pair.pool.free(it.chain)
-
     def keep(self, it):
         """Puts back the rest of a message."""
         if it.control is None:
             it.kind, it.band = M_DATA, 0 if it.kind == M_PCPROTO else it.band
         self.r.put_back(it)
 
-    # getmsg(2)
-
     def get(self, what, most_control, most_data):
         """(band or None for high priority, control, data, whether there is more of each)."""
-        first = self.r.messages[0] if self.r.messages else None
-        if first is None:
-            return (0, None, None, False, False) if self.ends() else self.waiting()
+        if not self.r.messages:
+            self.at_the_end()
+            return 0, None, None, False, False
+        first = self.r.messages[0]
         if first.rank < 256 and (what == "hi" or what != "any" and first.band < what):
             raise Refused("EAGAIN")
         it = self.r.take()

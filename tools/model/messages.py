@@ -2,20 +2,16 @@
 
 A block is a message block that names a data block of 256 bytes; data blocks may be shared (dupb(9F)), so both kinds are counted apart.
 """
+import collections
+
 M_DATA, M_PROTO, M_IOCTL, M_SETOPTS = 0x00, 0x01, 0x0E, 0x10
 M_IOCACK, M_IOCNAK, M_PCPROTO, M_PCSIG, M_FLUSH = 0x81, 0x82, 0x83, 0x84, 0x86
 M_STOP, M_START, M_HANGUP = 0x87, 0x88, 0x89
 BOOKED = (M_DATA, M_PROTO, M_PCPROTO)
 FLUSHR, FLUSHW, FLUSHBAND = 1, 2, 4
 SIZE = 256
-
-
-class Block:
-    """Bytes of a message block, and the count of references of its data block."""
-    __slots__ = ("bytes", "references")
-
-    def __init__(self, text, references):
-        self.bytes, self.references = text, references
+# Bytes of a message block, and the count of references of its data block: a list of one number, which those that share it have.
+Block = collections.namedtuple("Block", "bytes references")
 
 
 class Pool:
@@ -53,7 +49,7 @@ class Pool:
             if not chain or len(chain[-1].bytes) == SIZE:
                 chain += self.make(b"")
             room = SIZE - len(chain[-1].bytes)
-            chain[-1].bytes += text[:room]
+            chain[-1].bytes.extend(text[:room])
             text = text[room:]
 
     def take(self, chain, count):

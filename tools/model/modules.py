@@ -1,12 +1,12 @@
 """The modules and drivers of a stream: ldterm(7M), ptem(7M), pckt(7M), ptm(7D) and pts(7D).
 
-A put answers what it sends, [(is_up, message)], which the pair carries one after the other; None in place of a list says that a queue has it.
+A put answers what it sends, [(is_up, message)], which the pair carries one after the other.
 """
 from .messages import BOOKED, FLUSHBAND, FLUSHR, FLUSHW, M_DATA, M_FLUSH, M_IOCACK, M_IOCNAK, M_IOCTL, M_PCPROTO, M_PCSIG, M_PROTO
 from .messages import M_SETOPTS, M_START, M_STOP, Message, Queue, flushes
 from .termios import ECHO, ECHOE, ECHOK, ECHOKE, ECHONL, EOF, EOL, EOL2, ERASE, FIRST, ICANON, ICRNL, IEXTEN, IGNCR, IMAXBEL, INLCR, INTR, ISIG
 from .termios import ISTRIP, IUCLC, IXANY, IXON, KILL, LNEXT, NOFLSH, OPOST, QUIT, REPRINT, START, STOP, SUSP, TOSTOP, WERASE
-from .termios import Termios, columns, posted, shown, wiped
+from .termios import Termios, posted, shown, wiped
 
 TCGETS, TCSETS, TCSETSW, TCSETSF, TIOCGWINSZ, TIOCSWINSZ, TIOCSIGNAL, TIOCGPGRP, TIOCSPGRP = range(1, 10)
 SETS = (TCSETS, TCSETSW, TCSETSF)
@@ -129,19 +129,14 @@ class Ldterm:
         self.r, self.w = Queue(), Queue()
         self.echoed, self.gathered = None, []
 
-    # What is put at it.
-
-    def flush(self, it):
-        """Obeys an M_FLUSH."""
-        text = it.text
-        self.flush_queues(text[0] & FLUSHR, text[0] & FLUSHW, text[1] if text[0] & FLUSHBAND else None)
-
-    def flush_queues(self, read, write, band):
-        if read:
+    def flush(self, text):
+        """Obeys an M_FLUSH of these bytes."""
+        band = text[1] if text[0] & FLUSHBAND else None
+        if text[0] & FLUSHR:
             self.pair.flush_queue(self.side, "ldterm", "r", flushes(band))
             if not band:
                 self.drop_line("flushed")
-        if write:
+        if text[0] & FLUSHW:
             gone = self.pair.flush_queue(self.side, "ldterm", "w", flushes(band))
             if any(it is self.echoed for it in gone):
                 self.echoed = None
@@ -152,20 +147,18 @@ class Ldterm:
 
     def put_up(self, it):
         if it.kind in (M_DATA, M_PROTO):
-            self.pair.put_queue(self.side, "ldterm", "r", it)
-            return None
+            return self.pair.put_queue(self.side, "ldterm", "r", it)
         if it.kind == M_FLUSH:
-            self.flush(it)
+            self.flush(it.text)
         if it.kind == M_IOCACK and it.size == 16 + 35 and asked(it)[0] in SETS:
             return self.take_up(*asked(it)[::2]) + [(True, it)]
         return [(True, it)]
 
     def put_down(self, it):
         if it.kind in (M_DATA, M_PROTO) or it.kind == M_IOCTL and it.size >= 16 and asked(it)[0] in (TCSETSW, TCSETSF):
-            self.pair.put_queue(self.side, "ldterm", "w", it)
-            return None
+            return self.pair.put_queue(self.side, "ldterm", "w", it)
         if it.kind == M_FLUSH:
-            self.flush(it)
+            self.flush(it.text)
         return [(False, it)]
 
     def take_up(self, command, text):
@@ -173,27 +166,21 @@ class Ldterm:
         pool, sent, was = self.pair.pool, [], self.termios.local & ICANON
         self.termios = Termios(text)
         if command == TCSETSF:
-            self.flush_queues(True, False, None)
+            self.flush(bytes([FLUSHR]))
             sent.append((True, message(pool, M_FLUSH, bytes([FLUSHR]))))
         if was and not self.termios.local & ICANON and self.line:
             sent.append((True, self.whole_line()))
-        return sent + [(True, self.options())]
-
-    def options(self):
-        return message(self.pair.pool, M_SETOPTS, bytes([2 if self.termios.local & ICANON else 0, bool(self.termios.local & TOSTOP)]))
+        local = self.termios.local
+        return sent + [(True, message(pool, M_SETOPTS, bytes([2 if local & ICANON else 0, bool(local & TOSTOP)])))]
 
     def whole_line(self):
         text = bytes(self.line)
         self.line.clear()
         return message(self.pair.pool, M_DATA, text)
 
-    # A turn of its read queue.
-
-    def up(self, it):
-        self.pair.carry_from(self, True, it)
-
-    def down(self, it):
-        self.pair.carry_from(self, False, it)
+    def send(self, is_up, it):
+        at = self.pair.modules[self.side].index(self)
+        self.pair.carry(self.side, at - 1 if is_up else at + 1, is_up, it)
 
     def input(self, it):
         """Treats a message byte by byte; how many were treated, which are all but where blocks are few."""
@@ -216,7 +203,7 @@ class Ldterm:
     def send_gathered(self):
         if self.gathered:
             gathered, self.gathered = self.gathered, []
-            self.up(Message(M_DATA, 0, None, gathered))
+            self.send(True, Message(M_DATA, 0, None, gathered))
 
     def gone(self, rule, count=1):
         self.pair.gone(other(self.side), rule, count)
@@ -238,7 +225,7 @@ class Ldterm:
                     self.start()
                 elif not self.stopped:
                     self.stopped = True
-                    self.down(message(self.pair.pool, M_STOP))
+                    self.send(False, message(self.pair.pool, M_STOP))
                 return None
             if flags & IXANY:
                 self.start()
@@ -256,7 +243,7 @@ class Ldterm:
     def start(self):
         if self.stopped:
             self.stopped = False
-            self.down(message(self.pair.pool, M_START))
+            self.send(False, message(self.pair.pool, M_START))
             if self.w.messages:
                 self.pair.enable(self.side, "ldterm", "w")
 
@@ -266,8 +253,8 @@ class Ldterm:
         self.send_gathered()
         if not self.termios.local & NOFLSH:
             self.drop_line("flushed")
-            self.up(message(pool, M_FLUSH, bytes([FLUSHR if number == SIGTSTP else FLUSHR | FLUSHW])))
-        self.up(message(pool, M_PCSIG, bytes([number])))
+            self.send(True, message(pool, M_FLUSH, bytes([FLUSHR if number == SIGTSTP else FLUSHR | FLUSHW])))
+        self.send(True, message(pool, M_PCSIG, bytes([number])))
         self.echo(shown(self.termios, byte))
 
     def edited(self, byte):
@@ -276,7 +263,7 @@ class Ldterm:
         extended = termios.local & IEXTEN
         if key(byte, EOF):
             self.gone("eof-key")
-            return self.up(self.whole_line())
+            return self.send(True, self.whole_line())
         if key(byte, ERASE) or key(byte, KILL):
             return self.erase(byte, min(len(line), 1)) if key(byte, ERASE) else self.kill(byte)
         if extended and key(byte, WERASE):
@@ -292,7 +279,7 @@ class Ldterm:
             return self.gone("lnext-key")
         if byte == 10 or key(byte, EOL, EOL2):
             line.append(byte)
-            self.up(self.whole_line())
+            self.send(True, self.whole_line())
             return self.echo(b"\n" if byte == 10 else shown(termios, byte), ECHO | ECHONL if byte == 10 else ECHO)
         return self.ordinary(byte, shown(termios, byte))
 
@@ -344,14 +331,12 @@ class Ldterm:
             self.pair.pool.append(self.echoed.data, text)
             self.w.counts[0] += len(text)
 
-    # A turn of its write queue.
-
     def output(self, it):
         """Sends down what becomes of a message; how many of its bytes were treated."""
         pool, treated, sent = self.pair.pool, 0, []
         if it.kind != M_DATA or not self.termios.output & OPOST or it.size == 0:
             size = it.size
-            self.down(it)
+            self.send(False, it)
             return size
         while it.data:
             chunk, at = it.data[0].bytes, 0
@@ -364,7 +349,7 @@ class Ldterm:
                 break
             pool.free([it.data.pop(0)])
         if sent:
-            self.down(Message(M_DATA, it.band, None, sent))
+            self.send(False, Message(M_DATA, it.band, None, sent))
         return treated
 
     def post(self, byte, sent):

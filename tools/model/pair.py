@@ -1,6 +1,8 @@
 """A pair of streams: its calls and turns, what they are refused for, and what is carried between its queues."""
+import collections
+
 from .head import RMSGD, RMSGN, RNORM, RPROTDAT, RPROTDIS, RPROTNORM, Head, Refused, Waits
-from .messages import BOOKED, FLUSHBAND, FLUSHR, FLUSHW, M_DATA, M_FLUSH, M_HANGUP, M_IOCACK, M_IOCNAK, M_IOCTL, M_PCPROTO, M_PROTO
+from .messages import FLUSHBAND, FLUSHR, FLUSHW, M_DATA, M_FLUSH, M_HANGUP, M_IOCACK, M_IOCNAK, M_IOCTL, M_PCPROTO, M_PROTO
 from .messages import M_SETOPTS, M_START, M_STOP, Message, Pool, Queue, flushes
 from .modules import NAK_EINVAL, SETS, TIOCGPGRP, TIOCSIGNAL, TIOCSPGRP, TIOCSWINSZ, Ldterm, Pckt, Ptem, asked, header, message, other, refused
 
@@ -15,13 +17,15 @@ QUEUED = (M_DATA, M_PROTO, M_PCPROTO, M_STOP, M_START, M_IOCACK, M_IOCNAK)
 NEVER, OPEN, CLOSED = range(3)
 
 
+def all_of(_):
+    return True
+
+
 class Stopped(Exception):
     """A call from the background that is answered by a signal's number: it changes nothing, and has its entry."""
 
 
-class Caller:
-    def __init__(self, group=0, ignores=False, orphaned=False):
-        self.group, self.ignores, self.orphaned = group, ignores, orphaned
+Caller = collections.namedtuple("Caller", "group ignores orphaned", defaults=(0, False, False))
 
 
 class Pair:
@@ -34,8 +38,6 @@ class Pair:
         self.fates = {side: dict.fromkeys(RULES, 0) for side in "ms"}
         self.entries = self.entry_bytes = 0
         self.is_short = False
-
-    # Queues and what moves between them.
 
     def ldterm(self, side):
         return next((it for it in self.modules[side] if it.ldterm), None)
@@ -58,6 +60,7 @@ class Pair:
     def put_queue(self, side, place, way, it):
         if self.queue(side, place, way).put(it):
             self.enable(side, place, way)
+        return ()
 
     def earlier(self, side, place, way):
         """The nearest queue with a service procedure before a queue; None for a head's caller."""
@@ -100,19 +103,12 @@ class Pair:
     def carry(self, side, at, is_up, it):
         """Carries a message to a place of a stream, from the head (-1) to its driver, with all that it gives rise to."""
         stack = self.modules[side]
-        if at < 0:
-            sent = [(False, more) for more in self.heads[side].put_up(it)]
-        elif at == len(stack):
+        if at == len(stack):
             return self.put_driver(side, it)
-        else:
-            sent = (stack[at].put_up if is_up else stack[at].put_down)(it) or []
-        for goes_up, more in sent:
+        where = stack[at] if at >= 0 else self.heads[side]
+        for goes_up, more in (where.put_up if is_up else where.put_down)(it):
             self.carry(side, at - 1 if goes_up else at + 1, goes_up, more)
         return None
-
-    def carry_from(self, module, is_up, it):
-        at = self.modules[module.side].index(module)
-        self.carry(module.side, at - 1 if is_up else at + 1, is_up, it)
 
     def up_from_driver(self, side, it):
         self.carry(side, len(self.modules[side]) - 1, True, it)
@@ -146,13 +142,9 @@ class Pair:
         for to in sent:
             self.up_from_driver(to, message(self.pool, M_FLUSH, going))
 
-    def slave_went(self, side):
-        """Whether the master comes to the end of input: the slave was closed, and no M_DATA or M_PROTO stands towards the master."""
+    def slave_went(self):
         queues = [self.drivers["s"], self.heads["m"].r] + [it.r for it in self.modules["m"] if it.ldterm]
-        waits = any(it.kind in (M_DATA, M_PROTO) for queue in queues for it in queue.messages)
-        return side == "m" and self.sides["s"] == CLOSED and not waits
-
-    # Turns.
+        return self.sides["s"] == CLOSED and not any(it.kind in (M_DATA, M_PROTO) for queue in queues for it in queue.messages)
 
     def turn(self, *name):
         """(what came of it, how many bytes of a message were treated)."""
@@ -204,7 +196,7 @@ class Pair:
         elif way == "w":
             return self.ldterm(side).output(it)
         elif it.kind != M_DATA:
-            self.ldterm(side).up(it)
+            self.ldterm(side).send(True, it)
         elif size:
             return self.ldterm(side).input(it)
         else:
@@ -220,8 +212,6 @@ class Pair:
                 break
             made += 1
         return made
-
-    # What calls are refused for.
 
     def asks(self, entry_bytes, blocks=0):
         """Room in the journal, and free blocks."""
@@ -257,14 +247,11 @@ class Pair:
             self.enters(entry_bytes)
             raise Stopped(SIGTTOU)
 
-    def enters(self, entry_bytes=0):
+    def enters(self, entry_bytes=0, answer=None):
+        """Books an entry of the journal, and gives the answer."""
         self.entries += 1
         self.entry_bytes += entry_bytes
-
-    def down(self, side, it):
-        self.carry(side, 0, False, it)
-
-    # Calls.
+        return answer
 
     def open_master(self):
         self.asks(0)
@@ -346,8 +333,7 @@ class Pair:
         self.asks(0)
         if not self.modules[side]:
             raise Refused("EINVAL")
-        self.enters()
-        return self.modules[side][0].name
+        return self.enters(0, self.modules[side][0].name)
 
     def write(self, side, text):
         self.opened(side)
@@ -358,22 +344,26 @@ class Pair:
         while sent < len(chunks) and self.has_room(0, side, "head", "w"):
             self.written[side] += len(chunks[sent])
             taken += len(chunks[sent])
-            self.down(side, message(self.pool, M_DATA, chunks[sent]))
+            self.carry(side, 0, False, message(self.pool, M_DATA, chunks[sent]))
             sent += 1
         if sent == 0:
             raise Refused("EAGAIN")
-        self.enters(len(text))
-        return taken
+        return self.enters(len(text), taken)
 
     def read(self, side, count):
         head, count = self.opened(side, lasts=True), min(count, 4096)
         self.asks(count)
         self.reads(side)
         text = head.read(count)
-        self.enters(len(text))
-        return text
+        return self.enters(len(text), text)
+
+    @staticmethod
+    def banded(what):
+        if isinstance(what, int) and what > 255:
+            raise Refused("EINVAL")
 
     def put(self, side, what, control, data):
+        self.banded(what)
         self.opened(side)
         if what == "hi" and control is None:
             raise Refused("EINVAL")
@@ -389,16 +379,16 @@ class Pair:
                 raise Refused("EAGAIN")
             kind = M_PCPROTO if what == "hi" else M_DATA if control is None else M_PROTO
             self.written[side] += size
-            self.down(side, Message(kind, band, *(it if it is None else self.pool.make(it) for it in (control, data))))
+            self.carry(side, 0, False, Message(kind, band, *(it if it is None else self.pool.make(it) for it in (control, data))))
         self.enters(size)
 
-    def get(self, side, what, most_control, most_data):
+    def get(self, side, what="any", most_control=1024, most_data=1024):
+        self.banded(what)
         head, most_control, most_data = self.opened(side, lasts=True), min(most_control, 4096), min(most_data, 4096)
         self.asks(most_control + most_data)
         self.reads(side)
         got = head.get(what, most_control, most_data)
-        self.enters(len(got[1] or b"") + len(got[2] or b""))
-        return got
+        return self.enters(len(got[1] or b"") + len(got[2] or b""), got)
 
     def set_mode(self, side, mode):
         head = self.opened(side, lasts=True)
@@ -406,11 +396,12 @@ class Pair:
         head.mode, head.control_mode = MODES.get(mode, head.mode), CONTROL_MODES.get(mode, head.control_mode)
         self.enters()
 
-    def flush(self, side, ways, band):
+    def flush(self, side, ways, band=None):
+        self.banded(band)
         self.opened(side)
         self.asks(0, 8)
         flags = FLUSHR * ("r" in ways) | FLUSHW * ("w" in ways) | FLUSHBAND * (band is not None)
-        self.down(side, message(self.pool, M_FLUSH, bytes([flags] if band is None else [flags, band])))
+        self.carry(side, 0, False, message(self.pool, M_FLUSH, bytes([flags] if band is None else [flags, band])))
         self.enters()
 
     def ioctl(self, side, command, body):
@@ -430,10 +421,9 @@ class Pair:
             head.group = int.from_bytes(body, "big") if len(body) == 4 else head.group
         else:
             chain = self.pool.make(header(command, number)) + (self.pool.make(body) if body else [])
-            self.down(side, Message(M_IOCTL, 0, None, chain))
+            self.carry(side, 0, False, Message(M_IOCTL, 0, None, chain))
         answer = self.told(head) or ("pending", number)
-        self.enters(len(body) + (len(answer[1]) if answer[0] == "data" else 0))
-        return answer
+        return self.enters(len(body) + (len(answer[1]) if answer[0] == "data" else 0), answer)
 
     def told(self, head):
         """Hands out the answer of the ioctl under way, where it is there."""
@@ -452,21 +442,17 @@ class Pair:
         answer = self.told(head)
         if not answer:
             raise Refused("EAGAIN")
-        self.enters(len(answer[1]) if answer[0] == "data" else 0)
-        return answer
+        return self.enters(len(answer[1]) if answer[0] == "data" else 0, answer)
 
     def take_signals(self, side):
         head = self.opened(side, lasts=True)
         self.asks(32)
         taken, head.signals = head.signals, []
-        self.enters(len(taken))
-        return taken
+        return self.enters(len(taken), taken)
 
     def cut(self):
         count, self.entries, self.entry_bytes = self.entries, 0, 0
         return count
-
-    # What is shown.
 
     def show(self, side):
         """[(a queue's name, its messages, their bytes)] from the head down."""
@@ -484,7 +470,3 @@ class Pair:
         if self.written[side] + self.made[side] != queued + inline + sum(self.fates[side].values()):
             raise AssertionError(f"the model's ledger of {side} doesn't balance")
         return self.written[side], self.made[side], queued, inline, self.fates[side]
-
-
-def all_of(_):
-    return True

@@ -2,13 +2,13 @@
 import re
 
 from .head import Refused
-from .pair import MODES, CONTROL_MODES, RULES, Caller, Pair, Stopped
+from .pair import CONTROL_MODES, MODES, RULES, Caller, Pair, Stopped
 
-COMMANDS = {"TCGETS": 1, "TCSETS": 2, "TCSETSW": 3, "TCSETSF": 4, "TIOCGWINSZ": 5, "TIOCSWINSZ": 6, "TIOCSIGNAL": 7, "TIOCGPGRP": 8, "TIOCSPGRP": 9}
+IOCTLS = {"TCGETS": 1, "TCSETS": 2, "TCSETSW": 3, "TCSETSF": 4, "TIOCGWINSZ": 5, "TIOCSWINSZ": 6, "TIOCSIGNAL": 7, "TIOCGPGRP": 8, "TIOCSPGRP": 9}
 SIGNALS = {2: "INT", 3: "QUIT", 20: "WINCH", 24: "TSTP", 26: "TTIN", 27: "TTOU"}
 ESCAPES = {ord("n"): b"\n", ord("r"): b"\r", ord("t"): b"\t", ord('"'): b'"', ord("\\"): b"\\"}
 SPELLED = {10: "\\n", 13: "\\r", 9: "\\t", ord('"'): '\\"', ord("\\"): "\\\\"}
-LONGEST = 4096
+LONGEST, HIGHEST = 4096, 4294967295
 QUEUES = {f"{side}.{place}.{way}": (side, place, way) for side in "ms" for place in ("head", "ldterm", "drv") for way in "rw"}
 
 
@@ -23,41 +23,36 @@ class Words:
     def __init__(self, line):
         self.line, self.at = line, 0
 
-    def next(self):
+    @staticmethod
+    def expect(holds):
+        if not holds:
+            raise Malformed
+
+    def word(self, form=None):
         if self.at:
             self.expect(self.line[self.at:self.at + 1] == b" ")
             self.at += 1
         found = self.WORD.match(self.line, self.at)
         self.expect(found)
         self.at = found.end()
-        return found[0]
+        word = found[0].decode("latin-1")
+        self.expect(form is None or re.fullmatch(form, word, re.S))
+        return word
 
-    @staticmethod
-    def expect(holds):
-        if not holds:
-            raise Malformed
-
-    @property
-    def more(self):
-        return self.at < len(self.line)
-
-    def one_of(self, allowed):
-        word = self.next().decode("latin-1")
+    def one_of(self, *allowed):
+        word = self.word()
         self.expect(word in allowed)
         return word
 
-    def side(self):
-        return self.one_of("ms")
-
-    def number(self, most=4294967295):
-        word = self.next()
-        self.expect(re.fullmatch(rb"[0-9]{1,10}", word) and int(word) <= most)
+    def number(self, most=HIGHEST, *names):
+        word = self.word()
+        if word in names:
+            return word
+        self.expect(re.fullmatch("[0-9]{1,10}", word) and int(word) <= most)
         return int(word)
 
     def text(self):
-        word = self.next()
-        self.expect(word[:1] == b'"')
-        made, at, inner = bytearray(), 0, word[1:-1]
+        made, at, inner = bytearray(), 0, self.word('".*').encode("latin-1")[1:-1]
         while at < len(inner):
             if inner[at] != ord("\\"):
                 made.append(inner[at])
@@ -73,17 +68,21 @@ class Words:
 
     def part(self):
         """A text, or None for a part that is absent."""
-        if self.line[self.at:self.at + 2] == b" -":
-            self.expect(self.next() == b"-")
-            return None
-        return self.text()
+        return self.text() if self.line[self.at:self.at + 2] != b" -" else self.word("-") and None
 
-    def what(self, *names):
-        word = self.next().decode("latin-1")
-        if word in names:
-            return word
-        self.expect(re.fullmatch("[0-9]{1,10}", word) and int(word) <= 4294967295)
-        return int(word)
+    def ioctl(self):
+        """(side, command, body)."""
+        side, name = READERS["side"](self), self.one_of(*IOCTLS, "raw")
+        command, body = self.number() if name == "raw" else IOCTLS[name], b""
+        if name == "TIOCSWINSZ":
+            body = b"".join(self.number(65535).to_bytes(2, "big") for _ in range(4))
+        elif name == "TIOCSIGNAL":
+            body = bytes([self.number(255)])
+        elif name == "TIOCSPGRP":
+            body = self.number().to_bytes(4, "big")
+        elif name == "raw" or name.startswith("TCSETS"):
+            body = self.text()
+        return side, command, body
 
 
 def spelled(text):
@@ -94,163 +93,100 @@ def counted(text):
     return f"data {len(text)} {spelled(text)}"
 
 
+def got(message):
+    band, control, data, more_control, more_data = message
+    parts = " ".join("-" if it is None else spelled(it) for it in (control, data))
+    return f"msg {'hi' if band is None else band} {parts} {'c' * more_control + 'd' * more_data or '-'}"
+
+
+def told(answer):
+    kind, value = answer
+    return {"ok": "ok", "nak": "nak EINVAL", "pending": f"pending {value}"}.get(kind) or counted(value)
+
+
+def went(turn):
+    return f"ok {turn[1]}" if turn[0] == "ok" else turn[0]
+
+
+def shown(side, rows):
+    return f"show {side} " + " ".join(f"{name} {messages} {size}" for name, messages, size in rows)
+
+
+def booked(side, books):
+    written, made, queued, inline, fates = books
+    rules = "".join(f" {rule} {fates[rule]}" for rule in RULES if fates[rule])
+    return f"ledger {'ms' if side == 'm' else 'sm'} written {written} made {made} queued {queued} inline {inline}{rules}"
+
+
+READERS = {
+    "side": lambda words: words.one_of("m", "s"),
+    "direction": lambda words: words.one_of("ms", "sm")[0],
+    "name": lambda words: words.word("[a-z]{1,8}"),
+    "mode": lambda words: words.one_of(*MODES, *CONTROL_MODES),
+    "ways": lambda words: words.one_of("r", "w", "rw"),
+    "rank": lambda words: words.number(HIGHEST, "hi"),
+    "what": lambda words: words.number(HIGHEST, "any", "hi"),
+    "queue": lambda words: QUEUES[words.one_of(*QUEUES)],
+    "callers": lambda words: words.one_of("-", "i", "o", "io"),
+}
+# What each command reads (behind a slash what may be left out), the call, and how its answer is told, where that isn't `ok`.
+COMMANDS = {
+    "open": ("/ number", None, None), "group": ("side number callers", None, None),
+    "unlock": ("", Pair.unlock, None), "slave": ("", Pair.open_slave, None), "close": ("side", Pair.close, None),
+    "push": ("side name", Pair.push, None), "pop": ("side", Pair.pop, None), "look": ("side", Pair.look, "name {}".format),
+    "write": ("side text", Pair.write, "ok {}".format), "read": ("side number", Pair.read, counted),
+    "put": ("side rank part part", Pair.put, None), "get": ("side / what number number", Pair.get, got),
+    "mode": ("side mode", Pair.set_mode, None), "flush": ("side ways / number", Pair.flush, None),
+    "ioctl": ("ioctl", Pair.ioctl, told), "poll": ("side number", Pair.poll, told),
+    "signals": ("side", Pair.take_signals, lambda taken: "signals " + (" ".join(SIGNALS.get(it, str(it)) for it in taken) or "-")),
+    "turn": ("queue", lambda pair, name: pair.turn(*name), went), "run": ("number", Pair.run, "ran {}".format),
+    "show": ("side", lambda pair, side: (side, pair.show(side)), lambda it: shown(*it)),
+    "ledger": ("direction", lambda pair, side: (side, pair.ledger(side)), lambda it: booked(*it)), "cut": ("", Pair.cut, "ok {}".format),
+}
+
+
 class Session:
-    """The pair of a script, once there is one, and who calls on each side. `short` is the first line for which blocks were too few."""
+    """The pair of a script, once there is one, and who calls on each side."""
 
     def __init__(self):
-        self.pair, self.callers, self.short = None, {"m": Caller(), "s": Caller()}, None
+        self.pair, self.callers = None, {"m": Caller(), "s": Caller()}
 
     def answer(self, line):
         """The answer to a line that is a command."""
         words = Words(line)
-        name = words.next().decode("latin-1")
-        words.expect(re.fullmatch("[a-z]+", name) and hasattr(self, f"ask_{name}"))
-        call = getattr(self, f"ask_{name}")(words)
-        words.expect(not words.more)
+        name = words.one_of(*COMMANDS)
+        form, call, tells = COMMANDS[name]
+        read = []
+        for reader in form.split():
+            if reader == "/" and words.at == len(line):
+                break
+            if reader != "/":
+                it = READERS[reader](words) if reader in READERS else getattr(words, reader)()
+                read += it if reader == "ioctl" else [it]
+        words.expect(words.at == len(line))
         try:
-            if self.pair is None and name not in ("open", "group"):
+            if name in ("open", "group"):
+                return getattr(self, name)(*read)
+            if self.pair is None:
                 raise Refused("ENXIO")
-            return call() or "ok"
+            answer = call(self.pair, *read)
+            return tells(answer) if tells else "ok"
         except Refused as why:
             return f"err {why}"
         except Stopped as signal:
             return f"stop {SIGNALS[signal.args[0]]}"
 
-    # Each reads its words, and gives what makes the call.
-
-    def ask_open(self, words):
-        blocks = words.number() if words.more else 256
-
-        def call():
-            if self.pair or not 1 <= blocks <= 4096:
-                raise Refused("EINVAL")
-            self.pair = Pair(blocks)
-            self.pair.callers = self.callers
-            self.pair.open_master()
-        return call
-
-    def ask_unlock(self, _):
-        return lambda: self.pair.unlock()
-
-    def ask_slave(self, _):
-        return lambda: self.pair.open_slave()
-
-    def ask_close(self, words):
-        side = words.side()
-        return lambda: self.pair.close(side)
-
-    def ask_push(self, words):
-        side, name = words.side(), words.next().decode("latin-1")
-        words.expect(re.fullmatch("[a-z]{1,8}", name))
-        return lambda: self.pair.push(side, name)
-
-    def ask_pop(self, words):
-        side = words.side()
-        return lambda: self.pair.pop(side)
-
-    def ask_look(self, words):
-        side = words.side()
-        return lambda: f"name {self.pair.look(side)}"
-
-    def ask_write(self, words):
-        side, text = words.side(), words.text()
-        return lambda: f"ok {self.pair.write(side, text)}"
-
-    def ask_read(self, words):
-        side, count = words.side(), words.number()
-        return lambda: counted(self.pair.read(side, count))
-
-    @staticmethod
-    def banded(what):
-        if what not in ("any", "hi", None) and what > 255:
+    def open(self, blocks=256):
+        if self.pair or not 1 <= blocks <= 4096:
             raise Refused("EINVAL")
-        return what
+        self.pair = Pair(blocks)
+        self.pair.callers = self.callers
+        self.pair.open_master()
+        return "ok"
 
-    def ask_put(self, words):
-        side, what, control, data = words.side(), words.what("hi"), words.part(), words.part()
-        return lambda: self.pair.put(side, self.banded(what), control, data)
-
-    def ask_get(self, words):
-        side, what, sizes = words.side(), "any", (1024, 1024)
-        if words.more:
-            what, sizes = words.what("any", "hi"), (words.number(), words.number())
-
-        def call():
-            band, control, data, more_control, more_data = self.pair.get(side, self.banded(what), *sizes)
-            parts = ["-" if it is None else spelled(it) for it in (control, data)]
-            flags = "c" * more_control + "d" * more_data
-            return f"msg {'hi' if band is None else band} {' '.join(parts)} {flags or '-'}"
-        return call
-
-    def ask_mode(self, words):
-        side, mode = words.side(), words.one_of([*MODES, *CONTROL_MODES])
-        return lambda: self.pair.set_mode(side, mode)
-
-    def ask_flush(self, words):
-        side, ways = words.side(), words.one_of(["r", "w", "rw"])
-        band = words.number() if words.more else None
-        return lambda: self.pair.flush(side, ways, self.banded(band))
-
-    def ask_ioctl(self, words):
-        side, name = words.side(), words.one_of([*COMMANDS, "raw"])
-        command = words.number() if name == "raw" else COMMANDS[name]
-        if name == "TIOCSWINSZ":
-            body = b"".join(words.number(65535).to_bytes(2, "big") for _ in range(4))
-        elif name == "TIOCSIGNAL":
-            body = bytes([words.number(255)])
-        elif name == "TIOCSPGRP":
-            body = words.number().to_bytes(4, "big")
-        else:
-            body = words.text() if name == "raw" or name.startswith("TCSETS") else b""
-        return lambda: self.told(self.pair.ioctl(side, command, body))
-
-    def ask_poll(self, words):
-        side, number = words.side(), words.number()
-        return lambda: self.told(self.pair.poll(side, number))
-
-    @staticmethod
-    def told(answer):
-        kind, value = answer
-        return {"ok": lambda: "ok", "data": lambda: counted(value), "nak": lambda: "nak EINVAL", "pending": lambda: f"pending {value}"}[kind]()
-
-    def ask_signals(self, words):
-        side = words.side()
-        return lambda: f"signals {' '.join(SIGNALS.get(it, str(it)) for it in self.pair.take_signals(side)) or '-'}"
-
-    def ask_turn(self, words):
-        name = QUEUES[words.one_of(QUEUES)]
-
-        def call():
-            kind, count = self.pair.turn(*name)
-            return f"ok {count}" if kind == "ok" else kind
-        return call
-
-    def ask_run(self, words):
-        most = words.number()
-        return lambda: f"ran {self.pair.run(most)}"
-
-    def ask_show(self, words):
-        side = words.side()
-        return lambda: f"show {side} " + " ".join(f"{name} {messages} {size}" for name, messages, size in self.pair.show(side))
-
-    def ask_ledger(self, words):
-        direction = words.one_of(["ms", "sm"])
-
-        def call():
-            written, made, queued, inline, fates = self.pair.ledger(direction[0])
-            rules = "".join(f" {rule} {fates[rule]}" for rule in RULES if fates[rule])
-            return f"ledger {direction} written {written} made {made} queued {queued} inline {inline}{rules}"
-        return call
-
-    def ask_group(self, words):
-        side, group, flags = words.side(), words.number(), words.one_of(["-", "i", "o", "io"])
-
-        def call():
-            self.callers[side] = Caller(group, "i" in flags, "o" in flags)
-        return call
-
-    def ask_cut(self, _):
-        return lambda: f"ok {self.pair.cut()}"
+    def group(self, side, group, flags):
+        self.callers[side] = Caller(group, "i" in flags, "o" in flags)
+        return "ok"
 
 
 def play(script):
@@ -260,16 +196,13 @@ def play(script):
     if lines[-1] == b"":
         lines.pop()
     for number, line in enumerate(lines, 1):
-        if len(line) > LONGEST:
-            answers.append(f"err line {number}")
-            return answers, 1, short
-        if line == b"" or line.startswith(b"#"):
+        if line[:1] in (b"", b"#") and len(line) <= LONGEST:
             continue
         try:
+            Words.expect(len(line) <= LONGEST)
             answer = session.answer(line)
         except Malformed:
-            answers.append(f"err line {number}")
-            return answers, 1, short
+            return [*answers, f"err line {number}"], 1, short
         if short is None and session.pair and session.pair.is_short:
             short = len(answers)
         answers.append(answer)
