@@ -12,7 +12,8 @@ enum { IMAGE = 1 << 20, ROOM = 8192 + 70000, AMPLE = 20000, CALLS = 400 };
 
 static uint8_t input[1 << 16], base[IMAGE], before[IMAGE], after[IMAGE];
 static size_t input_size, input_at, base_size, before_size, pair_blocks;
-static int is_recorded, base_known; /* whether the journal keeps all since `base` */
+static unsigned passed;
+static int large, is_recorded, base_known; /* whether the journal keeps all since `base` */
 static strm_pair p = STRM_CLOSED;
 
 static uint8_t byte(void)
@@ -77,9 +78,13 @@ static void based(void)
     base_known = is_recorded && base_size;
 }
 
+/* Keeps the image before a call. One of many messages costs much more than a call: then it is kept before one call in sixteen alone. */
 static void starts(void)
 {
+    before_size = 0;
+    if (large && ++passed % 16) return;
     before_size = imaged(&p, before);
+    large = before_size > 4096;
 }
 
 /* What a refusal may be, and what it leaves. */
@@ -324,6 +329,7 @@ static void one(void)
 static void tries(void)
 {
     MUST(strm_version() == STRM_VERSION, "another version than the header's");
+    passed = 0, large = 0;
     for (int at = 0; at < CALLS && input_at < input_size; at++) one();
     replays();
     strm_free(&p);
