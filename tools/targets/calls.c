@@ -107,8 +107,9 @@ static int is_again(strm_pair *q, const strm_entry *entry, const uint8_t *bytes)
     }
     const strm_reply *told = &entry->reply;
     strm_refusal e = strm_call(q, &entry->ask, bytes, entry->brings, out, sizeof out, &r);
-    return !e && r.kind == told->kind && r.bytes == told->bytes && r.value == told->value && r.prio == told->prio && r.parts == told->parts &&
-        r.size == told->size && r.more_control == told->more_control && r.more_data == told->more_data && !memcmp(out, bytes + entry->brings, r.bytes);
+    if (e || r.kind != told->kind || r.bytes != told->bytes || r.value != told->value || r.prio != told->prio || r.parts != told->parts) return 0;
+    if (r.size != told->size || r.more_control != told->more_control || r.more_data != told->more_data) return 0;
+    return !memcmp(out, bytes + entry->brings, r.bytes);
 }
 
 /* Replays the journal, where blocks are ample: an image has no layout of blocks, so near exhaustion a restored pair may answer otherwise. */
