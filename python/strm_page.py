@@ -129,7 +129,7 @@ def frames(journal, progress=None):
             progress(at + 1, len(journal))
         what, told = label_of(entry)
         try:
-            made = pair.make(entry)
+            made = pair.repeat(entry)
         except Refused as refused:
             steps.append({**steps[-1], "what": what, "told": f"{told}; made again: {refused.name}", "at": time, "same": False})
             break

@@ -34,7 +34,7 @@ def states_of(journal):
     with Pair() as pair:
         yield state_of(pair)
         for _, entry in journal:
-            pair.make(entry)
+            pair.repeat(entry)
             yield state_of(pair)
 
 
