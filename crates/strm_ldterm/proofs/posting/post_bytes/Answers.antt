@@ -37,4 +37,4 @@ loop-left-preserved g c =
     let l = pours-are s t c.args.here c.args.ldterm.now c.loop-left.ldterm c.args.bytes c.loop-left.left c.args.told.now c.loop-left.told c.requires.work c.requires.bytes c.loop-left.invariant in
     let within : c.post_front-left.result ≤ c.loop-left.left = (let w = c.post_front-left.ensures.within in omega arith) in
     pours-more s t c.args.here c.args.ldterm.now c.loop-left.ldterm c.args.bytes c.loop-left.left c.args.told.now c.loop-left.told c.requires.work c.requires.bytes c.loop-left.invariant
-    (g.B.Blocks.value c.post_front-left.new.store) c.post_front-left.new.ldterm c.post_front-left.result 1 c.post_front-left.new.told c.audit.ensures within c.post_front-left.ensures.does c.post_front-left.ensures.begun
+    (g.B.Blocks.value c.post_front-left.new.store) c.post_front-left.new.ldterm c.post_front-left.result 1 c.post_front-left.new.told c.audit.ensures c.post_front-left.ensures.some within c.post_front-left.ensures.does c.post_front-left.ensures.begun
