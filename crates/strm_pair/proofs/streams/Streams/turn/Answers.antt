@@ -26,7 +26,7 @@ returns-in-Driver-clause-few g c =
 pub returns-in-Driver-clause-stops : goal.returns-in-Driver-clause-stops
 returns-in-Driver-clause-stops g c =
     let from = state_in (g.B.Blocks.value c.args.store.now) (record c.args.self.now { enabled = c.remove.new.self }) in
-    driver-moves c.args.name c.turn_driver.result from (sym c.in-Driver.is) c.turn_driver.ensures.turn
+    driver-moves c.args.name c.turn_driver.result from c.in-Driver.is c.turn_driver.ensures.turn
 
 pub returns-in-Ldterm-clause-stops : goal.returns-in-Ldterm-clause-stops
-returns-in-Ldterm-clause-stops g c = c.turn_module.ensures.stops (sym c.in-Ldterm.is)
+returns-in-Ldterm-clause-stops g c = c.turn_module.ensures.stops c.in-Ldterm.is
