@@ -6,7 +6,6 @@ use Rattle.strm_ldterm.proofs.Bytes.{lower, some-went}
 use Rattle.strm_ldterm.proofs.Joining.{still-kept}
 use Rattle.strm_ldterm.proofs.Poured.{pours-are, pours-more, pours-none, pours-some}
 use Rattle.strm_ldterm.proofs.posting.post_bytes.Goals as goal
-use Rattle.strm_ldterm.proofs.posting.post_bytes.Goals.{then-loop-left-test+else-not-are_few, else-loop-left-test}
 
 pub loop-left-init : goal.loop-left-init
 loop-left-init g c = pours-none (g.B.Blocks.value c.args.store.now) c.args.here c.args.ldterm.now c.args.bytes c.args.told.now c.requires.held
@@ -43,21 +42,15 @@ loop-left-preserved g c =
     pours-more s t c.args.here c.args.ldterm.now c.loop-left.ldterm c.args.bytes c.loop-left.left c.args.told.now c.loop-left.told c.requires.work c.requires.bytes c.loop-left.invariant
     (g.B.Blocks.value c.post_front-left.new.store) c.post_front-left.new.ldterm c.post_front-left.result 1 c.post_front-left.new.told c.audit.ensures c.post_front-left.ensures.some within c.post_front-left.ensures.does c.post_front-left.ensures.begun
 
-pub returns : goal.returns
-returns g c =
+pub returns-else-not-are_few : goal.returns-else-not-are_few
+returns-else-not-are_few g c =
     let s = g.B.Blocks.value c.args.store.now in
     let t = g.B.Blocks.value c.loop-left.store in
+    let few = lower (least_free t) STOP_BLOCKS (sym c.are_few.ensures ∙ c.if-not-are_few.false) in
     record {
       fewer = c.loop-left.invariant.fewer;
       does = c.loop-left.invariant.does;
       begun = c.loop-left.invariant.begun;
-      stops = elim c.loop-left-test.branch [
-        | then-loop-left-test+else-not-are_few w ↦ λ some. lower (least_free t) STOP_BLOCKS (sym w.are_few.ensures ∙ w.if-not-are_few.false)
-        | else-loop-left-test w ↦ λ some. absurd (let none = w.loop-left-test.false in omega arith)
-      ];
-      some = elim c.loop-left-test.branch [
-        | then-loop-left-test+else-not-are_few w ↦ λ some many. some-went s t c.args.bytes c.loop-left.left c.loop-left.invariant.some
-            (lower (least_free t) STOP_BLOCKS (sym w.are_few.ensures ∙ w.if-not-are_few.false)) many
-        | else-loop-left-test w ↦ λ some many. (let none = w.loop-left-test.false in omega (arith, none, some))
-      ];
+      stops = λ some. few;
+      some = λ some many. some-went s t c.args.bytes c.loop-left.left c.loop-left.invariant.some few many;
     }
