@@ -7,7 +7,7 @@ ghost use Rattle.strm_types.specs.declared.entries.Entry.TheVariants.{Called, Tu
 ghost use Rattle.strm_laws.specs.Earlier.{modules_on};
 ghost use Rattle.strm_types.specs.declared.job_control.Verdict.TheVariants.{Allowed, Stopped};
 ghost use Rattle.strm_laws.specs.Based.{based};
-ghost use Rattle.strm_laws.specs.Pair.{new_pair, call_refused, call_verdict, queue_refused, AddsEntry};
+ghost use Rattle.strm_laws.specs.Pair.{new_pair, call_refused, call_verdict, queue_refused, AddsEntry, Stops};
 ghost use Rattle.strm_types.specs.Journal.{entries_in, entry_len, reply_in, answer_len};
 ghost use Rattle.strm_laws.specs.Refusals.{enough, has_room};
 ghost use Rattle.strm_laws.specs.Step.{replay, IsLegal};
@@ -423,12 +423,14 @@ impl<B: Blocks + Drop> Pair<B> {
     /// full (ERANGE), the journal is full, or too few blocks of a kind are free (ENOSR): 8 for a driver's queue, 32 for a module's. It
     /// changes nothing then. Else the journal gains the turn with its answer.
     ///
-    /// A turn of a module's queue may stop within its message where fewer than 32 blocks are left, and its answer says how far it went.
+    /// A turn of ldterm's may stop within its message where fewer than 32 blocks are left, and its answer says how far it went: a byte at
+    /// least where the message has any, so that no turn moves nothing of it.
     /// The cost is that of one message. No memory is taken.
     pub fn turn(&mut self, name: QueueName) -> Result<Turn, Refusal>
         ensures refused { MatchOption (queue_refused self.old name) (IsOk result)
             (λ r. (result ≡ Err r) × (self.new ≡ self.old)) }
         ensures adds { IfOk result (λ turn. AddsEntry self.old self.new (Turned name turn)) }
+        ensures stops { IfOk result (λ turn. Stops self.old self.new name turn) }
     {
         if let Some(refusal) = self.turn_refusal(name) {
             return Err(refusal);
