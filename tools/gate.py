@@ -43,7 +43,7 @@ def crates():
 def lines_of(crate):
     """How many lines its source has, tests left out."""
     paths = glob.glob(f"crates/{crate}/src/**/*.rt", recursive=True)
-    return sum(text_of(path).count("\n") for path in paths if not re.search(r"/strm_(tests|trials|scenes)/|/tests/|tests\.rt$", path))
+    return sum(text_of(path).count("\n") for path in paths if not re.search(r"/strm_(tests|scenes)/|/tests/|tests\.rt$", path))
 
 
 def edits_of(crate):

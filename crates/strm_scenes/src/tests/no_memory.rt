@@ -180,8 +180,9 @@ fn rests<B: Blocks + Drop>(pair: &mut Pair<B>) -> bool {
 
 // Makes so many of the calls, and the turns behind each: the first call that doesn't go as it says, if any.
 pub fn first_wrong<B: Blocks + Drop>(pair: &mut Pair<B>, calls: usize) -> Option<usize> {
-    for at in 0..CALLS.len().min(calls) {
-        if !goes(pair, &CALLS[at]) || !rests(pair) {
+    let all: &[Step<'_>] = CALLS;
+    for at in 0..all.len().min(calls) {
+        if !goes(pair, &all[at]) || !rests(pair) {
             return Some(at);
         }
     }

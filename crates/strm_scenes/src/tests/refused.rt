@@ -52,6 +52,14 @@ fn pair_of<B: Reserve>(rt: &impl Abort, alloc: Global, store: B) -> Pair<B>
     pair
 }
 
+// A pair over a store of its own, which has made its first 4 calls.
+fn opened_pair<B: Reserve>(rt: &impl Abort, alloc: Global) -> Result<Pair<B>, AllocError> {
+    let store: B = store_twice(alloc)?;
+    let mut pair = pair_of(rt, alloc, store);
+    assert!(rt; first_wrong(&mut pair, 4).is_none());
+    Ok(pair)
+}
+
 // Makes the image of a pair, which has 300 bytes on a queue.
 fn image_of<B: Reserve>(rt: &impl Abort, alloc: Global, pair: &Pair<B>) -> Vec<u8> {
     if let Ok(image) = pair.image(alloc) {
@@ -89,6 +97,17 @@ fn cut<B: Reserve>(alloc: Global, pair: &mut Pair<B>) -> Option<usize> {
     Some(trace.entries.len())
 }
 
+// Whether a pair that is made of an image has this image.
+fn is_restored<B: Reserve>(
+    rt: &impl Abort,
+    alloc: Global,
+    image: &[u8],
+) -> Result<bool, AllocError> {
+    let store: B = store_twice(alloc)?;
+    let pair = restored(rt, alloc, store, image);
+    Ok(image_of(rt, alloc, &pair).as_slice() == image)
+}
+
 // Cuts a pair, which has made 4 calls and a turn. Where that is refused, its journal stays.
 fn cuts<B: Reserve>(rt: &impl Abort, alloc: Global, pair: &mut Pair<B>) {
     let made = entries(pair);
@@ -124,11 +143,9 @@ fn script_goes<B: Reserve>(rt: &impl Abort, alloc: Global, script: &[u8], wanted
 
 // Makes each call that asks for memory, and once more where it is refused.
 fn makes_all<B: Reserve>(rt: &impl Abort, alloc: Global) -> Result<(), AllocError> {
-    let mut pair = pair_of(rt, alloc, store_twice::<B>(alloc)?);
-    assert!(rt; first_wrong(&mut pair, 4).is_none());
+    let mut pair: Pair<B> = opened_pair(rt, alloc)?;
     let image = image_of(rt, alloc, &pair);
-    let again = restored(rt, alloc, store_twice::<B>(alloc)?, image.as_slice());
-    assert!(rt; image_of(rt, alloc, &again) == image);
+    assert!(rt; is_restored::<B>(rt, alloc, image.as_slice())?);
     cuts(rt, alloc, &mut pair);
     for (script, wanted) in &SCRIPTS {
         script_goes::<B>(rt, alloc, *script, *wanted);
@@ -144,9 +161,8 @@ fn any_one_request_for_memory_may_be_refused(rt: HostRuntime) -> Result<(), Fail
 
 // Makes each call that asks for memory where all is taken, and once more where it was given back. A heap of which not all can be taken is left out.
 fn refuses_all<B: Reserve>(rt: &impl Abort, alloc: Global) -> Result<(), Fail> {
-    let mut pair = pair_of(rt, alloc, store_twice::<B>(alloc)?);
-    assert!(rt; first_wrong(&mut pair, 4).is_none());
-    let store = store_twice::<B>(alloc)?;
+    let pair: Pair<B> = opened_pair(rt, alloc)?;
+    let store: B = store_twice(alloc)?;
     let mut reader = FIRST_RUN;
     let mut written = Vec::new(alloc);
     let taken = all_memory(alloc)?;
