@@ -10,8 +10,8 @@ mod recount;
 mod restarts;
 mod restoring;
 mod running;
-mod steps;
-mod texts;
+pub mod steps;
+pub mod texts;
 mod walk;
 
 use crate::trials::steps::*;
@@ -348,8 +348,8 @@ const TABLES: [&[Run<'static>]; 5] = [
 fn each_run_goes_as_it_says(rt: HostRuntime) -> Result<(), Fail> {
     for runs in TABLES {
         for told in runs {
-            run::<TableStore>(&rt, rt.alloc(), told)?;
-            run::<RawStore>(&rt, rt.alloc(), told)?;
+            follow_run::<TableStore>(&rt, rt.alloc(), told)?;
+            follow_run::<RawStore>(&rt, rt.alloc(), told)?;
         }
     }
     Ok(())

@@ -22,7 +22,11 @@ pub const SIZES: Config = Config {
     journal_bytes: 8192,
 };
 
-static BYTES: [u8; 300] = [b'z'; 300];
+const BYTES: &[u8] = &[b'z'; 300];
+
+const AB: &[u8] = b"ab";
+
+const CDE: &[u8] = b"cde";
 
 // Calls, each with what it answers. All turns that can be made are made behind each of them.
 const CALLS: &[Step<'static>] = &[
@@ -31,7 +35,7 @@ const CALLS: &[Step<'static>] = &[
     Step::Call(SLAVE, Event::OpenSlave, DONE),
     Step::Call(
         MASTER,
-        Event::Write { bytes: &BYTES },
+        Event::Write { bytes: BYTES },
         Ok(Answer::Count(300)),
     ),
     Step::Call(SLAVE, Event::Read { n: 4096 }, Ok(Answer::Bytes(300))),
@@ -40,8 +44,8 @@ const CALLS: &[Step<'static>] = &[
         MASTER,
         Event::Put {
             prio: Prio::Band(Band(1)),
-            control: Some(b"ab"),
-            body: Some(b"cde"),
+            control: Some(AB),
+            body: Some(CDE),
         },
         DONE,
     ),
@@ -90,11 +94,7 @@ const CALLS: &[Step<'static>] = &[
         },
         DONE,
     ),
-    Step::Call(
-        SLAVE,
-        Event::Write { bytes: &BYTES },
-        Ok(Answer::Count(300)),
-    ),
+    Step::Call(SLAVE, Event::Write { bytes: BYTES }, Ok(Answer::Count(300))),
     Step::Call(MASTER, Event::Read { n: 1 }, Ok(Answer::Bytes(1))),
     Step::Call(
         MASTER,
@@ -136,11 +136,7 @@ const CALLS: &[Step<'static>] = &[
     Step::Call(SLAVE, Event::Signals, Ok(Answer::Signals(0))),
     Step::Call(MASTER, Event::Look, INVALID),
     Step::Call(MASTER, Event::Pop, INVALID),
-    Step::Call(
-        SLAVE,
-        Event::Write { bytes: &BYTES },
-        Ok(Answer::Count(300)),
-    ),
+    Step::Call(SLAVE, Event::Write { bytes: BYTES }, Ok(Answer::Count(300))),
     Step::Call(MASTER, Event::Shut, DONE),
     Step::Call(SLAVE, Event::Shut, DONE),
 ];

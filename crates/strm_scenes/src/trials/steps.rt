@@ -191,7 +191,7 @@ fn is_alike(one: &Ledger, other: &Ledger) -> bool {
 }
 
 // The ledger of what the master wrote.
-fn ledger<B: Blocks + Drop>(pair: &Pair<B>) -> Ledger {
+fn masters_ledger<B: Blocks + Drop>(pair: &Pair<B>) -> Ledger {
     pair.ledger(Dir::MasterToSlave)
 }
 
@@ -202,9 +202,9 @@ pub fn restart<B: Blocks + Drop>(pair: &mut Pair<B>) {
 
 // Begins the journal anew, and says whether the ledger of what the master wrote is as before.
 fn keeps_its_ledger<B: Blocks + Drop>(pair: &mut Pair<B>) -> bool {
-    let before = ledger(pair);
+    let before = masters_ledger(pair);
     restart(pair);
-    is_alike(&before, &ledger(pair))
+    is_alike(&before, &masters_ledger(pair))
 }
 
 /// Makes the turns that can be made.
@@ -300,7 +300,11 @@ pub const OPENING: [Step<'static>; 3] = [
 ];
 
 /// Goes through the steps of a run on a new pair of its sizes.
-pub fn run<B: Reserve>(rt: &impl Abort, alloc: Global, run: &Run<'_>) -> Result<(), AllocError> {
+pub fn follow_run<B: Reserve>(
+    rt: &impl Abort,
+    alloc: Global,
+    run: &Run<'_>,
+) -> Result<(), AllocError> {
     let mut pair: Pair<B> = new_pair(alloc, run.sizes)?;
     follow(rt, &mut pair, run.title, run.first);
     follow(rt, &mut pair, run.title, run.then);
