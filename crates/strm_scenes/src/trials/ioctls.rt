@@ -1,8 +1,8 @@
 //! Ioctls on both sides' streams, with answers worked out by hand from streamio(7I).
 
 use super::steps::{
-    AGAIN, Came, DONE, INVALID, MASTER, MASTER_DRIVER, NOT_OPEN, OPENING, SIZES, SLAVE,
-    SLAVE_DRIVER, Step, run,
+    AGAIN, Came, DONE, INVALID, MASTER, MASTER_DRIVER, NOT_OPEN, OPENING, Run, SIZES, SLAVE,
+    SLAVE_DRIVER, Step,
 };
 use std::test::Fail;
 use strm_types::{Answer, Config, Event, Refusal, TIOCGWINSZ, Turn};
@@ -34,12 +34,6 @@ const ASKING: [Step<'static>; 15] = [
     Step::Entered(9, b""),
 ];
 
-// The answer of a master's ioctl comes back over both drivers, that of a slave's within the call.
-#[test]
-fn an_ioctl_is_answered_once(rt: HostRuntime) -> Result<(), Fail> {
-    Ok(run(&rt, rt.alloc(), SIZES, &OPENING, &ASKING)?)
-}
-
 const WITH_BYTES: Event<&'static [u8]> = Event::Ioctl {
     command: 99,
     body: b"xyz",
@@ -68,12 +62,6 @@ const OUTLIVING: [Step<'static>; 15] = [
     Step::Entered(11, b"xyz"),
 ];
 
-// What the master asks waits for the next slave.
-#[test]
-fn a_masters_ioctl_outlives_the_slave(rt: HostRuntime) -> Result<(), Fail> {
-    Ok(run(&rt, rt.alloc(), SIZES, &OPENING, &OUTLIVING)?)
-}
-
 const FEW_BYTES: Config = Config {
     mblks: 33,
     dblks: 34,
@@ -95,9 +83,33 @@ const FEW_BLOCKS: Config = Config {
 
 const NO_ROOM: [Step<'static>; 1] = [Step::Call(MASTER, ASK, Err(Refusal::Enosr))];
 
-// An ioctl wants room for its answer in the journal, and 34 blocks.
-#[test]
-fn an_ioctl_asks_for_room(rt: HostRuntime) -> Result<(), Fail> {
-    run(&rt, rt.alloc(), FEW_BYTES, &OPENING, &REFUSED)?;
-    Ok(run(&rt, rt.alloc(), FEW_BLOCKS, &OPENING, &NO_ROOM)?)
-}
+/// The runs of this file.
+pub const RUNS: [Run<'static>; 4] = [
+    // The answer of a master's ioctl comes back over both drivers, that of a slave's within the call.
+    Run {
+        title: "an ioctl is answered once",
+        sizes: SIZES,
+        first: &OPENING,
+        then: &ASKING,
+    },
+    // What the master asks waits for the next slave.
+    Run {
+        title: "a master's ioctl outlives the slave",
+        sizes: SIZES,
+        first: &OPENING,
+        then: &OUTLIVING,
+    },
+    // An ioctl wants room for its answer in the journal, and 34 blocks.
+    Run {
+        title: "an ioctl asks for room in the journal",
+        sizes: FEW_BYTES,
+        first: &OPENING,
+        then: &REFUSED,
+    },
+    Run {
+        title: "an ioctl asks for blocks",
+        sizes: FEW_BLOCKS,
+        first: &OPENING,
+        then: &NO_ROOM,
+    },
+];

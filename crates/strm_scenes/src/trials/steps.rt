@@ -5,11 +5,11 @@ ghost use Rattle.strm_types.specs.declared.limits.TheConstants.{LISTS};
 
 use std::alloc::{AllocError, Global};
 use std::process::Abort;
-use strm_blocks::{Blocks, Reserve, TableStore, Visitor};
-use strm_pair::Pair;
+use strm_blocks::{Blocks, Reserve, Visitor};
+use strm_pair::{Pair, Ran};
 use strm_types::{
-    Answer, Band, Caller, Config, Content, Event, MsgKind, Place, Prio, QueueName, Refusal, Rule,
-    Side, Turn, Way,
+    Answer, Band, Caller, Config, Content, Dir, Event, Ledger, MsgKind, Place, Prio, QueueName,
+    Refusal, Rule, Side, Turn, Way,
 };
 
 pub const MASTER: Caller = Caller {
@@ -69,7 +69,6 @@ pub const NO_BLOCKS: Came = Err(Refusal::Enosr);
 pub const FULL: Came = Err(Refusal::JournalFull);
 
 /// A step of a run, and what must come of it.
-#[derive(Clone, Copy)]
 pub enum Step<'a> {
     /// A call answers so.
     Call(Caller, Event<&'a [u8]>, Came),
@@ -93,6 +92,18 @@ pub enum Step<'a> {
     Entered(usize, &'a [u8]),
     /// The pair is made as new.
     Reset,
+    /// The journal begins anew, and the ledger of what the master wrote is as before.
+    Restart,
+    /// So many turns can be made, and the next one is refused for this.
+    Runs(Ran),
+}
+
+/// A run on a new pair: what it shows, the pair's sizes, and its steps, in two parts.
+pub struct Run<'a> {
+    pub title: &'a str,
+    pub sizes: Config,
+    pub first: &'a [Step<'a>],
+    pub then: &'a [Step<'a>],
 }
 
 fn gives<B: Blocks + Drop>(pair: &mut Pair<B>, caller: Caller, n: u32, bytes: &[u8]) -> bool {
@@ -102,7 +113,8 @@ fn gives<B: Blocks + Drop>(pair: &mut Pair<B>, caller: Caller, n: u32, bytes: &[
     }
 }
 
-fn answers<B: Blocks + Drop>(
+/// Whether a call answers so.
+pub fn answers<B: Blocks + Drop>(
     pair: &mut Pair<B>,
     caller: Caller,
     event: &Event<&[u8]>,
@@ -158,20 +170,67 @@ fn gone<B: Blocks + Drop>(pair: &Pair<B>, rule: Rule) -> (u64, u64) {
     (fates.from_master[at], fates.from_slave[at])
 }
 
+/// How many entries the journal has.
+pub fn entries<B: Blocks + Drop>(pair: &Pair<B>) -> usize {
+    pair.journal().entries.len()
+}
+
 /// Whether the journal has so many entries, and these bytes.
 pub fn has_entered<B: Blocks + Drop>(pair: &Pair<B>, count: usize, bytes: &[u8]) -> bool {
     let journal = pair.journal();
     journal.entries.len() == count && journal.bytes == bytes
 }
 
-// Whether what must come of a step comes of it.
-fn goes<B: Blocks + Drop>(pair: &mut Pair<B>, step: &Step<'_>) -> bool {
+// Whether a ledger has the numbers of another one.
+fn is_alike(one: &Ledger, other: &Ledger) -> bool {
+    one.written == other.written
+        && one.made == other.made
+        && one.queued == other.queued
+        && one.inline == other.inline
+        && one.fates == other.fates
+}
+
+// The ledger of what the master wrote.
+fn masters_ledger<B: Blocks + Drop>(pair: &Pair<B>) -> Ledger {
+    pair.ledger(Dir::MasterToSlave)
+}
+
+/// Begins the journal anew.
+pub fn restart<B: Blocks + Drop>(pair: &mut Pair<B>) {
+    pair.restart();
+}
+
+// Begins the journal anew, and says whether the ledger of what the master wrote is as before.
+fn keeps_its_ledger<B: Blocks + Drop>(pair: &mut Pair<B>) -> bool {
+    let before = masters_ledger(pair);
+    restart(pair);
+    is_alike(&before, &masters_ledger(pair))
+}
+
+/// Makes the turns that can be made.
+pub fn runqueues<B: Blocks + Drop>(pair: &mut Pair<B>) -> Ran {
+    pair.runqueues()
+}
+
+fn turns<B: Blocks + Drop>(pair: &mut Pair<B>, queue: QueueName) -> Result<Turn, Refusal> {
+    pair.turn(queue)
+}
+
+/// Makes the pair as new.
+pub fn reset<B: Blocks + Drop>(pair: &mut Pair<B>) {
+    pair.reset();
+}
+
+/// Whether what must come of a step comes of it.
+pub fn goes<B: Blocks + Drop>(pair: &mut Pair<B>, step: &Step<'_>) -> bool {
     match step {
         Step::Call(caller, event, came) => answers(pair, *caller, event, *came),
         Step::Read(caller, n, bytes) => gives(pair, *caller, *n, bytes),
-        Step::Turn(queue, answer) => pair.turn(*queue) == *answer,
+        Step::Turn(queue, answer) => turns(pair, *queue) == *answer,
+        Step::Runs(ran) => runqueues(pair) == *ran,
+        Step::Restart => keeps_its_ledger(pair),
         Step::Reset => {
-            pair.reset();
+            reset(pair);
             true
         }
         _ => shows(pair, step),
@@ -192,10 +251,15 @@ fn shows<B: Blocks + Drop>(pair: &Pair<B>, step: &Step<'_>) -> bool {
     }
 }
 
-/// Goes through the steps of a run.
-pub fn follow<B: Blocks + Drop>(rt: &impl Abort, pair: &mut Pair<B>, steps: &[Step<'_>]) {
+/// Goes through the steps of a run that shows this.
+pub fn follow<B: Blocks + Drop>(
+    rt: &impl Abort,
+    pair: &mut Pair<B>,
+    title: &str,
+    steps: &[Step<'_>],
+) {
     for index in 0..steps.len() {
-        assert!(rt; goes(pair, &steps[index]), "at step {index}");
+        assert!(rt; goes(pair, &steps[index]), "{title}, step {index}");
     }
 }
 
@@ -218,6 +282,16 @@ pub fn new_pair<B: Reserve>(alloc: Global, sizes: Config) -> Result<Pair<B>, All
     Ok(pair)
 }
 
+/// A pair that is made of an image, unless that is refused.
+pub fn restored<B: Reserve>(
+    alloc: Global,
+    sizes: Config,
+    image: &[u8],
+) -> Result<Option<Pair<B>>, AllocError> {
+    let store: B = store_of(alloc, &sizes)?;
+    Ok(Pair::restore(alloc, sizes, image, store).ok())
+}
+
 /// The steps that open both sides.
 pub const OPENING: [Step<'static>; 3] = [
     Step::Call(MASTER, Event::OpenMaster, DONE),
@@ -225,26 +299,14 @@ pub const OPENING: [Step<'static>; 3] = [
     Step::Call(MASTER, Event::OpenSlave, DONE),
 ];
 
-fn run_over<B: Reserve>(
+/// Goes through the steps of a run on a new pair of its sizes.
+pub fn follow_run<B: Reserve>(
     rt: &impl Abort,
     alloc: Global,
-    sizes: Config,
-    first: &[Step<'_>],
-    then: &[Step<'_>],
+    run: &Run<'_>,
 ) -> Result<(), AllocError> {
-    let mut pair: Pair<B> = new_pair(alloc, sizes)?;
-    follow(rt, &mut pair, first);
-    follow(rt, &mut pair, then);
+    let mut pair: Pair<B> = new_pair(alloc, run.sizes)?;
+    follow(rt, &mut pair, run.title, run.first);
+    follow(rt, &mut pair, run.title, run.then);
     Ok(())
-}
-
-/// Goes through the steps of two runs, one after the other, on a new pair of these sizes over tables.
-pub fn run(
-    rt: &impl Abort,
-    alloc: Global,
-    sizes: Config,
-    first: &[Step<'_>],
-    then: &[Step<'_>],
-) -> Result<(), AllocError> {
-    run_over::<TableStore>(rt, alloc, sizes, first, then)
 }

@@ -10,16 +10,18 @@ mod recount;
 mod restarts;
 mod restoring;
 mod running;
-mod steps;
-mod texts;
+pub mod steps;
+pub mod texts;
 mod walk;
 
-use crate::tests::steps::*;
+use crate::trials::steps::*;
+use crate::trials::texts::buffer;
 use std::alloc::{AllocError, Global};
 use std::process::Abort;
 use std::test::Fail;
 use strm_blocks::{Blocks, Reserve, TableStore};
 use strm_pair::Pair;
+use strm_raw::RawStore;
 use strm_types::{Answer, Band, Config, Event, FlushQueues, ModuleName, Refusal, Rule, Turn};
 
 const CROSSING: [Step<'static>; 10] = [
@@ -35,11 +37,6 @@ const CROSSING: [Step<'static>; 10] = [
     Step::Entered(8, b"abcabc"),
 ];
 
-#[test]
-fn bytes_cross_to_the_slave(rt: HostRuntime) -> Result<(), Fail> {
-    Ok(run(&rt, rt.alloc(), SIZES, &OPENING, &CROSSING)?)
-}
-
 const LONG: &[u8] = &[b'z'; 600];
 
 const FILLING: [Step<'static>; 5] = [
@@ -49,11 +46,6 @@ const FILLING: [Step<'static>; 5] = [
     Step::Turn(MASTER_DRIVER, Ok(Turn::Moved(256))),
     Step::Call(MASTER, Event::Write { bytes: b"z" }, Ok(Answer::Count(1))),
 ];
-
-#[test]
-fn a_full_driver_holds_writers(rt: HostRuntime) -> Result<(), Fail> {
-    Ok(run(&rt, rt.alloc(), SIZES, &OPENING, &FILLING)?)
-}
 
 const RENEWING: [Step<'static>; 14] = [
     Step::Call(MASTER, Event::Write { bytes: LONG }, Ok(Answer::Count(512))),
@@ -71,11 +63,6 @@ const RENEWING: [Step<'static>; 14] = [
     Step::Call(MASTER, Event::OpenMaster, DONE),
     Step::Call(MASTER, Event::OpenSlave, AGAIN),
 ];
-
-#[test]
-fn a_pair_is_made_as_new_in_place(rt: HostRuntime) -> Result<(), Fail> {
-    Ok(run(&rt, rt.alloc(), SIZES, &OPENING, &RENEWING)?)
-}
 
 const ONE_BYTE: Event<&'static [u8]> = Event::Write { bytes: b"a" };
 
@@ -97,12 +84,6 @@ const TOO_FEW: [Step<'static>; 1] = [Step::Call(MASTER, ONE_BYTE, NO_BLOCKS)];
 
 const ENOUGH: [Step<'static>; 1] = [Step::Call(MASTER, ONE_BYTE, Ok(Answer::Count(1)))];
 
-#[test]
-fn thirty_two_blocks_are_kept_back(rt: HostRuntime) -> Result<(), Fail> {
-    run(&rt, rt.alloc(), FEW_BLOCKS, &OPENING, &TOO_FEW)?;
-    Ok(run(&rt, rt.alloc(), ONE_BLOCK_MORE, &OPENING, &ENOUGH)?)
-}
-
 const THREE_ENTRIES: Config = Config {
     mblks: 256,
     dblks: 256,
@@ -115,11 +96,6 @@ const REFUSED_AS_FULL: [Step<'static>; 3] = [
     Step::Call(MASTER, Event::Read { n: 1 }, FULL),
     Step::Entered(3, b""),
 ];
-
-#[test]
-fn a_full_journal_refuses(rt: HostRuntime) -> Result<(), Fail> {
-    Ok(run(&rt, rt.alloc(), THREE_ENTRIES, &OPENING, &REFUSED_AS_FULL)?)
-}
 
 const MANY_ENTRIES: Config = Config {
     mblks: 64,
@@ -137,11 +113,11 @@ const FULL_OF_UNLOCKS: [Step<'static>; 2] = [
 
 // A pair is made with room for as many entries as it is asked for, and takes a call for each of them.
 fn fills_its_journal<B: Blocks + Drop>(rt: &impl Abort, pair: &mut Pair<B>) {
-    follow(rt, pair, &OPENING);
-    for _ in OPENING.len()..20000 {
-        follow(rt, pair, &UNLOCKING);
+    follow(rt, pair, "a journal of 20,000 entries", &OPENING);
+    for _ in 3..20000 {
+        follow(rt, pair, "a journal of 20,000 entries", &UNLOCKING);
     }
-    follow(rt, pair, &FULL_OF_UNLOCKS);
+    follow(rt, pair, "a journal of 20,000 entries", &FULL_OF_UNLOCKS);
 }
 
 fn is_filled<B: Reserve>(rt: &impl Abort, alloc: Global) -> Result<(), AllocError> {
@@ -173,11 +149,6 @@ const BAD_CALLS: [Step<'static>; 15] = [
     Step::Entered(4, b""),
 ];
 
-#[test]
-fn bad_calls_are_refused_by_name(rt: HostRuntime) -> Result<(), Fail> {
-    Ok(run(&rt, rt.alloc(), SIZES, &BAD_CALLS, &[])?)
-}
-
 const ALL_BLOCKS: Config = Config {
     mblks: 65536,
     dblks: 65536,
@@ -185,12 +156,26 @@ const ALL_BLOCKS: Config = Config {
     journal_bytes: 2097152,
 };
 
+// A write of more bytes than the mark is taken up to it.
+fn takes_512<B: Blocks + Drop>(rt: &impl Abort, pair: &mut Pair<B>, bytes: &[u8]) {
+    follow(rt, pair, "a huge write", &OPENING);
+    assert!(rt; answers(pair, SLAVE, &Event::Write { bytes }, Ok(Answer::Count(512))));
+}
+
+fn is_written_to<B: Reserve>(
+    rt: &impl Abort,
+    alloc: Global,
+    bytes: &[u8],
+) -> Result<(), AllocError> {
+    let mut pair: Pair<B> = new_pair(alloc, ALL_BLOCKS)?;
+    takes_512(rt, &mut pair, bytes);
+    Ok(())
+}
+
 #[test]
 fn a_huge_write_is_taken_up_to_the_mark(rt: HostRuntime) -> Result<(), Fail> {
-    let huge = vec![in rt.alloc(); 7u8; 1048576]?;
-    let bytes = huge.as_slice();
-    let steps = [Step::Call(SLAVE, Event::Write { bytes }, Ok(Answer::Count(512)))];
-    Ok(run(&rt, rt.alloc(), ALL_BLOCKS, &OPENING, &steps)?)
+    let huge = buffer(rt.alloc(), 7, 1048576)?;
+    Ok(is_written_to::<TableStore>(&rt, rt.alloc(), huge.as_slice())?)
 }
 
 const WITH_AN_EMPTY_WRITE: [Step<'static>; 9] = [
@@ -204,11 +189,6 @@ const WITH_AN_EMPTY_WRITE: [Step<'static>; 9] = [
     Step::Read(SLAVE, 9, b""),
     Step::Read(SLAVE, 9, b"b"),
 ];
-
-#[test]
-fn an_empty_write_reads_as_nothing(rt: HostRuntime) -> Result<(), Fail> {
-    Ok(run(&rt, rt.alloc(), SIZES, &OPENING, &WITH_AN_EMPTY_WRITE)?)
-}
 
 const ALL_WRITES: Event<&'static [u8]> = Event::Flush {
     what: FlushQueues::Write,
@@ -234,11 +214,6 @@ const FLUSHING: [Step<'static>; 11] = [
     Step::Entered(7, b"abc"),
 ];
 
-#[test]
-fn a_flush_takes_what_was_written(rt: HostRuntime) -> Result<(), Fail> {
-    Ok(run(&rt, rt.alloc(), SIZES, &OPENING, &FLUSHING)?)
-}
-
 const CLOSING_THE_SLAVE: [Step<'static>; 11] = [
     Step::Call(MASTER, Event::Write { bytes: b"abc" }, Ok(Answer::Count(3))),
     Step::Turn(MASTER_DRIVER, Ok(Turn::Moved(3))),
@@ -252,11 +227,6 @@ const CLOSING_THE_SLAVE: [Step<'static>; 11] = [
     Step::Gone(Rule::EndClosed, 3, 0),
     Step::Gone(Rule::Read, 1, 0),
 ];
-
-#[test]
-fn a_closed_slave_ends_the_masters_input(rt: HostRuntime) -> Result<(), Fail> {
-    Ok(run(&rt, rt.alloc(), SIZES, &OPENING, &CLOSING_THE_SLAVE)?)
-}
 
 const CLOSING_THE_MASTER: [Step<'static>; 14] = [
     Step::Call(SLAVE, Event::Write { bytes: b"abc" }, Ok(Answer::Count(3))),
@@ -275,11 +245,6 @@ const CLOSING_THE_MASTER: [Step<'static>; 14] = [
     Step::Gone(Rule::EndClosed, 0, 0),
 ];
 
-#[test]
-fn a_closed_master_hangs_the_slave_up(rt: HostRuntime) -> Result<(), Fail> {
-    Ok(run(&rt, rt.alloc(), SIZES, &OPENING, &CLOSING_THE_MASTER)?)
-}
-
 const PTEM: Event<&'static [u8]> = Event::Push {
     name: Some(ModuleName::Ptem),
 };
@@ -295,7 +260,97 @@ const UNKNOWN: [Step<'static>; 8] = [
     Step::Entered(6, b""),
 ];
 
+// The runs of this file.
+const RUNS: [Run<'static>; 12] = [
+    Run {
+        title: "bytes cross to the slave",
+        sizes: SIZES,
+        first: &OPENING,
+        then: &CROSSING,
+    },
+    Run {
+        title: "a full driver holds writers",
+        sizes: SIZES,
+        first: &OPENING,
+        then: &FILLING,
+    },
+    Run {
+        title: "a pair is made as new in place",
+        sizes: SIZES,
+        first: &OPENING,
+        then: &RENEWING,
+    },
+    Run {
+        title: "thirty-two blocks are kept back",
+        sizes: FEW_BLOCKS,
+        first: &OPENING,
+        then: &TOO_FEW,
+    },
+    Run {
+        title: "one block more is written to",
+        sizes: ONE_BLOCK_MORE,
+        first: &OPENING,
+        then: &ENOUGH,
+    },
+    Run {
+        title: "a full journal refuses",
+        sizes: THREE_ENTRIES,
+        first: &OPENING,
+        then: &REFUSED_AS_FULL,
+    },
+    Run {
+        title: "bad calls are refused by name",
+        sizes: SIZES,
+        first: &BAD_CALLS,
+        then: &[],
+    },
+    Run {
+        title: "an empty write reads as nothing",
+        sizes: SIZES,
+        first: &OPENING,
+        then: &WITH_AN_EMPTY_WRITE,
+    },
+    Run {
+        title: "a flush takes what was written",
+        sizes: SIZES,
+        first: &OPENING,
+        then: &FLUSHING,
+    },
+    Run {
+        title: "a closed slave ends the master's input",
+        sizes: SIZES,
+        first: &OPENING,
+        then: &CLOSING_THE_SLAVE,
+    },
+    Run {
+        title: "a closed master hangs the slave up",
+        sizes: SIZES,
+        first: &OPENING,
+        then: &CLOSING_THE_MASTER,
+    },
+    Run {
+        title: "one ptem stands and no unknown name",
+        sizes: SIZES,
+        first: &OPENING,
+        then: &UNKNOWN,
+    },
+];
+
+const TABLES: [&[Run<'static>]; 5] = [
+    &RUNS,
+    &messages::RUNS,
+    &ioctls::RUNS,
+    &running::RUNS,
+    &restarts::RUNS,
+];
+
 #[test]
-fn one_ptem_stands_and_no_unknown_name(rt: HostRuntime) -> Result<(), Fail> {
-    Ok(run(&rt, rt.alloc(), SIZES, &OPENING, &UNKNOWN)?)
+fn each_run_goes_as_it_says(rt: HostRuntime) -> Result<(), Fail> {
+    for runs in TABLES {
+        for told in runs {
+            follow_run::<TableStore>(&rt, rt.alloc(), told)?;
+            follow_run::<RawStore>(&rt, rt.alloc(), told)?;
+        }
+    }
+    Ok(())
 }

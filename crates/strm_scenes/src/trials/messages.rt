@@ -2,8 +2,8 @@
 //! hand from the manual pages and from streamio(7I).
 
 use super::steps::{
-    AGAIN, Came, DONE, INVALID, MASTER, MASTER_DRIVER, OPENING, ORDINARY, SIZES, SLAVE, SLAVE_HEAD,
-    Step, run,
+    AGAIN, Came, DONE, INVALID, MASTER, MASTER_DRIVER, OPENING, ORDINARY, Run, SIZES, SLAVE,
+    SLAVE_HEAD, Step,
 };
 use std::test::Fail;
 use strm_types::{Answer, Band, ControlMode, Event, Mode, Prio, Refusal, Rule, Turn, Wanted};
@@ -114,11 +114,6 @@ const CROSSING: [Step<'static>; 12] = [
     Step::Entered(9, b"abcdeacdeb"),
 ];
 
-#[test]
-fn a_message_crosses_with_its_parts(rt: HostRuntime) -> Result<(), Fail> {
-    Ok(run(&rt, rt.alloc(), SIZES, &OPENING, &CROSSING)?)
-}
-
 const REFUSING: [Step<'static>; 9] = [
     Step::Call(MASTER, PUT_HIGH_DATA, INVALID),
     Step::Call(MASTER, PUT_LONG, TOO_LONG),
@@ -130,11 +125,6 @@ const REFUSING: [Step<'static>; 9] = [
     Step::Call(MASTER, PUT_HIGH, DONE),
     Step::Sizes(MASTER_DRIVER, 3, 514),
 ];
-
-#[test]
-fn bad_puts_and_gets_are_refused_by_name(rt: HostRuntime) -> Result<(), Fail> {
-    Ok(run(&rt, rt.alloc(), SIZES, &OPENING, &REFUSING)?)
-}
 
 const HIGH_FIRST: [Step<'static>; 6] = [
     Step::Call(MASTER, PUT_BANDED, DONE),
@@ -154,11 +144,6 @@ const HIGH_FIRST: [Step<'static>; 6] = [
         }),
     ),
 ];
-
-#[test]
-fn high_priority_comes_first(rt: HostRuntime) -> Result<(), Fail> {
-    Ok(run(&rt, rt.alloc(), SIZES, &OPENING, &HIGH_FIRST)?)
-}
 
 const PUT_IN_BAND_7: Event<&'static [u8]> = Event::Put {
     prio: Prio::Band(Band(7)),
@@ -220,7 +205,30 @@ const BANDS_IN_ORDER: [Step<'static>; 9] = [
     ),
 ];
 
-#[test]
-fn higher_bands_come_first(rt: HostRuntime) -> Result<(), Fail> {
-    Ok(run(&rt, rt.alloc(), SIZES, &OPENING, &BANDS_IN_ORDER)?)
-}
+/// The runs of this file.
+pub const RUNS: [Run<'static>; 4] = [
+    Run {
+        title: "a message crosses with its parts",
+        sizes: SIZES,
+        first: &OPENING,
+        then: &CROSSING,
+    },
+    Run {
+        title: "bad puts and gets are refused by name",
+        sizes: SIZES,
+        first: &OPENING,
+        then: &REFUSING,
+    },
+    Run {
+        title: "high priority comes first",
+        sizes: SIZES,
+        first: &OPENING,
+        then: &HIGH_FIRST,
+    },
+    Run {
+        title: "higher bands come first",
+        sizes: SIZES,
+        first: &OPENING,
+        then: &BANDS_IN_ORDER,
+    },
+];

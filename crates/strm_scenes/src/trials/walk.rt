@@ -1,9 +1,10 @@
 //! Long walks of calls and turns, some of them refused, each compared with a plain model that the pair's journal
 //! leads on.
 
-use crate::tests::kept::keep;
-use crate::tests::recount::PlainPair;
-use crate::tests::steps::new_pair;
+use crate::trials::kept::keep;
+use crate::trials::recount::PlainPair;
+use crate::trials::steps::new_pair;
+use crate::trials::texts::buffer;
 use std::alloc::{AllocError, Global};
 use std::process::Abort;
 use std::test::Fail;
@@ -346,14 +347,12 @@ impl<B: Blocks + Drop> Walk<B> {
     }
 }
 
-// A buffer with room for any image of a pair here: all messages have some 12 kB.
-fn buffer(alloc: Global) -> Result<Vec<u8>, AllocError> {
-    Vec::from_elem(alloc, 0, 65536)
-}
+// Room for any image of a pair here: all messages have some 12 kB.
+const ROOM_FOR_AN_IMAGE: usize = 65536;
 
 // A walk that begins, on a new pair of these sizes.
 fn walk_of<B: Reserve>(alloc: Global, sizes: Config) -> Result<Walk<B>, AllocError> {
-    let text = buffer(alloc)?;
+    let text = buffer(alloc, 0, ROOM_FOR_AN_IMAGE)?;
     let pair: Pair<B> = new_pair(alloc, sizes)?;
     Ok(Walk {
         pair,

@@ -14,11 +14,16 @@ use strm_types::{
 };
 
 // How many bytes calls wrote in a direction, and were given there.
-#[derive(Clone, Copy, Default)]
+#[derive(Clone, Copy)]
 struct Recount {
     written: u64,
     read: u64,
 }
+
+const NOTHING: Recount = Recount {
+    written: 0,
+    read: 0,
+};
 
 impl Recount {
     fn wrote(&mut self, bytes: usize) {
@@ -299,17 +304,22 @@ const TYPED: [Rule; 8] = [
     Rule::EndClosed,
 ];
 
-fn goes_on_both_sides<B: Reserve>(rt: &impl Abort, alloc: Global) -> Result<(), AllocError> {
-    let mut pair: Pair<B> = new_pair(alloc, ROOM_FOR_ALL)?;
-    follow(rt, &mut pair, &OPENING);
-    let mut walk = Walk {
+// A walk that begins, on a new pair.
+fn walk_of<B: Reserve>(alloc: Global) -> Result<Walk<B>, AllocError> {
+    let pair: Pair<B> = new_pair(alloc, ROOM_FOR_ALL)?;
+    Ok(Walk {
         pair,
-        from_master: Recount::default(),
-        from_slave: Recount::default(),
+        from_master: NOTHING,
+        from_slave: NOTHING,
         out: Content::new(),
         random: 1,
         in_lines: 0,
-    };
+    })
+}
+
+// Goes on both sides, where bytes go by each of those rules.
+fn goes_on<B: Blocks + Drop>(rt: &impl Abort, walk: &mut Walk<B>) {
+    follow(rt, &mut walk.pair, "opening", &OPENING);
     walk.goes(rt, 20000);
     assert!(rt; walk.in_lines > 20);
     for rule in TYPED {
@@ -318,6 +328,11 @@ fn goes_on_both_sides<B: Reserve>(rt: &impl Abort, alloc: Global) -> Result<(), 
     for rule in [Rule::Read, Rule::Flushed] {
         assert!(rt; walk.met(Side::Slave, rule));
     }
+}
+
+fn goes_on_both_sides<B: Reserve>(rt: &impl Abort, alloc: Global) -> Result<(), AllocError> {
+    let mut walk: Walk<B> = walk_of(alloc)?;
+    goes_on(rt, &mut walk);
     Ok(())
 }
 

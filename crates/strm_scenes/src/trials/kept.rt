@@ -1,5 +1,6 @@
 //! What the four queues of a pair keep beside their messages, as its calls tell and its image.
 
+use super::texts::image_in;
 use strm_blocks::Blocks;
 use strm_image::{FlowsText, QueueText, band_behind, read};
 use strm_pair::Pair;
@@ -7,7 +8,7 @@ use strm_types::{Band, QueueName, Side};
 
 /// What a queue keeps: how many bytes count in band 0, whether the band is full, whether a writer waits for it, and
 /// want-read.
-#[derive(Clone, Copy, PartialEq)]
+#[derive(Clone, Copy)]
 pub struct Kept {
     pub bytes: usize,
     pub is_full: bool,
@@ -52,12 +53,6 @@ fn count_so<B: Blocks + Drop>(pair: &Pair<B>, kept: &[Kept; 4]) -> bool {
         && counts(pair, Side::Master.driver(), &kept[1])
         && counts(pair, Side::Slave.head(), &kept[2])
         && counts(pair, Side::Slave.driver(), &kept[3])
-}
-
-// The image of a pair in a buffer that has room for it.
-fn image_in<'a, B: Blocks + Drop>(pair: &Pair<B>, out: &'a mut [u8]) -> Option<&'a [u8]> {
-    let length = pair.image_into(out);
-    out.get(..length)
 }
 
 /// Whether the queues of a pair keep this: of the master its head and its driver, and then of the slave. The buffer has room for

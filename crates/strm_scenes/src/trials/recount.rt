@@ -3,8 +3,8 @@
 
 mod queues;
 
-use crate::tests::kept::Kept;
-use crate::tests::recount::queues::{PlainEnd, PlainQueue, messages_of};
+use crate::trials::kept::Kept;
+use crate::trials::recount::queues::{PlainEnd, PlainQueue, messages_of};
 use std::alloc::{AllocError, Global};
 use strm_pair::Recorded;
 use strm_types::{

@@ -1,14 +1,15 @@
 //! Pairs that are made of images: what is told of them, how they go on, and the images to which that leads.
 
 use super::steps::{
-    MASTER, MASTER_DRIVER, ORDINARY, SIZES, SLAVE, SLAVE_DRIVER, SLAVE_HEAD, Step, follow, store_of,
+    MASTER, MASTER_DRIVER, ORDINARY, SIZES, SLAVE, SLAVE_DRIVER, SLAVE_HEAD, Step, follow, restored,
 };
-use super::texts::is_imaged;
+use super::texts::{buffer, is_imaged};
 use std::alloc::{AllocError, Global};
 use std::process::Abort;
 use std::test::Fail;
 use strm_blocks::{Blocks, Reserve, TableStore};
 use strm_pair::Pair;
+use strm_raw::RawStore;
 use strm_types::{
     Answer, Band, Config, Event, Place, Prio, QueueName, Refusal, Side, Turn, Wanted, Way,
 };
@@ -73,46 +74,48 @@ fn joined(alloc: Global, parts: &[&[u8]]) -> Result<Vec<u8>, AllocError> {
     Ok(text)
 }
 
-// Goes through the steps from one image to another one.
-fn goes<B: Blocks + Drop>(
-    rt: &impl Abort,
-    pair: &mut Pair<B>,
-    from: &[u8],
-    steps: &[Step<'_>],
-    to: &[u8],
-) {
-    assert!(rt; is_imaged(pair, from), "as it is restored");
-    follow(rt, pair, steps);
-    assert!(rt; is_imaged(pair, to), "behind the steps");
+// What is told of a pair that is made of an image: both images are said by their parts.
+struct Restoring<'a> {
+    title: &'a str,
+    from: &'a [&'a [u8]],
+    steps: &'a [Step<'a>],
+    to: &'a [&'a [u8]],
 }
 
-// The same on a pair that is made of the first image.
-fn goes_from<B: Reserve>(
+// Goes through the steps from one image to another one, of 4096 bytes at most.
+fn goes<B: Blocks + Drop>(
     rt: &impl Abort,
     alloc: Global,
-    from: &[u8],
-    steps: &[Step<'_>],
-    to: &[u8],
+    pair: &mut Pair<B>,
+    told: &Restoring<'_>,
 ) -> Result<(), AllocError> {
-    let store: B = store_of(alloc, &FORTY_BLOCKS)?;
-    let Ok(mut pair) = Pair::restore(alloc, FORTY_BLOCKS, from, store) else {
-        panic!(rt; "an image is refused")
-    };
-    goes(rt, &mut pair, from, steps, to);
+    let from = joined(alloc, told.from)?;
+    let to = joined(alloc, told.to)?;
+    let mut out = buffer(alloc, 0, 4096)?;
+    let (title, out) = (told.title, out.as_mut_slice());
+    assert!(rt;
+        is_imaged(pair, out, from.as_slice()),
+        "{title}, as it is restored"
+    );
+    follow(rt, pair, title, told.steps);
+    assert!(rt;
+        is_imaged(pair, out, to.as_slice()),
+        "{title}, behind the steps"
+    );
     Ok(())
 }
 
-// The same over tables, where both images are said by their parts.
-fn leads(
+// The same on a pair that is made of the first image.
+fn leads<B: Reserve>(
     rt: &impl Abort,
     alloc: Global,
-    from: &[&[u8]],
-    steps: &[Step<'_>],
-    to: &[&[u8]],
+    told: &Restoring<'_>,
 ) -> Result<(), AllocError> {
-    let from = joined(alloc, from)?;
-    let to = joined(alloc, to)?;
-    goes_from::<TableStore>(rt, alloc, from.as_slice(), steps, to.as_slice())
+    let from = joined(alloc, told.from)?;
+    let Some(mut pair) = restored::<B>(alloc, FORTY_BLOCKS, from.as_slice())? else {
+        panic!(rt; "an image is refused")
+    };
+    goes(rt, alloc, &mut pair, told)
 }
 
 const FORTY_BLOCKS: Config = Config {
@@ -188,11 +191,6 @@ const CROSSED: [&[u8]; 11] = [
     SILENT,
 ];
 
-#[test]
-fn messages_stand_as_a_text_has_them(rt: HostRuntime) -> Result<(), Fail> {
-    Ok(leads(&rt, rt.alloc(), &THREE_MESSAGES, &CROSSING, &CROSSED)?)
-}
-
 // At the slave's head an M_PROTO with both parts and an M_DATA, all of two blocks each.
 const TWO_BLOCKS: [&[u8]; 19] = [
     OPEN,
@@ -259,11 +257,6 @@ const BUT_TWO_BYTES: [&[u8]; 19] = [
     SILENT,
 ];
 
-#[test]
-fn messages_of_two_blocks_are_whole(rt: HostRuntime) -> Result<(), Fail> {
-    Ok(leads(&rt, rt.alloc(), &TWO_BLOCKS, &GETTING, &BUT_TWO_BYTES)?)
-}
-
 // At the slave's head bands 5 and 7, for which writers wait; band 5 is full from 3 bytes on, and has 5. The master's driver isn't to be
 // enabled by a message, as no getq found it empty, and the slave's, as enabling is off.
 const WRITERS_WAIT: [&[u8]; 13] = [
@@ -326,11 +319,6 @@ const WRITERS_GONE: [&[u8]; 14] = [
     b"\x00\x00\x00\x00\x00\x00\x00\x01\x00\x00\x00\x00\x00\x00\x00\x00",
     NOTHING_GONE,
 ];
-
-#[test]
-fn a_queue_is_as_a_text_has_it(rt: HostRuntime) -> Result<(), Fail> {
-    Ok(leads(&rt, rt.alloc(), &WRITERS_WAIT, &GOING_ON, &WRITERS_GONE)?)
-}
 
 // A stream whose one module is an ldterm, up to its head's queue: lines are edited, output stops and any byte starts it, and a TAB goes
 // out as spaces. Output is stopped, the column is 9, and the line has 2 bytes.
@@ -404,7 +392,38 @@ const STARTED: [&[u8]; 18] = [
     &[0; 16],
 ];
 
+const TEXTS: [Restoring<'static>; 4] = [
+    Restoring {
+        title: "messages stand as a text has them",
+        from: &THREE_MESSAGES,
+        steps: &CROSSING,
+        to: &CROSSED,
+    },
+    Restoring {
+        title: "messages of two blocks are whole",
+        from: &TWO_BLOCKS,
+        steps: &GETTING,
+        to: &BUT_TWO_BYTES,
+    },
+    Restoring {
+        title: "a queue is as a text has it",
+        from: &WRITERS_WAIT,
+        steps: &GOING_ON,
+        to: &WRITERS_GONE,
+    },
+    Restoring {
+        title: "an ldterm is as a text has it",
+        from: &STOPPED,
+        steps: &STARTING,
+        to: &STARTED,
+    },
+];
+
 #[test]
-fn an_ldterm_is_as_a_text_has_it(rt: HostRuntime) -> Result<(), Fail> {
-    Ok(leads(&rt, rt.alloc(), &STOPPED, &STARTING, &STARTED)?)
+fn a_restored_pair_is_and_goes_on_as_a_text_has_it(rt: HostRuntime) -> Result<(), Fail> {
+    for told in &TEXTS {
+        leads::<TableStore>(&rt, rt.alloc(), told)?;
+        leads::<RawStore>(&rt, rt.alloc(), told)?;
+    }
+    Ok(())
 }

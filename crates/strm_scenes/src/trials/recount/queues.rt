@@ -1,6 +1,6 @@
 //! The queues of the plain model, and both ends that have them.
 
-use crate::tests::kept::Kept;
+use crate::trials::kept::Kept;
 use std::alloc::{AllocError, Global};
 use std::collections::VecDeque;
 use strm_types::Openness;
