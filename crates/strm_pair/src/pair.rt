@@ -462,5 +462,6 @@ impl<B: Blocks + Drop> Pair<B> {
     }
 }
 
+mod polling;
 mod restoring;
 mod tracing;
