@@ -67,9 +67,9 @@ class Pair:
         return self.library.make(self._at, at) if image is None else self.library.remake(self._at, at, image, len(image))
 
     @classmethod
-    def new(cls, blocks, entries, journal_bytes, **named):
+    def new(cls, blocks, entries, bytes, **named):
         """A pair of these sizes without a reserve, which nobody opened. EINVAL: no block, or above 65536."""
-        return cls(blocks, entries, journal_bytes, **named)
+        return cls(blocks, entries, bytes, **named)
 
     @classmethod
     def make(cls, plan, **named):
@@ -78,9 +78,9 @@ class Pair:
         return cls(*plan[:3], reserve=plan.reserve, begins_anew=plan.begins_anew, **named)
 
     @classmethod
-    def restore(cls, blocks, entries, journal_bytes, image, **named):
+    def restore(cls, blocks, entries, bytes, image, **named):
         """The pair of an image, of these sizes and without a reserve. ENOSR: its messages take more blocks."""
-        return cls(blocks, entries, journal_bytes, image=image, **named)
+        return cls(blocks, entries, bytes, image=image, **named)
 
     @classmethod
     def remake(cls, plan, image, **named):
