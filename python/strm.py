@@ -89,8 +89,8 @@ class Pair:
 
     @classmethod
     def terminal(cls, *sizes, **named):
-        """A pair that is a terminal as a shell expects it: both sides open, ptem and ldterm on the slave. Without sizes it is that of the plan TERMINAL,
-        but for `begins_anew`: its journal begins anew by `restart`, so that recorders see it."""
+        """A pair that is a terminal as a shell expects it: both sides open, ptem and ldterm on the slave. Without sizes it is that of the plan
+        TERMINAL, but for `begins_anew`: its journal begins anew by `restart`, so that recorders see it."""
         plan = TERMINAL._replace(begins_anew=False)
         is_sized = sizes or named.keys() & {"blocks", "entries", "journal_bytes", "keeps", "reserve", "begins_anew"}
         pair = cls(*sizes, **named) if is_sized else cls.make(plan, **named)
@@ -347,7 +347,8 @@ class Pair:
 
     def runqueues(self, most=1_000_000):
         """Turns, each of the queue that was enabled first, until none is: how many were made. JournalFull, behind so many and more, or EAGAIN of
-        a pair whose journal begins anew by itself: they may not end, as with an ldterm on each side that echo each other. What was made stays made."""
+        a pair whose journal begins anew by itself: they may not end, as with an ldterm on each side that echo each other. What was made stays
+        made, and another run goes on."""
         refused = self._runqueues(self._at, self._turns_at)
         if not refused:
             return self._turns.value
