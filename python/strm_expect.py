@@ -1,4 +1,4 @@
-"""Expect without time-outs, by the names of pexpect: a program is driven through a terminal, and what it shows is matched.
+"""Expect, by the names of pexpect and without waits for a time: a program is driven through a terminal, and what it shows is matched.
 
     def greet(terminal):                            # any function: it is handed the slave's end, a raw file
         terminal.write(b"name? ")
@@ -12,27 +12,30 @@
     child.match[1]                                  # b"Anna"
     child.expect(EOF)
 
-Nothing here waits for a time. The program runs whenever the test asks for something, and stops where it reads what isn't there; when it waits, and no
-queue of the pair is enabled, nothing more can come, and `expect` raises AtRest at once, with all that was shown. So a wrong prompt fails in
-milliseconds, and a slow machine fails nothing. TIMEOUT is another name of AtRest, and `timeout` arguments are taken and mean nothing.
+A function runs whenever the test asks for something, and stops where it reads what isn't there; when it waits, and no queue of the pair is enabled,
+nothing more can come, and `expect` raises AtRest at once, with all that was shown. So a wrong prompt fails in milliseconds, and a slow machine
+fails nothing. One that makes no call for `timeout` seconds is broken off.
 
-`spawn` takes a function; a Pair, whose slave the test plays itself; or an object with `type(data)`, `step()`, `take()`, `ended` and `pair`, as
-examples/bridge.py has one for programs of the system.
+    child = spawn("bash --norc")                    # a program of the system, on a pair (strm_host)
+    child.expect(r"\\$ ", timeout=5)
+
+Of it the same is told where a process of its foreground asks the terminal for input without a time-out, and what it shows is matched till then, or for
+`timeout` seconds, 30 where none is said (None: without a limit). With `child.rests = False` the time alone tells, as a relay (ssh, tmux,
+script) asks for keys while another program is at work. TIMEOUT is another name of AtRest.
+
+`spawn` takes a function; a command, or a program with a list `args`; a Pair, whose slave the test plays itself; or an object with `type(data)`,
+`step(seconds)`, `take()`, `ended` and `pair`, as strm_host.Bridge is.
 """
 import codecs
+import ctypes
 import io
 import re
+import shlex
 import threading
+import time
 
 from strm import MASTER, SLAVE, Pair, Refused, Signal
-
-
-class AtRest(Exception):
-    """Nothing more is shown until somebody types: what was expected can't come."""
-
-
-class EOF(Exception):
-    """The program has ended, and all that it showed was seen."""
+from strm_spawn import EOF, AtRest, Child
 
 
 TIMEOUT = AtRest
@@ -82,8 +85,17 @@ class Terminal(io.RawIOBase):
     def write(self, data):
         data, taken = bytes(data), 0
         while taken < len(data):
-            taken += self.host.waits(lambda: self.pair.write(SLAVE, data[taken : taken + 2048]), self)
+            taken += self.host.waits(lambda: self._writes(data[taken : taken + 2048]), self)
         return len(data)
+
+    def _writes(self, part):
+        """A pool with few blocks takes a block's bytes, where it takes no more."""
+        try:
+            return self.pair.write(SLAVE, part)
+        except Refused as refusal:
+            if refusal.name != "ENOSR" or len(part) <= 256:
+                raise
+            return self.pair.write(SLAVE, part[:256])
 
     def raises(self):
         """Raises what the signals that came up mean."""
@@ -126,7 +138,7 @@ class Hosted:
     def _closes(self):
         """A close takes what stands in ldterm, so it comes when all was shown."""
         try:
-            while self.pair.runqueues() or self.pair.sizes("s.ldterm.w").messages:
+            while self._turns() or self.pair.sizes("s.ldterm.w").messages:
                 self._lets_run()
             self.pair.close(SLAVE)
         except (Refused, Ended):
@@ -152,19 +164,36 @@ class Hosted:
                     raise
             self._lets_run()
 
-    def resume(self):
-        """In the test's thread: lets the program run till it waits or ends. Whether it made a call."""
+    def resume(self, seconds=30):
+        """In the test's thread: lets the program run till it waits or ends. Whether it made a call. AtRest: it made none for so long, and was
+        broken off; None is without a limit."""
         before = self.calls
         if not self.ended:
             self.may_run.release()
-            self.has_run.acquire()
+            if not self.has_run.acquire(timeout=-1 if seconds is None else max(seconds, 1)):
+                self._breaks_off(seconds)
         return self.calls != before
 
-    def step(self):
+    def _breaks_off(self, seconds):
+        self.over = self.ended = True
+        ctypes.pythonapi.PyThreadState_SetAsyncExc(ctypes.c_ulong(self.thread.ident), ctypes.py_object(Ended))
+        self.thread.join(1)
+        raise AtRest(f"the program has made no call for {seconds} s, and was broken off; it had shown: {self.shown!r}")
+
+    def _turns(self):
+        """Turns, whether some were made. Where the pool has no room for one, reads make it."""
+        try:
+            return self.pair.runqueues() > 0
+        except Refused as refusal:
+            if refusal.name != "ENOSR":
+                raise
+            return False
+
+    def step(self, seconds=30, looks_at=True):
         """Turns, what is shown, and the program for a while. False: at rest."""
-        moved = self.pair.runqueues() > 0
+        moved = self._turns()
         moved = self._sees() or moved
-        moved = self.resume() or moved
+        moved = self.resume(seconds) or moved
         failure, self.failure = self.failure, None
         if failure:
             raise failure
@@ -189,8 +218,9 @@ class Hosted:
         return shown
 
     def close(self):
-        self.over = True
-        self.resume()
+        if not self.over:
+            self.over = True
+            self.resume()
 
 
 class Played(Hosted):
@@ -199,7 +229,7 @@ class Played(Hosted):
     def __init__(self, pair):
         self.pair, self.shown, self.ended, self.failure, self.status = pair, b"", False, None, None
 
-    def resume(self):
+    def resume(self, seconds=None):
         return False
 
     def _sees(self):
@@ -217,9 +247,9 @@ class Played(Hosted):
                 return bool(self.shown)
             self.shown += data
 
-    def step(self):
+    def step(self, seconds=None, looks_at=True):
         seen = len(self.shown)
-        moved = self.pair.runqueues() > 0
+        moved = self._turns()
         self._sees()
         return moved or len(self.shown) != seen
 
@@ -227,29 +257,44 @@ class Played(Hosted):
         pass
 
 
-class spawn:
+class spawn(Child):
     """A program on a terminal. before, after and match are those of the last `expect`; `encoding` makes all of them text.
 
-    logfile, logfile_read and logfile_send are files that see what goes both ways, comes, or is sent."""
+    logfile, logfile_read and logfile_send are files that see what goes both ways, comes, or is sent. `env` is laid over this process's
+    environment, `cwd` is the folder, of programs of the system; `dimensions` are rows and columns; with echo=False the terminal begins so."""
 
     linesep = "\r"
 
-    def __init__(self, program, pair=None, encoding=None, codec_errors="strict", rows=24, columns=80, **_):
-        self.encoding, self.codec_errors = encoding, codec_errors
+    def __init__(self, program, args=(), timeout=30, pair=None, encoding=None, codec_errors="strict", rows=24, columns=80, dimensions=None, **named):
+        self.encoding, self.codec_errors, self.timeout, self.rests = encoding, codec_errors, timeout, True
         self.decoder = codecs.getincrementaldecoder(encoding)(codec_errors) if encoding else None
         self.empty = "" if encoding else b""
         self.buffer, self.before, self.after, self.match, self.match_index = self.empty, self.empty, None, None, None
-        self.logfile = self.logfile_read = self.logfile_send = None
-        if isinstance(program, Pair):
-            self.session = Played(program)
-        elif hasattr(program, "step"):
-            self.session = program
-        else:
-            pair = pair or Pair.terminal()
-            self.session = Hosted(program, pair)
-            self.setwinsize(rows, columns)
-            pair.signals(SLAVE)
+        self.logfile, self.logfile_read, self.logfile_send = named.pop("logfile", None), None, None
+        if isinstance(args, Pair):
+            args, pair = (), args
+        self.session = self._session(program, args, pair, *(dimensions or (rows, columns)), **named)
         self.pair = self.session.pair
+
+    def _session(self, program, args, pair, rows, columns, echo=True, env=None, cwd=None, **_):
+        """What plays the program."""
+        if isinstance(program, Pair):
+            return Played(program)
+        if hasattr(program, "step"):
+            return program
+        pair = pair or Pair.terminal()
+        if not echo:
+            modes = pair.tcgetattr(SLAVE)
+            modes["ECHO"] = False
+            pair.tcsetattr(modes, SLAVE)
+        if isinstance(program, str):
+            from strm_host import Bridge
+
+            words = [program, *args] if args else shlex.split(program)
+            return Bridge(["env", "-C", cwd, *words] if cwd else words, rows, columns, env, pair)
+        pair.set_winsize(rows, columns)
+        pair.signals(SLAVE)
+        return Hosted(program, pair)
 
     def __enter__(self):
         return self
@@ -264,7 +309,10 @@ class spawn:
         if isinstance(keys, str):
             keys = keys.encode(self.encoding or "utf-8", self.codec_errors)
         self._logs(keys.decode(self.encoding, "replace") if self.encoding else keys, self.logfile, self.logfile_send)
-        self.session.type(keys)
+        try:
+            self.session.type(keys)
+        except TimeoutError as told:
+            raise AtRest(str(told)) from None
         return len(keys)
 
     write = send
@@ -284,7 +332,7 @@ class spawn:
 
     def _key(self, name, usual):
         try:
-            return bytes([self.session.pair.tcgetattr(SLAVE)[name]])
+            return bytes([self._modes()[name]])
         except Refused:
             return usual
 
@@ -325,12 +373,22 @@ class spawn:
             searches.append((number, re.compile(pattern, re.S) if isinstance(pattern, (str, bytes)) else pattern))
         return searches, marks
 
-    def expect(self, pattern, timeout=None, searchwindowsize=None, exact=False):
+    def _end(self, timeout):
+        """When a time-out is over; -1 stands for the usual one, None for none."""
+        timeout = self.timeout if timeout == -1 else timeout
+        return None if timeout is None else time.monotonic() + timeout
+
+    @staticmethod
+    def _left(end):
+        return 1e9 if end is None else max(end - time.monotonic(), 0)
+
+    def expect(self, pattern, timeout=-1, searchwindowsize=None, exact=False):
         """Waits until a pattern (of a list: one of them, its number is given) is shown: a regular expression as text, bytes or compiled, EOF or
         AtRest. Of several the one that begins first is meant. EOF, AtRest: raised where these come first and aren't in the list."""
         patterns = pattern if isinstance(pattern, (list, tuple)) else [pattern]
         searches, marks = self._searches(patterns, exact)
-        has_rested = False
+        end, has_rested = self._end(timeout), False
+        has_limit = getattr(self.session, "has_limit", False)
         while True:
             self._takes()
             found = [(told.start(), number, told) for number, search in searches if (told := search.search(self.buffer))]
@@ -339,16 +397,22 @@ class spawn:
                 return self._matched(number, told)
             if has_rested:
                 return self._ends(EOF if self.session.ended else AtRest, marks, patterns)
-            has_rested = not self.session.step()
+            left = self._left(end)
+            if has_limit and not left:
+                has_rested = True
+            elif has_limit:
+                has_rested = not self.session.step(left, self.rests)
+            else:
+                has_rested = not self.session.step(self.timeout if timeout == -1 else timeout)
 
-    def expect_exact(self, pattern, timeout=None, searchwindowsize=None):
+    def expect_exact(self, pattern, timeout=-1, searchwindowsize=None):
         """The same by texts that aren't regular expressions. `match` is what was shown."""
-        number = self.expect(pattern, exact=True)
+        number = self.expect(pattern, timeout, exact=True)
         self.match = self.after
         return number
 
-    def expect_list(self, patterns, timeout=None, searchwindowsize=None):
-        return self.expect(patterns)
+    def expect_list(self, patterns, timeout=-1, searchwindowsize=None):
+        return self.expect(patterns, timeout)
 
     def _matched(self, number, told):
         self.before, self.after = self.buffer[: told.start()], told[0]
@@ -364,48 +428,3 @@ class spawn:
         if kind is EOF:
             self.buffer = self.empty
         return self.match_index
-
-    def read(self, size=-1):
-        """At most so many bytes or characters; without a size all up to the program's end."""
-        if size == 0:
-            return self.empty
-        self.expect([re.compile((r".{%d}" % size) if self.encoding else b".{%d}" % size, re.S), EOF] if size > 0 else EOF)
-        return self.after if size > 0 and self.after is not EOF else self.before
-
-    def readline(self):
-        """A line as the terminal shows it, with CR and LF; what is left at the program's end."""
-        return self.before + self.after if self.expect(["\r\n", EOF]) == 0 else self.before
-
-    # ------------------------------------------------------------------------------------------------------------- the terminal
-
-    def isalive(self):
-        return not self.session.ended
-
-    @property
-    def exitstatus(self):
-        """What the function gave, 0 for None; None while it runs."""
-        return self.session.status if self.session.ended else None
-
-    def wait(self):
-        """Waits for the program's end: its status."""
-        self.expect(EOF)
-        return self.exitstatus
-
-    def setwinsize(self, rows, columns):
-        resize = getattr(self.session, "resize", None)
-        resize(rows, columns) if resize else self.session.pair.set_winsize(rows, columns)
-
-    def getwinsize(self):
-        return tuple(self.session.pair.get_winsize(SLAVE))[:2]
-
-    def getecho(self):
-        return self.session.pair.tcgetattr(SLAVE)["ECHO"]
-
-    def setecho(self, state):
-        termios = self.session.pair.tcgetattr(SLAVE)
-        termios["ECHO"] = state
-        self.session.pair.tcsetattr(termios, SLAVE)
-
-    def close(self):
-        """Ends the program: what it waits for raises there."""
-        self.session.close()

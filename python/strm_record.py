@@ -1,11 +1,10 @@
 """Records what goes over a pair, from its journal: as a journal's file, which can be made again answer by answer, as an asciicast (version
-2), and as typescripts of script(1) with their timing files, in both formats.
+2 or 3), and as typescripts of script(1) with their timing files, in both formats.
 
     pair = Pair()
-    recorder = Recorder(pair, [AsciicastWriter("demo.cast"), JournalWriter("bug.jsonl")])
-    pair.open_terminal()
-    ...                                     # the session; recorder.drain() as often as the times are to be told
-    recorder.close()
+    with Recorder(pair, [AsciicastWriter("demo.cast"), JournalWriter("bug.jsonl")]) as recorder:
+        pair.open_terminal()
+        ...                                 # the session; recorder.drain() as often as the times are to be told
 
     differences = replay(read_journal("bug.jsonl"))     # [] where a new pair gives every answer of the file
 
@@ -14,11 +13,13 @@ stand in blocks, may refuse by ENOSR what the recorded one granted.
 
 A recorder takes the journal's entries through a cursor, each once: when `drain` is called, when the pair's journal is full and begins anew,
 and at the end. So a session of any length takes no more memory, and no entry is lost. An entry's time is that of the drain which takes it.
+What a drain took is in the files when it returns: a recorder that is killed leaves files that are read up to their last whole line.
 
 A journal's file has a line of JSON for each entry, and one in front that says "strm journal", the version of the format, the version of
-libstrm and the sizes of the pair. In strings of bytes the characters U+0000 to U+00FF are the bytes. All times are seconds.
+libstrm, the sizes of the pair and the time of its beginning, in seconds since 1970. In strings of bytes the characters U+0000 to U+00FF are the
+bytes. All times are seconds.
 
-    {"format": "strm journal", "version": 1, "library": "1.2", "blocks": 12900, "entries": 8192, "bytes": 262144, "title": ".."}
+    {"format": "strm journal", "version": 1, "library": "1.2", "blocks": 12900, "entries": 8192, "bytes": 262144, "timestamp": 1795000000}
     {"at": 0.5, "call": "write", "side": "m", "numbers": [0, 0, 0], "caller": [0, false, false], "bytes": "ls\\r",
      "answer": {"kind": "count", "value": 3}}
     {"at": 0.5, "turn": "m.drv.w", "kind": "moved", "moved": 3}
@@ -58,17 +59,27 @@ class Recorder:
     def entry(self, at, entry):
         self.entries.append((at, entry))
 
+    def __enter__(self):
+        return self
+
+    def __exit__(self, *_):
+        self.close()
+
     def drain(self, _pair=None):
-        """Takes the entries that came since the last time: how many."""
+        """Takes the entries that came since the last time, and flushes the writers: how many."""
         at, taken = self.clock() - self.began, 0
         while (entry := self.cursor.next()) is not None:
             taken += 1
             for writer in self.writers:
                 writer.entry(at, entry)
+        for writer in self.writers if taken else ():
+            getattr(writer, "flush", lambda: None)()
         return taken
 
     def close(self):
         """Takes the last entries, and closes the writers."""
+        if self.drain not in self.pair.before_restart:
+            return  # it was closed
         self.drain()
         self.pair.before_restart.remove(self.drain)
         for writer in self.writers:
@@ -142,45 +153,81 @@ def _opened(path, mode):
 
 
 class AsciicastWriter(_EventWriter):
-    """An asciicast, version 2. Input is written with typed=True. Further names are those of the header: title, env, timestamp .."""
+    """An asciicast, version 2 or 3. Input is written with typed=True. Further names are those of the header: title, env, tags .."""
 
-    def __init__(self, path, columns=80, rows=24, typed=False, **header):
+    def __init__(self, path, columns=80, rows=24, typed=False, version=2, **header):
+        if version not in (2, 3):
+            raise ValueError("an asciicast has version 2 or 3")
         super().__init__()
         self.file, self.owned = _opened(path, "w")
-        self.kinds = "oi" if typed else "o"
+        self.kinds, self.version = "oi" if typed else "o", version
         self.decoders = {kind: codecs.getincrementaldecoder("utf-8")("replace") for kind in "oi"}
-        self.last = 0.0
-        self._line({"version": 2, "width": columns, "height": rows, **header})
+        self.last = self.told = 0.0
+        size = {"width": columns, "height": rows} if version == 2 else {"term": {"cols": columns, "rows": rows}}
+        self._line({"version": version, **size, "timestamp": int(time.time()), **header})
+        self.file.flush()
 
     def _line(self, value):
         self.file.write(json.dumps(value, ensure_ascii=False) + "\n")
 
+    def _tells(self, at, kind, text):
+        """Version 2 tells of times since the beginning, and 3 of those since the event before."""
+        at = round(at, 6)
+        self._line([at if self.version == 2 else round(at - self.told, 6), kind, text])
+        self.told = at
+
     def event(self, at, kind, data):
         self.last = at
         if kind == "r":
-            self._line([round(at, 6), "r", f"{data[0]}x{data[1]}"])
+            self._tells(at, "r", f"{data[0]}x{data[1]}")
         elif kind in self.kinds:
             # A character that is cut between two reads waits for its rest.
             text = self.decoders[kind].decode(data)
             if text:
-                self._line([round(at, 6), kind, text])
+                self._tells(at, kind, text)
+
+    def flush(self):
+        self.file.flush()
 
     def close(self):
         for kind in self.kinds:
             rest = self.decoders[kind].decode(b"", True)
             if rest:
-                self._line([round(self.last, 6), kind, rest])
+                self._tells(self.last, kind, rest)
         self.file.close() if self.owned else self.file.flush()
 
 
+def whole_lines(file):
+    """The values of a file's lines of JSON, without empty lines and comments. A last line that was cut is left out: whoever wrote it was ended."""
+    last = None
+    for line in file:
+        if last is not None:
+            raise ValueError(f"no line of JSON: {last!r}")
+        if not line.strip() or line.startswith("#"):
+            continue
+        try:
+            value = json.loads(line)
+        except ValueError:
+            last = line
+            continue
+        if line.endswith("\n"):
+            yield value
+
+
 def read_asciicast(path):
-    """The header and the events of an asciicast."""
+    """The header and the events of an asciicast, of version 2 or 3; those of a version 3 have their times since its beginning."""
     file, owned = _opened(path, "r")
     try:
-        header = json.loads(next(file))
-        if header.get("version") != 2:
-            raise ValueError("not an asciicast of version 2")
-        return header, [_event_of(*json.loads(line)) for line in file if line.strip()]
+        lines = whole_lines(file)
+        header = next(lines, {})
+        version = header.get("version") if isinstance(header, dict) else None
+        if version not in (2, 3):
+            raise ValueError("not an asciicast of version 2 or 3")
+        found, now = [], 0.0
+        for at, kind, text in lines:
+            now = at if version == 2 else round(now + at, 6)
+            found.append(_event_of(now, kind, text))
+        return header, found
     finally:
         if owned:
             file.close()
@@ -193,6 +240,10 @@ def _event_of(at, kind, text):
 # ----------------------------------------------------------------------------------------------------------------- script(1)
 
 
+def _now():
+    return time.strftime("%Y-%m-%d %H:%M:%S%z")
+
+
 class TypescriptWriter(_EventWriter):
     """`script -O log -T timing`: what was shown, and a line with its delay and length for each piece."""
 
@@ -200,7 +251,7 @@ class TypescriptWriter(_EventWriter):
         super().__init__()
         (self.log, self.owns_log), (self.timing, self.owns_timing) = _opened(log, "wb"), _opened(timing, "w")
         self.last = 0.0
-        self.log.write(f'Script started [COMMAND="{command}"]\n'.encode())
+        self.log.write(f'Script started on {_now()} [COMMAND="{command}"]\n'.encode())
 
     def delay(self, at):
         told, self.last = max(at - self.last, 0.0), max(at, self.last)
@@ -211,8 +262,13 @@ class TypescriptWriter(_EventWriter):
             self.timing.write(f"{self.delay(at)} {len(data)}\n")
             self.log.write(data)
 
+    def flush(self):
+        """First the bytes, then the timing that tells of them."""
+        self.log.flush()
+        self.timing.flush()
+
     def close(self):
-        self.log.write(b"\nScript done\n")
+        self.log.write(f"\nScript done on {_now()}\n".encode())
         for file, owned in ((self.log, self.owns_log), (self.timing, self.owns_timing)):
             file.close() if owned else file.flush()
 
@@ -222,7 +278,7 @@ class AdvancedTypescriptWriter(TypescriptWriter):
 
     def __init__(self, log, timing, columns=80, rows=24, command="strm"):
         super().__init__(log, timing, command)
-        for name, value in (("COLUMNS", columns), ("LINES", rows), ("COMMAND", command)):
+        for name, value in (("START_TIME", _now()), ("COLUMNS", columns), ("LINES", rows), ("COMMAND", command)):
             self.timing.write(f"H 0.000000 {name} {value}\n")
 
     def event(self, at, kind, data):
@@ -238,20 +294,21 @@ class AdvancedTypescriptWriter(TypescriptWriter):
 
 
 def read_typescript(log, timing):
-    """The events of a log and its timing, in either format."""
+    """The events of a log and its timing, in either format, up to what is whole."""
     (data, owns_log), (lines, owns_timing) = _opened(log, "rb"), _opened(timing, "r")
     try:
         data.readline()
         at, found = 0.0, []
         for line in lines:
             words = line.split()
-            if not words or words[0] == "H":
+            if not words or words[0] == "H" or not line.endswith("\n"):
                 continue
             if not words[0].isalpha():
                 words.insert(0, "O")
             at += float(words[1])
             if words[0] in "IO":
-                found.append((at, words[0].lower(), data.read(int(words[2]))))
+                part = data.read(int(words[2]))
+                found += [(at, words[0].lower(), part)] if part else []
             elif words[2] == "SIGWINCH":
                 sizes = dict(word.split("=") for word in words[3:])
                 found.append((at, "r", (int(sizes["COLS"]), int(sizes["ROWS"]))))
@@ -275,13 +332,17 @@ class JournalWriter:
     def begins(self, pair):
         blocks, entries, room = pair.plan[:3]
         sizes = {"blocks": blocks, "entries": entries, "bytes": room}
-        self._line({"format": FORMAT, "version": 1, "library": "%d.%d" % VERSION, **sizes, **self.header})
+        self._line({"format": FORMAT, "version": 1, "library": "%d.%d" % VERSION, **sizes, "timestamp": int(time.time()), **self.header})
+        self.file.flush()
 
     def _line(self, value):
         self.file.write(json.dumps(value) + "\n")
 
     def entry(self, at, entry):
         self._line({"at": round(at, 6), **entry_to_json(entry)})
+
+    def flush(self):
+        self.file.flush()
 
     def close(self):
         self.file.close() if self.owned else self.file.flush()
@@ -321,16 +382,14 @@ class Journal(list):
 
 
 def read_journal(path):
-    """A journal's file."""
+    """A journal's file, up to its last whole line."""
     file, owned = _opened(path, "r")
     try:
-        journal = Journal()
-        journal.header = json.loads(next(file))
+        journal, lines = Journal(), whole_lines(file)
+        journal.header = next(lines, {})
         if journal.header.get("format") != FORMAT or journal.header.get("version") != 1:
             raise ValueError(f"not a {FORMAT} of version 1")
-        for line in file:
-            told = json.loads(line)
-            journal.append((told["at"], entry_of_json(told)))
+        journal += [(told["at"], entry_of_json(told)) for told in lines]
         return journal
     finally:
         if owned:

@@ -1,0 +1,128 @@
+"""Programs of the system on a pair and on a terminal of Linux: says where what they show differs. compare.py [--long] [-j N] [NAME ..]"""
+import argparse
+import concurrent.futures
+import os
+import pathlib
+import re
+import shutil
+import sys
+import tempfile
+import time
+
+sys.path[:0] = [str(pathlib.Path(__file__).parents[2] / "python"), str(pathlib.Path(__file__).parent)]
+
+from linux import Linux  # noqa: E402
+from programs import PROGRAMS  # noqa: E402
+from strm_host import Bridge  # noqa: E402
+
+PLAIN = {
+    "TERM": "xterm", "PS1": "$ ", "PS2": "> ", "LC_ALL": "C.UTF-8", "HISTFILE": "", "INPUTRC": "/dev/null", "PYTHON_HISTORY": "/dev/null", "PAGER": "cat",
+    "SHELL": "/bin/sh", "SCREENDIR": "", "TMUX": "", "LESSHISTFILE": "-", "PYTHONDONTWRITEBYTECODE": "1",
+}  # fmt: skip
+FILES = {
+    "text": "".join(f"line {n}\n" for n in range(1, 6)),
+    "long": "".join(f"line {n} of a text that is longer than a screen\n" for n in range(1, 201)),
+    "screenrc": "startup_message off\nshell /bin/sh\nvbell off\n",
+}
+
+
+def room_for():
+    room = tempfile.mkdtemp(prefix="strm")
+    for name, text in FILES.items():
+        pathlib.Path(room, name).write_text(text)
+    os.mkdir(os.path.join(room, "screens"), 0o700)
+    return room
+
+
+def rests(terminal, program, patience):
+    """Carries on till the program waits, or nothing was shown for that long."""
+    while terminal.step(patience * program.quiet, not program.relay):
+        pass
+
+
+def shown(kind, program, room, patience):
+    """What a program shows at its beginning and behind each step, and its status."""
+    environment = {**PLAIN, "HOME": room, "SCREENDIR": os.path.join(room, "screens")}
+    terminal = kind(["env", "-C", room, *program.words], environment=environment)
+    told = []
+    terminal.step(5.0, not program.relay)  # a machine that is at work begins late
+    for step in [None, *program.steps]:
+        if isinstance(step, tuple):
+            terminal.resize(*step)
+        elif step is not None:
+            terminal.type(step)
+        rests(terminal, program, patience)
+        told.append(terminal.take())
+        if terminal.ended:
+            break
+    end = time.monotonic() + 5
+    while not terminal.ended and time.monotonic() < end:
+        terminal.step(0.1)
+    told[-1] += terminal.take()
+    terminal.close()
+    return told, terminal.status
+
+
+def differing(ours, theirs):
+    """The steps behind which other bytes were shown. Two steps that show the same together are the same: one was told before its end."""
+    n = 0
+    while n < max(len(ours), len(theirs)):
+        if b"".join(ours[n : n + 2]) == b"".join(theirs[n : n + 2]):
+            n += ours[n : n + 1] != theirs[n : n + 1]
+        elif ours[n : n + 1] != theirs[n : n + 1]:
+            yield n
+        n += 1
+
+
+def beside(program, patience):
+    """What a program shows on Linux and on a pair, at the same time, with its two statuses."""
+    rooms = [room_for(), room_for()]
+    with concurrent.futures.ThreadPoolExecutor(2) as both:
+        told = [both.submit(shown, kind, program, room, patience) for kind, room in zip((Linux, Bridge), rooms)]
+        (theirs, their_end), (ours, our_end) = (each.result() for each in told)
+    for room in rooms:
+        shutil.rmtree(room, ignore_errors=True)
+    hidden = [[re.sub(program.hides, b"", text.replace(room.encode(), b"ROOM")) for text in texts] for texts, room in zip((theirs, ours), rooms)]
+    return *hidden, their_end, our_end
+
+
+def compared(name):
+    """(name, how many steps there are, how many differ, what is said of them, tries, seconds). What differs by the time alone is the same when
+    there is more of it."""
+    program, began = PROGRAMS[name], time.monotonic()
+    labels = ["its beginning", *program.steps]
+    for tries in (1, 2):
+        theirs, ours, their_end, our_end = beside(program, 3 ** (tries - 1))
+        found = list(differing(ours, theirs))
+        differ = [n for n in range(max(len(ours), len(theirs))) if (n in found) != (labels[n] in program.differs)]
+        said = [f"{name}, behind {labels[n]!r}:\n  Linux {theirs[n : n + 1]}\n  pair  {ours[n : n + 1]}" for n in differ]
+        if our_end != their_end:
+            said.append(f"{name} ended with {our_end} on the pair, and with {their_end} on Linux")
+        if not said:
+            break
+    return name, len(labels), len(said), said, tries, time.monotonic() - began
+
+
+def main():
+    parser = argparse.ArgumentParser(description=__doc__)
+    parser.add_argument("-j", type=int, default=6)
+    parser.add_argument("names", nargs="*", default=list(PROGRAMS))
+    asked = parser.parse_args()
+    there = [name for name in asked.names if all(map(shutil.which, (PROGRAMS[name].words[0], *PROGRAMS[name].needs)))]
+    skipped = [name for name in asked.names if name not in there]
+    passed = failed = 0
+    with concurrent.futures.ProcessPoolExecutor(asked.j) as pool:
+        for name, steps, differ, said, tries, seconds in pool.map(compared, there):
+            print(*said, sep="\n") if said else None
+            by_design = len(PROGRAMS[name].differs)
+            words = [f"{by_design} of them by design not"] * (by_design > 0) + ["at the second try"] * (tries > 1) + [f"{seconds:.1f} s"]
+            print(f"{name}: {steps - differ} of {steps} steps show the same ({', '.join(words)})", flush=True)
+            passed, failed = passed + (not differ), failed + bool(differ)
+    for name in skipped:
+        print(f"{name} is missing: skipped")
+    print(f"{passed} passed, {failed} failed, {len(skipped)} skipped")
+    sys.exit(failed > 0)
+
+
+if __name__ == "__main__":
+    main()
