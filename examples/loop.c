@@ -323,7 +323,8 @@ int main(void)
     loop();
     while (read(reports[0], &each, sizeof each) == (ssize_t)sizeof each) told[each.number] = each;
     for (i = 0; i < SESSIONS; i++) {
-        printf("session %2d: %4u lines, %6u bytes seen, sum %08x, ended by %s\n", i, told[i].lines, told[i].bytes, told[i].sum, ended_by(sessions[i].program));
+        printf("session %2d: %4u lines, %6u bytes seen, sum %08x, ended by %s\n", i, told[i].lines, told[i].bytes, told[i].sum,
+               ended_by(sessions[i].program));
         bytes += told[i].bytes;
         strm_free(&sessions[i].pair);
     }

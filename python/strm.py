@@ -67,9 +67,9 @@ class Pair:
         return self.library.make(self._at, at) if image is None else self.library.remake(self._at, at, image, len(image))
 
     @classmethod
-    def new(cls, blocks, entries, journal_bytes, **named):
+    def new(cls, blocks, entries, bytes, **named):
         """A pair of these sizes without a reserve, which nobody opened. EINVAL: no block, or above 65536."""
-        return cls(blocks, entries, journal_bytes, **named)
+        return cls(blocks, entries, bytes, **named)
 
     @classmethod
     def make(cls, plan, **named):
@@ -78,9 +78,9 @@ class Pair:
         return cls(*plan[:3], reserve=plan.reserve, begins_anew=plan.begins_anew, **named)
 
     @classmethod
-    def restore(cls, blocks, entries, journal_bytes, image, **named):
+    def restore(cls, blocks, entries, bytes, image, **named):
         """The pair of an image, of these sizes and without a reserve. ENOSR: its messages take more blocks."""
-        return cls(blocks, entries, journal_bytes, image=image, **named)
+        return cls(blocks, entries, bytes, image=image, **named)
 
     @classmethod
     def remake(cls, plan, image, **named):
@@ -89,8 +89,8 @@ class Pair:
 
     @classmethod
     def terminal(cls, *sizes, **named):
-        """A pair that is a terminal as a shell expects it: both sides open, ptem and ldterm on the slave. Without sizes it is that of the plan TERMINAL,
-        but for `begins_anew`: its journal begins anew by `restart`, so that recorders see it."""
+        """A pair that is a terminal as a shell expects it: both sides open, ptem and ldterm on the slave. Without sizes it is that of the plan
+        TERMINAL, but for `begins_anew`: its journal begins anew by `restart`, so that recorders see it."""
         plan = TERMINAL._replace(begins_anew=False)
         is_sized = sizes or named.keys() & {"blocks", "entries", "journal_bytes", "keeps", "reserve", "begins_anew"}
         pair = cls(*sizes, **named) if is_sized else cls.make(plan, **named)
@@ -347,7 +347,8 @@ class Pair:
 
     def runqueues(self, most=1_000_000):
         """Turns, each of the queue that was enabled first, until none is: how many were made. JournalFull, behind so many and more, or EAGAIN of
-        a pair whose journal begins anew by itself: they may not end, as with an ldterm on each side that echo each other. What was made stays made."""
+        a pair whose journal begins anew by itself: they may not end, as with an ldterm on each side that echo each other. What was made stays
+        made, and another run goes on."""
         refused = self._runqueues(self._at, self._turns_at)
         if not refused:
             return self._turns.value

@@ -1,10 +1,13 @@
 """Pairs by a plan: reserves, readiness, journals that begin anew by themselves, and 10 MB through the smallest one."""
+import random
 import unittest
 
 from strm import (
     BLOCKS_LEAST, BLOCKS_MOST, COMMANDS, HIGH, JOURNAL_LEAST, MASTER, SLAVE, TERMINAL, TERMINAL_BLOCKS, WRITE_MOST, Pair, Plan, Ready,
     Refused, Winsize,
 )  # fmt: skip
+
+from tests.test_pair import any_call
 
 SMALLEST = Plan(BLOCKS_LEAST, 1, JOURNAL_LEAST, begins_anew=True)
 TEN_MEGABYTES = 10_000_000
@@ -141,6 +144,37 @@ class Readiness(unittest.TestCase):
         self.assertEqual(self.pair.ready(MASTER), Ready(0))
         self.assertTrue(self.pair.ready(SLAVE) & Ready.HUNG_UP and self.pair.ready(SLAVE) & Ready.CAN_READ)
         self.assertEqual(self.pair.read(SLAVE), b"")
+
+
+class ReadinessOfAnySession(unittest.TestCase):
+    """What a side is ready for is what calls of a pair of the same image meet."""
+
+    def meets(self, image, call, *arguments):
+        with Pair(image=image) as copy:
+            return refusal_of(getattr(copy, call), *arguments)
+
+    def agrees(self, pair, side):
+        told, image = pair.ready(side), pair.image()
+        read = self.meets(image, "read", side, 1)
+        if read == "ENXIO":
+            self.assertEqual(told, Ready(0))
+            return
+        self.assertEqual(bool(told & Ready.CAN_READ), read != "EAGAIN")
+        self.assertEqual(bool(told & Ready.CAN_GET), self.meets(image, "get", side) != "EAGAIN")
+        self.assertEqual(bool(told & Ready.CAN_WRITE), self.meets(image, "write", side, bytes(WRITE_MOST)) not in ("EAGAIN", "ENOSR", "ENXIO"))
+        self.assertEqual(bool(told & Ready.HAS_SIGNALS), bool(self.meets(image, "signals", side)))
+        self.assertEqual(bool(told & Ready.HUNG_UP), self.meets(image, "flush", side) == "ENXIO")
+
+    def test_each_side_behind_each_call(self):
+        chance = random.Random(13)
+        for _ in range(10):
+            with Pair.terminal() as pair:
+                for step in range(80):
+                    any_call(pair, chance)
+                    if step > 60 and chance.random() < 0.1:
+                        refusal_of(pair.close, chance.choice([MASTER, SLAVE]))
+                    self.agrees(pair, MASTER)
+                    self.agrees(pair, SLAVE)
 
 
 class Smallest(unittest.TestCase):

@@ -3,35 +3,35 @@ use std::io::{self, Read, Write};
 use std::ops::{Deref, DerefMut};
 use std::sync::{Arc, Mutex, MutexGuard, PoisonError};
 
-use crate::{Caller, Pair, Queue, Ready, Refused, Side, Termios, When, Winsize};
+use crate::{Caller, Pair, Queue, Ready, Refusal, Refused, Side, Termios, When, Winsize};
 
-// The pair of two halves, and whether the slave's was dropped while its modules still hold what it wrote.
+// The pair of two halves, and for each side whether its half was dropped and its close is still to be made.
 #[derive(Debug)]
 struct Shared {
     pair: Pair,
-    slave_lingers: bool,
+    closing: [bool; 2],
 }
 
 impl Shared {
-    // A close takes what stands in the modules, so the slave's waits until that has gone on.
-    fn closes_slave(&mut self) {
-        let holds = self.pair.sizes(Queue::SlaveLdtermWrite).map_or(false, |standing| standing.messages > 0);
-        self.slave_lingers = holds && self.pair.is_open() && !self.pair.ready(Side::Slave).is_hung_up();
-        if !self.slave_lingers {
-            let _ = self.pair.close(Side::Slave);
-        }
+    // A close takes what stands in the modules, so the slave's waits until that has gone on; and each waits for the blocks that it wants.
+    fn closes(&mut self, side: Side) {
+        let stands = self.pair.sizes(Queue::SlaveLdtermWrite).map_or(false, |standing| standing.messages > 0);
+        let drains = side == Side::Slave && stands && !self.pair.ready(side).is_hung_up();
+        self.closing[side as usize] = drains || matches!(self.pair.close(side), Err(Refused::Call(Refusal::Enosr | Refusal::JournalFull)));
     }
 
     // Makes turns. What can't go on goes on behind a later call.
     fn runs(&mut self) {
         let _ = self.pair.runqueues();
-        if self.slave_lingers {
-            self.closes_slave();
+        for side in [Side::Master, Side::Slave] {
+            if self.closing[side as usize] {
+                self.closes(side);
+            }
         }
     }
 }
 
-/// The pair of two halves, locked till this is dropped.
+/// The pair of two halves, locked till this is dropped: a call of a half waits till then.
 #[derive(Debug)]
 pub struct Locked<'a>(MutexGuard<'a, Shared>);
 
@@ -97,10 +97,7 @@ impl Drop for Half {
     fn drop(&mut self) {
         let mut shared = self.locked();
         shared.runs();
-        match self.side {
-            Side::Master => drop(shared.pair.close(Side::Master)),
-            Side::Slave => shared.closes_slave(),
-        }
+        shared.closes(self.side);
         shared.runs();
     }
 }
@@ -206,7 +203,7 @@ impl Pair {
     /// # Ok::<(), std::io::Error>(())
     /// ```
     pub fn split(self) -> (Master, Slave) {
-        let shared = Arc::new(Mutex::new(Shared { pair: self, slave_lingers: false }));
+        let shared = Arc::new(Mutex::new(Shared { pair: self, closing: [false; 2] }));
         let half = |side| Half { shared: Arc::clone(&shared), side, caller: Caller::NOBODY };
         (Master(half(Side::Master)), Slave(half(Side::Slave)))
     }

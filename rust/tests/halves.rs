@@ -69,6 +69,23 @@ fn what_a_dropped_slave_wrote_is_read_to_its_end() -> Outcome {
 }
 
 #[test]
+fn a_close_waits_for_its_blocks() -> Outcome {
+    let mut pair = Pair::new(Sizes { blocks: 33, entries: 64, bytes: 8192 })?;
+    pair.open_master()?;
+    pair.unlock()?;
+    pair.open_slave()?;
+    pair.keeps = true;
+    let (mut master, slave) = pair.split();
+    assert_eq!(master.write(b"x")?, 1);
+    while master.pair().signals(Side::Master).is_ok() {} // till the journal is full
+    drop(slave);
+    assert_eq!(master.read(&mut [0; 9]).unwrap_err().to_string(), "the journal has no room for the call (JournalFull)");
+    master.pair().restart()?;
+    assert_eq!(master.read(&mut [0; 9])?, 0);
+    Ok(())
+}
+
+#[test]
 fn errors_are_those_of_files_with_the_refusal_inside() -> Outcome {
     let (mut master, mut slave) = Pair::terminal()?.split();
     let error: io::Error = master.read(&mut [0; 9]).unwrap_err();
