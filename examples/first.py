@@ -35,7 +35,7 @@ def session(pair):
 def signals(pair):
     """A resize and an interrupt, as signals of the slave."""
     pair.set_winsize(24, 80)
-    told = pair.winsize()
+    told = pair.get_winsize()
     print(f"{'window':<20}{told.rows} x {told.columns}")
     pair.write(MASTER, b"abc\x03")
     pair.runqueues()

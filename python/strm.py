@@ -19,31 +19,36 @@ loader, pkg-config, and in ~/.local/lib and /usr/local/lib: `tools/library PREFI
 A pair is used by one thread at a time. `python3 -m strm` is a prompt that shows the streams.
 """
 import ctypes
-import struct
 
-from strm_library import Ask, Counts, Entry, Handle, Library, Place, Reply, Stands, Went
+from strm_cursor import Cursor
+from strm_library import Ask, Counts, Entry, Handle, Left, Library, Made, Place, Reply, Stands, Went
 from strm_words import *
 
 
+def version(library=None):
+    """The version of the library: its major and its minor number."""
+    return divmod(Library.at(library).version(), 65536)
+
+
 class Pair:
-    """A master and a slave. `blocks` of each kind are its pool (a write wants 32 free and one for each begun 256 bytes), `entries` and
-    `journal_bytes` the room of its journal. All memory is taken here; `free`, or the end of a `with`, gives it back. With `image` the pair
-    is made of what Pair.image gave: EINVAL where it is none, ENOSR where it wants more blocks.
+    """A master and a slave. `blocks` of each kind are its pool, `entries` and `journal_bytes` the room of its journal, `reserve` and `begins_anew`
+    as Plan has them: a pair costs the memory that it touches, so many blocks cost addresses alone. All memory is taken here; `free`, or the
+    end of a `with`, gives it back. With `image` the pair is made of what Pair.image gave: EINVAL where it is none, ENOSR where it wants more blocks.
 
-    `room` are the three sizes. `before_restart` has what is called, with the pair, before its journal begins anew: recorders take its
-    entries there."""
+    `plan` is how it was made. `before_restart` has what is called, with the pair, before its journal begins anew: recorders take its
+    entries there. It isn't where the library begins the journal anew by itself."""
 
-    def __init__(self, blocks=256, entries=8192, journal_bytes=262144, keeps=False, library=None, image=None):
+    def __init__(
+        self, blocks=TERMINAL_BLOCKS, entries=8192, journal_bytes=262144, keeps=False, library=None, image=None, reserve=(0, 0), begins_anew=False
+    ):
         self.library = Library.at(library)
-        self.room, self.keeps, self.before_restart, self.restarts = (blocks, entries, journal_bytes), keeps, [], 0
+        self.plan = Plan(blocks, entries, journal_bytes, tuple(reserve), begins_anew)
+        self.keeps, self.before_restart, self.restarts = keeps, [], 0
         self._handle, self._ask, self._reply, self._went = Handle(), Ask(), Reply(), Went()
-        self._turns, self._room = ctypes.c_size_t(), ctypes.create_string_buffer(ANSWER_MAX)
+        self._turns, self._room = ctypes.c_size_t(), ctypes.create_string_buffer(ANSWER_MOST)
         parts = (self._handle, self._ask, self._reply, self._went, self._turns, self._room)
         self._at, self._ask_at, self._reply_at, self._went_at, self._turns_at, self._room_at = map(ctypes.addressof, parts)
-        if image is None:
-            refused = self.library.new(self._at, *self.room)
-        else:
-            refused = self.library.restore(self._at, *self.room, bytes(image), len(image))
+        refused = self._made(image)
         if refused:
             raise Refused(refused, "new" if image is None else "restore")
         # Bound once: each look-up costs as much as the call itself.
@@ -51,16 +56,51 @@ class Pair:
             getattr(self.library, name) for name in ("write", "read", "runqueues", "call")
         )
 
+    def _made(self, image):
+        """Makes the pair by its plan: a refusal's number. One without reserves may have fewer blocks than a plan."""
+        plan, image = self.plan, None if image is None else bytes(image)
+        if not any(plan.reserve) and not plan.begins_anew:
+            sizes = plan[:3]
+            return self.library.new(self._at, *sizes) if image is None else self.library.restore(self._at, *sizes, image, len(image))
+        made = Made(*plan[:3], plan.reserve, plan.begins_anew)
+        at = ctypes.addressof(made)
+        return self.library.make(self._at, at) if image is None else self.library.remake(self._at, at, image, len(image))
+
+    @classmethod
+    def new(cls, blocks, entries, bytes, **named):
+        """A pair of these sizes without a reserve, which nobody opened. EINVAL: no block, or above 65536."""
+        return cls(blocks, entries, bytes, **named)
+
+    @classmethod
+    def make(cls, plan, **named):
+        """A pair by a plan, which nobody opened. EINVAL: fewer blocks than 64 and the greater reserve, or above 65536; or the journal is to begin
+        anew by itself, and has no entry or fewer than 8192 bytes."""
+        return cls(*plan[:3], reserve=plan.reserve, begins_anew=plan.begins_anew, **named)
+
+    @classmethod
+    def restore(cls, blocks, entries, bytes, image, **named):
+        """The pair of an image, of these sizes and without a reserve. ENOSR: its messages take more blocks."""
+        return cls(blocks, entries, bytes, image=image, **named)
+
+    @classmethod
+    def remake(cls, plan, image, **named):
+        """The pair of an image, by a plan."""
+        return cls.make(plan, image=image, **named)
+
     @classmethod
     def terminal(cls, *sizes, **named):
-        """A pair that is a terminal as a shell expects it."""
-        pair = cls(*sizes, **named)
+        """A pair that is a terminal as a shell expects it: both sides open, ptem and ldterm on the slave. Without sizes it is that of the plan
+        TERMINAL, but for `begins_anew`: its journal begins anew by `restart`, so that recorders see it."""
+        plan = TERMINAL._replace(begins_anew=False)
+        is_sized = sizes or named.keys() & {"blocks", "entries", "journal_bytes", "keeps", "reserve", "begins_anew"}
+        pair = cls(*sizes, **named) if is_sized else cls.make(plan, **named)
         pair.open_terminal()
         return pair
 
     def free(self):
         """Gives the memory back. Any call behind it is refused with EINVAL."""
         self.library.free(self._at)
+        ctypes.memset(self._room_at, 0, ANSWER_MOST)
 
     @property
     def is_open(self):
@@ -87,9 +127,9 @@ class Pair:
         ask, reply = self._ask, self._reply
         ask.op, ask.side, ask.a, ask.b, ask.c = OP[op], side, a, b, c
         ask.group, ask.ignores, ask.orphaned = caller
-        refused = self._call(self._at, self._ask_at, data, len(data), self._room_at, ANSWER_MAX, self._reply_at)
+        refused = self._call(self._at, self._ask_at, data, len(data), self._room_at, ANSWER_MOST, self._reply_at)
         if refused and self._mends(refused):
-            refused = self._call(self._at, self._ask_at, data, len(data), self._room_at, ANSWER_MAX, self._reply_at)
+            refused = self._call(self._at, self._ask_at, data, len(data), self._room_at, ANSWER_MOST, self._reply_at)
         if refused:
             raise Refused(refused, op)
         return _answer(reply, self._room[: reply.bytes])
@@ -149,11 +189,12 @@ class Pair:
         self.push(SLAVE, "ldterm")
 
     def write(self, side, data, caller=None):
-        """write(2): how many of the bytes were taken, which may be fewer than all. EAGAIN where flow control takes none."""
-        if caller is not None:
-            return self._told("write", side, data=bytes(data), caller=caller).value
+        """write(2) of at most the first 1024 bytes: how many were taken, which may be fewer than all; the rest is written behind them. EAGAIN where
+        flow control takes none."""
         if type(data) is not bytes:
-            data = bytes(data)
+            data = bytes(memoryview(data).cast("B")[:WRITE_MOST])
+        if caller is not None:
+            return self._told("write", side, data=data, caller=caller).value
         refused = self._write(self._at, side, data, len(data), self._reply_at)
         if refused and self._mends(refused):
             refused = self._write(self._at, side, data, len(data), self._reply_at)
@@ -161,12 +202,12 @@ class Pair:
             raise Refused(refused, "write")
         return self._reply.value
 
-    def read(self, side, most=READ_MAX, caller=None):
+    def read(self, side, most=READ_MOST, caller=None):
         """read(2) of at most so many bytes, and 4096; a line, where ldterm stands and ICANON is set. b"" is the end of input: a hang-up, or
         an EOF key. EAGAIN where nothing stands there."""
         if caller is not None:
             return self._told("read", side, most, caller=caller).bytes
-        room = most if most < READ_MAX else READ_MAX
+        room = most if most < READ_MOST else READ_MOST
         refused = self._read(self._at, side, self._room_at, room, self._reply_at)
         if refused and self._mends(refused):
             refused = self._read(self._at, side, self._room_at, room, self._reply_at)
@@ -174,14 +215,26 @@ class Pair:
             raise Refused(refused, "read")
         return self._room[: self._reply.bytes]
 
+    def read_into(self, side, room):
+        """read(2) into a bytearray or another buffer that can be written to: how many bytes came. No copy of them is kept here."""
+        if not len(room):
+            return len(self.read(side, 0))
+        part = (ctypes.c_char * len(room)).from_buffer(room)
+        refused = self._read(self._at, side, ctypes.addressof(part), len(room), self._reply_at)
+        if refused and self._mends(refused):
+            refused = self._read(self._at, side, ctypes.addressof(part), len(room), self._reply_at)
+        if refused:
+            raise Refused(refused, "read")
+        return self._reply.bytes
+
     def take(self, side):
         """All bytes that reads of a side give at once, up to the end of input; b"" where nothing stands there."""
         parts = []
         while True:
-            refused = self._read(self._at, side, self._room_at, READ_MAX, self._reply_at)
+            refused = self._read(self._at, side, self._room_at, READ_MOST, self._reply_at)
             if refused and self._mends(refused):
                 continue
-            if refused and REFUSALS[refused] != "EAGAIN":
+            if refused and refused != EAGAIN:
                 raise Refused(refused, "read")
             if refused or not self._reply.bytes:
                 return b"".join(parts)
@@ -189,14 +242,14 @@ class Pair:
 
     def write_all(self, side, data):
         """Writes all of the bytes, with turns wherever flow control takes no more. EAGAIN where nothing goes on, as the other side has to
-        read: `args[1]` of it are the bytes that weren't taken."""
-        data = bytes(data)
-        while data:
+        read: `args[-1]` of it are the bytes that weren't taken."""
+        data, at = memoryview(data).cast("B"), 0
+        while at < len(data):
             try:
-                data = data[self.write(side, data[: 8 * BLOCK]) :]
+                at += self.write(side, data[at : at + WRITE_MOST])
             except Refused as refusal:
-                if refusal.name not in ("EAGAIN", "ENOSR") or self.runqueues() == 0:
-                    refusal.args += (data,)
+                if not refusal.would_wait or self.runqueues() == 0:
+                    refusal.args += (bytes(data[at:]),)
                     raise
 
     def put(self, side, prio=0, control=None, data=None, caller=NOBODY):
@@ -205,9 +258,9 @@ class Pair:
         split = len(control) if parts == 3 else 0
         self._told("put", side, prio, parts, split, (control or b"") + (data or b""), caller)
 
-    def get(self, side, wanted=ANY, control=READ_MAX, data=READ_MAX, caller=NOBODY):
+    def get(self, side, wanted=ANY, control=READ_MOST, data=READ_MOST, caller=NOBODY):
         """getpmsg(2): the first message, or its front, where it is wanted: any, HIGH, or of at least a band. The sizes are the most bytes."""
-        told = self._told("get", side, wanted, min(control, READ_MAX), min(data, READ_MAX), caller=caller)
+        told = self._told("get", side, wanted, min(control, READ_MOST), min(data, READ_MOST), caller=caller)
         split = told.size if told.parts == 3 else len(told.bytes) if told.parts == 1 else 0
         return Message(
             told.prio,
@@ -221,9 +274,11 @@ class Pair:
         """I_FLUSH, or I_FLUSHBAND of a band."""
         self.call("flush", side, bool(read) + 2 * bool(write), band)
 
-    def mode(self, side, mode):
-        """I_SRDOPT: one of MODES."""
-        self.call("mode", side, MODES.index(mode))
+    def srdopt(self, side, mode):
+        """I_SRDOPT: one of MODES. EINVAL: another name. `mode` is the same."""
+        self.call("mode", side, MODES.index(mode) if mode in MODES else len(MODES))
+
+    mode = srdopt
 
     def nread(self, side):
         """I_NREAD: how many messages stand at the head, and how many bytes of data the first one has."""
@@ -237,9 +292,11 @@ class Pair:
     # ------------------------------------------------------------------------------------------------------------- ioctl
 
     def ioctl(self, side, command, body=b"", caller=NOBODY):
-        """I_STR, waited for by turns: the bytes of its answer. `command` is a name of COMMANDS or a number. Nak: it was answered so. EAGAIN: it
-        isn't answered where the pair is at rest; `ioctl_result` asks again."""
+        """I_STR, waited for by turns: the bytes of its answer. `command` is a name of COMMANDS (EINVAL: another name) or a number. Nak: it was
+        answered so. EAGAIN: it isn't answered where the pair is at rest; `ioctl_result` asks again."""
         number = COMMANDS.get(command, command)
+        if not isinstance(number, int):
+            raise Refused(EINVAL, "ioctl")
         told = self._told("ioctl", side, number, data=body, caller=caller)
         if told.kind == "pending":
             self.runqueues()
@@ -258,13 +315,23 @@ class Pair:
         """TCSETS at once, TCSETSW behind the output, TCSETSF with the input flushed too."""
         self.ioctl(side, when, termios.wire(), caller)
 
-    def winsize(self, side=SLAVE):
-        """TIOCGWINSZ."""
+    def get_winsize(self, side=SLAVE):
+        """TIOCGWINSZ. `winsize` is the same."""
         return Winsize.of_wire(self.ioctl(side, "TIOCGWINSZ"))
+
+    winsize = get_winsize
 
     def set_winsize(self, rows, columns, width=0, height=0, side=MASTER):
         """TIOCSWINSZ: where the size changes, SIGWINCH comes to the slave."""
         self.ioctl(side, "TIOCSWINSZ", Winsize(rows, columns, width, height).wire())
+
+    def tcgetpgrp(self, side=SLAVE):
+        """TIOCGPGRP: the foreground group; 0 where there is none."""
+        return int.from_bytes(self.ioctl(side, "TIOCGPGRP"), "big")
+
+    def tcsetpgrp(self, group, side=SLAVE):
+        """TIOCSPGRP: sets the foreground group."""
+        self.ioctl(side, "TIOCSPGRP", group.to_bytes(4, "big"))
 
     # ------------------------------------------------------------------------------------------------------------- turns and looks
 
@@ -279,13 +346,14 @@ class Pair:
         return _turn(queue, self._went)
 
     def runqueues(self, most=1_000_000):
-        """Turns, each of the queue that was enabled first, until none is: how many were made. JournalFull, behind so many and more: they
-        don't end, as with an ldterm on each side that echo each other. What was made stays made."""
+        """Turns, each of the queue that was enabled first, until none is: how many were made. JournalFull, behind so many and more, or EAGAIN of
+        a pair whose journal begins anew by itself: they may not end, as with an ldterm on each side that echo each other. What was made stays
+        made, and another run goes on."""
         refused = self._runqueues(self._at, self._turns_at)
         if not refused:
             return self._turns.value
         made = 0
-        while refused and made + self._turns.value < most and self._mends(refused):
+        while refused and made + self._turns.value < most and (refused == EAGAIN or self._mends(refused)):
             made += self._turns.value
             refused = self._runqueues(self._at, self._turns_at)
         if refused:
@@ -308,13 +376,13 @@ class Pair:
     def sizes(self, queue):
         """How many messages stand on a queue, and how many bytes they have."""
         told = Stands()
-        self._look(self.library.sizes, "sizes", QUEUES[queue], told)
+        self._look(self.library.sizes, "sizes", QUEUES.get(queue, len(QUEUES) + 4), told)
         return Standing(told.messages, told.bytes)
 
     def first_size(self, queue):
         """How many bytes the first message of a queue has."""
         told = ctypes.c_size_t()
-        self._look(self.library.first_size, "first_size", QUEUES[queue], told)
+        self._look(self.library.first_size, "first_size", QUEUES.get(queue, len(QUEUES) + 4), told)
         return told.value
 
     def ledger(self, side):
@@ -323,6 +391,18 @@ class Pair:
         self._look(self.library.ledger, "ledger", side, told)
         gone = {rule: count for rule, count in zip(RULES, told.gone) if count}
         return Books(told.written, told.made, told.queued, told.inlined, gone)
+
+    def ready(self, side):
+        """What a side is ready for, as Ready has it. It is a look, and turns come first, as only they bring anything."""
+        return Ready(self.library.ready(self._at, side))
+
+    def room(self):
+        """What is left of the pool and of the journal."""
+        told = Left()
+        refused = self.library.room(self._at, ctypes.addressof(told))
+        if refused:
+            raise Refused(refused, "room")
+        return Room(told.blocks, told.entries, told.bytes)
 
     def _look(self, function, name, number, told):
         refused = function(self._at, number, ctypes.addressof(told))
@@ -352,56 +432,24 @@ class Pair:
             raise Refused(refused, "restart")
         self.restarts += 1
 
+    def next_entry(self, cursor):
+        """The entry at a cursor, which moves behind it; None where all were taken."""
+        return cursor.next()
+
     def entries(self):
         """The journal's entries, each a Call or a Turn, from where it last began."""
         cursor = Cursor(self)
         while (entry := cursor.next()) is not None:
             yield entry
 
-    def make(self, entry):
-        """Makes a call or a turn of a journal again: the same entry with the answer that this pair gives."""
+    def repeat(self, entry):
+        """Makes a call or a turn of a journal again: the same entry with the answer that this pair gives. A pair that begins where the journal's
+        did gives the same answers, as long as the blocks of both are ample: of two with few that are free, of which one has fewer or is made of an
+        image, which doesn't say how messages stand in blocks, one may refuse by ENOSR what the other grants."""
         if isinstance(entry, Turn):
             return self.turn(entry.queue)
         told = self.call(entry.op, entry.side, entry.a, entry.b, entry.c, entry.bytes, entry.caller)
         return entry._replace(answer=told)
-
-
-class Cursor:
-    """A place in a pair's journal: `next` gives the entry there and moves on. Behind a restart it stands at the new beginning."""
-
-    _fields = struct.Struct("@QII 6I?? Q5I?? II")  # strm_entry
-
-    def __init__(self, pair):
-        self._restarts = pair.restarts
-        self.pair, self._place, self._entry = pair, Place(), Entry()
-        self._grow(ANSWER_MAX + 8 * BLOCK)
-
-    def _grow(self, size):
-        self._room = ctypes.create_string_buffer(size)
-        parts = (self._place, self._entry, self._room)
-        self._arguments = (self.pair._at, *map(ctypes.addressof, parts), size)
-
-    def next(self):
-        """The entry, or None where all were taken."""
-        if self._restarts != self.pair.restarts:
-            self._place.entry = self._place.byte = 0
-            self._restarts = self.pair.restarts
-        refused = self.pair.library.next_entry(*self._arguments)
-        if refused:
-            if REFUSALS[refused] == "EAGAIN":
-                return None
-            wanted = self._entry.brings + self._entry.reply.bytes
-            if REFUSALS[refused] != "EINVAL" or wanted <= len(self._room):
-                raise Refused(refused, "next_entry")
-            self._grow(wanted)
-            return self.next()
-        brings, kind, queue, op, side, a, b, c, group, ignores, orphaned, *reply, went, moved = self._fields.unpack_from(self._entry)
-        if kind:
-            return Turn(QUEUE_NAMES[queue], ("idle", "blocked", "moved")[went], moved)
-        room, given = self._room, reply[0]
-        answer = Answer(ANSWERS[reply[1]], *reply[2:], room[brings : brings + given] if given else b"")
-        caller = Caller(group, ignores, orphaned) if group or ignores or orphaned else NOBODY
-        return Call(OPS[op], MASTER if side == 0 else SLAVE, a, b, c, caller, room[:brings] if brings else b"", answer)
 
 
 def _answer(reply, given):

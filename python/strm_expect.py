@@ -101,7 +101,7 @@ class Terminal(io.RawIOBase):
         """Raises what the signals that came up mean."""
         for number in self.pair.signals(SLAVE):
             if number is Signal.WINCH:
-                window = self.pair.winsize(SLAVE)
+                window = self.pair.get_winsize(SLAVE)
                 self.resized(window.rows, window.columns)
             elif number is Signal.INT:
                 raise KeyboardInterrupt
@@ -160,7 +160,7 @@ class Hosted:
                 self.calls += 1
                 return made
             except Refused as refusal:
-                if refusal.name not in ("EAGAIN", "ENOSR"):
+                if not refusal.would_wait:
                     raise
             self._lets_run()
 
@@ -208,9 +208,9 @@ class Hosted:
         """Writes keys to the master. AtRest: the program doesn't read them."""
         while data:
             try:
-                data = data[self.pair.write(MASTER, data[:2048]) :]
+                data = data[self.pair.write(MASTER, data) :]
             except Refused as refusal:
-                if refusal.name not in ("EAGAIN", "ENOSR") or not self.step():
+                if not refusal.would_wait or not self.step():
                     raise AtRest(f"nobody reads, and these keys weren't taken: {data!r}") from None
 
     def take(self):

@@ -28,10 +28,14 @@ class Standing(NamedTuple):
 
 
 class Queue(NamedTuple):
-    """A queue: whether it wants to be read, and its messages, the first one first."""
+    """A queue: whether it wants to be read, and its messages, the first one first; the high-water marks of bands that have others than a new
+    queue, and the bands in which a writer waits. `full` are the bands that have as many bytes as their mark, or more."""
 
     wants_read: bool
     messages: list
+    marks: dict
+    waiting: list
+    full: list
 
 
 class Stream(NamedTuple):
@@ -86,15 +90,28 @@ class Reader:
         data = self.take(self.number(4))
         return data if there else None
 
-    def queue(self, version):
+    def flows(self, version):
+        """The high-water marks and the waiting writers of the bands that are listed."""
+        marks, waiting = {}, []
+        for at in range(8 if version == 1 else self.number(2)):
+            band = at if version == 1 else self.number()
+            marks[band] = self.number(4)
+            self.take(4)
+            waiting += [band] * self.flag()
+        return marks, waiting
+
+    def queue(self, version, is_head=False):
         flags = self.number()
-        for _ in range(8 if version == 1 else self.number(2)):
-            self.take(9 if version == 1 else 10)
+        marks, waiting = self.flows(version)
         messages = []
         for _ in range(self.number(4)):
             kind, band = self.number(), self.number()
             messages.append(Standing(KINDS.get(kind, hex(kind)), band, self.part(), self.part()))
-        return Queue(bool(flags & 1), messages)
+        counts = {}
+        for it in messages:
+            counts[it.band] = counts.get(it.band, 0) + len(it.control or b"") + len(it.data or b"")
+        full = [band for band in sorted(counts) if counts[band] >= marks.get(band, 5120 if is_head else 512)]
+        return Queue(bool(flags & 1), messages, marks, waiting, full)
 
     def slot(self):
         if (kind := self.number()) > 0:
@@ -130,7 +147,7 @@ class Reader:
         signals = list(self.take(self.number()))
         self.slot()
         modules = [self.module(letter, version, queues, told) for _ in range(self.number())]
-        queues[f"{letter}.head.r"], queues[f"{letter}.drv.w"] = self.queue(version), self.queue(version)
+        queues[f"{letter}.head.r"], queues[f"{letter}.drv.w"] = self.queue(version, is_head=True), self.queue(version)
         return Stream(state, modules, bool(flags & 1), group, signals, **told)
 
 

@@ -6,11 +6,18 @@ import subprocess
 
 from strm_words import RULES
 
-VERSION = (1, 1)  # the least version of the library that strm.py calls
+VERSION = (1, 2)  # the least version of the library that strm.py calls
 
 
 class Handle(ctypes.Structure):
     _fields_ = [("at", ctypes.c_void_p), ("is_open", ctypes.c_bool)]
+
+
+class Made(ctypes.Structure):
+    _fields_ = [(name, ctypes.c_size_t) for name in ("blocks", "entries", "bytes")] + [
+        ("reserve", ctypes.c_size_t * 2),
+        ("begins_anew", ctypes.c_bool),
+    ]
 
 
 class Ask(ctypes.Structure):
@@ -39,6 +46,10 @@ class Counts(ctypes.Structure):
     _fields_ = [(name, ctypes.c_uint64) for name in ("written", "made", "queued", "inlined")] + [("gone", ctypes.c_uint64 * len(RULES))]
 
 
+class Left(ctypes.Structure):
+    _fields_ = [(name, ctypes.c_size_t) for name in ("blocks", "entries", "bytes")]
+
+
 class Place(ctypes.Structure):
     _fields_ = [("entry", ctypes.c_size_t), ("byte", ctypes.c_size_t)]
 
@@ -60,6 +71,7 @@ def prototypes():
     return (
         ("strm_version", number, ()),
         ("strm_new", number, (pointer, size, size, size)),
+        ("strm_make", number, (pointer, pointer)),
         ("strm_free", None, (pointer,)),
         ("strm_call", number, (pointer, pointer, lent, size, pointer, size, pointer)),
         ("strm_write", number, (pointer, number, lent, size, pointer)),
@@ -72,12 +84,12 @@ def prototypes():
         ("strm_sizes", number, (pointer, number, pointer)),
         ("strm_first_size", number, (pointer, number, pointer)),
         ("strm_ledger", number, (pointer, number, pointer)),
+        ("strm_ready", number, (pointer, number)),
+        ("strm_room", number, (pointer, pointer)),
         ("strm_image", number, (pointer, pointer, size, pointer)),
         ("strm_restore", number, (pointer, size, size, size, lent, size)),
+        ("strm_remake", number, (pointer, pointer, lent, size)),
     )
-
-
-LATER = ("strm_image", "strm_restore")  # a library of 1.1 may lack these
 
 
 def places(path):
@@ -104,8 +116,6 @@ class Library:
     def __init__(self, path=None):
         shared = self._found(path)
         for name, result, arguments in prototypes():
-            if name in LATER and not hasattr(shared, name):
-                continue
             function = getattr(shared, name)
             function.restype, function.argtypes = result, arguments
             setattr(self, name[len("strm_") :], function)

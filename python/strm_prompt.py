@@ -23,6 +23,23 @@ SIDES = {"m": MASTER, "s": SLAVE, "master": MASTER, "slave": SLAVE}
 ESCAPES = {"n": "\n", "r": "\r", "t": "\t", "e": "\x1b", '"': '"', "\\": "\\"}
 
 
+UNDONE = 100  # commands that can be taken back
+TOUR = (
+    ("A pair has a master and a slave. An emulator holds the master, a program the slave; modules are pushed on the slave's stream.", ["terminal"]),
+    ("What the master writes stands on its driver's write queue, and that queue is enabled: nothing has moved.", ['write m "hi"']),
+    ("A turn is one run of a service procedure: the driver's carries the message across. ldterm's read queue is enabled now.", ["turn m.drv.w"]),
+    ("ldterm gathers a line, and echoes each byte down its write side. `run` makes turns till no queue is enabled.", ["run"]),
+    ("The echo stands at the master's head, where a read takes it. The slave has nothing to read: the line isn't whole.", ["read m", "read s"]),
+    ("DEL erases a byte, and is echoed as BS SPACE BS. The books tell by which rule each byte has gone.", ['keys "\\x7fo"', "run", "ledger m"]),
+    ("A return ends the line: it goes up to the slave's head as one message.", ['keys "\\r"', "run", "read s"]),
+    ("Messages have bands. One of band 2 overtakes those of band 0, and a message of high priority all others.",
+     ['say "text"', 'put s 2 - "banded"', 'put s hi "urgent" -', "run", "get m"]),
+    ("Flow control: a queue that holds its high-water mark is full, and takes no more until a reader has made room.",
+     ['say "' + "x" * 60 + '"', "run"]),
+    ("Every call and turn is in the journal: `record FILE` keeps it, `replay FILE` makes it again; `undo` takes a command back.", ["undo"]),
+)  # fmt: skip
+
+
 class Wrong(Exception):
     """A command that isn't understood: what it wants instead."""
 
@@ -57,7 +74,10 @@ class Stacks:
     """The modules of each stream, from the top, and which sides are open, by the entries of a journal."""
 
     def __init__(self, pair):
-        self.cursor, self.modules, self.state = Cursor(pair), {MASTER: [], SLAVE: []}, {MASTER: "not open", SLAVE: "not open"}
+        streams = read_image(pair.image()).streams
+        self.cursor = Cursor(pair)
+        self.modules = {side: list(it.modules) for side, it in streams.items()}
+        self.state = {side: it.state for side, it in streams.items()}
 
     def look(self, _pair=None):
         """The entries since the last look."""
@@ -121,9 +141,7 @@ class Picture:
         yield f"enabled, in order: {', '.join(self.enabled)}" if self.enabled else "at rest: no queue is enabled"
 
     def contents(self):
-        """The messages of each queue, the first one first, and the unfinished lines, where the library gives images."""
-        if not hasattr(self.pair.library, "image"):
-            return
+        """The messages of each queue, the first one first, and the unfinished lines."""
         image = read_image(self.pair.image())
         for name, queue in image.queues.items():
             if queue.messages:
@@ -149,7 +167,7 @@ class Prompt(cmd.Cmd):
 
     def __init__(self, pair=None, **files):
         super().__init__(**files)
-        self.draws, self.recorder = True, None
+        self.draws, self.recorder, self.before, self.step = True, None, [], 0
         self.use(pair or Pair())
 
     def use(self, pair):
@@ -168,8 +186,12 @@ class Prompt(cmd.Cmd):
         pass
 
     def onecmd(self, line):
+        image = self.pair.image()
         try:
-            return super().onecmd(line)
+            stop = super().onecmd(line)
+            if not line.startswith("undo") and self.pair.image() != image:
+                self.before = [*self.before[-UNDONE:], image]
+            return stop
         except Refused as refusal:
             self.say(f"refused: {refusal.name}")
         except Stopped as stopped:
@@ -296,7 +318,7 @@ class Prompt(cmd.Cmd):
 
     def do_mode(self, line):
         """mode X MODE         norm, msgn, msgd, protnorm, protdat or protdis: I_SRDOPT"""
-        self.pair.mode(*self.words(line, self.side, str))
+        self.pair.srdopt(*self.words(line, self.side, str))
 
     def do_signals(self, line):
         """signals [X]         the signals that came up"""
@@ -307,7 +329,7 @@ class Prompt(cmd.Cmd):
         """size [ROWS COLUMNS]  the window; with numbers the master sets it"""
         if line:
             self.pair.set_winsize(*self.words(line, int, int))
-        self.say("{} rows, {} columns".format(*self.pair.winsize()))
+        self.say("{} rows, {} columns".format(*self.pair.get_winsize()))
 
     def do_stty(self, line):
         """stty [FLAG..]       the terminal's modes; echo sets one, -echo clears it"""
@@ -339,6 +361,15 @@ class Prompt(cmd.Cmd):
         gone = ", ".join(f"{rule} {count}" for rule, count in books.gone.items())
         self.say(f"written {books.written} + made {books.made} = queued {books.queued} + in a line {books.inlined} + gone ({gone or 'none'})")
 
+    def do_ready(self, line):
+        """ready X             what a side is ready for"""
+        told = self.pair.ready(*self.words(line, self.side))
+        self.say(", ".join(each.name.lower().replace("_", " ") for each in strm.Ready if each & told) or "nothing")
+
+    def do_room(self, _line):
+        """room                free blocks, and what the journal takes yet"""
+        self.say("{} blocks, {} entries, {} bytes".format(*self.pair.room()))
+
     def do_show(self, _line):
         """show                draws the two streams"""
         self.say("\n".join(Picture(self.pair, self.stacks).lines()))
@@ -349,7 +380,7 @@ class Prompt(cmd.Cmd):
 
     def do_new(self, line):
         """new [BLOCKS]        frees this pair, and makes another one"""
-        blocks, = self.words(line, (int, 256))
+        blocks, = self.words(line, (int, strm.TERMINAL_BLOCKS))
         pair = Pair(blocks)
         self.do_record("off")
         self.pair.free()
@@ -374,6 +405,31 @@ class Prompt(cmd.Cmd):
         for number, entry, made in differences:
             self.say(f"entry {number}: {entry}\n  instead: {made!r}")
         self.say(f"{len(journal)} entries, {len(differences)} answers differ; the pair is as they left it")
+
+    def do_undo(self, _line):
+        """undo                takes the last command back that changed the pair: the pair is made of its image from before"""
+        if not self.before:
+            raise Wrong("nothing to take back")
+        pair = Pair.remake(self.pair.plan, self.before.pop())
+        self.do_record("off")
+        self.pair.free()
+        self.use(pair)
+        self.do_show("")
+
+    def do_tour(self, line):
+        """tour [off]          STREAMS in ten steps: each tells what to look at, and makes the next command"""
+        if line == "off" or self.step == len(TOUR):
+            self.step = 0
+            return
+        if self.step == 0:
+            self.do_new("")
+        says, commands = TOUR[self.step]
+        self.step += 1
+        self.say(f"\n{self.step} of {len(TOUR)}. {says}")
+        for command in commands:
+            self.say(f"strm> {command}")
+            self.postcmd(self.onecmd(command), command)
+        self.say("(`tour` goes on; any other command may stand between)" if self.step < len(TOUR) else "(the end; `tour` begins anew)")
 
     def do_quit(self, _line):
         """quit                ends (so does Ctrl-D)"""

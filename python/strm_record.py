@@ -8,14 +8,18 @@
 
     differences = replay(read_journal("bug.jsonl"))     # [] where a new pair gives every answer of the file
 
+Two pairs of one journal replay alike only with ample blocks: a pair that has fewer, or that is made of an image, which doesn't say how messages
+stand in blocks, may refuse by ENOSR what the recorded one granted.
+
 A recorder takes the journal's entries through a cursor, each once: when `drain` is called, when the pair's journal is full and begins anew,
 and at the end. So a session of any length takes no more memory, and no entry is lost. An entry's time is that of the drain which takes it.
 What a drain took is in the files when it returns: a recorder that is killed leaves files that are read up to their last whole line.
 
 A journal's file has a line of JSON for each entry, and one in front that says "strm journal", the version of the format, the version of
-libstrm, the sizes of the pair and the time of its beginning, in seconds since 1970. In strings of bytes the characters U+0000 to U+00FF are the bytes. All times are seconds.
+libstrm, the sizes of the pair and the time of its beginning, in seconds since 1970. In strings of bytes the characters U+0000 to U+00FF are the
+bytes. All times are seconds.
 
-    {"format": "strm journal", "version": 1, "library": "1.1", "blocks": 256, "entries": 8192, "bytes": 262144, "timestamp": 1795000000}
+    {"format": "strm journal", "version": 1, "library": "1.2", "blocks": 12900, "entries": 8192, "bytes": 262144, "timestamp": 1795000000}
     {"at": 0.5, "call": "write", "side": "m", "numbers": [0, 0, 0], "caller": [0, false, false], "bytes": "ls\\r",
      "answer": {"kind": "count", "value": 3}}
     {"at": 0.5, "turn": "m.drv.w", "kind": "moved", "moved": 3}
@@ -31,7 +35,7 @@ import codecs
 import json
 import time
 
-from strm import COMMANDS, HOST_ERRNO, MASTER, NOBODY, SLAVE, Answer, Call, Caller, Cursor, Pair, Refused, Side, Turn, Winsize  # noqa: F401
+from strm import COMMANDS, MASTER, NOBODY, SLAVE, TERMINAL_BLOCKS, Answer, Call, Caller, Cursor, Pair, Refused, Side, Turn, Winsize
 from strm_library import VERSION
 
 FORMAT = "strm journal"
@@ -42,6 +46,8 @@ class Recorder:
     `close()`."""
 
     def __init__(self, pair, writers=None, clock=time.monotonic):
+        if pair.plan.begins_anew:
+            raise ValueError("the library begins this pair's journal anew by itself, and its entries are gone then: Pair(begins_anew=False)")
         self.pair, self.clock, self.began = pair, clock, clock()
         self.entries = []
         self.writers = [self] if writers is None else list(writers)
@@ -324,7 +330,7 @@ class JournalWriter:
         self.header = header
 
     def begins(self, pair):
-        blocks, entries, room = pair.room
+        blocks, entries, room = pair.plan[:3]
         sizes = {"blocks": blocks, "entries": entries, "bytes": room}
         self._line({"format": FORMAT, "version": 1, "library": "%d.%d" % VERSION, **sizes, "timestamp": int(time.time()), **self.header})
         self.file.flush()
@@ -394,11 +400,11 @@ def replay(journal, pair=None):
     """Makes a journal's entries again, on a new pair of the sizes that it names or on the one that is handed in: [(number, entry, what came
     instead)], of which the last one is a Refused where a call or turn was refused. It ends there, as nothing behind could be the same."""
     sizes = getattr(journal, "header", {})
-    pair = pair or Pair(sizes.get("blocks", 256), sizes.get("entries", 8192), sizes.get("bytes", 262144))
+    pair = pair or Pair(sizes.get("blocks", TERMINAL_BLOCKS), sizes.get("entries", 8192), sizes.get("bytes", 262144))
     differences = []
     for number, (_, entry) in enumerate(journal):
         try:
-            made = pair.make(entry)
+            made = pair.repeat(entry)
         except Refused as refusal:
             return [*differences, (number, entry, refusal)]
         if made != entry:

@@ -127,7 +127,7 @@ class Child:
         resize(rows, columns) if resize else self.pair.set_winsize(rows, columns)
 
     def getwinsize(self):
-        return tuple(self.pair.winsize(SLAVE))[:2]
+        return tuple(self.pair.get_winsize(SLAVE))[:2]
 
     def _modes(self):
         return self.session.tcgetattr() if hasattr(self.session, "tcgetattr") else self.pair.tcgetattr(SLAVE)

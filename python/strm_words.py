@@ -3,7 +3,7 @@ and modes of a terminal. strm.py gives them all on."""
 import errno
 import signal as host_signals
 import struct
-from enum import IntEnum
+from enum import IntEnum, IntFlag
 from typing import NamedTuple, Optional
 
 
@@ -16,10 +16,13 @@ class Side(IntEnum):
 
 MASTER, SLAVE = Side.MASTER, Side.SLAVE
 HIGH, ANY = 256, 257  # beside a band from 0 to 255: high priority; any message, or all bands
-READ_MAX, ANSWER_MAX, BLOCK = 4096, 8192, 256
+READ_MOST, WRITE_MOST, ANSWER_MOST, BLOCK = 4096, 1024, 8192, 256
+BLOCKS_LEAST, BLOCKS_MOST, JOURNAL_LEAST, RUN_MOST = 64, 65536, 8192, 65536
+# So many blocks that bytes typed and written on a terminal are stopped by flow control, and never by its pool, whatever is read or isn't.
+TERMINAL_BLOCKS = 12900
 
 REFUSALS = ("ok", "EINVAL", "EAGAIN", "ENXIO", "EBADMSG", "ENOSR", "ERANGE", "JournalFull", "NoMinor", "NoMemory", "StillShared", "EIO")
-JOURNAL_FULL = REFUSALS.index("JournalFull")
+EINVAL, EAGAIN, JOURNAL_FULL = map(REFUSALS.index, ("EINVAL", "EAGAIN", "JournalFull"))
 MODULES = (None, "ldterm", "ptem", "pckt")
 MODES = ("norm", "msgn", "msgd", "protnorm", "protdat", "protdis")
 QUEUES = {
@@ -82,6 +85,11 @@ class Refused(Exception):
         return f"{self.call}: {self.name}"
 
     @property
+    def would_wait(self):
+        """Whether the call would have had to wait: EAGAIN."""
+        return type(self) is Refused and self.number == EAGAIN
+
+    @property
     def errno(self):
         return HOST_ERRNO.get(self.number, errno.EBUSY)
 
@@ -107,6 +115,39 @@ class Caller(NamedTuple):
 
 
 NOBODY = Caller()
+
+
+class Plan(NamedTuple):
+    """How Pair.make makes a pair: blocks of each kind, the room of its journal, for master and slave the blocks that their writes, puts and
+    ioctls leave free (`reserve`), and whether the library begins a full journal anew by itself (`begins_anew`)."""
+
+    blocks: int
+    entries: int
+    bytes: int
+    reserve: tuple = (0, 0)
+    begins_anew: bool = False
+
+
+TERMINAL = Plan(TERMINAL_BLOCKS, 64, 16384, (4096, 512), True)
+
+
+class Ready(IntFlag):
+    """What a side is ready for."""
+
+    CAN_READ = 1  # a read of a byte or more isn't EAGAIN
+    CAN_GET = 2  # a get of any message isn't EAGAIN
+    CAN_WRITE = 4  # a write isn't EAGAIN, however long it is
+    HAS_SIGNALS = 8
+    HAS_ANSWER = 16  # an ioctl was answered, and its answer not taken
+    HUNG_UP = 32  # the other end is gone
+
+
+class Room(NamedTuple):
+    """What is left of a pair: free blocks, and the entries and bytes that its journal takes yet."""
+
+    blocks: int
+    entries: int
+    bytes: int
 
 
 class Answer(NamedTuple):

@@ -1,15 +1,13 @@
 #!/usr/bin/env python3
-"""Runs `rt ci` and says what each part of it costs: the table of docs/GATE.md.
+"""Runs the gate, `rt ci` and behind it tools/wrong, and says what each part of it costs: the table of docs/GATE.md.
 
     tools/gate.py [--anew] [--write] [CRATE..]
 
-Run it at the top of the repository; .ci/run does. The output is that of `rt ci`, then the table, and then the closing line of `rt ci`
-once more; the status is that of `rt ci`, but an edit that can't be applied, compiled or read fails it too (`rt ci` counts such a one neither
-as passed nor as failed). It passes over what an earlier run on this machine passed: with --anew it proves and tries
-all. With crates it is `rt ci` of these and those below them, and the table has those that were at work. --write puts the table into docs/GATE.md too, for a run with nothing else at work on the machine. It looks twice a second at the
-checker's processes: what each has used of the processor counts for the proof, the tests or an edit of its crate. A crate's edits are
-tried in the order of their names: the first one pays for the crate's check from nothing too, and behind the last one the crate is
-checked once more as it is; these two are told apart as further checks.
+Run it at the top of the repository; ./test does. The output is that of both, then the table, and last 'N passed, M failed' of both together; the
+status is 0 where M is. It passes over what an earlier run on this machine passed: with --anew it proves and tries all. With crates it is the gate
+of these and those below them, and the table has those that were at work. --write puts the table into docs/GATE.md too, for a run with nothing else
+at work on the machine. It looks twice a second at the checker's processes: what each has used of the processor counts for the proof, the tests or
+the wrong bodies of its crate.
 """
 import argparse
 import collections
@@ -17,7 +15,6 @@ import glob
 import os
 import re
 import resource
-import statistics
 import subprocess
 import sys
 import tempfile
@@ -25,6 +22,9 @@ import time
 
 TICKS = os.sysconf("SC_CLK_TCK")
 PAGE, HEADING = "docs/GATE.md", "## What it costs"
+CLOSING = re.compile(r"^(\d+) passed, (\d+) failed\b")
+# Crates of tests alone: their lines aren't counted.
+TESTS = re.compile(r"/strm_(tests|scenes)/|/tests/|tests\.rt$")
 
 
 def text_of(path):
@@ -43,12 +43,11 @@ def crates():
 def lines_of(crate):
     """How many lines its source has, tests left out."""
     paths = glob.glob(f"crates/{crate}/src/**/*.rt", recursive=True)
-    return sum(text_of(path).count("\n") for path in paths if not re.search(r"/strm_(tests|trials|scenes)/|/tests/|tests\.rt$", path))
+    return sum(text_of(path).count("\n") for path in paths if not TESTS.search(path))
 
 
-def edits_of(crate):
-    names = sorted(os.path.basename(path) for path in glob.glob(f"crates/{crate}/must-fail/*.edit"))
-    return [name[: -len(".edit")] for name in names]
+def wrong_of(crate):
+    return len(glob.glob(f"crates/{crate}/wrong/*.edit"))
 
 
 class Process:
@@ -63,7 +62,7 @@ class Process:
             folder = os.readlink(f"/proc/{number}/cwd")
         except OSError:
             pass
-        self.part = "edits" if "/rt-edit-" in folder else "tests" if "--test" in words else "proof"
+        self.part = "wrong" if "/wrong-" in folder else "tests" if "--test" in words else "proof"
 
     def look(self):
         """Takes what the process and those of its children that have ended have used so far."""
@@ -108,61 +107,65 @@ def look_around(gate, known, seen):
             seen.append(known[number])
 
 
-def run_gate(log, words):
-    """The status of `rt ci`, its processes, and its seconds by the clock and of the processor. Its output goes to a file too."""
-    known, seen, began = {}, [], time.monotonic()
-    gate = subprocess.Popen(["bash", "-o", "pipefail", "-c", 'rt ci "${@:1}" 2>&1 | tee "$0"', log, *words], stdin=subprocess.DEVNULL)
-    while gate.poll() is None:
-        look_around(str(gate.pid), known, seen)
+def run(words, log, known, seen):
+    """Runs a command to its end while it looks at its processes; its status, and its last line. Its output goes to a file too."""
+    ran = subprocess.Popen(["bash", "-o", "pipefail", "-c", '"$@" 2>&1 | tee "$0"', log, *words], stdin=subprocess.DEVNULL)
+    while ran.poll() is None:
+        look_around(str(ran.pid), known, seen)
         time.sleep(0.5)
-    used = resource.getrusage(resource.RUSAGE_CHILDREN)
-    return gate.returncode, seen, time.monotonic() - began, used.ru_utime + used.ru_stime
+    return ran.returncode, (text_of(log).rstrip("\n").splitlines() or [""])[-1]
 
 
-def edits_cost(crate, seconds):
-    """What a crate's edits took, and what its two further checks did, of the seconds of its processes in order."""
-    count = len(edits_of(crate))
-    if count < 2 or len(seconds) < 2:
-        return sum(seconds), 0
-    seed = max(seconds[0] - statistics.median(seconds[1:count]), 0)
-    last = seconds[count] if len(seconds) > count else 0
-    return sum(seconds) - seed - last, seed + last
+def run_gate(asked):
+    """The checker's processes of all parts, and how many things passed and failed."""
+    known, seen, passed, failed = {}, [], 0, 0
+    anew = ["--anew"] if asked.anew else []
+    with tempfile.TemporaryDirectory(prefix="gate-") as room:
+        for words in (["rt", "ci", *anew, *asked.names], ["tools/kept"], ["tools/wrong", *anew, *asked.names]):
+            status, closing = run(words, f"{room}/log", known, seen)
+            counted = CLOSING.match(closing)
+            if counted:
+                passed, failed = passed + int(counted[1]), failed + int(counted[2])
+            if status or (not counted and words != ["tools/kept"]):
+                failed = max(failed, 1)
+                break
+    return seen, passed, failed
 
 
-def row_of(name, lines, proof, tests, count, edits, further):
+def row_of(name, lines, proof, tests, count, wrong):
     rate = f"{(proof + tests) / 60 / lines * 1000:.1f}" if lines else ""
-    each = f"{edits / count:.0f}" if count else ""
-    return f"| {name} | {lines} | {proof:.0f} | {tests:.0f} | {rate} | {count} | {edits:.0f} | {each} | {further:.0f} |"
+    return f"| {name} | {lines} | {proof:.0f} | {tests:.0f} | {rate} | {count} | {wrong:.0f} |"
 
 
 def together(name, rows):
-    return (name, *(sum(row[at] for row in rows) for at in range(1, 7)))
+    return (name, *(sum(row[at] for row in rows) for at in range(1, 6)))
 
 
 def cost_of(row):
-    return row[2] + row[3] + row[5] + row[6]
+    return row[2] + row[3] + row[5]
 
 
 def table(seen, wall, used, closing):
     """A row for each crate that takes a twenty-fifth of the whole or more, one for all others, and one for all."""
-    parts = collections.defaultdict(list)
+    parts = collections.defaultdict(float)
     for process in seen:
-        parts[process.crate, process.part].append(process.seconds)
+        parts[process.crate, process.part] += process.seconds
     rows = []
-    for crate in [name for name in crates() if any(parts[name, part] for part in ("proof", "tests", "edits"))]:
-        edits, further = edits_cost(crate, parts[crate, "edits"])
-        proof, tests = (sum(parts[crate, part]) for part in ("proof", "tests"))
-        rows.append((crate, lines_of(crate), proof, tests, len(edits_of(crate)), edits, further))
+    for crate in crates():
+        proof, tests, wrong = (parts[crate, part] for part in ("proof", "tests", "wrong"))
+        if proof or tests or wrong:
+            rows.append((crate, lines_of(crate), proof, tests, wrong_of(crate), wrong))
     whole = together("all", rows)
     dear = [row for row in rows if cost_of(row) >= cost_of(whole) / 25]
     rest = [row for row in rows if row not in dear]
     rows = [*dear, *([together(f"{len(rest)} others", rest)] if rest else []), whole]
-    yield "| Crate | Lines without tests | Proof, CPU s | Tests, CPU s | 1000 lines, CPU min | Edits | CPU s | an edit | Further checks, CPU s |"
-    yield "|---|---|---|---|---|---|---|---|---|"
+    yield "| Crate | Lines without tests | Proof, CPU s | Tests, CPU s | 1000 lines, CPU min | Wrong bodies | CPU s |"
+    yield "|---|---|---|---|---|---|---|"
     yield from (row_of(*row) for row in rows)
     yield ""
-    share = 100 * rows[-1][5] / max(used, 1)
-    yield f"`{closing}`: {wall / 60:.0f} minutes by the clock on {os.cpu_count()} cores, {used / 60:.0f} of the processor; edits are {share:.0f} % of it."
+    share = 100 * whole[5] / max(used, 1)
+    yield f"`{closing}`: {wall / 60:.0f} minutes by the clock on {os.cpu_count()} cores in {os.environ.get('RT_JOBS', '1')} lanes, " \
+        f"{used / 60:.0f} of the processor; wrong bodies are {share:.0f} % of it."
 
 
 def write_table(lines):
@@ -172,30 +175,21 @@ def write_table(lines):
         out.write("\n".join([head + HEADING, "", *lines, ""]))
 
 
-def bad_edits(log):
-    """The lines of a log that tell of an edit that never reached the prover."""
-    return sorted({line.strip() for line in log.splitlines() if "BAD EDIT" in line})
-
-
 def main():
     parser = argparse.ArgumentParser(description=__doc__, formatter_class=argparse.RawDescriptionHelpFormatter)
     parser.add_argument("--anew", action="store_true")
     parser.add_argument("--write", action="store_true")
     parser.add_argument("names", nargs="*")
     asked = parser.parse_args()
-    with tempfile.TemporaryDirectory(prefix="gate-") as room:
-        status, seen, wall, used = run_gate(f"{room}/log", [*(["--anew"] if asked.anew else []), *asked.names])
-        log = text_of(f"{room}/log")
-    closing = (log.rstrip("\n").splitlines() or ["0 passed, 1 failed"])[-1]
-    bad = bad_edits(log)
-    if bad:
-        status = status or 1
-        closing = re.sub(r"(\d+) failed$", lambda failed: f"{int(failed[1]) + len(bad)} failed", closing)
-    lines = [*table(seen, wall, used, closing)]
-    print("\n".join(["", *lines, "", *bad, closing]), flush=True)
+    began = time.monotonic()
+    seen, passed, failed = run_gate(asked)
+    used = resource.getrusage(resource.RUSAGE_CHILDREN)
+    closing = f"{passed} passed, {failed} failed"
+    lines = [*table(seen, time.monotonic() - began, used.ru_utime + used.ru_stime, closing)]
+    print("\n".join(["", *lines, "", closing]), flush=True)
     if asked.write:
         write_table(lines)
-    sys.exit(status)
+    sys.exit(failed > 0)
 
 
 if __name__ == "__main__":

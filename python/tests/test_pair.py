@@ -5,8 +5,7 @@ import random
 import unittest
 
 import strm
-from strm import HIGH, MASTER, SLAVE, Caller, Message, Nak, Pair, Refused, Signal, Stopped, Turn
-from strm_library import Library
+from strm import HIGH, MASTER, SLAVE, WRITE_MOST, Caller, Message, Nak, Pair, Refused, Signal, Stopped, Turn
 
 
 class Terminals(unittest.TestCase):
@@ -40,6 +39,10 @@ class Terminals(unittest.TestCase):
         self.refused("EINVAL", self.pair.open_master)
         self.refused("EINVAL", self.pair.turn, "m.drv.w")
         self.refused("EINVAL", self.pair.turn, "nosuch")
+        self.refused("EINVAL", self.pair.sizes, "nosuch")
+        self.refused("EINVAL", self.pair.first_size, "nosuch")
+        self.refused("EINVAL", self.pair.srdopt, SLAVE, "nosuch")
+        self.refused("EINVAL", self.pair.ioctl, SLAVE, "NOSUCH")
         self.refused("ERANGE", self.pair.put, MASTER, 0, b"x" * 65)
         self.pair.close(SLAVE)
         self.refused("ENXIO", self.pair.write, SLAVE, b"x")
@@ -70,6 +73,7 @@ class Terminals(unittest.TestCase):
 
     def test_signals_and_windows(self):
         self.pair.set_winsize(24, 80)
+        self.assertEqual(self.pair.get_winsize(), (24, 80, 0, 0))
         self.assertEqual(self.pair.winsize(), (24, 80, 0, 0))
         self.typed(b"abc\x03")
         self.assertEqual(self.pair.signals(SLAVE), [Signal.WINCH, Signal.INT])
@@ -97,6 +101,7 @@ class Terminals(unittest.TestCase):
     def test_job_control(self):
         # TIOCSPGRP takes a group's 32 bits; a reader of another group is stopped, and one that ignores the signal refused.
         self.pair.ioctl(SLAVE, "TIOCSPGRP", (7).to_bytes(4, "big"), Caller(group=7))
+        self.assertEqual(self.pair.tcgetpgrp(), 7)
         with self.assertRaises(Stopped) as told:
             self.pair.read(SLAVE, caller=Caller(group=8))
         self.assertEqual(told.exception.signal, Signal.TTIN)
@@ -134,8 +139,21 @@ class Terminals(unittest.TestCase):
         shown += self.pair.take(MASTER)
         self.assertEqual(shown, lines.replace(b"\n", b"\r\n"))
 
+    def test_a_read_into_a_buffer(self):
+        self.typed(b"secret\r")
+        room = bytearray(b"." * 9)
+        self.assertEqual(self.pair.read_into(SLAVE, room), 7)
+        self.assertEqual(room, b"secret\n..")
+        self.refused("EAGAIN", self.pair.read_into, SLAVE, room)
+        self.assertEqual(room, b"secret\n..")
+        self.assertEqual(self.pair.read_into(SLAVE, bytearray()), 0)
+        with self.assertRaises(TypeError):
+            self.pair.read_into(SLAVE, b"bytes")
+
     def test_a_freed_pair_refuses(self):
         self.pair.free()
+        self.refused("EINVAL", self.pair.room)
+        self.assertEqual(self.pair.ready(SLAVE), 0)
         self.assertFalse(self.pair.is_open)
         self.refused("EINVAL", self.pair.write, MASTER, b"x")
         self.assertTrue(self.pair.at_rest)
@@ -147,6 +165,8 @@ class Terminals(unittest.TestCase):
     def test_text_is_no_bytes(self):
         with self.assertRaises(TypeError):
             self.pair.write(MASTER, "text")
+        with self.assertRaises(TypeError):
+            self.pair.write(MASTER, 5)
         self.assertEqual(self.pair.write(MASTER, bytearray(b"ab")), 2)
 
 
@@ -200,11 +220,12 @@ class Journals(unittest.TestCase):
                     pair.read(SLAVE)
                 self.assertEqual(told.exception.name, "JournalFull")
 
-    def test_a_large_write_stands_whole_in_the_journal(self):
-        with Pair(512) as pair:
-            pair.open_master()
-            self.assertEqual(pair.write(MASTER, bytes(60000)), 512)
-            self.assertEqual(list(pair.entries())[-1].bytes, bytes(60000))
+    def test_a_write_brings_its_first_bytes(self):
+        for caller in (None, Caller(7)):
+            with Pair(512) as pair:
+                pair.open_master()
+                self.assertEqual(pair.write(MASTER, bytes(60000), caller), 512)
+                self.assertEqual(list(pair.entries())[-1].bytes, bytes(WRITE_MOST))
 
     def test_random_sessions_balance(self):
         chance = random.Random(5)
@@ -215,7 +236,6 @@ class Journals(unittest.TestCase):
                 self.assertTrue(pair.ledger(MASTER).balance and pair.ledger(SLAVE).balance)
 
 
-@unittest.skipUnless(hasattr(Library.at(), "restore"), "the library makes no pair of an image")
 class Images(unittest.TestCase):
     def test_a_pair_goes_on_where_its_image_was_taken(self):
         with Pair.terminal() as pair:
@@ -224,7 +244,7 @@ class Images(unittest.TestCase):
             pair.set_winsize(10, 40)
             image, books = pair.image(), pair.ledger(MASTER)
         with Pair(image=image) as pair:
-            self.assertEqual((pair.ledger(MASTER), pair.winsize()), (books, (10, 40, 0, 0)))
+            self.assertEqual((pair.ledger(MASTER), pair.get_winsize()), (books, (10, 40, 0, 0)))
             pair.write(MASTER, b"ine\r")
             pair.runqueues()
             self.assertEqual((pair.read(SLAVE), pair.take(MASTER)), (b"half a line\n", b"half a line\r\n"))
@@ -259,7 +279,7 @@ def any_call(pair, chance):
         lambda: pair.put(side, chance.choice([0, 3, 255, HIGH]), keys[:5], chance.choice([None, keys])),
         lambda: pair.get(side, chance.choice([strm.ANY, HIGH, 2]), chance.randint(0, 9), chance.randint(0, 99)),
         lambda: pair.flush(side, chance.random() < 0.5, True, chance.choice([strm.ANY, 0, 3])),
-        lambda: pair.mode(side, chance.choice(strm.MODES)),
+        lambda: pair.srdopt(side, chance.choice(strm.MODES)),
         lambda: pair.signals(side),
         lambda: pair.set_winsize(chance.randint(1, 3), 80),
         lambda: pair.push(side, chance.choice(["ldterm", "ptem", "pckt"][side == MASTER :])),

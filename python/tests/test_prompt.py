@@ -29,6 +29,12 @@ class Prompts(unittest.TestCase):
         self.assertIn("drv  down 1 x, 3 bytes      <- turn 1", told)
         self.assertIn("enabled, in order: m.drv.w", told)
 
+    def test_readiness_and_room(self):
+        told = said("picture off", "terminal", "keys \\x03", "run", "ready s", "ready m", "close m", "ready m", "ready s", "new 64", "room")
+        self.assertIn("can write, has signals\n", told)
+        self.assertIn("nothing\ncan read, can get, has signals, hung up\n", told)
+        self.assertTrue(told.endswith("64 blocks, 8192 entries, 262144 bytes\n"), told)
+
     def test_mistakes_are_told_and_the_prompt_goes_on(self):
         lines = (
             "nonsense", "read", "read q", "read m x", "write m", "turn nosuch", "turn m.drv.w", "push m foo", "size 99999 1", "stty nosuch", "put",

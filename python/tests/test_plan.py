@@ -1,0 +1,226 @@
+"""Pairs by a plan: reserves, readiness, journals that begin anew by themselves, and 10 MB through the smallest one."""
+import random
+import unittest
+
+from strm import (
+    BLOCKS_LEAST, BLOCKS_MOST, COMMANDS, HIGH, JOURNAL_LEAST, MASTER, SLAVE, TERMINAL, TERMINAL_BLOCKS, WRITE_MOST, Pair, Plan, Ready,
+    Refused, Winsize,
+)  # fmt: skip
+
+from tests.test_pair import any_call
+
+SMALLEST = Plan(BLOCKS_LEAST, 1, JOURNAL_LEAST, begins_anew=True)
+TEN_MEGABYTES = 10_000_000
+
+
+def refusal_of(call, *arguments):
+    """The name of a call's refusal, or what it gave."""
+    try:
+        return call(*arguments)
+    except Refused as refused:
+        return refused.name
+
+
+def opened(pair):
+    pair.open_master(), pair.unlock(), pair.open_slave()
+    return pair
+
+
+class Plans(unittest.TestCase):
+    def test_limits(self):
+        Pair.make(SMALLEST).free()
+        Pair.make(SMALLEST._replace(entries=0, bytes=0, begins_anew=False)).free()
+        for wrong in (
+            {"blocks": BLOCKS_LEAST - 1}, {"blocks": BLOCKS_MOST + 1}, {"reserve": (1, 0)}, {"reserve": (0, 1)}, {"entries": 0},
+            {"bytes": JOURNAL_LEAST - 1},
+        ):  # fmt: skip
+            self.assertEqual(refusal_of(Pair.make, SMALLEST._replace(**wrong)), "EINVAL", wrong)
+
+    def test_pairs_are_as_they_were_planned(self):
+        for pair in (Pair.new(100, 7, 9000), Pair(100, 7, 9000)):
+            with pair:
+                self.assertEqual((pair.plan, pair.room()), (Plan(100, 7, 9000), (100, 7, 9000)))
+        with Pair.make(TERMINAL) as pair:
+            self.assertEqual((pair.plan, pair.room()), (TERMINAL, TERMINAL[:3]))
+        with Pair.terminal() as pair:
+            self.assertEqual((pair.plan.blocks, pair.plan.reserve), (TERMINAL_BLOCKS, (4096, 512)))
+
+    def test_pairs_of_images(self):
+        with Pair.terminal() as pair:
+            pair.write(MASTER, b"half a l")
+            image = pair.image()
+        for pair in (Pair.remake(TERMINAL, image), Pair.restore(256, 64, 9000, image), Pair(image=image)):
+            with pair:
+                self.assertEqual(pair.image(), image)
+                pair.write(MASTER, b"ine\r"), pair.runqueues()
+                self.assertEqual(pair.read(SLAVE), b"half a line\n")
+        self.assertEqual(refusal_of(Pair.remake, TERMINAL, image[1:]), "EINVAL")
+
+    def test_a_journal_that_begins_anew(self):
+        with Pair.make(TERMINAL) as pair:
+            pair.open_terminal()
+            for _ in range(300):
+                pair.write(MASTER, b"line\r"), pair.runqueues()
+                self.assertEqual((pair.read(SLAVE), pair.read(MASTER)), (b"line\n", b"line\r\n"))
+            self.assertEqual(pair.restarts, 0)
+            self.assertLess(pair.room().entries, 64)
+            self.assertLess(len(list(pair.entries())), 64)
+
+    def test_turns_that_do_not_end(self):
+        with Pair.make(SMALLEST._replace(blocks=256)) as pair:
+            pair.open_terminal(), pair.push(MASTER, "ldterm"), pair.write(MASTER, b"x")
+            self.assertEqual(refusal_of(pair.runqueues, 1000), "EAGAIN")
+            self.assertFalse(pair.at_rest)
+            self.assertTrue(pair.ledger(SLAVE).balance)
+
+
+class Reserves(unittest.TestCase):
+    def setUp(self):
+        self.pair = Pair.make(Plan(256, 64, 16384, (100, 64), True))
+        self.addCleanup(self.pair.free)
+        self.pair.open_terminal()
+
+    def ends(self, call, *arguments, turns=lambda: None):
+        """Makes a call till it is refused, at most as often as there are blocks: the refusal."""
+        for _ in range(257):
+            if isinstance(told := refusal_of(call, *arguments), str):
+                return told
+            turns()
+        return None
+
+    def test_keys_that_end_the_input(self):
+        self.assertEqual(self.ends(self.pair.write, MASTER, b"\x04", turns=self.pair.runqueues), "EAGAIN")
+        self.goes_on()
+
+    def test_empty_writes(self):
+        self.assertEqual(self.ends(self.pair.write, MASTER, b""), "EAGAIN")
+        self.goes_on()
+
+    def test_messages_of_high_priority(self):
+        self.assertEqual(self.ends(self.pair.put, MASTER, HIGH, b"x"), "EAGAIN")
+        self.goes_on()
+
+    def goes_on(self):
+        self.assertGreaterEqual(self.pair.room().blocks, 64)
+        self.assertEqual(self.pair.write(SLAVE, b"out"), 3)
+        self.pair.runqueues()
+        self.assertTrue(self.pair.take(MASTER).endswith(b"out"))
+
+
+class Readiness(unittest.TestCase):
+    def setUp(self):
+        self.pair = Pair.terminal()
+        self.addCleanup(self.pair.free)
+
+    def test_what_is_typed_is_read_when_it_is_a_line(self):
+        self.assertEqual((self.pair.ready(MASTER), self.pair.ready(SLAVE)), (Ready.CAN_WRITE, Ready.CAN_WRITE))
+        self.pair.write(MASTER, b"half a line"), self.pair.runqueues()
+        self.assertEqual((self.pair.ready(MASTER), self.pair.ready(SLAVE)), (Ready.CAN_READ | Ready.CAN_GET | Ready.CAN_WRITE, Ready.CAN_WRITE))
+        self.pair.write(MASTER, b"\r"), self.pair.runqueues()
+        self.assertEqual(self.pair.ready(SLAVE), Ready.CAN_READ | Ready.CAN_GET | Ready.CAN_WRITE)
+
+    def test_signals_wait(self):
+        self.pair.write(MASTER, b"\x03"), self.pair.runqueues()
+        self.assertTrue(self.pair.ready(SLAVE) & Ready.HAS_SIGNALS)
+        self.pair.signals(SLAVE)
+        self.assertFalse(self.pair.ready(SLAVE) & Ready.HAS_SIGNALS)
+
+    def test_an_answer_waits(self):
+        told = self.pair.call("ioctl", MASTER, COMMANDS["TIOCSWINSZ"], data=Winsize(3, 4).wire())
+        self.assertEqual((told.kind, self.pair.ready(MASTER) & Ready.HAS_ANSWER), ("pending", 0))
+        self.pair.runqueues()
+        self.assertTrue(self.pair.ready(MASTER) & Ready.HAS_ANSWER)
+        self.assertEqual(self.pair.ioctl_result(MASTER, told.value), b"")
+        self.assertEqual(self.pair.get_winsize(), (3, 4, 0, 0))
+        self.assertFalse(self.pair.ready(MASTER) & Ready.HAS_ANSWER)
+
+    def test_flow_control_holds_writes(self):
+        while self.pair.ready(SLAVE) & Ready.CAN_WRITE:
+            self.pair.write(SLAVE, b"x" * WRITE_MOST), self.pair.runqueues()
+        self.assertEqual(refusal_of(self.pair.write, SLAVE, b"x"), "EAGAIN")
+
+    def test_an_end_is_gone(self):
+        self.pair.close(MASTER)
+        self.assertEqual(self.pair.ready(MASTER), Ready(0))
+        self.assertTrue(self.pair.ready(SLAVE) & Ready.HUNG_UP and self.pair.ready(SLAVE) & Ready.CAN_READ)
+        self.assertEqual(self.pair.read(SLAVE), b"")
+
+
+class ReadinessOfAnySession(unittest.TestCase):
+    """What a side is ready for is what calls of a pair of the same image meet."""
+
+    def meets(self, image, call, *arguments):
+        with Pair(image=image) as copy:
+            return refusal_of(getattr(copy, call), *arguments)
+
+    def agrees(self, pair, side):
+        told, image = pair.ready(side), pair.image()
+        read = self.meets(image, "read", side, 1)
+        if read == "ENXIO":
+            self.assertEqual(told, Ready(0))
+            return
+        self.assertEqual(bool(told & Ready.CAN_READ), read != "EAGAIN")
+        self.assertEqual(bool(told & Ready.CAN_GET), self.meets(image, "get", side) != "EAGAIN")
+        self.assertEqual(bool(told & Ready.CAN_WRITE), self.meets(image, "write", side, bytes(WRITE_MOST)) not in ("EAGAIN", "ENOSR", "ENXIO"))
+        self.assertEqual(bool(told & Ready.HAS_SIGNALS), bool(self.meets(image, "signals", side)))
+        self.assertEqual(bool(told & Ready.HUNG_UP), self.meets(image, "flush", side) == "ENXIO")
+
+    def test_each_side_behind_each_call(self):
+        chance = random.Random(13)
+        for _ in range(10):
+            with Pair.terminal() as pair:
+                for step in range(80):
+                    any_call(pair, chance)
+                    if step > 60 and chance.random() < 0.1:
+                        refusal_of(pair.close, chance.choice([MASTER, SLAVE]))
+                    self.agrees(pair, MASTER)
+                    self.agrees(pair, SLAVE)
+
+
+class Smallest(unittest.TestCase):
+    """10 MB by a loop of writes, turns and reads that knows one refusal alone: that a call would have to wait."""
+
+    def moves(self, pair, source, sink, text):
+        got, at, rest = [], 0, memoryview(text)
+        while True:
+            taken = self.now(pair.write, source, rest[at : at + WRITE_MOST]) if at < len(rest) else 0
+            at += taken
+            turns = pair.runqueues()
+            came = pair.take(sink)
+            if not taken and not turns and not came:
+                return b"".join(got)
+            got.append(came)
+
+    @staticmethod
+    def now(call, *arguments):
+        try:
+            return call(*arguments)
+        except Refused as refused:
+            if not refused.would_wait:
+                raise
+            return 0
+
+    def test_ten_megabytes_go_through(self):
+        text = bytes(range(251)) * (TEN_MEGABYTES // 251 + 1)
+        with opened(Pair.make(SMALLEST)) as pair:
+            self.assertTrue(self.moves(pair, SLAVE, MASTER, text[:TEN_MEGABYTES]) == text[:TEN_MEGABYTES])
+            self.assertTrue(pair.ledger(SLAVE).balance)
+
+    def test_lines_are_shown_on_a_terminal(self):
+        text = (b"x" * 79 + b"\n") * (TEN_MEGABYTES // 80)
+        with Pair.make(SMALLEST) as pair:
+            pair.open_terminal()
+            self.assertTrue(self.moves(pair, SLAVE, MASTER, text) == text.replace(b"\n", b"\r\n"))
+
+    def test_lines_are_typed_on_a_terminal(self):
+        text = (b"y" * 99 + b"\r") * 10_000
+        with Pair.make(SMALLEST) as pair:
+            pair.open_terminal()
+            modes = pair.tcgetattr()
+            modes["ECHO"] = False
+            pair.tcsetattr(modes)
+            self.assertTrue(self.moves(pair, MASTER, SLAVE, text) == text.replace(b"\r", b"\n"))
+
+
+if __name__ == "__main__":
+    unittest.main()

@@ -1,0 +1,1 @@
+"""The second model of a pair: tools/model.py says what it models."""
