@@ -1,7 +1,6 @@
-//! Programs of Linux on a pair, from Rust: one file over libstrm_host and the pairs of `strm`. host/strm_host.h is the manual of each call.
+//! Programs of Linux on a pair, from Rust: one file over libstrm_host and the crate `strm`. host/strm_host.h is the manual of each call.
 //!
 //! ```ignore
-//! mod strm;                                           // or: extern crate strm;
 //! mod strm_host;
 //! use strm_host::{Host, Size};
 //!
@@ -12,7 +11,7 @@
 //! }
 //! ```
 //!
-//!     rustc --edition 2021 prog.rs -L PREFIX/lib -l strm_host -l strm
+//!     rustc --edition 2021 prog.rs --extern strm=.. -L PREFIX/lib -l strm_host
 //!
 //! A host owns its pair, and gives it back when it is closed; dropped, it hangs up. A full journal begins anew, unless `Pair::keeps` is set: then a
 //! pump is refused with ENOSPC, and goes on when it was taken.
@@ -25,7 +24,7 @@ use std::os::unix::process::ExitStatusExt;
 use std::process::ExitStatus;
 use std::{io, ptr};
 
-use crate::strm::Pair;
+use strm::Pair;
 
 mod ffi {
     use super::{c_char, c_int, c_void, Modes, Size};

@@ -1,9 +1,5 @@
-//! Tests of rust/strm_host.rs: programs on pairs. The last line is 'N passed, M failed, K skipped'. With --cfg strm_crate the pairs are those of the crate.
-#[cfg(strm_crate)]
+//! Tests of rust/strm_host.rs: programs on pairs. The last line is 'N passed, M failed, K skipped'.
 extern crate strm;
-#[cfg(not(strm_crate))]
-#[path = "../../rust/strm.rs"]
-mod strm;
 #[path = "../../rust/strm_host.rs"]
 mod strm_host;
 
@@ -53,7 +49,8 @@ type Check = (&'static str, fn() -> bool);
 
 const CHECKS: [Check; 6] = [
     ("a dialogue", || {
-        let mut host = Host::spawn(terminal(USUAL), &["sh", "-c", "read a; echo [$a]; stty size"], None, Some(Size::of(30, 90))).expect("sh");
+        let mut host =
+            Host::spawn(terminal(USUAL), &["sh", "-c", "read a; echo [$a]; stty size"], None, Some(Size::of(30, 90))).expect("sh");
         let (asked, told) = (rests(&mut host), types(&mut host, "wrods\x7f\x7fds\r"));
         let status = host.try_wait().expect("its end");
         asked.is_empty() && told == b"wrods\x08 \x08\x08 \x08ds\r\n[wrods]\r\n30 90\r\n" && status.success() && host.has_ended()
