@@ -87,13 +87,12 @@ static strm_refusal goes_down(strm_host *h)
     return e == STRM_ENXIO ? STRM_OK : e;
 }
 
-/* Turns make room, and where none can be made the master has to be read. */
-static strm_refusal makes_room(strm_host *h)
+/* Turns, behind a write. Where it was refused and none can be made the master has to be read. */
+static strm_refusal makes_room(strm_host *h, strm_refusal written)
 {
-    strm_refusal e;
-    h->blocked = strm_enabled(h->pair, 0) == STRM_NO_QUEUE;
-    e = h->blocked ? STRM_OK : strm_run(h->pair);
-    if (e == STRM_ENOSR) h->blocked = true;
+    size_t turns = 0;
+    strm_refusal e = strm_runqueues(h->pair, &turns);
+    h->blocked = (written && !turns) || e == STRM_ENOSR;
     return host_waited(e) ? STRM_OK : e;
 }
 
@@ -111,7 +110,8 @@ static strm_refusal writes(strm_host *h, bool *moved)
         }
         e = goes_down(h);
         if (!e) *moved = true;
-        if (host_waited(e)) e = makes_room(h);
+        /* Turns make room for the next piece. */
+        if (!e || host_waited(e)) e = makes_room(h, e);
         if (e) return e;
     }
     return STRM_OK;
@@ -270,7 +270,8 @@ strm_refusal strm_host_pump(strm_host *h, uint32_t *what)
     int k;
     *what = 0;
     looks(h);
-    for (k = 0; moved && !e && k < HOST_ROUNDS; k++) {
+    /* Output that waits for a reader is tried again by the next pump. */
+    for (k = 0; moved && !e && k < HOST_ROUNDS && (k == 0 || !h->blocked); k++) {
         moved = false;
         e = runs(h, &moved);
         if (!e) e = host_signals(h);
