@@ -94,12 +94,23 @@ static void joins(strm_host *h, int fd)
     if (fd >= 0) host_watches(h, fd, EPOLLIN, true);
 }
 
+/* Who connects and asks nothing gives its place to the next, so that it keeps nobody out. One place is left for who isn't reached by the shim. */
+static bool makes_place(strm_host *h)
+{
+    size_t k;
+    if (h->askers < HOST_ASKERS - 1) return true;
+    for (k = 0; k < h->askers && h->asker[k].asked; k++) {}
+    if (k == h->askers) return false;
+    dismissed(h, k);
+    return true;
+}
+
 void host_hears(strm_host *h)
 {
     size_t k;
     bool over;
     int fd;
-    while (h->askers < HOST_ASKERS - 1 && (fd = accept4(h->listens, NULL, NULL, SOCK_CLOEXEC | SOCK_NONBLOCK)) >= 0) joins(h, fd);
+    while (makes_place(h) && (fd = accept4(h->listens, NULL, NULL, SOCK_CLOEXEC | SOCK_NONBLOCK)) >= 0) joins(h, fd);
     for (k = 0; k < h->askers;) {
         host_asker *a = &h->asker[k];
         if (!a->asked) {

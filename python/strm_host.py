@@ -13,6 +13,7 @@ The shared object is found by STRM_HOST_LIBRARY, else beside the libstrm that is
 anew, unless the pair keeps it; a Recorder has taken its entries then.
 """
 import ctypes
+import errno
 import os
 import select
 import signal
@@ -118,7 +119,9 @@ class Bridge:
         size = Window(rows, columns, 0, 0)
         texts = [f"{name}={value}" for name, value in {**os.environ, **(environment or {})}.items()]
         arguments = (self.pair._at, _texts(list(words)), _texts(texts), ctypes.addressof(size))
-        self._again(lambda: self.library.spawn(ctypes.addressof(made), *arguments))
+        if not self.pair.keeps:
+            self.pair.restart()  # so that its journal has room for what the host asks at first
+        _done(self.library.spawn(ctypes.addressof(made), *arguments))
         self._at = made.value
         self.pid = self.library.pid(self._at)
 
@@ -135,7 +138,7 @@ class Bridge:
     def _again(self, call):
         """Makes a call that is refused with ENOSPC, where the journal is full, again."""
         number = call()
-        if number == 28 and not self.pair.keeps:
+        if number == errno.ENOSPC and not self.pair.keeps:
             self.pair.restart()
             number = call()
         _done(number)
@@ -162,13 +165,12 @@ class Bridge:
 
     def pump(self):
         """Carries what is there, both ways. Whether something was shown, or went on."""
-        refused = self.library.pump(self.at, self._what_at)
-        if refused == 7 and not self.pair.keeps:
-            self.pair.restart()
-            refused = self.library.pump(self.at, self._what_at)
-        if refused:
-            raise Refused(refused, "pump")
-        what = self._what.value
+        at, moved = self.at, 0
+        while refused := self.library.pump(at, self._what_at):
+            moved |= self._what.value
+            if not self.pair._mends(refused):
+                raise Refused(refused, "pump")
+        what = self._what.value | moved
         if what & SHOWS:
             self.shown += self.pair.take(MASTER)
         if what & ENDED:

@@ -55,6 +55,8 @@ mod ffi {
 
 const ENOSPC: c_int = 28;
 const JOURNAL_FULL: u32 = 7;
+// A pump makes fewer entries than so many of the smallest journal have.
+const TRIES: usize = 256;
 
 /// A window: characters, and pixels (strm_winsize).
 #[repr(C)]
@@ -140,6 +142,9 @@ impl Host {
         let size = size.as_ref().map_or(ptr::null(), |size| size as *const Size);
         let mut host = Host { at: ptr::null_mut(), pair: Some(Box::new(pair)) };
         let mut at = ptr::null_mut();
+        if !host.pair().keeps {
+            host.pair().restart()?; // so that its journal has room for what the host asks at first
+        }
         // SAFETY: the pair stays where it is while the host lives, and all texts outlive the call.
         host.again(|pair, _| unsafe { ffi::strm_host_spawn(&mut at, pair, words_at.as_ptr(), environment, size) })?;
         host.at = at;
@@ -149,12 +154,14 @@ impl Host {
     /// Makes a call that is refused with ENOSPC, where the journal is full, again.
     fn again(&mut self, mut call: impl FnMut(*mut c_void, *mut c_void) -> c_int) -> io::Result<()> {
         let at = self.at;
-        let number = call(self.pair().as_mut_ptr(), at);
-        if number != ENOSPC || self.pair().keeps {
-            return done(number);
+        for _ in 0..TRIES {
+            let number = call(self.pair().as_mut_ptr(), at);
+            if number != ENOSPC || self.pair().keeps {
+                return done(number);
+            }
+            self.pair().restart()?;
         }
-        self.pair().restart()?;
-        done(call(self.pair().as_mut_ptr(), at))
+        done(ENOSPC)
     }
 
     /// The pair: its master is read and written here, while the slave's calls are the host's.
