@@ -37,10 +37,9 @@ static void enters(client *c, int fd, const char *folder, char **program)
     static const strm_winsize size = { 24, 80, 0, 0 };
     static unsigned sessions;
     char path[ROOM];
-    bool fails = strm_new(&c->pair, BLOCKS, ENTRIES, BYTES);
     c->fd = fd, c->shown_n = sizeof offers, memcpy(c->shown, offers, sizeof offers), snprintf(path, sizeof path, "%s/%u", folder, ++sessions);
-    fails = fails || (*folder && strm_recorder_open(&c->recorder, path, &c->pair, BLOCKS, ENTRIES, BYTES)) || strm_open_terminal(&c->pair);
-    if (fails || strm_host_spawn(&c->host, &c->pair, program, NULL, &size)) leaves(c);
+    if (strm_new(&c->pair, BLOCKS, ENTRIES, BYTES) || (*folder && strm_recorder_open(&c->recorder, path, &c->pair, BLOCKS, ENTRIES, BYTES))
+        || strm_open_terminal(&c->pair) || strm_host_spawn(&c->host, &c->pair, program, NULL, &size)) leaves(c);
 }
 
 /* A byte of the connection: a key, or a part of a command. RETURN is CR NUL or CR LF. */
@@ -96,8 +95,10 @@ int main(int n, char **words)
     static char *shell[] = { (char *)"sh", (char *)"-i", NULL };
     struct sockaddr_in at = { AF_INET, htons((uint16_t)(n > 1 ? atoi(words[1]) : 0)), { htonl(INADDR_LOOPBACK) }, { 0 } };
     struct pollfd fds[2 * CLIENTS + 1];
+    sigset_t none, held;
     int door = socket(AF_INET, SOCK_STREAM | SOCK_CLOEXEC, 0), on = 1, fd, k, place;
-    signal(SIGTERM, ends), setsockopt(door, SOL_SOCKET, SO_REUSEADDR, &on, sizeof on);
+    sigemptyset(&none), sigemptyset(&held), sigaddset(&held, SIGTERM); /* it comes while the server waits, and not in front of that */
+    sigprocmask(SIG_BLOCK, &held, NULL), signal(SIGTERM, ends), setsockopt(door, SOL_SOCKET, SO_REUSEADDR, &on, sizeof on);
     if (n < 2 || bind(door, (struct sockaddr *)&at, sizeof at) || listen(door, CLIENTS)) return perror("logind"), 2;
     for (k = 0; k < CLIENTS; k++) clients[k].fd = clients[k].sub = -1;
     while (!over) {
@@ -108,13 +109,12 @@ int main(int n, char **words)
             place = c->fd < 0 ? k : place;
         }
         fds[2 * CLIENTS] = (struct pollfd){ place < 0 ? -1 : door, POLLIN, 0 };
-        if (poll(fds, 2 * CLIENTS + 1, -1) < 0) continue;
+        if (ppoll(fds, 2 * CLIENTS + 1, NULL, &none) < 0) continue;
         for (k = 0; k < CLIENTS; k++)
             if (fds[2 * k].revents || fds[2 * k + 1].revents) serves(&clients[k], fds[2 * k].revents);
         if (fds[2 * CLIENTS].revents && (fd = accept4(door, NULL, NULL, SOCK_CLOEXEC)) >= 0)
             enters(&clients[place], fd, n > 2 ? words[2] : "", n > 3 ? words + 3 : shell);
     }
-    for (k = 0; k < CLIENTS; k++)
-        if (clients[k].fd >= 0) leaves(&clients[k]);
+    for (k = 0; k < CLIENTS; k++) if (clients[k].fd >= 0) leaves(&clients[k]);
     return close(door);
 }

@@ -92,7 +92,11 @@ def main():
             print(f"session {session.number} came to step {session.at} and has seen {session.seen[-300:]!r}")
     seconds = time.monotonic() - began
     server.terminate()
-    status = server.wait(60)
+    try:
+        status = server.wait(60)
+    except subprocess.TimeoutExpired:
+        server.kill()
+        status = "no answer to SIGTERM"
     journals = sorted(pathlib.Path(folder).iterdir())
     differ = [path.name for path in journals if replay(read_journal(path))]
     entries = sum(len(read_journal(path)) for path in journals)
