@@ -35,13 +35,14 @@ const EACH_CALL: &[Step<'static>] = &[
     Step::Shows(1, 0, &[(MsgKind::Data, b"de")]),
     Step::Hold(1),
     Step::Blocks(6, 6),
+];
+
+// They are given back, and the store is as new.
+const GIVEN_BACK: &[Step<'static>] = &[
     Step::Flush(0, false, Some(3)),
     Step::Blocks(7, 7),
     Step::Reset,
     Step::Blocks(8, 8),
-    Step::Make(0, MsgKind::Data, 0, b"ab"),
-    Step::Shows(0, 0, &[(MsgKind::Data, b"ab")]),
-    Step::Blocks(7, 7),
 ];
 
 const REFERENCES: &[Step<'static>] = &[
@@ -214,32 +215,37 @@ const OF_LOWEST_RANK: &[Step<'static>] = &[
 ];
 
 const CASES: &[Case<'static>] = &[
-    ("each call does its work", 8, 8, EACH_CALL),
+    (
+        "each call does its work",
+        8,
+        8,
+        &[EACH_CALL, GIVEN_BACK, EACH_CALL],
+    ),
     (
         "a data block has at most 255 references",
         300,
         300,
-        REFERENCES,
+        &[REFERENCES],
     ),
-    ("so it has of messages", 300, 2, REFERENCES_OF_MESSAGES),
-    ("a visitor is told until it wants no more", 8, 8, VISITED),
+    ("so it has of messages", 300, 2, &[REFERENCES_OF_MESSAGES]),
+    ("a visitor is told until it wants no more", 8, 8, &[VISITED]),
     (
         "the last message is taken first from the end",
         8,
         8,
-        FROM_THE_END,
+        &[FROM_THE_END],
     ),
-    ("a message is counted at once", 8, 8, SUMMED),
-    ("a trim takes no more than is shown", 2, 2, TRIMMED),
-    ("a copy shows what is left of a block", 2, 2, COPIED),
-    ("an append fills the last block", 3, 2, APPENDED),
-    ("an append fills no shared block", 2, 1, NOT_APPENDED),
-    ("a list is in the order of ranks", 8, 8, LISTED),
+    ("a message is counted at once", 8, 8, &[SUMMED]),
+    ("a trim takes no more than is shown", 2, 2, &[TRIMMED]),
+    ("a copy shows what is left of a block", 2, 2, &[COPIED]),
+    ("an append fills the last block", 3, 2, &[APPENDED]),
+    ("an append fills no shared block", 2, 1, &[NOT_APPENDED]),
+    ("a list is in the order of ranks", 8, 8, &[LISTED]),
     (
         "the last of a list has the lowest rank",
         3,
         3,
-        OF_LOWEST_RANK,
+        &[OF_LOWEST_RANK],
     ),
 ];
 

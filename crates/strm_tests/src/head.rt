@@ -56,11 +56,11 @@ fn an_empty_head_waits(rt: HostRuntime) -> Result<(), Fail> {
 type Seen = (Came, u64, u64, u32, bool);
 
 // Lets a message come up to a head at which another one stands.
-fn answers(
+fn answers<'a>(
     rt: &impl Abort,
     alloc: Global,
-    stands: (MsgKind, &[u8]),
-    message: (MsgKind, &[u8]),
+    stands: (MsgKind, &'a [u8]),
+    message: (MsgKind, &'a [u8]),
     seen: Seen,
 ) -> Result<(), Fail> {
     let steps = [

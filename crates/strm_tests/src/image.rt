@@ -1,8 +1,10 @@
 //! Small texts, by hand: one of each kind of part, and one for each reason for which a text is no image.
 
+mod queues;
 mod rewriting;
 mod writing;
 
+use queues::{FLOWS, IOCTLS, MESSAGES, NO_MESSAGES};
 use std::alloc::{AllocError, Global};
 use std::test::Fail;
 use strm_image::read;
@@ -29,96 +31,38 @@ const TERMIOS: [u8; 35] = [0; 35];
 
 const LINE: [u8; 7] = [0; 7];
 
-// A text: its front, what stands between that and some bytes, these bytes, what stands behind them, and how many bytes each side wrote; and
-// whether it is an image. No byte was made or has gone.
-struct Row<'a> {
-    front: &'a [u8],
-    before: &'a [&'a [u8]],
-    bytes: &'a [u8],
-    behind: &'a [&'a [u8]],
-    written: [u8; 2],
-    is_image: bool,
+// Where bytes stand in a text of a pair that is open.
+#[derive(Clone, Copy)]
+enum Place<'a> {
+    // Nowhere: this is a front and what stands behind it.
+    Whole(&'a [u8], &'a [&'a [u8]]),
+    // They are the head of the slave, with its modules and without its queues.
+    Head,
+    // They are the messages of the slave's driver, with their number in front.
+    Messages,
+    // They are the flags and bands of the queue of the slave's head.
+    Bands,
+    // They are the enabled queues, with their number in front, where the slave has an ldterm.
+    Enabled,
+    // They are the column and the line of the slave's ldterm.
+    Line,
 }
 
-fn is_image(alloc: Global, row: &Row<'_>) -> Result<bool, AllocError> {
-    let mut text = Vec::new(alloc);
-    text.extend_from_slice(row.front)?;
-    for part in row.before {
-        text.extend_from_slice(*part)?;
-    }
-    text.extend_from_slice(row.bytes)?;
-    for part in row.behind {
-        text.extend_from_slice(*part)?;
-    }
-    for count in row.written {
-        text.extend_from_slice(&[0, 0, 0, 0, 0, 0, 0, count])?;
-        text.extend_from_slice(&[0; 176])?;
-    }
-    Ok(read(text.as_slice()).is_some())
-}
+// Bytes and their place in a text, and how many bytes each side wrote; and whether the text is an image. No byte was made or has gone.
+type Row<'a> = (Place<'a>, &'a [u8], [u8; 2], bool);
 
-// A front with what stands behind it.
-macro_rules! whole {
-    ($front:expr, $parts:expr, $written:expr, $is_image:expr $(,)?) => {
-        Row {
-            front: $front,
-            before: &[],
-            bytes: &[],
-            behind: $parts,
-            written: $written,
-            is_image: $is_image,
-        }
-    };
-}
-
-// Bytes between parts of an open pair.
-macro_rules! between {
-    ($before:expr, $bytes:expr, $behind:expr, $written:expr, $is_image:expr $(,)?) => {
-        Row {
-            front: &OPEN,
-            before: $before,
-            bytes: $bytes,
-            behind: $behind,
-            written: $written,
-            is_image: $is_image,
-        }
-    };
-}
-
-// The head of the slave, with its modules and without its queues.
 const BEFORE_HEAD: &[&[u8]] = &[&HEAD, &NONE, &QUEUE, &QUEUE];
 
 const BEHIND_HEAD: &[&[u8]] = &[&QUEUE, &QUEUE, &NONE];
 
-macro_rules! head {
-    ($bytes:expr, $is_image:expr $(,)?) => {
-        between!(BEFORE_HEAD, $bytes, BEHIND_HEAD, [0, 0], $is_image)
-    };
-}
-
-// The messages of the slave's driver, with their number in front, of so many bytes that it wrote.
 const BEFORE_MESSAGES: &[&[u8]] = &[&HEAD, &NONE, &QUEUE, &QUEUE, &HEAD, &NONE, &QUEUE, &BANDS];
 
 const BEHIND_MESSAGES: &[&[u8]] = &[&NONE];
 
-macro_rules! messages {
-    ($bytes:expr, $written:expr, $is_image:expr $(,)?) => {
-        between!(BEFORE_MESSAGES, $bytes, BEHIND_MESSAGES, [0, $written], $is_image)
-    };
-}
-
-// The flags and bands of the queue of the slave's head.
 const BEFORE_BANDS: &[&[u8]] = &[&HEAD, &NONE, &QUEUE, &QUEUE, &HEAD, &NONE];
 
 const BEHIND_BANDS: &[&[u8]] = &[&[0, 0, 0, 0], &QUEUE, &NONE];
 
-macro_rules! bands {
-    ($bytes:expr, $is_image:expr $(,)?) => {
-        between!(BEFORE_BANDS, $bytes, BEHIND_BANDS, [0, 0], $is_image)
-    };
-}
-
-// The enabled queues, with their number in front, where the slave has an ldterm.
 const BEFORE_ENABLED: &[&[u8]] = &[
     &HEAD,
     &NONE,
@@ -134,13 +78,6 @@ const BEFORE_ENABLED: &[&[u8]] = &[
     &QUEUE,
 ];
 
-macro_rules! enabled {
-    ($bytes:expr, $is_image:expr $(,)?) => {
-        between!(BEFORE_ENABLED, $bytes, &[], [0, 0], $is_image)
-    };
-}
-
-// The column and the line of the slave's ldterm, of so many bytes that the master wrote.
 const BEFORE_LINE: &[&[u8]] = &[
     &HEAD,
     &NONE,
@@ -154,10 +91,34 @@ const BEFORE_LINE: &[&[u8]] = &[
 
 const BEHIND_LINE: &[&[u8]] = &[&QUEUE, &QUEUE, &QUEUE, &QUEUE, &NONE];
 
-macro_rules! line {
-    ($bytes:expr, $written:expr, $is_image:expr $(,)?) => {
-        between!(BEFORE_LINE, $bytes, BEHIND_LINE, [$written, 0], $is_image)
-    };
+// The front of a text, and what stands before bytes at a place and behind them.
+fn around(place: Place<'_>) -> (&[u8], &[&[u8]], &[&[u8]]) {
+    match place {
+        Place::Whole(front, parts) => (front, &[], parts),
+        Place::Head => (&OPEN, BEFORE_HEAD, BEHIND_HEAD),
+        Place::Messages => (&OPEN, BEFORE_MESSAGES, BEHIND_MESSAGES),
+        Place::Bands => (&OPEN, BEFORE_BANDS, BEHIND_BANDS),
+        Place::Enabled => (&OPEN, BEFORE_ENABLED, &[]),
+        Place::Line => (&OPEN, BEFORE_LINE, BEHIND_LINE),
+    }
+}
+
+fn is_image(alloc: Global, row: &Row<'_>) -> Result<bool, AllocError> {
+    let (front, before, behind) = around(row.0);
+    let mut text = Vec::new(alloc);
+    text.extend_from_slice(front)?;
+    for part in before {
+        text.extend_from_slice(*part)?;
+    }
+    text.extend_from_slice(row.1)?;
+    for part in behind {
+        text.extend_from_slice(*part)?;
+    }
+    for count in row.2 {
+        text.extend_from_slice(&[0, 0, 0, 0, 0, 0, 0, count])?;
+        text.extend_from_slice(&[0; 176])?;
+    }
+    Ok(read(text.as_slice()).is_some())
 }
 
 // The parts of a pair as it is opened, one more, and one less.
@@ -174,41 +135,41 @@ const SHORTER: &[&[u8]] = &[&HEAD, &NONE, &QUEUE, &QUEUE, &HEAD, &NONE, &QUEUE, 
 // Fronts with the parts of a new pair: another magic, version 3, a side that was opened in no known way, a
 // lock that is neither, ioctl 0.
 const FRONTS: [Row<'static>; 10] = [
-    whole!(&OPEN, NEW, [0, 0], true),
-    whole!(&CLOSED, NEW, [0, 0], true),
-    whole!(
-        &[83, 84, 80, 74, 2, 1, 1, 0, 0, 0, 0, 1],
-        NEW,
+    (Place::Whole(&OPEN, NEW), &[], [0, 0], true),
+    (Place::Whole(&CLOSED, NEW), &[], [0, 0], true),
+    (
+        Place::Whole(&[83, 84, 80, 74, 2, 1, 1, 0, 0, 0, 0, 1], NEW),
+        &[],
         [0, 0],
         false,
     ),
-    whole!(
-        &[83, 84, 80, 73, 3, 1, 1, 0, 0, 0, 0, 1],
-        NEW,
+    (
+        Place::Whole(&[83, 84, 80, 73, 3, 1, 1, 0, 0, 0, 0, 1], NEW),
+        &[],
         [0, 0],
         false,
     ),
-    whole!(
-        &[83, 84, 80, 73, 2, 3, 1, 0, 0, 0, 0, 1],
-        NEW,
+    (
+        Place::Whole(&[83, 84, 80, 73, 2, 3, 1, 0, 0, 0, 0, 1], NEW),
+        &[],
         [0, 0],
         false,
     ),
-    whole!(
-        &[83, 84, 80, 73, 2, 1, 1, 2, 0, 0, 0, 1],
-        NEW,
+    (
+        Place::Whole(&[83, 84, 80, 73, 2, 1, 1, 2, 0, 0, 0, 1], NEW),
+        &[],
         [0, 0],
         false,
     ),
-    whole!(
-        &[83, 84, 80, 73, 2, 1, 1, 0, 0, 0, 0, 0],
-        NEW,
+    (
+        Place::Whole(&[83, 84, 80, 73, 2, 1, 1, 0, 0, 0, 0, 0], NEW),
+        &[],
         [0, 0],
         false,
     ),
-    whole!(&OPEN, NEW, [1, 0], false),
-    whole!(&OPEN, LONGER, [0, 0], false),
-    whole!(&OPEN, SHORTER, [0, 0], false),
+    (Place::Whole(&OPEN, NEW), &[], [1, 0], false),
+    (Place::Whole(&OPEN, LONGER), &[], [0, 0], false),
+    (Place::Whole(&OPEN, SHORTER), &[], [0, 0], false),
 ];
 
 // A foreground group on the master's side.
@@ -242,31 +203,40 @@ const LONG: &[&[u8]] = &[
 
 // Heads of the slave with their modules.
 const HEADS: [Row<'static>; 15] = [
-    head!(&[2, 2, 3, 2, 31, 1, 0, 0], true),
-    head!(&[3, 0, 0, 0, 0, 0], false),
-    head!(&[0, 3, 0, 0, 0, 0], false),
-    head!(&[0, 0, 7, 0, 0, 0, 5, 0, 0, 0], true),
-    head!(&[0, 0, 4, 0, 0, 0, 0, 0, 0, 0], false),
-    head!(&[0, 0, 8, 0, 0, 0], false),
-    head!(&[0, 0, 0, 2, 9, 9, 0, 0], false),
-    head!(&[0, 0, 0, 1, 32, 0, 0], false),
-    head!(&[0, 0, 0, 1, 0, 0, 0], false),
-    head!(&[0, 0, 0, 0, 1, 0, 0, 0, 4, 0, 0, 0, 1, 0], true),
-    head!(
+    (Place::Head, &[2, 2, 3, 2, 31, 1, 0, 0], [0, 0], true),
+    (Place::Head, &[3, 0, 0, 0, 0, 0], [0, 0], false),
+    (Place::Head, &[0, 3, 0, 0, 0, 0], [0, 0], false),
+    (Place::Head, &[0, 0, 7, 0, 0, 0, 5, 0, 0, 0], [0, 0], true),
+    (Place::Head, &[0, 0, 4, 0, 0, 0, 0, 0, 0, 0], [0, 0], false),
+    (Place::Head, &[0, 0, 8, 0, 0, 0], [0, 0], false),
+    (Place::Head, &[0, 0, 0, 2, 9, 9, 0, 0], [0, 0], false),
+    (Place::Head, &[0, 0, 0, 1, 32, 0, 0], [0, 0], false),
+    (Place::Head, &[0, 0, 0, 1, 0, 0, 0], [0, 0], false),
+    (
+        Place::Head,
+        &[0, 0, 0, 0, 1, 0, 0, 0, 4, 0, 0, 0, 1, 0],
+        [0, 0],
+        true,
+    ),
+    (
+        Place::Head,
         &[
             0, 0, 0, 0, 2, 0, 0, 0, 4, 0, 0, 0, 1, 0, 0, 0, 0, 9, 0, 0, 0, 1, 7, 0,
         ],
+        [0, 0],
         true,
     ),
-    head!(
+    (
+        Place::Head,
         &[
             0, 0, 0, 0, 2, 0, 0, 0, 4, 0, 0, 0, 1, 2, 0, 0, 0, 9, 0, 0, 0, 1, 7, 0,
         ],
+        [0, 0],
         false,
     ),
-    head!(&[0, 0, 0, 0, 3, 0], false),
-    whole!(&OPEN, ON_MASTER, [0, 0], false),
-    whole!(&OPEN, LONG, [0, 0], false),
+    (Place::Head, &[0, 0, 0, 0, 3, 0], [0, 0], false),
+    (Place::Whole(&OPEN, ON_MASTER), &[], [0, 0], false),
+    (Place::Whole(&OPEN, LONG), &[], [0, 0], false),
 ];
 
 // A signal, an ioctl under way, a module and a message on the slave's side.
@@ -324,14 +294,14 @@ const WITH_MESSAGE: &[&[u8]] = &[
 
 // An open side may have them, and a closed one none.
 const SIDES: [Row<'static>; 8] = [
-    whole!(&OPEN, SIGNALLED, [0, 0], true),
-    whole!(&CLOSED, SIGNALLED, [0, 0], false),
-    whole!(&OPEN, ASKING, [0, 0], true),
-    whole!(&CLOSED, ASKING, [0, 0], false),
-    whole!(&OPEN, WITH_MODULE, [0, 0], true),
-    whole!(&CLOSED, WITH_MODULE, [0, 0], false),
-    whole!(&OPEN, WITH_MESSAGE, [0, 0], true),
-    whole!(&CLOSED, WITH_MESSAGE, [0, 0], false),
+    (Place::Whole(&OPEN, SIGNALLED), &[], [0, 0], true),
+    (Place::Whole(&CLOSED, SIGNALLED), &[], [0, 0], false),
+    (Place::Whole(&OPEN, ASKING), &[], [0, 0], true),
+    (Place::Whole(&CLOSED, ASKING), &[], [0, 0], false),
+    (Place::Whole(&OPEN, WITH_MODULE), &[], [0, 0], true),
+    (Place::Whole(&CLOSED, WITH_MODULE), &[], [0, 0], false),
+    (Place::Whole(&OPEN, WITH_MESSAGE), &[], [0, 0], true),
+    (Place::Whole(&CLOSED, WITH_MESSAGE), &[], [0, 0], false),
 ];
 
 const ALL_MODULES: &[&[u8]] = &[
@@ -355,155 +325,28 @@ const ALL_MODULES: &[&[u8]] = &[
 
 // Modules behind a head of the slave; columns and lines of an ldterm.
 const MODULES: [Row<'static>; 8] = [
-    whole!(&OPEN, ALL_MODULES, [0, 0], true),
-    head!(&[0, 0, 0, 0, 0, 1, 3], true),
-    head!(&[0, 0, 0, 0, 0, 2, 3, 3], false),
-    head!(&[0, 0, 0, 0, 0, 4, 3, 3, 3, 3], false),
-    head!(&[0, 0, 0, 0, 0, 1, 4], false),
-    line!(&[0, 0, 255, 255, 2, 97, 98], 2, true),
-    line!(&[0, 0, 255, 255, 2, 97, 98], 1, false),
-    line!(&[0, 1, 0, 0, 0], 0, false),
+    (Place::Whole(&OPEN, ALL_MODULES), &[], [0, 0], true),
+    (Place::Head, &[0, 0, 0, 0, 0, 1, 3], [0, 0], true),
+    (Place::Head, &[0, 0, 0, 0, 0, 2, 3, 3], [0, 0], false),
+    (Place::Head, &[0, 0, 0, 0, 0, 4, 3, 3, 3, 3], [0, 0], false),
+    (Place::Head, &[0, 0, 0, 0, 0, 1, 4], [0, 0], false),
+    (Place::Line, &[0, 0, 255, 255, 2, 97, 98], [2, 0], true),
+    (Place::Line, &[0, 0, 255, 255, 2, 97, 98], [1, 0], false),
+    (Place::Line, &[0, 1, 0, 0, 0], [0, 0], false),
 ];
 
 const ENABLED: [Row<'static>; 6] = [
-    enabled!(&[4, 1, 1, 1, 0, 2, 1, 1, 1, 0, 1, 2, 1], true),
-    enabled!(&[2, 1, 1, 1, 1, 1, 1], false),
-    enabled!(&[1, 1, 0, 0], false),
-    enabled!(&[1, 0, 1, 0], false),
-    enabled!(&[1, 0, 2, 0], false),
-    enabled!(&[1, 2, 2, 1], false),
-];
-
-const FLOWS: [Row<'static>; 8] = [
-    bands!(
-        &[
-            3, 0, 2, 0, 0, 0, 20, 0, 0, 0, 4, 0, 1, 255, 0, 0, 20, 0, 0, 0, 4, 0, 1,
-        ],
+    (
+        Place::Enabled,
+        &[4, 1, 1, 1, 0, 2, 1, 1, 1, 0, 1, 2, 1],
+        [0, 0],
         true,
     ),
-    bands!(
-        &[
-            3, 0, 2, 0, 0, 0, 20, 0, 0, 0, 4, 0, 1, 255, 0, 0, 20, 0, 0, 0, 4, 0, 0,
-        ],
-        false,
-    ),
-    bands!(&[1, 0, 1, 9, 0, 0, 20, 0, 0, 0, 4, 0, 0], false),
-    bands!(
-        &[
-            1, 0, 2, 9, 0, 0, 0, 2, 0, 0, 0, 1, 0, 9, 0, 0, 0, 2, 0, 0, 0, 1, 0,
-        ],
-        false,
-    ),
-    bands!(
-        &[
-            1, 0, 2, 9, 0, 0, 0, 2, 0, 0, 0, 1, 0, 8, 0, 0, 0, 2, 0, 0, 0, 1, 0,
-        ],
-        false,
-    ),
-    bands!(&[1, 0, 1, 9, 0, 0, 0, 0, 0, 0, 0, 0, 0], false),
-    bands!(&[1, 0, 1, 9, 0, 0, 0, 1, 0, 0, 0, 2, 0], false),
-    bands!(&[4, 0, 0], false),
-];
-
-// The last two fall in rank.
-const MESSAGES: [Row<'static>; 4] = [
-    messages!(
-        &[0, 0, 0, 1, 0, 200, 0, 0, 0, 0, 0, 1, 0, 0, 0, 1, 97],
-        1,
-        true,
-    ),
-    messages!(
-        &[0, 0, 0, 1, 1, 0, 1, 0, 0, 0, 1, 97, 0, 0, 0, 0, 0],
-        1,
-        true,
-    ),
-    messages!(
-        &[0, 0, 0, 1, 0x87, 0, 0, 0, 0, 0, 0, 1, 0, 0, 0, 0],
-        0,
-        true,
-    ),
-    messages!(
-        &[
-            0, 0, 0, 2, 0, 1, 0, 0, 0, 0, 0, 1, 0, 0, 0, 0, 0, 0, 0, 0, 0, 0, 0, 1, 0, 0, 0, 0,
-        ],
-        0,
-        true,
-    ),
-];
-
-// The last two rise in rank.
-const NO_MESSAGES: [Row<'static>; 9] = [
-    messages!(
-        &[0, 0, 0, 1, 0x86, 0, 0, 0, 0, 0, 0, 1, 0, 0, 0, 0],
-        0,
-        false,
-    ),
-    messages!(
-        &[0, 0, 0, 1, 0x87, 1, 0, 0, 0, 0, 0, 1, 0, 0, 0, 0],
-        0,
-        false,
-    ),
-    messages!(&[0, 0, 0, 1, 0, 0, 1, 0, 0, 0, 0, 1, 0, 0, 0, 0], 0, false),
-    messages!(&[0, 0, 0, 1, 1, 0, 0, 0, 0, 0, 0, 1, 0, 0, 0, 0], 0, false),
-    messages!(&[0, 0, 0, 1, 0, 0, 0, 0, 0, 0, 0, 0, 0, 0, 0, 0], 0, false),
-    messages!(
-        &[0, 0, 0, 1, 1, 0, 1, 0, 0, 0, 0, 0, 0, 0, 0, 1, 97],
-        0,
-        false,
-    ),
-    messages!(
-        &[0, 0, 0, 1, 0, 0, 0, 0, 0, 0, 0, 1, 0, 0, 0, 2, 97],
-        1,
-        false,
-    ),
-    messages!(
-        &[255, 255, 255, 255, 0, 0, 0, 0, 0, 0, 0, 1, 0, 0, 0, 0],
-        0,
-        false,
-    ),
-    messages!(
-        &[
-            0, 0, 0, 2, 0, 0, 0, 0, 0, 0, 0, 1, 0, 0, 0, 0, 0, 1, 0, 0, 0, 0, 0, 1, 0, 0, 0, 0,
-        ],
-        0,
-        false,
-    ),
-];
-
-// An M_IOCTL of 273 bytes.
-const LONG_IOCTL: &[&[u8]] = &[
-    &HEAD,
-    &NONE,
-    &QUEUE,
-    &QUEUE,
-    &HEAD,
-    &NONE,
-    &QUEUE,
-    &BANDS,
-    &[0, 0, 0, 1, 0x0e, 0, 0, 0, 0, 0, 0, 1, 0, 0, 1, 17],
-    &[0; 273],
-    &NONE,
-];
-
-// An M_IOCTL of 16 bytes, the fewest, and one of 15.
-const IOCTLS: [Row<'static>; 3] = [
-    messages!(
-        &[
-            0, 0, 0, 1, 0x0e, 0, 0, 0, 0, 0, 0, 1, 0, 0, 0, 16, 0, 0, 0, 1, 0, 0, 0, 0, 0, 0, 0, 0,
-            0, 0, 0, 0,
-        ],
-        0,
-        true,
-    ),
-    messages!(
-        &[
-            0, 0, 0, 1, 0x0e, 0, 0, 0, 0, 0, 0, 1, 0, 0, 0, 15, 0, 0, 0, 1, 0, 0, 0, 0, 0, 0, 0, 0,
-            0, 0, 0,
-        ],
-        0,
-        false,
-    ),
-    whole!(&OPEN, LONG_IOCTL, [0, 0], false),
+    (Place::Enabled, &[2, 1, 1, 1, 1, 1, 1], [0, 0], false),
+    (Place::Enabled, &[1, 1, 0, 0], [0, 0], false),
+    (Place::Enabled, &[1, 0, 1, 0], [0, 0], false),
+    (Place::Enabled, &[1, 0, 2, 0], [0, 0], false),
+    (Place::Enabled, &[1, 2, 2, 1], [0, 0], false),
 ];
 
 const TABLES: [(&str, &[Row<'static>]); 9] = [
@@ -523,7 +366,7 @@ fn texts_are_images_or_none(rt: HostRuntime) -> Result<(), Fail> {
     for (name, rows) in TABLES {
         for at in 0..rows.len() {
             assert!(rt;
-                is_image(rt.alloc(), &rows[at])? == rows[at].is_image,
+                is_image(rt.alloc(), &rows[at])? == rows[at].3,
                 "{name}: row {at}"
             );
         }

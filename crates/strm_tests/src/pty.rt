@@ -64,10 +64,12 @@ fn puts<B: Blocks>(store: &mut B, table: Table, row: &Row<'_>) -> Result<bool, N
         return Err(NoBlocks);
     }
     let acts = put(store, &mut queue, row.across, row.here, message, &mut told);
-    Ok(acts.notes.as_slice() == row.notes
-        && goes_to(acts, row.sent)
-        && queue.total() == row.left.0
-        && told.from_master[17] == row.left.1)
+    Ok(
+        acts.notes.as_slice() == row.notes
+            && goes_to(acts, row.sent)
+            && queue.total() == row.left.0
+            && told.from_master[17] == row.left.1,
+    )
 }
 
 const OPEN: Across = Across {
@@ -195,7 +197,10 @@ const ROWS: &[Row<'static>] = &[
 fn drivers_keep_answer_and_send_on(rt: HostRuntime) -> Result<(), Fail> {
     for at in 0..ROWS.len() {
         let mut store = TableStore::new(rt.alloc(), 10, 10)?;
-        assert!(rt; puts(&mut store, Table::new(rt.alloc())?, &ROWS[at])?, "row {at}");
+        assert!(rt;
+            puts(&mut store, Table::new(rt.alloc())?, &ROWS[at])?,
+            "row {at}"
+        );
     }
     Ok(())
 }

@@ -330,8 +330,15 @@ pub(crate) fn all_go<B: Blocks>(rt: &impl Abort, store: &mut B, name: &str, step
     }
 }
 
-// A name, how many message blocks and data blocks there are, and steps.
-pub(crate) type Case<'a> = (&'a str, usize, usize, &'a [Step<'a>]);
+// A name, how many message blocks and data blocks there are, and runs of steps.
+pub(crate) type Case<'a> = (&'a str, usize, usize, &'a [&'a [Step<'a>]]);
+
+// Takes runs of steps in turn.
+fn all_run<B: Blocks>(rt: &impl Abort, store: &mut B, name: &str, runs: &[&[Step<'_>]]) {
+    for at in 0..runs.len() {
+        all_go(rt, store, name, runs[at]);
+    }
+}
 
 // Takes the steps of a case over a store of each kind.
 pub(crate) fn plays(rt: &impl Abort, alloc: Global, case: &Case<'_>) -> Result<(), Fail>
@@ -341,8 +348,8 @@ pub(crate) fn plays(rt: &impl Abort, alloc: Global, case: &Case<'_>) -> Result<(
     requires few_dblks { case.now.2 ≤ 65536 }
 {
     let mut tables = TableStore::new(alloc, case.1, case.2)?;
-    all_go(rt, &mut tables, case.0, case.3);
+    all_run(rt, &mut tables, case.0, case.3);
     let mut nodes = RawStore::new(alloc, case.1, case.2)?;
-    all_go(rt, &mut nodes, case.0, case.3);
+    all_run(rt, &mut nodes, case.0, case.3);
     Ok(())
 }

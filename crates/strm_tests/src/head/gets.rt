@@ -11,12 +11,12 @@ use strm_types::{Band, Prio, Refusal, Wanted, put_refusal};
 type Got<'a> = (Gotten, &'a [u8]);
 
 // Gets from a head at which a message stands, and then what is left.
-fn gives(
+fn gives<'a>(
     rt: &impl Abort,
     alloc: Global,
-    sent: Sent<'_>,
+    sent: Sent<'a>,
     asked: (Wanted, usize, usize),
-    got: (Got<'_>, Got<'_>),
+    got: (Got<'a>, Got<'a>),
 ) -> Result<(), Fail> {
     let (first, rest) = got;
     let steps = [

@@ -45,11 +45,13 @@ fn packs<B: Blocks>(store: &mut B, row: &Row<'_>) -> Result<bool, NoBlocks> {
     let count = first_bytes(store, &first.message, &mut bytes);
     let sent = store.kind(&first.message, 0);
     let data = data_len(store, &first.message);
-    Ok(&bytes[..count] == row.all
-        && sent == row.sent
-        && data == row.data
-        && told.made_from_slave == row.made
-        && acts.sent.take_first().is_some() == row.more)
+    Ok(
+        &bytes[..count] == row.all
+            && sent == row.sent
+            && data == row.data
+            && told.made_from_slave == row.made
+            && acts.sent.take_first().is_some() == row.more,
+    )
 }
 
 const ASKS: &[u8] = b"\0\0\0\x05\0\0\0\x07\0\0\0\0\0\0\0\0abc";
