@@ -41,13 +41,12 @@ strm_refusal host_sets(strm_host *h, uint32_t when, const strm_termios *t, uint3
     return host_ioctl(h, STRM_SLAVE, when, b, sizeof b, pending);
 }
 
-strm_refusal host_sizes(strm_host *h, uint32_t side, const strm_winsize *w)
+strm_refusal host_sizes(strm_host *h, uint32_t side, const strm_winsize *w, uint32_t *pending)
 {
-    uint32_t pending = 0;
     uint8_t b[8];
     strm_put_word(b, (uint32_t)w->rows << 16 | w->columns), strm_put_word(b + 4, (uint32_t)w->width << 16 | w->height);
     h->signalled = true;
-    return host_ioctl(h, side, STRM_TIOCSWINSZ, b, sizeof b, &pending);
+    return host_ioctl(h, side, STRM_TIOCSWINSZ, b, sizeof b, pending);
 }
 
 /* ------------------------------------------------------------------------------------------------------------- who asks */
@@ -158,11 +157,14 @@ static uint32_t counts(strm_host *h)
 static strm_refusal done(strm_host *h, host_asker *a, uint32_t *value)
 {
     strm_winsize w = { a->ask.size[0], a->ask.size[1], a->ask.size[2], a->ask.size[3] };
+    strm_refusal e;
     switch (a->ask.op) {
     case HOST_GET: case HOST_DRAIN: return STRM_OK;
     case HOST_SET: case HOST_SET_BEHIND: case HOST_SET_FLUSHING: return sets(h, a);
     case HOST_FLUSH: return flushes(h, a->ask.value);
-    case HOST_SIZE: return host_sizes(h, STRM_SLAVE, &w);
+    case HOST_SIZE:
+        e = host_sizes(h, STRM_SLAVE, &w, &a->ioctl);
+        return e ? e : host_signals(h); /* by which the kernel has the size before the program goes on */
     case HOST_COUNT: *value = counts(h); return STRM_OK;
     default: return STRM_EINVAL;
     }

@@ -43,7 +43,7 @@ static int takes_over(strm_host *h, const strm_winsize *size)
         h->modes.cflag = LINUX_CFLAG, h->modes.cc[VDISCARD] = 'O' & 31;
         e = host_sets(h, STRM_TCSETS, &h->modes, &pending);
     }
-    if (!e && size) e = host_sizes(h, STRM_MASTER, size);
+    if (!e && size) e = host_sizes(h, STRM_MASTER, size, &pending);
     if (!e) e = strm_signals(h->pair, STRM_SLAVE, numbers, &n);
     if (!e) e = strm_ledger(h->pair, STRM_MASTER, &books);
     if (e) return told(e);
@@ -95,6 +95,7 @@ static int watches(strm_host *h)
     host_watches(h, h->master, EPOLLIN, true);
     host_watches(h, h->taken, 0, true);
     host_watches(h, h->listens, EPOLLIN, true);
+    h->ends = -1;
 #ifdef SYS_pidfd_open
     h->ends = (int)syscall(SYS_pidfd_open, h->child, 0);
     if (h->ends >= 0) {
@@ -102,7 +103,18 @@ static int watches(strm_host *h)
         host_watches(h, h->ends, EPOLLIN, true);
     }
 #endif
+    if (h->ends < 0) host_beats(h);
     return 0;
+}
+
+void host_reopens(strm_host *h)
+{
+    char name[64];
+    int fd = ptsname_r(h->master, name, sizeof name) ? -1 : open(name, O_RDWR | O_NOCTTY | O_CLOEXEC);
+    if (fd < 0) return;
+    close(h->slave);
+    h->slave = fd;
+    host_mirrors(h);
 }
 
 /* ------------------------------------------------------------------------------------------------------------- the program */
@@ -197,7 +209,7 @@ pid_t strm_host_pid(const strm_host *h) { return h->child; }
 bool strm_host_ended(const strm_host *h)
 {
     strm_standing processed = { 0, 0 }, driven = { 0, 0 };
-    if (!h->reaped || !h->silent || h->down_at != h->down_n || strm_enabled(h->pair, 0) != STRM_NO_QUEUE) return false;
+    if (!h->reaped || !h->drained || h->down_at != h->down_n || strm_enabled(h->pair, 0) != STRM_NO_QUEUE) return false;
     strm_sizes(h->pair, STRM_S_LDTERM_W, &processed);
     strm_sizes(h->pair, STRM_S_DRV_W, &driven);
     return !processed.messages && !driven.messages;
@@ -226,7 +238,9 @@ int strm_host_wait(strm_host *h, int *status)
 
 int strm_host_resize(strm_host *h, const strm_winsize *size)
 {
-    strm_refusal e = host_sizes(h, STRM_MASTER, size);
+    bool behind = h->sizing != 0; /* the one before was asked for, and its answer wasn't here */
+    strm_refusal e = host_sizes(h, STRM_MASTER, size, &h->sizing);
+    if (!e && behind) e = host_sizes(h, STRM_MASTER, size, &h->sizing);
     if (!e) e = host_signals(h);
     return told(e);
 }
@@ -235,8 +249,9 @@ void strm_host_tcgetattr(const strm_host *h, strm_termios *t) { *t = h->modes; }
 
 int strm_host_tcsetattr(strm_host *h, const strm_termios *t)
 {
-    uint32_t pending = 0;
-    strm_refusal e = host_sets(h, STRM_TCSETS, t, &pending);
+    bool behind = h->setting != 0;
+    strm_refusal e = host_sets(h, STRM_TCSETS, t, &h->setting);
+    if (!e && behind) e = host_sets(h, STRM_TCSETS, t, &h->setting);
     if (e) return told(e);
     h->modes = *t;
     return h->silent || !host_mirrors(h) ? 0 : errno;

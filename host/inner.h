@@ -28,8 +28,9 @@ struct strm_host {
     int master, slave, taken, listens, ready, ends, timer; /* taken: the master again, for edges; ends: a pidfd; -1 for none */
     unsigned device;
     pid_t child, group;
+    uint32_t sizing, setting; /* numbers of pending ioctls of the caller, 0 where none is */
     int status;
-    bool reaped, silent;       /* the program has ended; its terminal was hung up */
+    bool reaped, drained, silent; /* the program has ended; its output was read; nobody has the terminal open */
     bool told, signalled;      /* the kernel told of modes; signals may have come up */
     bool holds, armed;         /* input waits till the program takes some, and its edge is watched */
     bool blocked, deaf;        /* output waits till the master is read, and isn't watched */
@@ -57,19 +58,23 @@ bool host_unseen(strm_host *h, host_modes *modes);          /* whether the kerne
 /* asks.c */
 void host_hears(strm_host *h);                              /* takes in who asks */
 strm_refusal host_answers(strm_host *h, bool *moved);
-strm_refusal host_sets(strm_host *h, uint32_t when, const strm_termios *t, uint32_t *pending); /* AGAIN while it is pending */
-strm_refusal host_sizes(strm_host *h, uint32_t side, const strm_winsize *w);
+strm_refusal host_sets(strm_host *h, uint32_t when, const strm_termios *t, uint32_t *pending); /* EAGAIN while it is pending */
+strm_refusal host_sizes(strm_host *h, uint32_t side, const strm_winsize *w, uint32_t *pending);
 strm_refusal host_ioctl(strm_host *h, uint32_t side, uint32_t command, const uint8_t *body, size_t n, uint32_t *pending);
 
 /* pump.c */
 bool host_output_waits(const strm_host *h);
-size_t host_unread(const strm_host *h);                     /* bytes that the kernel has for the program */
+size_t host_unread(strm_host *h);                           /* bytes that the kernel has for the program */
 strm_refusal host_signals(strm_host *h);
 void host_watches(strm_host *h, int fd, uint32_t events, bool anew);
 
 /* bulk.c */
 void host_weighs(strm_host *h);                             /* whether much is put out */
 void host_ticks(strm_host *h);                              /* whether it still is */
+void host_beats(strm_host *h);                              /* a tick now and then, where no descriptor tells of the program's end */
+
+/* host.c */
+void host_reopens(strm_host *h);                            /* the terminal, which a vhangup(2) took from all who had it, as login(1) makes one */
 
 /* environment.c */
 int host_shim(char *path, size_t room);

@@ -38,11 +38,12 @@ static bool readable(int fd)
 
 bool host_output_waits(const strm_host *h) { return !h->silent && readable(h->master); }
 
-size_t host_unread(const strm_host *h)
+size_t host_unread(strm_host *h)
 {
     int n = 0;
     readable(h->slave);
-    return ioctl(h->slave, FIONREAD, &n) || n < 0 ? 0 : (size_t)n;
+    if (ioctl(h->slave, FIONREAD, &n) && errno == EIO && !h->reaped) host_reopens(h);
+    return n < 0 ? 0 : (size_t)n;
 }
 
 /* ------------------------------------------------------------------------------------------------------------- from the program */
@@ -53,10 +54,13 @@ static bool fetches(strm_host *h)
     ssize_t n;
     if (h->silent) return false;
     n = read(h->master, h->down, sizeof h->down);
-    /* When the session's leader has ended the kernel has hung the terminal up, and nobody writes any more. */
-    if (n < 0 && errno == EAGAIN && h->reaped && readable(h->master)) n = read(h->master, h->down, sizeof h->down);
-    if (n < 0 && (h->reaped || (errno != EAGAIN && errno != EINTR))) {
-        h->silent = true;
+    if (n < 0 && errno == EAGAIN && h->reaped) {
+        /* What the program wrote before its end may be on its way. */
+        h->drained = !readable(h->master);
+        if (!h->drained) n = read(h->master, h->down, sizeof h->down);
+    }
+    if (n < 0 && errno != EAGAIN && errno != EINTR) {
+        h->silent = h->drained = true;
         host_watches(h, h->master, 0, false);
     }
     if (n <= 0) return false;
@@ -222,10 +226,8 @@ static strm_refusal runs(strm_host *h, bool *moved)
 static void reaps(strm_host *h)
 {
     int status;
-    if (strm_host_wait(h, &status) || h->slave < 0) return;
-    close(h->slave);
-    h->slave = -1;
-    if (h->ends >= 0) close(h->ends);
+    if (strm_host_wait(h, &status) || h->ends < 0) return;
+    close(h->ends);
     h->ends = -1;
 }
 
@@ -250,7 +252,7 @@ static void looks(strm_host *h)
 {
     struct epoll_event events[HOST_ASKERS + 4];
     int n = epoll_wait(h->ready, events, HOST_ASKERS + 4, 0), k;
-    bool asks = false, ends = h->ends < 0;
+    bool asks = false, ends = h->ends < 0 && !h->reaped;
     for (k = 0; k < n; k++) {
         if (events[k].data.fd == h->ends) ends = true;
         else if (events[k].data.fd == h->timer) host_ticks(h);

@@ -104,7 +104,8 @@ bool strm_host_waits(strm_host *h);
 /* The same of the foreground of any pseudoterminal by its master, and nothing else: whether a process there asks it for input. */
 bool strm_host_asks(int master);
 
-/* Whether the program has ended, and its output was carried to the master's head: output that a STOP key holds isn't. */
+/* Whether the program has ended, and its output was carried to the master's head: output that a STOP key holds isn't. Others that have the terminal
+ * open may go on and write, and a pump carries that too. */
 bool strm_host_ended(const strm_host *h);
 
 /* The process that was started, and the foreground process group of its terminal, 0 where there is none. */

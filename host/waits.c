@@ -165,7 +165,6 @@ bool strm_host_asks(int master)
 static bool under_way(strm_host *h)
 {
     struct pollfd p = { h->listens, POLLIN, 0 };
-    if (h->silent) return !h->reaped;
     return h->askers || h->told || h->up_n || h->down_n || strm_enabled(h->pair, 0) != STRM_NO_QUEUE || poll(&p, 1, 0) || host_output_waits(h);
 }
 
@@ -173,7 +172,7 @@ bool strm_host_waits(strm_host *h)
 {
     strm_standing standing = { 0, 0 };
     if (strm_host_ended(h)) return true;
-    if (h->silent || under_way(h)) return false;
+    if (h->reaped || under_way(h)) return false;
     strm_sizes(h->pair, STRM_S_HEAD_R, &standing);
     if (standing.messages && !h->holds) return false;
     host_unread(h);

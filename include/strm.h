@@ -8,8 +8,7 @@
  *
  *   strm_pair p = STRM_CLOSED;
  *   strm_reply r;
- *   strm_new(&p, 256, 8192, 262144);                   256 blocks of each kind; a journal of 8192 entries and 256 KiB
- *   strm_open_terminal(&p);                            both sides open, ptem and ldterm on the slave
+ *   strm_terminal(&p);                                 a pair with the sizes of a terminal, both sides open, ptem and ldterm on the slave
  *   strm_write(&p, STRM_MASTER, "ls\r", 3, &r);        r.value is 3: so many bytes were taken
  *   strm_run(&p);                                      turns until no queue is enabled
  *   strm_read(&p, STRM_SLAVE, buf, sizeof buf, &r);    r.bytes is 3, buf holds "ls\n"
@@ -24,16 +23,19 @@
  * ERRORS
  *   A function that returns strm_refusal gives 0 (STRM_OK), or the number of its refusal; these are the numbers below, and not those
  *   of errno.h (strm_host_errno). A refused call has changed nothing: neither the pair nor what the caller's pointers lead to; strm_runqueues
- *   has made the turns in front of the refused one, and strm_next_entry and strm_image tell how much doesn't fit.
+ *   has made the turns in front of the refused one, strm_next_entry and strm_image tell how much doesn't fit, and a journal that begins anew by
+ *   itself may have begun (strm_make).
  *   STRM_EINVAL comes first, for a closed handle, a number that names nothing, and a buffer that is too small for the greatest answer
- *   of the call, so that no byte is lost at this interface; then what the pair refuses, in the order of the README's section Refusals.
+ *   of the call, so that no byte is lost at this interface; then EAGAIN by a reserve (strm_make), where the side's stream is open and not hung up;
+ *   then what the pair refuses, in the order of the README's section Refusals.
  *
  * UNITS
  *   Lengths are bytes. A message block holds up to 256. The wire forms of termios and winsize are strm_termios and strm_winsize.
  *
  * OWNERSHIP
  *   The library keeps no pointer of the caller's behind a call, calls nothing back, and has no state of its own beside the handles.
- *   strm_new and strm_restore take all memory that a pair will use, by malloc, and strm_free gives it back; no other function takes any.
+ *   strm_new, strm_make, strm_restore and strm_remake take all memory that a pair will use, by malloc, and strm_free gives it back; no other
+ *   function takes any. Memory that is taken isn't touched before it is used: a pair costs what stands in it, however many blocks it has.
  *   A handle is closed when its bytes are all 0 (STRM_CLOSED). An open one isn't copied and then used or freed twice, as with a FILE.
  *
  * THREADS
@@ -41,14 +43,16 @@
  *   handles are independent. No function is called from a signal handler, nor in the forked child of a process with threads.
  *
  * WHAT A CALLER OWES (nothing checks it)
- *   Pointers aren't NULL, not even those beside a length of 0, lead to as much memory as their length says, and don't overlap where one
- *   is written to. A bool is 0 or 1. A handle is closed, or was made by strm_new and only handed to these functions since. A cursor
+ *   Pointers lead to as much memory as their length says, and don't overlap where one is written to; one beside a length of 0 may be NULL, no
+ *   other. A bool is 0 or 1. A handle is closed, or was made by these functions and only handed to them since. A cursor
  *   was zeroed when the journal began, and only moved by strm_next_entry since: another one corrupts nothing, but may tell other bytes.
  *
  * WHAT STAYS
  *   STRM_VERSION is 65536 times a major number and a minor one. Within a major number names, numbers, layouts and meanings stay; a larger
  *   minor number has more calls. The shared object's soname carries the major number. A program that loads it compares strm_version().
- *   1.1 has strm_restart, strm_runqueues, strm_next_entry, strm_image and strm_restore beside the calls of 1.0, and a program of 1.0 runs with it as it is.
+ *   1.1 has strm_restart, strm_runqueues, strm_next_entry, strm_image and strm_restore beside the calls of 1.0; 1.2 has strm_make, strm_remake,
+ *   strm_ready and strm_room, and brings at most STRM_WRITE_MOST bytes by one write, where 1.1 entered all in the journal and refused what was longer
+ *   than its blocks. A program of 1.0 or 1.1 runs with it as it is: what is taken of a write was never more than that.
  *
  * PROVED: each function that libstrm exports, by its contract in crates/strm_ffi. NOT PROVED: the inline functions of this file, and malloc.
  */
@@ -64,7 +68,7 @@
 extern "C" {
 #endif
 
-#define STRM_VERSION 65537u /* 1.1 */
+#define STRM_VERSION 65538u /* 1.2 */
 
 /* A pair, in place. Nothing behind `at` is the caller's. */
 typedef struct strm_pair {
@@ -80,7 +84,7 @@ typedef uint32_t strm_refusal;
 enum {
     STRM_OK = 0,
     STRM_EINVAL = 1,       /* an argument is out of range, or the call doesn't fit what is there */
-    STRM_EAGAIN = 2,       /* the call would have to wait: nothing to read, no room to write */
+    STRM_EAGAIN = 2,       /* the call would have to wait: nothing to read, no room to write, or what is free is the other side's reserve */
     STRM_ENXIO = 3,        /* that side isn't open, or was hung up */
     STRM_EBADMSG = 4,      /* the first message isn't one that a read gives: a get takes it */
     STRM_ENOSR = 5,        /* fewer blocks are free than the call may need: make turns, read, or take a larger pair */
@@ -127,6 +131,37 @@ uint32_t strm_version(void);
  * begun 256 bytes, and a journal of so many entries and so many bytes. EINVAL, NO_MEMORY; the handle stays then. */
 strm_refusal strm_new(strm_pair *p, size_t blocks, size_t entries, size_t bytes);
 
+/* How strm_make makes a pair: with so many blocks of each kind, a journal of so many entries and so many bytes, and
+ *   begins_anew   whether a call or a turn that finds the journal full begins it anew, as strm_restart does, and is made then. No function answers
+ *                 JOURNAL_FULL of such a pair, and what its journal held is gone: a recorder takes the other kind, as a cursor means nothing here.
+ *   reserve       of STRM_MASTER and of STRM_SLAVE, how many blocks of each kind the writes, puts and ioctls of that side leave free: one for which
+ *                 fewer are free than it asks for and the reserve is EAGAIN. A write asks for 32 and one for each begun 256 bytes, at least one; a
+ *                 put for 32 and one for each part; an ioctl for 34. Such calls of a side with a reserve are never ENOSR. 0 is no reserve: ENOSR
+ *                 where fewer are free than the call asks for. Messages without bytes (EOF keys, empty writes), those of high priority and ioctls count in
+ *                 no mark of a queue, so that blocks alone end them. What frees blocks: reads, gets, flushes, and a close. */
+typedef struct strm_plan {
+    size_t blocks, entries, bytes;
+    size_t reserve[2];
+    bool begins_anew;
+} strm_plan;
+
+enum { STRM_BLOCKS_LEAST = 64, STRM_BLOCKS_MOST = 65536, STRM_JOURNAL_LEAST = 8192 };
+
+/* So many blocks of each kind that bytes typed and written on a terminal are stopped by the marks of its queues, and never by its blocks, whatever
+ * is read or isn't. Each byte may be a message, so that a queue holds as many as its high-water mark says: two heads 5120, and the two queues of
+ * ldterm and the two of the drivers 512, together 12,288. A turn that found room makes 256 lines of a message of 256 bytes, and their
+ * echo, 512 beyond these; a write asks for 36 at most, and a turn for 32. */
+#define STRM_TERMINAL_BLOCKS 12900
+
+/* The plan of a terminal. The master's calls leave 4096 blocks, from which turns make lines and echo of what it typed before, and the slave still
+ * writes; those of the slave leave 512. */
+#define STRM_TERMINAL { STRM_TERMINAL_BLOCKS, 64, 16384, { 4096, 512 }, true }
+
+/* Makes a pair that nobody opened in a closed handle, by a plan. EINVAL: the handle is open; blocks is more than BLOCKS_MOST, or less than
+ * BLOCKS_LEAST and the greater reserve; or begins_anew is set, and there is no entry or fewer bytes than JOURNAL_LEAST, the most that a call enters.
+ * NO_MEMORY. The handle stays then. */
+strm_refusal strm_make(strm_pair *p, const strm_plan *plan);
+
 /* Frees a pair and closes its handle. A closed one stays so. */
 void strm_free(strm_pair *p);
 
@@ -165,12 +200,17 @@ enum {
     STRM_DONE, STRM_NAME, STRM_COUNT, STRM_BYTES, STRM_MESSAGE, STRM_SIZES, STRM_PENDING, STRM_NAK, STRM_SIGNALS, STRM_STOPPED
 };
 
-/* Makes any call. `bytes` are what a write, a put (control part first) or an ioctl brings, `out` takes what the call gives: a read and
- * each part of a get as much as it asks for, up to 4096; an ioctl 256; signals 32; others none. */
+/* The most bytes that one write brings. */
+enum { STRM_WRITE_MOST = 1024 };
+
+/* Makes any call. `bytes` are what a write (its first WRITE_MOST), a put (control part first) or an ioctl brings, `out` takes what the call gives:
+ * a read and each part of a get as much as it asks for, up to 4096; an ioctl 256; signals 32; others none. reply->bytes is how many it gave, of
+ * any kind of answer, and never more than `room`. */
 strm_refusal strm_call(strm_pair *p, const strm_ask *ask, const void *bytes, size_t n, void *out, size_t room, strm_reply *reply);
 
-/* write(2): reply->value of the bytes were taken, and fewer than n where flow control takes no more: make turns, let the other side read,
- * and go on behind them. EAGAIN where none were taken. */
+/* write(2) of the first WRITE_MOST bytes: reply->value of them were taken, and fewer where flow control takes no more (a queue with its first marks
+ * 512 of them at most): make turns, let the other side read, and go on behind them. EAGAIN where none were taken. Only a write of no byte takes
+ * none: it sends an empty message. */
 strm_refusal strm_write(strm_pair *p, uint32_t side, const void *bytes, size_t n, strm_reply *reply);
 
 /* read(2) of at most `room` bytes, and 4096: reply->bytes came. 0 is the end of input: a hang-up, or an EOF key where ldterm stands. A line
@@ -191,7 +231,10 @@ strm_refusal strm_turn(strm_pair *p, uint32_t queue, strm_went *went);
 
 /* Makes turns, each of the queue that was enabled first, until no queue is enabled (OK) or the next turn is refused: ERANGE, JOURNAL_FULL,
  * ENOSR. *turns is how many were made, also where one was refused; what stopped goes on where it was once there is room. Each turn takes an
- * entry of the journal, so it ends. EINVAL is a closed handle alone, and *turns stays then. */
+ * entry of the journal, so it ends. Where the journal begins anew by itself, RUN_MOST turns end it, and EAGAIN says that a queue is enabled
+ * still: another call goes on, for ever where two ldterms echo each other. EINVAL is a closed handle alone, and *turns stays then. */
+enum { STRM_RUN_MOST = 65536 };
+
 strm_refusal strm_runqueues(strm_pair *p, size_t *turns);
 
 /* ------------------------------------------------------------------------------------------------------------- the journal */
@@ -257,6 +300,27 @@ typedef struct strm_books {
 
 strm_refusal strm_ledger(strm_pair *p, uint32_t side, strm_books *told);
 
+/* What a side is ready for, as bits, for an event loop: no call is made, and turns come first (strm_run), as only they bring anything.
+ *   CAN_READ      a read of a byte or more isn't EAGAIN: it gives bytes, the end of input, or EBADMSG
+ *   CAN_GET       a get of any message isn't EAGAIN. Under RPROTDIS it may be set where CAN_READ isn't
+ *   CAN_WRITE     a write isn't EAGAIN, however long it is: the side isn't hung up, the first queue below isn't full in band 0, and of each kind 36
+ *                 blocks and the side's reserve are free. Where it isn't set, a write of WRITE_MOST bytes is EAGAIN, ENOSR or ENXIO
+ *   HAS_SIGNALS   signals wait (strm_signals)
+ *   HAS_ANSWER    an ioctl was answered, and its answer not taken: an IOCTL_RESULT of its number isn't EAGAIN
+ *   HUNG_UP       the other end is gone
+ * 0 of a side that isn't open, of a number that is no side's, and of a closed handle. Job control is of a caller, and isn't looked at. It costs a
+ * step for each module, and under RPROTDIS for each message in front that a read passes over. */
+enum { STRM_CAN_READ = 1, STRM_CAN_GET = 2, STRM_CAN_WRITE = 4, STRM_HAS_SIGNALS = 8, STRM_HAS_ANSWER = 16, STRM_HUNG_UP = 32 };
+
+uint32_t strm_ready(strm_pair *p, uint32_t side);
+
+/* What is left of a pair: how many blocks are free, of the kind of which fewer are, and how many entries and bytes its journal takes yet. */
+typedef struct strm_left {
+    size_t blocks, entries, bytes;
+} strm_left;
+
+strm_refusal strm_room(strm_pair *p, strm_left *told);
+
 /* ------------------------------------------------------------------------------------------------------------- images */
 
 /* Puts the image of the pair into a buffer: its state and ledgers as docs/IMAGES.md spells them, the same bytes on every machine. *length is how many
@@ -268,6 +332,9 @@ strm_refusal strm_image(strm_pair *p, void *out, size_t room, size_t *length);
  * image was made, and its journal is empty and begins there. EINVAL: the handle is open, the number of blocks is none of 1 to 65536, or the n
  * bytes are no image; ENOSR: the messages of the image take more blocks; NO_MEMORY. The handle stays then. */
 strm_refusal strm_restore(strm_pair *p, size_t blocks, size_t entries, size_t bytes, const void *image, size_t n);
+
+/* The same by a plan, which is refused as strm_make refuses it. */
+strm_refusal strm_remake(strm_pair *p, const strm_plan *plan, const void *image, size_t n);
 
 /* ------------------------------------------------------------------------------------------------------------- helpers, not proved */
 
@@ -317,6 +384,14 @@ static inline strm_refusal strm_open_terminal(strm_pair *p)
     if (!e) e = strm_push(p, STRM_SLAVE, STRM_PTEM);
     if (!e) e = strm_push(p, STRM_SLAVE, STRM_LDTERM);
     return e;
+}
+
+/* Such a terminal, made by the plan STRM_TERMINAL. */
+static inline strm_refusal strm_terminal(strm_pair *p)
+{
+    strm_plan plan = STRM_TERMINAL;
+    strm_refusal e = strm_make(p, &plan);
+    return e ? e : strm_open_terminal(p);
 }
 
 /* Turns until none is enabled or one is refused: strm_runqueues. */

@@ -59,8 +59,9 @@ def shown(kind, program, room, patience):
     while not terminal.ended and time.monotonic() < end:
         terminal.step(0.1)
     told[-1] += terminal.take()
+    status = terminal.status if terminal.ended else None
     terminal.close()
-    return told, terminal.status
+    return told, status
 
 
 def differing(ours, theirs):

@@ -1,4 +1,5 @@
-/* Tests of libstrm_host: host PROGRAM [STATIC], by the programs of program.c, the second one linked as a static one. The last line is 'N passed, M failed'. */
+/* Tests of libstrm_host: host PROGRAM [STATIC], by the programs of program.c, the second one linked as a static one. The last line is
+ * 'N passed, M failed, K skipped'. */
 #define _GNU_SOURCE
 #include <errno.h>
 #include <fcntl.h>
@@ -15,7 +16,7 @@
 
 #define ROOM 65536
 
-static int passed, failed;
+static int passed, failed, skipped;
 static const char *program, *fixed;
 
 /* A program on a pair, and what it has shown. */
@@ -270,6 +271,36 @@ static void small_pools(void)
     }
 }
 
+static void terminals_that_are_taken(void)
+{
+    static session s;
+    int status;
+    starts(&s, "takes", NULL);
+    if (!shows(&s, "> ", 5)) {
+        status = ends(&s);
+        if (WIFEXITED(status) && WEXITSTATUS(status) == 77) skipped++, printf("skipped vhangup(2): no right to it\n");
+        else is("a terminal that was taken by vhangup(2)", false, &s);
+        return;
+    }
+    types(&s, "one\rtwo\r\004");
+    shows(&s, "end", 5);
+    is("a terminal that was taken by vhangup(2)", memmem(s.shown, s.n, "[one]", 5) && memmem(s.shown, s.n, "[two]", 5), &s);
+    ends(&s);
+}
+
+static void who_outlives_the_program(void)
+{
+    static session s;
+    char *words[] = { (char *)"sh", (char *)"-c", (char *)"trap '' HUP; (sleep .3; echo late) & echo first", NULL };
+    memset(&s, 0, sizeof s);
+    if (strm_new(&s.pair, 256, 8192, 262144) || strm_open_terminal(&s.pair) || strm_host_spawn(&s.host, &s.pair, words, NULL, NULL)) exit(2);
+    while (!strm_host_ended(s.host)) rests(&s, 1);
+    is("the end is the program's, not that of its children", shown(&s, "first\r\n"), &s);
+    is("and what they write is carried", shows(&s, "late", 5), &s);
+    strm_host_close(s.host);
+    strm_free(&s.pair);
+}
+
 static size_t entries_of(session *s)
 {
     strm_cursor at = { 0, 0 };
@@ -348,8 +379,10 @@ int main(int n, char **words)
     false_rests();
     interrupts();
     small_pools();
+    terminals_that_are_taken();
+    who_outlives_the_program();
     an_idle_host_enters_nothing();
     ends_are_hard();
-    printf("%d passed, %d failed\n", passed, failed);
+    printf("%d passed, %d failed, %d skipped\n", passed, failed, skipped);
     return failed > 0;
 }

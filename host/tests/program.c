@@ -1,6 +1,7 @@
 /* What the tests run on a terminal: each word is something that a program does there. */
 #define _GNU_SOURCE
 #include <errno.h>
+#include <fcntl.h>
 #include <poll.h>
 #include <signal.h>
 #include <stdio.h>
@@ -206,6 +207,19 @@ static int floods(long n, unsigned line)
     return 0;
 }
 
+/* Takes the terminal from all who have it, as login(1) does, and opens it again. */
+static int takes(void)
+{
+    char name[64];
+    int fd;
+    snprintf(name, sizeof name, "%s", ttyname(0));
+    signal(SIGHUP, SIG_IGN);
+    if (vhangup()) return 77;
+    fd = open(name, O_RDWR);
+    dup2(fd, 0), dup2(fd, 1), dup2(fd, 2);
+    return lines(0);
+}
+
 static int stays(void)
 {
     signal(SIGHUP, SIG_IGN);
@@ -227,6 +241,7 @@ int main(int n, char **words)
     if (!strcmp(what, "fails")) return fails();
     if (!strcmp(what, "asks")) return asks(more);
     if (!strcmp(what, "floods")) return floods(atol(more), n > 3 ? (unsigned)atoi(words[3]) : 64);
+    if (!strcmp(what, "takes")) return takes();
     if (!strcmp(what, "stays")) return stays();
     return 2;
 }

@@ -1,5 +1,6 @@
 """Programs of Debian with the steps that each is given, on a terminal of Linux and on a pair: `Program.words`, and steps that are keys or (rows, columns). What a
 program shows behind each step is compared byte by byte, but for what `hides` matches (numbers of processes, times)."""
+import random
 import sys
 from typing import NamedTuple
 
@@ -18,6 +19,27 @@ class Program(NamedTuple):
 
 def keys(*texts):
     return [text if isinstance(text, tuple) else text.encode() for text in texts]
+
+
+def random_line(chance):
+    """A line of keys on which both agree: words of letters between single blanks, erased in part."""
+    typed = bytearray()
+    for _ in range(chance.randint(0, 12)):
+        kind = chance.random()
+        if kind < 0.55:
+            typed += bytes(chance.choice(b"abcdefgxyz0123456789") for _ in range(chance.randint(1, 6)))
+        elif kind < 0.7:
+            typed += b" "
+        elif kind < 0.85:
+            typed += b"\x7f" * chance.randint(1, 4)
+        else:
+            typed += b"\x17" if kind < 0.95 else b"\x15"
+    return bytes(typed) + (b"z\x04" if chance.random() < 0.2 else b"") + chance.choice([b"\r", b"\n"])
+
+
+def random_lines(number, seed):
+    chance = random.Random(seed)
+    return [random_line(chance) for _ in range(number)]
 
 
 STTY = (
@@ -45,16 +67,16 @@ PROGRAMS = {
         BASH,
         [
             b"cat\r", b"\x03", b"cat\r", b"\x1a", b"jobs\r", b"fg\r", b"resumed\r", b"\x04", b"sleep 100\r", b"\x1a", b"bg >/dev/null\r", b"jobs\r",
-            b"kill %1; wait\r", b"cat & wait\r", b"jobs\r", b"fg\r", b"a line\r", b"\x04", b"stty tostop; (echo shown) & wait\r", b"jobs\r", b"fg\r",
-            b"stty -tostop; (echo shown) & wait\r", b"(stty -echo; echo set) & wait\r", b"fg\r", b"stty echo\r", b"cat\r", b"typed\r", b"\x1c",
+            b"kill %1; wait\r", b"cat & sleep .3\r", b"jobs\r", b"fg\r", b"a line\r", b"\x04", b"stty tostop; (echo shown) & sleep .3\r", b"jobs\r", b"fg\r",
+            b"stty -tostop; (echo shown) & sleep .3\r", b"(stty -echo; echo set) & sleep .3\r", b"fg\r", b"stty echo\r", b"cat\r", b"typed\r", b"\x1c",
             b"trap 'echo INT' INT; read x\r", b"\x03", b"\r", b"sh -c 'kill -TSTP $$; echo on'\r", b"fg\r", b"exit\r",
         ],
-        quiet=0.5,
-        hides=rb"\[1\] \d+|job 1\[\d+\]",
+        quiet=1.5,
+        hides=rb"\[1\] \d+",
     ),
     "dash": Program(["dash", "-i"], keys("echo $((6*7))\r", "cat <<X\r", "in\r", "X\r", "read a; echo [$a]\r", "w\x7fx\r", "cat\r", "\x03", "nope\r", "exit 2\r")),
-    "zsh": Program(["zsh", "-f", "-i"], keys("echo one\r", "ech two\x01\x06\x06\x06o\r", "cat\r", "x\r", "\x04", "sleep 50\r", "\x1a", "jobs\r", "kill %1\r", "exit\r"), 0.6, rb"\x1b\[[0-9;?]*[a-zA-Z]|\[1\]\s+\+?\s*\d+"),
-    "ksh": Program(["ksh", "-E"] if False else ["ksh"], keys("echo one\r", "set -o emacs\r", "echo tw\x7fwo\r", "cat\r", "\x04", "read x\r", "a b\r", "print -r -- $x\r", "exit 4\r"), 0.6),
+    "zsh": Program(["zsh", "-f", "-i"], keys("echo one\r", "ech two\x01\x06\x06\x06o\r", "cat\r", "x\r", "\x04", "sleep 50\r", "\x1a", "jobs\r", "kill %1; sleep .3\r", "exit\r"), 0.8, rb"\x1b\[[0-9;?]*[a-zA-Z]|\[1\]\s+\+?\s*\d+"),
+    "ksh": Program(["ksh"], keys("echo one\r", "set -o emacs\r", "echo tw\x7fwo\r", "cat\r", "\x04", "read x\r", "a b\r", "print -r -- $x\r", "exit 4\r"), 0.6),
     "tcsh": Program(["tcsh", "-f"], keys("echo one\r", "set prompt='> '\r", "echo tw\x7fwo\r", "cat\r", "y\r", "\x04", "exit\r"), 0.6),
     "busybox": Program(["busybox", "sh", "-i"], keys("echo one\r", "cat\r", "l\x7fmine\r", "\x04", "stty size\r", "read x; echo [$x]\r", "abc\r", "exit 5\r")),
     "busybox vi": Program(["busybox", "vi", "text"], [b"ihello\x1b", b"j", b"dd", b"\x06", b":q!\r"]),
@@ -106,6 +128,7 @@ PROGRAMS = {
     "expect": Program(["expect", "-c", "spawn -noecho cat; interact"], keys("x\r", "\x04"), 0.6, relay=True),
     "watch": Program(["watch", "-t", "-n", "60", "echo same"], keys((20, 60), "\x03"), 1.0),
     "reset": Program(BASH, keys("stty -echo; reset; stty -a | grep -c ' echo '\r", "tput cols\r", "tset -s\r", "exit\r"), 2.0, needs=("reset", "tput")),
+    "random keys": Program(["cat"], [*random_lines(100, 1), b"\x04"]),
     "by design": Program(
         BASH,
         [b"cat\r", b"x" * 300 + b"\r", b"\x04", b"env | grep -c STRM_TTY\r", b"busybox stty -a | grep -o '.onlcr'\r", b"exit\r"],

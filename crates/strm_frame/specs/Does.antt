@@ -64,7 +64,8 @@ module _ {X P : Type 0} (plain : StoreValue → X → P) (IsHeld : StoreValue �
 
   -- A call of a service procedure did what a definition says: what is sent has come in hand, beside what the module keeps, and has less than `top` before
   -- it. Only the module's own lists changed. The call stopped within the message only where fewer than `STOP_BLOCKS` blocks of some kind are left, where it
-  -- may stop, and then it isn't called again. Blocks are left for what it sent, and for the next call of the turn.
+  -- may stop, and behind a byte at least if that many were free before; then it isn't called again. Blocks are left for what it sent, and for the next call of
+  -- the turn.
   pub record Serves (height cost : Spot → Message ℕ → ℕ) (turn_cost : P → ℕ) (MayStop : ℕ → P → Type 0) (old new : StoreValue) (x y : X) (top : ℕ) (served : Served) (t t' : Fates) (is : Serving ℕ P) : Type 0 where
     pub state : plain new y ≡ is.acted.state
     pub notes : served.acts.notes.items ≡ is.acted.notes
@@ -74,6 +75,7 @@ module _ {X P : Type 0} (plain : StoreValue → X → P) (IsHeld : StoreValue �
     pub again : served.again ≡ is.again
     pub stopped : OnTrue served.stopped ((least_free new < STOP_BLOCKS) × (served.again ≡ false))
     pub stops : OnTrue served.stopped (MayStop served.bytes (plain old x))
+    pub some : OnTrue served.stopped (HasRoom old STOP_BLOCKS → 0 < served.bytes)
     pub made : made_of is.acted.gone ≤ most_made served.bytes
     pub held : IsHeld new y
     pub own : OnlyOwn old new (owns x) (owns y)

@@ -1,7 +1,7 @@
 -- A turn of a module's queue call by call, as it is made over plain bytes: each call goes as far as it may, and the last one perhaps stops
 -- before that. What all of them treated is how far the turn went.
 use Rattle.std.proofs.Common.{ℕ, zero, suc, ◌≡◌, ◌≤◌, ◌<◌, ◌+◌, ◌-◌, ◌*◌, Bool, true, false, cond, List, [], ◌∷◌, ◌++◌, length, map, refl, sym, ap, subst, ◌∙◌, arith}
-use Rattle.std.specs.Prelude.{◌==◌, not, min, slice_index_or, Option, None, Some, is_some}
+use Rattle.std.specs.Prelude.{◌==◌, not, max, min, slice_index_or, Option, None, Some, is_some}
 use Rattle.std.proofs.lemmas.Bool.{false≢true}
 use Rattle.std.proofs.lemmas.List.{append_assoc, length-map}
 use Rattle.strm_types.specs.declared.answers.Turn.TheVariants.{Moved, Blocked}
@@ -81,7 +81,7 @@ module _ (here : Spot) (again : Bool) where
   module-alike (OfPtem p) works left made fits = refl
   module-alike (OfPckt p) works left made fits = refl
 
-  module-ends : (p : Module ℕ) → Begins here.way again (ldterm_of p) → let t = module_serves plain here 0 again None p in t.again ≡ false
+  pub module-ends : (p : Module ℕ) → Begins here.way again (ldterm_of p) → let t = module_serves plain here 0 again None p in t.again ≡ false
       → Ends here.way again (ldterm_of p) t.bytes × ((made : ℕ) → module_serves plain here made again (Some t.bytes) p ≡ t)
   module-ends (OfLdterm l) begins over = let e = serves-ends here again l begins over in (e.0, λ made. ap (served_by OfLdterm) (e.1 made))
   module-ends (OfPtem p) begins over = (record { treat = omega arith; done = omega arith }, λ made. refl)
@@ -333,11 +333,21 @@ module _ (here : Spot) where
   whole Down (OfPtem p) = refl
   whole Down (OfPckt p) = refl
 
-  -- and no further than to the end of the first message
+  -- how many bytes the first message has
+  pub first-left : (s : State ℕ) → here.at - 1 < length (stream here.side s).modules
+      → at_place (λ p. first_size (messages_at module_queue here.way p)) 0 here.at (stream here.side s).modules ≡ bytes_left here.way false (ldterm_of (module_at here s))
+  first-left s low =
+      index-map none_there (λ p. first_size (messages_at module_queue here.way p)) 0 (here.at - 1) (stream here.side s).modules low ∙ sym (whole here.way (module_at here s))
+
+  -- so many bytes of a message, and one at least where it has one
+  one-at-least : (bytes size : ℕ) → bytes ≤ size → (bytes ≡ 0 → size ≡ 0) → min (max 1 bytes) size ≡ bytes
+  one-at-least zero size within some = let none = some refl in omega (arith, none)
+  one-at-least (suc bytes) size within some = omega (arith, within)
+
+  -- and no further than to the end of the first message, of which a byte was treated where it has one
   pub moves-within : (name : QueueName) (bytes : ℕ) (s : State ℕ) → here.at - 1 < length (stream here.side s).modules → bytes ≤ bytes_left here.way false (ldterm_of (module_at here s))
-      → moved_within plain here name (Moved bytes) s ≡ moved_on plain here name bytes s
-  moves-within name bytes s low within =
+      → (bytes ≡ 0 → bytes_left here.way false (ldterm_of (module_at here s)) ≡ 0) → moved_within plain here name (Moved bytes) s ≡ moved_on plain here name bytes s
+  moves-within name bytes s low within some =
       let ps = (stream here.side s).modules in
-      let size = index-map none_there (λ p. first_size (messages_at module_queue here.way p)) 0 (here.at - 1) ps low in
-      let first = whole here.way (module_at here s) in
-      ap (λ n. moved_on plain here name n s) (let e : min bytes (at_place (λ p. first_size (messages_at module_queue here.way p)) 0 here.at ps) ≡ bytes = omega (arith, size, first, within) in e)
+      let first = first-left s low in
+      ap (λ n. moved_on plain here name n s) (one-at-least bytes (at_place (λ p. first_size (messages_at module_queue here.way p)) 0 here.at ps) (omega (arith, first, within)) (λ none. (let e = some none in omega (arith, first, e))))

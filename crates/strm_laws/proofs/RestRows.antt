@@ -1,8 +1,12 @@
--- Two ldterms that echo each other don't come to rest: six turns carry a byte round, and leave as much work as there was.
+-- Two ldterms that echo each other don't come to rest: six turns carry a byte round, and leave as much work as there was. A turn of an ldterm's goes
+-- from one byte on.
 use Rattle.std.proofs.Common.{ℕ, zero, suc, ◌≡◌, false, List, [], ◌∷◌, map, refl}
+use Rattle.strm_types.specs.declared.answers.Turn.TheVariants.{Moved}
 use Rattle.strm_types.specs.declared.names.Openness.TheVariants.{Open}
+use Rattle.strm_types.specs.declared.names.Place.TheVariants.{Ldterm}
 use Rattle.strm_types.specs.declared.names.QueueName.{QueueName}
-use Rattle.strm_types.specs.declared.names.Side.TheVariants.{Master}
+use Rattle.strm_types.specs.declared.names.Side.TheVariants.{Master, Slave}
+use Rattle.strm_types.specs.declared.names.Way.TheVariants.{Up}
 use Rattle.strm_types.specs.Books.{new_book}
 use Rattle.strm_types.specs.Both.{twice}
 use Rattle.strm_types.specs.Cells.{plain}
@@ -60,3 +64,20 @@ enabled-again = refl
 pub as-much-work : work (turns 6 echoing) ≡ work echoing
 unfolding carried cells_of band_of is_high_priority is_held size_of rank_of data_message crosses
 as-much-work = refl
+
+-- "a" stands at the slave's ldterm, whose turn goes from that byte on: none is told as one that moved nothing of it
+abbrev typed : QueueName
+typed = record { side = Slave; place = Ldterm; way = Up }
+
+abbrev typing : State ℕ
+typing = record echoing {
+  ends = record {
+    master = end [];
+    slave = record (end []) { modules = OfLdterm (record new_ldterm { read_queue = roomy (ordinary (97 ∷ []) ∷ []); write_queue = roomy [] }) ∷ [] };
+  };
+  enabled = typed ∷ [];
+}
+
+pub from-one : (turned plain typed (Moved 0) typing).turn ≡ Moved 1
+unfolding carried cells_of band_of is_high_priority is_held size_of rank_of data_message crosses
+from-one = refl

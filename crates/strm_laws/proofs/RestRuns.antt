@@ -13,7 +13,7 @@ use Rattle.strm_types.specs.Names.{is_enabled}
 use Rattle.strm_types.specs.Refused.{or_else, turn_blocks, unless}
 use Rattle.strm_laws.specs.Pair.{PairState, RanTurns, next_refused, refused_of}
 use Rattle.strm_laws.specs.Refusals.{enough, has_room, in_range}
-use Rattle.strm_laws.specs.Rest.{AreWholeTurns, EchoesOnce, NoLdterm, work}
+use Rattle.strm_laws.specs.Rest.{AreWholeOutputs, EchoesOnce, NoLdterm, work}
 use Rattle.strm_laws.specs.StackCosts.{Stands, stands_of}
 use Rattle.strm_laws.specs.State.{State}
 use Rattle.strm_laws.proofs.RestWork.{plain-turn, taken-off, whole-turn}
@@ -37,7 +37,7 @@ plain-runs (suc n) old new ran none =
     let less = plain-turn plain ran.1.1.name ran.1.1.turn mid.state (subst (λ (all : Stands). NoLdterm all) (sym took.0) none) step.enabled in
     one-took n old mid new took (subst (λ (t : State ℕ). (stands_of t ≡ stands_of mid.state) × (work t < work mid.state)) step.leads less)
 
-pub whole-runs : (n : ℕ) (old new : PairState) (ran : RanTurns n old new) → EchoesOnce (stands_of old.state) → AreWholeTurns n old new ran → Took n old new
+pub whole-runs : (n : ℕ) (old new : PairState) (ran : RanTurns n old new) → EchoesOnce (stands_of old.state) → AreWholeOutputs n old new ran → Took n old new
 whole-runs zero old new same once whole = none-took old new same
 whole-runs (suc n) old new ran once whole =
     let mid = ran.0 in

@@ -1,4 +1,5 @@
--- A call of ldterm's service procedure adds no moves, and the first one of a turn that treats its message whole leaves fewer.
+-- A call of ldterm's service procedure adds no moves, and the first one of a turn leaves fewer: one of the read queue that treats a byte at
+-- least where its message has one, and one of the write queue that treats its message whole.
 use Rattle.std.proofs.Common.{ℕ, zero, suc, ◌≡◌, ◌≤◌, ◌<◌, ◌+◌, ◌-◌, ◌*◌, ◌⊎◌, inl, inr, Bool, true, false, cond, List, [], ◌∷◌, ◌++◌, length, map, take, drop, refl, ap, ◌∙◌, arith}
 use Rattle.std.specs.Prelude.{◌&&◌, not, nat_le, sum_by, Option, None, Some}
 use Rattle.std.proofs.lemmas.Bool.Decides.{nat_tests}
@@ -74,6 +75,15 @@ left-cells rest m = refl
 sized : {C : Type 0} (m : Message C) → length (cells_of m) ≤ size_of m
 unfolding size_of
 sized m = omega arith
+
+-- how far a turn goes that leaves less, of a message of so many bytes
+abbrev pub Goes : Way → ℕ → ℕ → Type 0
+Goes Up left size = left ≡ 0 → size ≡ 0
+Goes Down left size = left ≡ size
+
+some-left : (left size : ℕ) → Goes Up left size → 0 < size → 0 < left
+some-left zero size goes some = let none = goes refl in absurd (omega (arith, none, some))
+some-left (suc left) size goes some = omega arith
 
 module _ {C : Type 0} (cells : Cells C) (all : Stands) (posts : Side → ℕ) (here : Spot) (some : 0 < here.at)
     (echoed-here : echoes all here.side ≡ true) (alone : echoes all (other here.side) ≡ false) (post : posts here.side ≡ here.at) where
@@ -273,7 +283,7 @@ module _ {C : Type 0} (cells : Cells C) (all : Stands) (posts : Side → ℕ) (h
           goes t (is_none_left t.sent) (begun-fewer m c rest l is) (stages-less k (made + made_of t.gone) t.state)
 
   -- A turn that begins: what it takes first is treated whole, or byte by byte, and one at least.
-  input-fewer : (made left : ℕ) (ms : List (Message C)) (l : Ldterm C) → l.read_queue.messages ≡ ms → l.stage ≡ Between → is_none_left ms ≡ false → left ≡ first_size ms
+  input-fewer : (made left : ℕ) (ms : List (Message C)) (l : Ldterm C) → l.read_queue.messages ≡ ms → l.stage ≡ Between → is_none_left ms ≡ false → Goes Up left (first_size ms)
       → let t = (input_begins cells here (Some left) made ms l).acted in suc (ldterm_moves t.state + tolls all posts t.sent) ≤ ldterm_moves l
   input-fewer made left [] l is between waits size = absurd (cc)
   input-fewer made left (m ∷ rest) l is between waits size = at (is_data m.kind) refl
@@ -296,8 +306,8 @@ module _ {C : Type 0} (cells : Cells C) (all : Stands) (posts : Side → ℕ) (h
           let done : stages_done l.stage ≡ 0 = ap (λ (stage : Stage C). stages_done stage) between in
           let long : length (cells_of m) ≡ suc (length more) = ap length is in
           let large = sized m in
-          let most : left ≡ size_of m = size in
-          inl (omega (arith, done, long, large, most))
+          let goes = some-left left (size_of m) size (omega (arith, long, large)) in
+          inl (omega (arith, done, goes))
 
       at : (typed : Bool) → is_data m.kind ≡ typed
           → let t = (cond {A = Serving C (Ldterm C)} typed (treats cells here left made begun) (passes cells here Up m rest l)).acted in suc (ldterm_moves t.state + tolls all posts t.sent) ≤ ldterm_moves l
@@ -340,10 +350,10 @@ module _ {C : Type 0} (cells : Cells C) (all : Stands) (posts : Side → ℕ) (h
       at true treated = omega (arith, sums, post-fewer (cells_of m) refl (first-of (is_data m.kind) (opost l.termios) treated))
       at false treated = omega (arith, sums, past-down m)
 
--- the first call of a turn that treats its message whole, and each later one
+-- the first call of a turn, and each later one
 module _ {C : Type 0} (cells : Cells C) (all : Stands) (posts : Side → ℕ) (here : Spot) (some : 0 < here.at)
     (echoed : echoes all here.side ≡ true) (alone : echoes all (other here.side) ≡ false) (post : posts here.side ≡ here.at) where
-  pub first-fewer : (way : Way) (made left : ℕ) (l : Ldterm C) → l.stage ≡ Between → is_none_left (queue_at way l).messages ≡ false → left ≡ first_size (queue_at way l).messages
+  pub first-fewer : (way : Way) (made left : ℕ) (l : Ldterm C) → l.stage ≡ Between → is_none_left (queue_at way l).messages ≡ false → Goes way left (first_size (queue_at way l).messages)
       → let t = (ldterm_serves cells (record here { way = way }) made false (Some left) l).acted in suc (ldterm_moves t.state + tolls all posts t.sent) ≤ ldterm_moves l
   first-fewer Up made left l between waits size = input-fewer cells all posts (record here { way = Up }) some echoed alone post made left l.read_queue.messages l refl between waits size
   first-fewer Down made left l between waits size = output-fewer cells all posts (record here { way = Down }) some echoed alone post made left l.write_queue.messages l refl waits size

@@ -1,6 +1,6 @@
 -- A turn of a queue leaves fewer moves, or no more of them and only its own queue less enabled.
 use Rattle.std.proofs.Common.{ℕ, zero, suc, ◌≡◌, ◌≤◌, ◌<◌, ◌+◌, ◌-◌, ◌*◌, ◌⊎◌, inl, inr, Bool, true, false, cond, List, [], ◌∷◌, ◌++◌, map, refl, ap, subst, ◌∙◌, arith}
-use Rattle.std.specs.Prelude.{◌&&◌, ◌==◌, not, min, sum_by, slice_index_or, Option, None, Some, is_some}
+use Rattle.std.specs.Prelude.{◌&&◌, ◌==◌, not, max, min, sum_by, slice_index_or, Option, None, Some, is_some}
 use Rattle.std.proofs.lemmas.List.Sums.{sum_by-cons}
 use Rattle.strm_types.specs.declared.answers.Turn.{Turn}
 use Rattle.strm_types.specs.declared.answers.Turn.TheVariants.{Moved, Blocked, Idle}
@@ -39,7 +39,7 @@ use Rattle.strm_types.proofs.LdtermPuts.{either}
 use Rattle.strm_laws.proofs.PutParts.{acted-holds}
 use Rattle.strm_laws.proofs.RestCosts.{up-most}
 use Rattle.strm_laws.proofs.RestPuts.{tolls}
-use Rattle.strm_laws.proofs.RestServes.{first-fewer, later-less}
+use Rattle.strm_laws.proofs.RestServes.{Goes, first-fewer, later-less}
 use Rattle.strm_laws.proofs.RestStates.{Fit, FitNames, FitsName, acted-moves, delivered-pays, fits-on, same-moves, sent-pays, with-moves}
 use Rattle.strm_laws.proofs.StackStays.{Stand, puts-stand, queue-names, same-names, serve-names}
 use Rattle.strm_laws.proofs.TurnHolds.{any-holds}
@@ -184,9 +184,9 @@ module _ {C : Type 0} (all : Stands) where
       abbrev FitsHere : ℕ → List (Module C) → Type 0
       FitsHere at ps = FitNames (echoes all here.side) (echoes all (other here.side)) (posts here.side) at (map module_name ps)
 
-      -- a module whose turn may begin, and treats so many bytes as its first message has
+      -- a module whose turn may begin, and treats so many bytes of its first message
       abbrev pub Ready : ℕ → Module C → Type 0
-      Ready left q = (module_rests q ≡ true) × (is_waiting (module_asks here.way q) ≡ true) × (left ≡ first_size (messages_at module_queue here.way q))
+      Ready left q = (module_rests q ≡ true) × (is_waiting (module_asks here.way q) ≡ true) × Goes here.way left (first_size (messages_at module_queue here.way q))
 
       waits-some : (way : Way) (l : TheLdterm C) → is_waiting (module_asks way (OfLdterm l)) ≡ true → is_none_left (queue_at way l).messages ≡ false
       waits-some way l is = at (queue_at way l).messages is
@@ -321,7 +321,7 @@ module _ {C : Type 0} (all : Stands) where
               let behind = calls-later more less_left (sent_on false left s) (on-stands false left s is) is-way in
               (behind.0, omega (arith, behind.1, this))
 
-      -- a turn that treats so many bytes as the first message has
+      -- a turn that treats so many bytes of the first message
       pub moved-leaves-here : (name : QueueName) (bytes : ℕ) (s : State C) → stands_of s ≡ all → At (Ready bytes) (here.at - 1) (stream here.side s).modules → Leaves (moves all s) s.enabled (moved_on cells here name bytes s).state
       moved-leaves-here name bytes s is ready =
           let t = calls cells here (3 * bytes + 1) false bytes s in
@@ -341,27 +341,40 @@ module _ {C : Type 0} (all : Stands) where
           (ended-stands here false waiting (waits-stand here.side here.way here.at band s is), inr (omega (arith, waits-same here.side here.way here.at band s, ended-same here false waiting), refl))
 
       one-ready : (left i : ℕ) (ps : List (Module C)) → slice_index_or (map module_rests ps) i false ≡ true → is_waiting (slice_index_or (map (module_asks here.way) ps) i asked.Empty) ≡ true
-          → left ≡ slice_index_or (map (λ p. first_size (messages_at module_queue here.way p)) ps) i 0 → At (Ready left) i ps
+          → Goes here.way left (slice_index_or (map (λ p. first_size (messages_at module_queue here.way p)) ps) i 0) → At (Ready left) i ps
       one-ready left i [] rests waits size = absurd (cc (rests))
       one-ready left zero (q ∷ qs) rests waits size = (rests, waits, size)
       one-ready left (suc i) (q ∷ qs) rests waits size = one-ready left i qs rests waits size
+
+      -- how far a turn goes that moved so many bytes
+      goes-far : (way : Way) (bytes size : ℕ) → (way ≡ Down → bytes ≡ size) → Goes way (min (max 1 bytes) size) size
+      goes-far Up bytes size whole = none bytes size
+        where
+          none : (bytes size : ℕ) → min (max 1 bytes) size ≡ 0 → size ≡ 0
+          none bytes zero is = refl
+          none zero (suc size) is = absurd (omega (arith, is))
+          none (suc bytes) (suc size) is = absurd (omega (arith, is))
+      goes-far Down bytes size whole = to-end bytes size (whole refl)
+        where
+          to-end : (bytes size : ℕ) → bytes ≡ size → min (max 1 bytes) size ≡ size
+          to-end zero size is = omega (arith, is)
+          to-end (suc bytes) size is = omega (arith, is)
 
       -- how many bytes the first message of the queue there has
       abbrev first_there : State C → ℕ
       first_there s = at_place (λ p. first_size (messages_at module_queue here.way p)) 0 here.at (stream here.side s).modules
 
-      -- A turn that is answered so, and where it moved bytes, as many as its first message has.
+      -- A turn that is answered so, and where it moved bytes of a write queue, as many as its first message has.
       abbrev pub Answers : Turn → State C → TurnOutcome C → Type 0
-      Answers (Moved bytes) s t = bytes ≡ first_there s
+      Answers (Moved bytes) s t = here.way ≡ Down → bytes ≡ first_there s
       Answers Blocked s t = t.turn ≡ Blocked
       Answers Idle s t = t.turn ≡ Idle
 
       within-leaves : (name : QueueName) (turn : Turn) (s : State C) → stands_of s ≡ all → at_place module_rests false here.at (stream here.side s).modules ≡ true
           → is_waiting (at_place (module_asks here.way) asked.Empty here.at (stream here.side s).modules) ≡ true → Answers turn s (moved_within cells here name turn s) → Leaves (moves all s) s.enabled (moved_within cells here name turn s).state
       within-leaves name (Moved bytes) s is rests waits answers =
-          let most = min bytes (first_there s) in
-          let whole : most ≡ first_there s = omega (arith, answers) in
-          moved-leaves-here name most s is (one-ready most (here.at - 1) (stream here.side s).modules rests waits whole)
+          let most = min (max 1 bytes) (first_there s) in
+          moved-leaves-here name most s is (one-ready most (here.at - 1) (stream here.side s).modules rests waits (goes-far here.way bytes (first_there s) answers))
       within-leaves name Blocked s is rests waits answers = blocked (calls cells here (3 * min 0 (first_there s) + 1) false (min 0 (first_there s)) s) answers
         where
           blocked : (t : Calls C) → let u : TurnOutcome C = cond t.ended (record { turn = Moved t.bytes; state = module_turn_ended name here (not (t.bytes == 0)) t.state; gone = t.gone }) (stayed_put Blocked s) in u.turn ≡ Blocked → Leaves (moves all s) s.enabled u.state

@@ -23,7 +23,7 @@ use Rattle.strm_types.specs.Names.{is_enabled, other, same_place, same_queue, wi
 use Rattle.strm_types.specs.Queue.{first_size}
 use Rattle.strm_laws.specs.Earlier.{places_of}
 use Rattle.strm_laws.specs.ModuleTurns.{module_turned, named_from, place_named, turned_named, turned_there, whole_module}
-use Rattle.strm_laws.specs.Rest.{EchoesOnce, IsWholeTurn, NoLdterm, count_enabled, echoes, is_pckt, moves, packs_below, queue_names, work}
+use Rattle.strm_laws.specs.Rest.{EchoesOnce, IsWholeOutput, NoLdterm, count_enabled, echoes, is_pckt, moves, packs_below, queue_names, work}
 use Rattle.strm_laws.specs.Restorable.{is_ldterm}
 use Rattle.strm_laws.specs.StackCosts.{Stands, stands_of, stands_on}
 use Rattle.strm_laws.specs.Stacked.{Module, OfLdterm, OfPtem, OfPckt, module_name, module_queue}
@@ -194,7 +194,7 @@ module _ {C : Type 0} where
 
   module _ (cells : Cells C) (name : QueueName) (turn : Turn) where
     -- a turn of a module's queue
-    module-leaves : (all : Stands) (s : State C) → EchoesOnce all → stands_of s ≡ all → IsWholeTurn (record name { place = Ldterm }) turn s → (module_turned cells (record name { place = Ldterm }) turn s).turn ≡ turn
+    module-leaves : (all : Stands) (s : State C) → EchoesOnce all → stands_of s ≡ all → IsWholeOutput (record name { place = Ldterm }) turn s → (module_turned cells (record name { place = Ldterm }) turn s).turn ≡ turn
         → Leaves all (moves all s) s.enabled (module_turned cells (record name { place = Ldterm }) turn s).state
     module-leaves all s once is whole answered = named (place_named Ldterm (stream name.side s).modules) refl answered
       where
@@ -207,14 +207,14 @@ module _ {C : Type 0} where
             let here : Spot = record { side = name.side; at = at; way = name.way } in
             there-leaves all cells (posts_of all) (fits-once all once) here (named-least Ldterm 1 (places_of (take MODULES (stream name.side s).modules)) at there) called turn s is (answers turn whole answered)
           where
-            answers : (turn : Turn) → IsWholeTurn called turn s → (turned_there cells (record { side = name.side; at = at; way = name.way }) called turn s).turn ≡ turn
+            answers : (turn : Turn) → IsWholeOutput called turn s → (turned_there cells (record { side = name.side; at = at; way = name.way }) called turn s).turn ≡ turn
                 → Answers all cells (posts_of all) (fits-once all once) (record { side = name.side; at = at; way = name.way }) (named-least Ldterm 1 (places_of (take MODULES (stream name.side s).modules)) at there) turn s (turned_there cells (record { side = name.side; at = at; way = name.way }) called turn s)
-            answers (Moved bytes) whole answered = let e = whole ∙ whole-at Ldterm name.way (stream name.side s) at there in cc
+            answers (Moved bytes) whole answered = λ down. (let e = whole down ∙ whole-at Ldterm name.way (stream name.side s) at there in cc)
             answers Blocked whole answered = answered
             answers Idle whole answered = answered
 
     turned-leaves : (all : Stands) (place : Place) (s : State C) → EchoesOnce all → stands_of s ≡ all → let called = record name { place = place } in
-        IsWholeTurn called turn s → (turned_at cells place called turn s).turn ≡ turn → Leaves all (moves all s) s.enabled (turned_at cells place called turn s).state
+        IsWholeOutput called turn s → (turned_at cells place called turn s).turn ≡ turn → Leaves all (moves all s) s.enabled (turned_at cells place called turn s).state
     turned-leaves all Head s once is whole answered = (is, inr (omega arith, refl))
     turned-leaves all Driver s once is whole answered = driver-leaves all cells (posts_of all) (fits-once all once) name.side (stream name.side s).driver.queue.messages s is refl
     turned-leaves all Ldterm s once is whole answered = module-leaves all s once is whole answered
@@ -252,16 +252,16 @@ module _ {C : Type 0} where
       let behind = plain-behind cells name turn s none in
       (behind.0, work-less name s (turned cells name turn s).state enabled behind)
 
-  whole-behind : (cells : Cells C) (name : QueueName) (turn : Turn) (s : State C) → EchoesOnce (stands_of s) → IsWholeTurn name turn s → (turned cells name turn s).turn ≡ turn
+  whole-behind : (cells : Cells C) (name : QueueName) (turn : Turn) (s : State C) → EchoesOnce (stands_of s) → IsWholeOutput name turn s → (turned cells name turn s).turn ≡ turn
       → Leaves (stands_of s) (moves (stands_of s) s) (without name s.enabled) (turned cells name turn s).state
   whole-behind cells name turn s once whole answered = turned-leaves cells name turn (stands_of s) name.place (record s { enabled = without name s.enabled }) once refl (stays turn whole) answered
     where
-      stays : (turn : Turn) → IsWholeTurn name turn s → IsWholeTurn name turn (record s { enabled = without name s.enabled })
+      stays : (turn : Turn) → IsWholeOutput name turn s → IsWholeOutput name turn (record s { enabled = without name s.enabled })
       stays (Moved bytes) whole = whole
       stays Blocked whole = whole
       stays Idle whole = whole
 
-  pub whole-turn : (cells : Cells C) (old new : State C) (name : QueueName) (turn : Turn) → EchoesOnce (stands_of old) → IsTurn cells old name turn new → IsWholeTurn name turn old
+  pub whole-turn : (cells : Cells C) (old new : State C) (name : QueueName) (turn : Turn) → EchoesOnce (stands_of old) → IsTurn cells old name turn new → IsWholeOutput name turn old
       → (stands_of new ≡ stands_of old) × (work new < work old)
   whole-turn cells old new name turn once step whole =
       let behind = whole-behind cells name turn old once whole step.answered in

@@ -1,6 +1,6 @@
 -- Turns of the queues of modules (STREAMS Programming Guide, "Service Procedures", "Flow Control"; srv(9E), canputnext(9F),
 -- bcanput(9F), putbq(9F)). Places count from the head's, 0, over the modules from the top, to the driver's.
-use Rattle.std.specs.Prelude.{ℕ, zero, suc, ◌+◌, ◌-◌, ◌*◌, ◌==◌, min, Bool, true, false, not, if◌then◌else◌, List, [], ◌∷◌, ◌++◌, take, Option, None, Some}
+use Rattle.std.specs.Prelude.{ℕ, zero, suc, ◌+◌, ◌-◌, ◌*◌, ◌==◌, max, min, Bool, true, false, not, if◌then◌else◌, List, [], ◌∷◌, ◌++◌, take, Option, None, Some}
 use Rattle.strm_types.specs.declared.answers.Turn.{Turn}
 use Rattle.strm_types.specs.declared.answers.Turn.TheVariants.{Moved, Blocked, Idle}
 use Rattle.strm_types.specs.declared.limits.TheConstants.{MODULES, HOPS}
@@ -34,9 +34,9 @@ pub record Calls (C : Type 0) : Type 0 where
   pub bytes : ℕ
   pub ended : Bool
 
--- how many bytes a turn moved
+-- How many bytes a turn goes for that was answered so. One that moves something goes from one byte on.
 abbrev pub moved_by : Turn → ℕ
-moved_by (Moved bytes) = bytes
+moved_by (Moved bytes) = max 1 bytes
 moved_by Blocked = 0
 moved_by Idle = 0
 
@@ -117,7 +117,8 @@ module _ {C : Type 0} where
         then record { turn = Moved t.bytes; state = module_turn_ended name here (not (t.bytes == 0)) t.state; gone = t.gone }
         else stayed_put Blocked s
 
-    -- no further than to the end of the first message
+    -- No further than to the end of the first message. Of one that has bytes at least one is treated, so that no turn is told as one that moved
+    -- something and leaves all as it was.
     abbrev pub moved_within : QueueName → Turn → State C → TurnOutcome C
     moved_within name turn s =
         moved_on name (min (moved_by turn) (at_place (λ p. first_size (messages_at module_queue here.way p)) 0 here.at (stream here.side s).modules)) s

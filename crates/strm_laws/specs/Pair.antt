@@ -1,13 +1,16 @@
 -- A pair as its callers see it, and what a call or a turn adds to it.
-use Rattle.std.specs.Prelude.{◌≡◌, ℕ, zero, suc, List, [], ◌∷◌, ◌++◌, Option, None, Some, slice_get}
+use Rattle.std.specs.Prelude.{◌≡◌, ◌<◌, ◌⊎◌, ℕ, zero, suc, List, [], ◌∷◌, ◌++◌, Option, None, Some, slice_get}
 use Rattle.strm_types.specs.declared.limits.Config.{Config}
 use Rattle.strm_types.specs.declared.answers.Turn.{Turn}
+use Rattle.strm_types.specs.declared.answers.Turn.TheVariants.{Moved, Blocked, Idle}
+use Rattle.strm_types.specs.declared.names.Place.TheVariants.{Ldterm}
 use Rattle.strm_types.specs.declared.entries.Entry.TheVariants.{Turned}
 use Rattle.strm_types.specs.declared.events.Caller.{Caller}
 use Rattle.strm_types.specs.declared.job_control.Verdict.{Verdict}
 use Rattle.strm_types.specs.declared.names.QueueName.{QueueName}
 use Rattle.strm_types.specs.declared.refusals.Refusal.{Refusal}
 use Rattle.strm_laws.specs.State.{State, opening}
+use Rattle.strm_laws.specs.Turns.{whole_turn}
 use Rattle.strm_types.specs.Events.{Request}
 use Rattle.strm_types.specs.JobControl.{judged}
 use Rattle.strm_types.specs.Journal.{PlainEntry}
@@ -80,6 +83,20 @@ refused_of p (Some name) = queue_refused p name
 abbrev pub next_refused : PairState → Option Refusal
 next_refused p = refused_of p (slice_get p.state.enabled 0)
 
+-- A turn that moved so many bytes stopped within its message: that is one of ldterm's, and treated a byte at least.
+pub record StopsWithin (name : QueueName) (bytes : ℕ) : Type 0 where
+  pub place : name.place ≡ Ldterm
+  pub some : 0 < bytes
+
+-- A turn that moved something, of a pair in this state, treated the first message of its queue whole, or stopped within it.
+abbrev pub MovesOn : State ℕ → QueueName → Turn → Type 0
+MovesOn s name (Moved bytes) = (Moved bytes ≡ whole_turn name s) ⊎ StopsWithin name bytes
+MovesOn s name Blocked = Unit {0}
+MovesOn s name Idle = Unit {0}
+
+abbrev pub Stops : (old new : PairState) → QueueName → Turn → Type 0
+Stops old new name turn = MovesOn old.state name turn
+
 -- So many turns were made, each of the queue that was enabled first, and nothing else (STREAMS Programming Guide, "Service Procedures": the
 -- scheduler calls those of enabled queues in the order in which they were enabled).
 pub record TurnOfFirst (old new : PairState) : Type 0 where
@@ -87,6 +104,7 @@ pub record TurnOfFirst (old new : PairState) : Type 0 where
   pub turn : Turn
   pub first : slice_get old.state.enabled 0 ≡ Some name
   pub adds : AddsEntry old new (Turned name turn)
+  pub stops : Stops old new name turn
 
 abbrev pub RanTurns : ℕ → PairState → PairState → Type 0
 RanTurns zero old new = new ≡ old

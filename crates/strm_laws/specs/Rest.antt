@@ -118,13 +118,14 @@ pub record EchoesOnce (all : Stands) : Type 0 where
   pub one_there : (side : Side) → count_by is_ldterm (stands_on side all) ≤ 1
   pub no_packets : (side : Side) → packs_below (stands_on side all) ≡ false
 
--- a turn that moves something treats the first message of its queue whole, as each does that isn't short of blocks
-abbrev pub IsWholeTurn : {C : Type 0} → QueueName → Turn → State C → Type 0
-IsWholeTurn name (Moved bytes) s = Moved bytes ≡ whole_turn name s
-IsWholeTurn name Blocked s = Unit {0}
-IsWholeTurn name Idle s = Unit {0}
+-- A turn of a write queue that moves something treats the first message there whole, as each does that isn't short of blocks. What a part of it
+-- gives goes down as a message of its own.
+abbrev pub IsWholeOutput : {C : Type 0} → QueueName → Turn → State C → Type 0
+IsWholeOutput name (Moved bytes) s = name.way ≡ Down → Moved bytes ≡ whole_turn name s
+IsWholeOutput name Blocked s = Unit {0}
+IsWholeOutput name Idle s = Unit {0}
 
 -- each of so many turns is
-abbrev pub AreWholeTurns : (n : ℕ) (old new : PairState) → RanTurns n old new → Type 0
-AreWholeTurns zero old new ran = Unit {0}
-AreWholeTurns (suc n) old new ran = AreWholeTurns n old ran.0 ran.1.0 × IsWholeTurn ran.1.1.name ran.1.1.turn ran.0.state
+abbrev pub AreWholeOutputs : (n : ℕ) (old new : PairState) → RanTurns n old new → Type 0
+AreWholeOutputs zero old new ran = Unit {0}
+AreWholeOutputs (suc n) old new ran = AreWholeOutputs n old ran.0 ran.1.0 × IsWholeOutput ran.1.1.name ran.1.1.turn ran.0.state

@@ -9,20 +9,20 @@ ghost use Rattle.strm_types.specs.Cells.{Cells};
 ghost use Rattle.strm_types.specs.Journal.{room_used};
 ghost use Rattle.strm_types.specs.Names.{is_enabled};
 ghost use Rattle.strm_laws.specs.Pair.{PairState, RanTurns, next_refused};
-ghost use Rattle.strm_laws.specs.Rest.{AreWholeTurns, EchoesOnce, IsWholeTurn, NoLdterm, work};
+ghost use Rattle.strm_laws.specs.Rest.{AreWholeOutputs, EchoesOnce, IsWholeOutput, NoLdterm, work};
 ghost use Rattle.strm_laws.specs.StackCosts.{stands_of};
 ghost use Rattle.strm_laws.specs.State.{State};
 ghost use Rattle.strm_laws.specs.Step.{IsTurn};
 ghost use Rattle.strm_laws.specs.Turns.{turned};
 
 /// A turn of an enabled queue leaves less work: where no ldterm stands on either stream, whichever answer it is given; and where one ldterm stands
-/// there, with no pckt below it, if what it moves is the first message of its queue whole, as it is unless blocks are short. Two
-/// ldterms that echo each other don't come to rest.
+/// there, with no pckt below it, if what it moves of a write queue is the first message there whole, as it is unless blocks are short. A turn of
+/// the read queue treats a byte at least, which is enough. Two ldterms that echo each other don't come to rest.
 pub fn turns_leave_less<C>()
     ensures plain { (cells : Cells C) (name : QueueName) (turn : Turn) (s : State C) → NoLdterm (stands_of s) → is_enabled name s.enabled ≡ true →
         work (turned cells name turn s).state < work s }
     ensures whole { (cells : Cells C) (old new : State C) (name : QueueName) (turn : Turn) → EchoesOnce (stands_of old) → IsTurn cells old name turn new →
-        IsWholeTurn name turn old → work new < work old }
+        IsWholeOutput name turn old → work new < work old }
 {}
 
 /// So many turns, each of the queue that was enabled first, took as much work away at least, and there are no more of them than there was. With
@@ -30,7 +30,7 @@ pub fn turns_leave_less<C>()
 /// that is is refused for another reason.
 pub fn turns_come_to_rest()
     ensures plain { (n : ℕ) (old new : PairState) → RanTurns n old new → NoLdterm (stands_of old.state) → n + work new.state ≤ work old.state }
-    ensures whole { (n : ℕ) (old new : PairState) (ran : RanTurns n old new) → EchoesOnce (stands_of old.state) → AreWholeTurns n old new ran →
+    ensures whole { (n : ℕ) (old new : PairState) (ran : RanTurns n old new) → EchoesOnce (stands_of old.state) → AreWholeOutputs n old new ran →
         n + work new.state ≤ work old.state }
     ensures room { (n : ℕ) (old new : PairState) → RanTurns n old new → n + work new.state ≤ work old.state →
         length old.journal + work old.state ≤ old.limits.journal_events → room_used old.journal ≤ old.limits.journal_bytes →

@@ -1,5 +1,5 @@
 -- Bytes of the message in work, one after the other.
-use Rattle.std.proofs.Common.{ℕ, ◌≡◌, ◌≤◌, ◌<◌, ◌+◌, ◌-◌, ◌*◌, Bool, true, false, List, [], ◌++◌, length, refl, sym, ap, subst, ◌∙◌, arith}
+use Rattle.std.proofs.Common.{ℕ, ◌≡◌, ◌≤◌, ◌<◌, ◌+◌, ◌-◌, ◌*◌, ◌⊎◌, inl, inr, Bool, true, false, List, [], ◌++◌, length, refl, sym, ap, subst, ◌∙◌, arith}
 use Rattle.std.specs.Prelude.{Option, None, Some, is_some, nat_lt}
 use Rattle.strm_types.specs.declared.limits.TheConstants.{STOP_BLOCKS}
 use Rattle.strm_types.specs.declared.rules.Fates.{Fates}
@@ -70,6 +70,14 @@ lower a b is = grind (arith, nat_tests)
 
 pub are-many : (s : StoreValue) → nat_lt (least_free s) STOP_BLOCKS ≡ false → HasRoom s STOP_BLOCKS
 are-many s is = record { mblks = grind (arith, nat_tests); dblks = grind (arith, nat_tests) }
+
+pub not-few : (s : StoreValue) → HasRoom s STOP_BLOCKS → least_free s < STOP_BLOCKS → ⊥
+not-few s many few = let m = many.mblks in let d = many.dblks in omega (arith, m, d, few)
+
+-- some were treated, or blocks would be many still
+pub some-went : (s0 s : StoreValue) (bytes left : ℕ) → (left < bytes) ⊎ (HasRoom s0 STOP_BLOCKS → HasRoom s STOP_BLOCKS) → least_free s < STOP_BLOCKS → HasRoom s0 STOP_BLOCKS → left < bytes
+some-went s0 s bytes left (inl fewer) few many = fewer
+some-went s0 s bytes left (inr stays) few many = absurd (not-few s (stays many) few)
 
 pub kept-some : (s : StoreValue) (o : Option InHand) → is_some (kept_in s o) ≡ is_some o
 kept-some s None = refl
@@ -169,11 +177,13 @@ pub record Ran (s0 s : StoreValue) (here : Spot) (x0 x : Ldterm) (bytes left : �
   pub does : Proceeds s0 s x0 x (all_free s0) notes [] t0 t (ahead here (3 * (bytes - left)) (ldterm_in s0 x0))
   pub begun : (byte : ℕ) → byte < bytes - left → IsFreeBefore s0 x0 t0 (bytes_on here) (ldterm_in s0 x0) byte
   pub room : HasRoom s 1
+  pub some : (left < bytes) ⊎ (HasRoom s0 STOP_BLOCKS → HasRoom s STOP_BLOCKS)
 
 -- none was treated yet
 pub ran-none : (s0 : StoreValue) (here : Spot) (x0 : Ldterm) (bytes : ℕ) (t0 : Fates) → Proceeds s0 s0 x0 x0 0 [] [] t0 t0 (ldterms.sends [] (ldterm_in s0 x0)) → HasRoom s0 1 → Ran s0 s0 here x0 x0 bytes bytes [] t0 t0
 ran-none s0 here x0 bytes t0 still room = record {
   room = room;
+  some = inr (λ many. many);
   fewer = omega arith;
   begun = λ byte less. absurd (omega arith);
   does = (let zero : 0 ≡ 3 * (bytes - bytes) = omega arith in takes-any s0 s0 x0 x0 0 [] [] t0 t0 (ahead here (3 * (bytes - bytes)) (ldterm_in s0 x0)) (subst (λ n. Proceeds s0 s0 x0 x0 0 [] [] t0 t0 (ahead here n (ldterm_in s0 x0))) zero still));
@@ -250,8 +260,15 @@ module _ (s0 s : StoreValue) (x0 x : Ldterm) (here : Spot) (bytes left : ℕ) (n
           (proceeds-joined s0 s x0 x (all_free s0) notes t0 t (ahead here (3 * n) p0) st r.does s' x' k notes' sent' t' (ahead here (3 * j)) b))
 
       pub ran-next : sent' ≡ [] → HasRoom s STOP_BLOCKS → k < STOP_BLOCKS → ((byte : ℕ) → byte < j → HasRoom s (STOP_BLOCKS + blocks_grown p (bytes_on here byte p).state))
-          → Ran s0 s' here x0 x' bytes (left - j) (notes ++ notes') t0 t'
-      ran-next quiet many less begins = record {
+          → (0 < j) ⊎ (HasRoom s STOP_BLOCKS → HasRoom s' STOP_BLOCKS) → Ran s0 s' here x0 x' bytes (left - j) (notes ++ notes') t0 t'
+      ran-next quiet many less begins stays = record {
+        some = elim stays [
+          | inl one ↦ inl (let f = r.fewer in omega (arith, f, one, most))
+          | inr on ↦ elim r.some [
+            | inl fewer ↦ inl (omega (arith, fewer))
+            | inr kept ↦ inr (λ first. on (kept first))
+          ]
+        ];
         begun = λ byte within. begun-on j begins byte (let f = r.fewer in omega arith);
         room = room-behind many less;
         fewer = (let f = r.fewer in omega arith);
@@ -263,9 +280,10 @@ module _ (s0 s : StoreValue) (x0 x : Ldterm) (here : Spot) (bytes left : ℕ) (n
 
   -- a run of so many, and all that is noted
   pub ran-run : (s' : StoreValue) (x' : Ldterm) (j : ℕ) (notes' all : List Note) (t' : Fates) → IsStore s → j ≤ length (cells_left p) → all ≡ notes ++ notes' → Proceeds s s' x x' 2 notes' [] t t' (ahead here (3 * j) p)
-      → HasRoom s STOP_BLOCKS → ((byte : ℕ) → byte < j → HasRoom s (STOP_BLOCKS + blocks_grown p (bytes_on here byte p).state)) → Ran s0 s' here x0 x' bytes (left - j) all t0 t'
-  ran-run s' x' j notes' all t' st within joined b many begins =
-      subst (λ ns. Ran s0 s' here x0 x' bytes (left - j) ns t0 t') (sym joined) (ran-next s' x' 2 j notes' [] t' (let l = ran-left in omega arith) b st refl many (omega arith) begins)
+      → HasRoom s STOP_BLOCKS → ((byte : ℕ) → byte < j → HasRoom s (STOP_BLOCKS + blocks_grown p (bytes_on here byte p).state)) → (HasRoom s STOP_BLOCKS → HasRoom s' STOP_BLOCKS)
+      → Ran s0 s' here x0 x' bytes (left - j) all t0 t'
+  ran-run s' x' j notes' all t' st within joined b many begins stays =
+      subst (λ ns. Ran s0 s' here x0 x' bytes (left - j) ns t0 t') (sym joined) (ran-next s' x' 2 j notes' [] t' (let l = ran-left in omega arith) b st refl many (omega arith) begins (inr stays))
 
   -- or one that has sent something
   pub runs-into : (s' : StoreValue) (x' : Ldterm) (notes' : List Note) (sent' : List Sent) (t' : Fates) → 0 < left → HasRoom s STOP_BLOCKS → Proceeds s s' x x' 27 notes' sent' t t' (ahead here 3 p) → IsStore s

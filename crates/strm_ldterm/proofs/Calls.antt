@@ -65,8 +65,10 @@ module _ (s s' : StoreValue) (here : Spot) (x x' : Ldterm) (t t' : Fates) where
   pub treats-as : (served : Served) (v : Serving ℕ (ldterms.Ldterm ℕ)) → treated_by s s' here x x' (stop_of served) ≡ v
       → Proceeds s s' x x' (all_free s) served.acts.notes.items (sent_of served.acts.sent) t t' v.acted → served.bytes ≡ v.bytes → served.again ≡ v.again → (served.stopped ≡ true → (least_free s' < STOP_BLOCKS) × (served.again ≡ false))
       → ((byte : ℕ) → byte < begun_in served.bytes served.again (under_way (stage_in x.stage)) → IsFreeBefore s x t (bytes_on here) (ldterm_in s x) byte)
-      → (served.stopped ≡ true → EndsAt s s' here x x' served.bytes) → to_treat (ldterm_in s' x') ≤ to_treat (ldterm_in s x) → HasRoom s' (leaves (stage_in x'.stage)) → TreatsAs s s' here x x' served t t'
-  treats-as served v is does bytes again stops begun ends less room = record {
+      → (served.stopped ≡ true → EndsAt s s' here x x' served.bytes) → to_treat (ldterm_in s' x') ≤ to_treat (ldterm_in s x) → HasRoom s' (leaves (stage_in x'.stage))
+      → (served.stopped ≡ true → HasRoom s STOP_BLOCKS → 0 < served.bytes) → TreatsAs s s' here x x' served t t'
+  treats-as served v is does bytes again stops begun ends less room some = record {
+    some = some;
     begun = begun;
     does = subst (λ (w : Serving ℕ (ldterms.Ldterm ℕ)). Proceeds s s' x x' (all_free s) served.acts.notes.items (sent_of served.acts.sent) t t' w.acted) (sym is) does;
     bytes = bytes ∙ sym (ap (λ (w : Serving ℕ (ldterms.Ldterm ℕ)). w.bytes) is);
@@ -94,7 +96,7 @@ module _ (s s' : StoreValue) (here : Spot) (x x' : Ldterm) (t t' : Fates) where
       let same = ap to_treat r.does.state in
       treats-as (record { acts = acts; bytes = bytes - left; stopped = false; again = true }) _
       (treats-sent here from n (3 * (left - 1)) (to_treat from) (omega arith) out (omega arith) work)
-      r.does (omega arith) refl (λ e. absurd (false≢true e)) (λ byte within. r.begun byte (let u = none-begun (stage_in x.stage) between in omega arith)) (λ e. absurd (false≢true e)) (omega arith) r.room
+      r.does (omega arith) refl (λ e. absurd (false≢true e)) (λ byte within. r.begun byte (let u = none-begun (stage_in x.stage) between in omega arith)) (λ e. absurd (false≢true e)) (omega arith) r.room (λ e. absurd (false≢true e))
 
   -- and where nothing was sent, to the end of the call
   pub out-treats : (bytes left : ℕ) (notes : ArrayVec Note) (sent : Outbox) (s1 : StoreValue) (x1 : Ldterm) (t1 : Fates) → IsStore s1 → stages_left (stage_in x.stage) ≡ 0 → bytes ≡ length (cells_left from)
@@ -119,6 +121,7 @@ module _ (s s' : StoreValue) (here : Spot) (x x' : Ldterm) (t t' : Fates) where
       (subst (λ ns. Proceeds s s' x x' (all_free s) ns (sent_of sent) t t' (one_after (ahead here n from) (finished plain here))) (append-nil notes.items) all)
       refl refl (λ v. (few (lower 0 left v), refl)) (λ byte within. r.begun byte (let u = none-begun (stage_in x.stage) between in omega arith)) (λ v. record { treat = omega arith; done = omega arith }) (omega arith)
       (record { mblks = (let r' = r.room.mblks in let e' = e.mblks in omega (arith, stage, r', e')); dblks = (let r' = r.room.dblks in let e' = e.dblks in omega (arith, stage, r', e')) })
+      (λ v many. (let more = lower 0 left v in let less = r.some (omega (arith, more, f)) many in omega (arith, less)))
     where
       at : (v : Bool) → nat_lt 0 left ≡ v → left ≤ bytes × (to_treat from ≡ bytes) → unwrap_or (stop_at v (bytes - left)) (to_treat from) ≡ bytes - left
       at true is both = refl
@@ -192,7 +195,7 @@ module _ (s s' : StoreValue) (here : Spot) (x x' : Ldterm) (t t' : Fates) where
       let rd = behind.0.dblks in
       treats-as (record { acts = acts; bytes = 0; stopped = false; again = true }) _
       (treats-sent here from n (3 * (to_treat from - 1)) (to_treat from) (omega arith) out room work)
-      (takes-any s s' x x' 26 acts.notes.items (sent_of acts.sent) t t' (ahead here n from) a) (omega arith) refl (λ v. absurd (false≢true v)) (λ byte within. absurd (let u = one-begun (stage_in x.stage) under in omega arith)) (λ v. absurd (false≢true v)) (omega arith) (record { mblks = omega arith; dblks = omega arith })
+      (takes-any s s' x x' 26 acts.notes.items (sent_of acts.sent) t t' (ahead here n from) a) (omega arith) refl (λ v. absurd (false≢true v)) (λ byte within. absurd (let u = one-begun (stage_in x.stage) under in omega arith)) (λ v. absurd (false≢true v)) (omega arith) (record { mblks = omega arith; dblks = omega arith }) (λ v. absurd (false≢true v))
 
 module _ (s s1 s' : StoreValue) (here : Spot) (x x1 x' : Ldterm) (t t1 t' : Fates) where
   -- before a byte that comes behind what was left of one
@@ -265,7 +268,7 @@ module _ (s s1 s' : StoreValue) (here : Spot) (x x1 x' : Ldterm) (t t1 t' : Fate
       let u = one-begun (stage_in x.stage) under in
       let w = none-begun (stage_in x1.stage) (left-none p1.stage zero) in
       begun-behind notes byte st a (left-none p1.stage zero) (b.begun byte (omega arith)))
-      (λ v. let less = (b.ends v).treat in record { treat = omega arith; done = omega arith }) (omega arith) b.room
+      (λ v. let less = (b.ends v).treat in record { treat = omega arith; done = omega arith }) (omega arith) b.room (λ v many. omega arith)
     where
       at : (v : Bool) (m : ℕ) → to_treat (ldterm_in s x) ≡ to_treat (ldterm_in s1 x1) + 1 → unwrap_or (stop_at v (m + 1)) (to_treat (ldterm_in s x)) ≡ unwrap_or (stop_at v m) (to_treat (ldterm_in s1 x1)) + 1
       at true m one = refl

@@ -27,6 +27,7 @@ use Rattle.strm_blocks.specs.Blocks.{StoreValue, IsStore}
 use Rattle.strm_frame.specs.declared.parcels.Outbox.{Outbox}
 use Rattle.strm_frame.specs.declared.service.Served.{Served}
 use Rattle.strm_frame.specs.Outboxes.{sent_of}
+use Rattle.strm_frame.specs.Hands.{HasRoom}
 use Rattle.strm_frame.specs.Serves.{least_free, stop_at, stop_of}
 use Rattle.strm_ldterm.specs.declared.ldterm.Ldterm.{Ldterm}
 use Rattle.strm_ldterm.specs.Bounds.{goes_out, passes_whole}
@@ -126,8 +127,8 @@ module _ (s s1 s3 : StoreValue) (here : Spot) (x x1 x3 : Ldterm) (bytes n left b
       at false is = let zero : left ≡ 0 = grind (arith, nat_tests) in let size = b.size in omega arith
 
   pub bytes-serve : Proceeds s s3 x x3 (all_free s) [] (sent_of sent) t t' (one_after (poured here n start) (let_go here band)) → (0 < left → least_free s3 < STOP_BLOCKS)
-      → ((byte : ℕ) → byte < n → IsFreeBefore s1 x1 t (poured here) (ldterm_in s1 x1) byte) → (again : Bool) → ServesAs s s3 here x x3 again served t t'
-  bytes-serve all low begins again =
+      → ((byte : ℕ) → byte < n → IsFreeBefore s1 x1 t (poured here) (ldterm_in s1 x1) byte) → (0 < left → HasRoom s1 STOP_BLOCKS → 0 < n) → (again : Bool) → ServesAs s s3 here x x3 again served t t'
+  bytes-serve all low begins goes-out again =
       let size = b.size in
       let whole = down-serves here again (stop_of served) p way ∙ out-is here p b.message b.rest band b.first b.is b.output some-there b.idle b.none (stop_of served) n stops-at (omega arith) in
       record {
@@ -148,6 +149,9 @@ module _ (s s1 s3 : StoreValue) (here : Spot) (x x1 x3 : Ldterm) (bytes n left b
             let most : bytes_left here.way again p ≡ size_of b.message = ap (λ w. bytes_left w again p) way ∙ ap first_size b.first in
             let none = none-done (stage_in x.stage) between in
             record { treat = omega (arith, most, size, cells-within b.message); done = omega arith };
+        some = λ v many.
+            let works = b.works t in
+            goes-out (lower 0 left v) (record { mblks = (let r = many.mblks in let w = works.mblks in omega (arith, r, w)); dblks = (let r = many.dblks in let w = works.dblks in omega (arith, r, w)) });
         room = λ e. absurd (false≢true e);
         over = λ up. absurd (down≢up (sym way ∙ up));
         whole = λ e.
@@ -192,4 +196,5 @@ module _ (s s1 s2 s3 : StoreValue) (here : Spot) (x x1 x2 x3 : Ldterm) (bytes le
       let all = proceeds-joined s s2 x x2 (0 + all_free s1) [] t t' (poured here m from) st2 one s3 x3 0 [] (sent_of sent) t' (let_go here band) go in
       bytes-serve s s1 s3 here x x1 x3 bytes m left band notes sent t t' way between b all-told st1 quiet
       (takes-any s s3 x x3 (0 + all_free s1 + 0) [] (sent_of sent) t t' _ all)
-      (λ more. let l = out-left in stays-few s2 s3 STOP_BLOCKS (frees (omega arith)) (pours.stops more)) pours.begun again
+      (λ more. let l = out-left in stays-few s2 s3 STOP_BLOCKS (frees (omega arith)) (pours.stops more)) pours.begun
+      (λ more many. (let few = pours.fewer in let less = pours.some (omega (arith, few, more)) many in omega (arith, less))) again

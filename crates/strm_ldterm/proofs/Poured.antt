@@ -1,5 +1,5 @@
 -- Output on a store: bytes of the message in work that go out, one after the other.
-use Rattle.std.proofs.Common.{ℕ, zero, suc, ◌≡◌, ◌≤◌, ◌<◌, ◌+◌, ◌-◌, true, List, [], ◌++◌, length, drop, take, refl, sym, ap, subst, ◌∙◌, arith, append-nil, length-append, length-drop}
+use Rattle.std.proofs.Common.{ℕ, zero, suc, ◌≡◌, ◌≤◌, ◌<◌, ◌+◌, ◌-◌, ◌⊎◌, inl, inr, true, List, [], ◌++◌, length, drop, take, refl, sym, ap, subst, ◌∙◌, arith, append-nil, length-append, length-drop}
 use Rattle.std.specs.Prelude.{is_some}
 use Rattle.strm_types.specs.declared.limits.TheConstants.{STOP_BLOCKS}
 use Rattle.strm_types.specs.declared.rules.Fates.{Fates}
@@ -117,10 +117,12 @@ pub record Pours (s t : StoreValue) (here : Spot) (x y : Ldterm) (bytes left : �
   pub fewer : left ≤ bytes
   pub does : Proceeds s t x y (all_free s) [] [] f f' (poured here (bytes - left) (ldterm_in s x))
   pub begun : (byte : ℕ) → byte < bytes - left → IsFreeBefore s x f (poured here) (ldterm_in s x) byte
+  pub some : (left < bytes) ⊎ (HasRoom s STOP_BLOCKS → HasRoom t STOP_BLOCKS)
 
 pub pours-none : (s : StoreValue) (here : Spot) (x : Ldterm) (bytes : ℕ) (f : Fates) → IsHeld s x → Pours s s here x x bytes bytes f f
 pours-none s here x bytes f held = record {
   begun = λ byte less. absurd (omega arith);
+  some = inr (λ many. many);
   fewer = omega arith;
   does =
       let p = ldterm_in s x in
@@ -162,15 +164,16 @@ module _ (s t : StoreValue) (here : Spot) (x y : Ldterm) (bytes left : ℕ) (f f
       ∙ omega arith
 
   -- and more of them
-  pub pours-more : (u : StoreValue) (z : Ldterm) (n k : ℕ) (f2 : Fates) → IsStore t → n ≤ left → Proceeds t u y z k [] [] f1 f2 (poured here n (ldterm_in t y))
+  pub pours-more : (u : StoreValue) (z : Ldterm) (n k : ℕ) (f2 : Fates) → IsStore t → 0 < n → n ≤ left → Proceeds t u y z k [] [] f1 f2 (poured here n (ldterm_in t y))
       → ((byte : ℕ) → byte < n → HasRoom t (STOP_BLOCKS + blocks_grown (ldterm_in t y) (poured here byte (ldterm_in t y)).state)) → Pours s u here x z bytes (left - n) f f2
-  pours-more u z n k f2 st few more begins =
+  pours-more u z n k f2 st one few more begins =
       let p = ldterm_in s x in
       let did = proceeds-joined s t x y (all_free s) [] f f1 (poured here (bytes - left) p) st so.does u z k [] [] f2 (poured here n) more in
       let count : bytes - left + n ≡ bytes - (left - n) = (let low = so.fewer in omega arith) in
       let same = pours-both here (bytes - left) n p work-there ∙ ap (λ m. poured here m p) count in
       record {
         fewer = (let low = so.fewer in omega arith);
+        some = inl (let low = so.fewer in omega (arith, low, one, few));
         begun = λ byte within. each-more (IsFreeBefore s x f (poured here) p) (bytes - left) n so.begun
             (λ i less. record { before = bytes - left; more = i; is = refl; store = t; there = y; notes = []; told = f1; reached = so.does; free = begins i less }) byte (let low = so.fewer in omega arith);
         does = subst (λ (a : Acted ℕ (ldterms.Ldterm ℕ)). Proceeds s u x z (all_free s) [] [] f f2 a) same (record {

@@ -116,6 +116,7 @@ module _ (s s' : StoreValue) (here : Spot) (x x' : Ldterm) (again : Bool) (t : F
         begun = λ none. absurd (false≢true (sym none ∙ passed));
         stops = λ e. absurd (false≢true (sym goes-on ∙ e));
         ends = λ e. absurd (false≢true (sym goes-on ∙ e));
+        some = λ e. absurd (false≢true (sym goes-on ∙ e));
         room = λ e. absurd (false≢true (sym ends ∙ e));
         over = λ up. record { mblks = (let r = (room up).mblks in let f = a.mblks in omega (arith, r, f)); dblks = (let r = (room up).dblks in let f = a.dblks in omega (arith, r, f)) };
         whole = λ e. record { mblks = (let f = a.mblks in omega arith); dblks = (let f = a.dblks in omega arith) };
@@ -139,6 +140,7 @@ module _ (s s' : StoreValue) (here : Spot) (x x' : Ldterm) (served : Served) (t 
             let left = ap (λ w. bytes_left w again (ldterm_in s x)) way ∙ ap (λ v. bytes_left Up v (ldterm_in s x)) more in
             let at = b.ends e in
             record { treat = let few = at.treat in omega (arith, left); done = at.done };
+        some = b.some;
         room = λ e. b.room;
         over = λ up. some-left-room s' (stage_in x'.stage) b.room;
         whole = λ e. absurd (false≢true (sym (ap (λ w. passes_whole w again (ldterm_in s x)) way ∙ ap (λ v. passes_whole Up v (ldterm_in s x)) more) ∙ e));
@@ -177,6 +179,7 @@ module _ (s s' : StoreValue) (here : Spot) (x x' : Ldterm) (served : Served) (t 
             let cells = w.size in
             let none = none-done (stage_in x.stage) between in
             record { treat = omega (arith, left, cells-within w.message); done = omega arith };
+        some = λ e many. b.some e (record { mblks = (let r = many.mblks in let a = works.mblks in omega (arith, r, a)); dblks = (let r = many.dblks in let a = works.dblks in omega (arith, r, a)) });
         room = λ e. b.room;
         over = λ up. some-left-room s' (stage_in x'.stage) b.room;
         whole = λ e.

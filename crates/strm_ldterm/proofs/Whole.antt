@@ -178,3 +178,4 @@ whole-treats s s' here x x' t bytes notes sent held between size some may room q
     byte (omega arith))
     (λ v. absurd (false≢true v)) (omega arith)
     (record { mblks = (let r = one.mblks in let d = did.mblks in omega arith); dblks = (let r = one.dblks in let d = did.dblks in omega arith) })
+    (λ v. absurd (false≢true v))

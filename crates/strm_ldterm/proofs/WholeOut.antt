@@ -132,4 +132,4 @@ whole-serves-out s s1 s3 here x x1 x3 bytes band notes sent t way between b st1 
       reached = (let zero : bytes - bytes ≡ 0 = omega arith in subst (λ k. Proceeds s1 s1 x1 x1 (all_free s1) [] [] t t (poured here k p1)) zero (pours-none s1 here x1 bytes t held).does);
       free = (let w = out-blocks here p1 band low (omega (arith, size, few)) all none byte (omega (arith, size, within)) in let e = ap blocks_for size in
           record { mblks = (let r = room.mblks in omega arith); dblks = (let r = room.dblks in omega arith) });
-    }) again
+    }) (λ more. absurd (omega arith)) again

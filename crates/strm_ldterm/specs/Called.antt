@@ -52,12 +52,13 @@ begun_in bytes again before = bytes + (if again then 1 else 0) - before
 
 module _ (old new : StoreValue) (here : Spot) (x x' : Ldterm) where
   -- Of so many bytes some were treated, and nothing was sent. Before each of them blocks enough are free. Bytes are left only where blocks are
-  -- few.
+  -- few, and not all of them where blocks were many.
   pub record RunsOut (bytes left : ℕ) (notes : List Note) (t t' : Fates) : Type 0 where
     pub fewer : left ≤ bytes
     pub does : Proceeds old new x x' (all_free old) notes [] t t' (ahead here (3 * (bytes - left)) (ldterm_in old x))
     pub begun : (byte : ℕ) → byte < bytes - left → IsFreeBefore old x t (bytes_on here) (ldterm_in old x) byte
     pub stops : 0 < left → least_free new < STOP_BLOCKS
+    pub some : 0 < bytes → HasRoom old STOP_BLOCKS → left < bytes
     pub room : HasRoom new 1
 
   -- and then one has sent something, which counts as left
@@ -85,7 +86,7 @@ module _ (old new : StoreValue) (here : Spot) (x x' : Ldterm) where
     pub done : stages_done (stage_in x.stage) ≤ 3 * bytes
 
   -- A call did what the definition says. Before each byte that it begins blocks enough are free. Behind one that stopped fewer blocks of some kind
-  -- are free than a byte may take, and it isn't called again. What it leaves of a byte has blocks enough.
+  -- are free than a byte may take, and it isn't called again; where blocks were many it treated a byte. What it leaves of a byte has blocks enough.
   pub record TreatsAs (served : Served) (t t' : Fates) : Type 0 where
     pub does : Proceeds old new x x' (all_free old) served.acts.notes.items (sent_of served.acts.sent) t t' (treated_by (stop_of served)).acted
     pub bytes : served.bytes ≡ (treated_by (stop_of served)).bytes
@@ -93,6 +94,7 @@ module _ (old new : StoreValue) (here : Spot) (x x' : Ldterm) where
     pub begun : (byte : ℕ) → byte < begun_in served.bytes served.again (under_way (stage_in x.stage)) → IsFreeBefore old x t (bytes_on here) (ldterm_in old x) byte
     pub stops : served.stopped ≡ true → (least_free new < STOP_BLOCKS) × (served.again ≡ false)
     pub ends : served.stopped ≡ true → EndsAt served.bytes
+    pub some : served.stopped ≡ true → HasRoom old STOP_BLOCKS → 0 < served.bytes
     pub less : to_treat (ldterm_in new x') ≤ to_treat (ldterm_in old x)
     pub room : HasRoom new (leaves (stage_in x'.stage))
 
@@ -101,7 +103,8 @@ module _ (old new : StoreValue) (here : Spot) (x x' : Ldterm) where
   served_by again stop = ldterm_serves plain here 0 again stop (ldterm_in old x)
 
   -- A call of the service procedure of a queue did what the definition says. Before each byte that it begins blocks enough are free, unless a
-  -- message passes whole. Behind one that stopped fewer blocks of some kind are free than a byte may take, and it isn't called again. One that is called again leaves blocks enough for the rest of the byte, and for what it has sent, and any one on the way up one for
+  -- message passes whole. Behind one that stopped fewer blocks of some kind are free than a byte may take, it isn't called again, and it treated a byte
+  -- where blocks were many. One that is called again leaves blocks enough for the rest of the byte, and for what it has sent, and any one on the way up one for
   -- what it sends at its end.
   -- A message that passes whole takes none.
   pub record ServesAs (again : Bool) (served : Served) (t t' : Fates) : Type 0 where
@@ -112,6 +115,7 @@ module _ (old new : StoreValue) (here : Spot) (x x' : Ldterm) where
         → IsFreeBefore old x t (bytes_of_way here here.way) (at_work here.way again (ldterm_in old x)) byte
     pub stops : served.stopped ≡ true → (least_free new < STOP_BLOCKS) × (served.again ≡ false)
     pub ends : served.stopped ≡ true → Ends here.way again (ldterm_in old x) served.bytes
+    pub some : served.stopped ≡ true → HasRoom old STOP_BLOCKS → 0 < served.bytes
     pub room : served.again ≡ true → HasRoom new (leaves (stage_in x'.stage))
     pub over : here.way ≡ Up → HasRoom new 1
     pub whole : passes_whole here.way again (ldterm_in old x) ≡ true → FreesBlocks old new

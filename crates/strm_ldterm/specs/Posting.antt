@@ -15,6 +15,7 @@ use Rattle.strm_types.specs.Ldterms as ldterms
 use Rattle.strm_types.specs.Output.{Output, posts, raised, space}
 use Rattle.strm_types.specs.OutputTurns.{output_dir}
 use Rattle.strm_blocks.specs.Blocks.{StoreValue}
+use Rattle.strm_frame.specs.Hands.{HasRoom}
 use Rattle.strm_frame.specs.Serves.{least_free}
 use Rattle.strm_ldterm.specs.declared.flowing.Flow.{Flow}
 use Rattle.strm_ldterm.specs.declared.ldterm.Ldterm.{Ldterm}
@@ -59,9 +60,10 @@ module _ (here : Spot) (t : Termios) where
 
 module _ (old new : StoreValue) (here : Spot) (x x' : Ldterm) where
   -- Of so many bytes of the message in work all went out but those that are left. Before each of them blocks enough are free, and before the
-  -- next one they are few.
+  -- next one they are few; where they were many one went out.
   pub record PoursAs (bytes left : ℕ) (t t' : Fates) : Type 0 where
     pub fewer : left ≤ bytes
     pub does : Proceeds old new x x' (all_free old) [] [] t t' (poured here (bytes - left) (ldterm_in old x))
     pub begun : (byte : ℕ) → byte < bytes - left → IsFreeBefore old x t (poured here) (ldterm_in old x) byte
     pub stops : 0 < left → least_free new < STOP_BLOCKS
+    pub some : 0 < bytes → HasRoom old STOP_BLOCKS → left < bytes

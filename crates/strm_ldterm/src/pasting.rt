@@ -290,6 +290,7 @@ pub(crate) fn treat_run<B: Blocks>(
     ensures within { result.bytes ≤ length (cells_left (ldterm_in (B.value store.old) ldterm.old)) }
     ensures begun { let p = ldterm_in (B.value store.old) ldterm.old in
         (byte : ℕ) → byte < result.bytes → HasRoom (B.value store.old) (STOP_BLOCKS + blocks_grown p (bytes_on here byte p).state) }
+    ensures many { HasRoom (B.value store.old) STOP_BLOCKS → HasRoom (B.value store.new) STOP_BLOCKS }
 {
     let odd = odd_bytes(&ldterm.termios);
     let most = run_room(ldterm, store);

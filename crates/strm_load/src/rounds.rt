@@ -62,7 +62,7 @@ fn joined<P: Object>(
     requires second { IsOne system.now second }
     ensures { IfSome result (λ e. IsOne system.now e) }
 {
-    match system.join(first, second) {
+    match system.join_ends(first, second) {
         Ok(end) => Some(end),
         Err(_) => None,
     }
@@ -85,10 +85,10 @@ pub fn share<P: Object + Send, R: Threads + Wait + Sync>(
         let (master, slave) = rounds(rt, system, master, slave, crew.rounds);
         return joined(system, master, slave);
     }
-    let Ok((master, more_master)) = system.split(master) else {
+    let Ok((master, more_master)) = system.split_end(master) else {
         return None;
     };
-    let Ok((slave, more_slave)) = system.split(slave) else {
+    let Ok((slave, more_slave)) = system.split_end(slave) else {
         return None;
     };
     let half = Crew {

@@ -1,21 +1,21 @@
 //! How a plan is carried out.
 
-ghost use Rattle.std.specs.Prelude.{◌<◌, length};
+ghost use Rattle.std.specs.Prelude.{◌<◌};
 
 use crate::plans::{Plan, Sums};
 use crate::rounds::{Crew, share};
-use std::alloc::{AllocError, Global};
+use std::alloc::Global;
 use std::sync::Wait;
-use std::thread::{Threads, map_indices};
+use std::thread::{Threads, map_vec};
 use strm_locks::{Object, System};
 use strm_minors::Minor;
 use strm_system::{Locked, Store, system};
-use strm_types::{Config, Content, Event};
+use strm_types::{Config, Content, Event, Refusal};
 
 type PairSystem = System<Locked<Store>>;
 
 // A system of a plan's pairs, and the minor of each.
-fn made(alloc: Global, plan: &Plan) -> Result<(PairSystem, Vec<Minor>), AllocError> {
+fn made(alloc: Global, plan: &Plan) -> Result<(PairSystem, Vec<Minor>), Refusal> {
     let sizes = Config {
         mblks: 256,
         dblks: 256,
@@ -25,21 +25,23 @@ fn made(alloc: Global, plan: &Plan) -> Result<(PairSystem, Vec<Minor>), AllocErr
     let (system, mut opener) = system(alloc, plan.pairs, sizes)?;
     let mut minors = Vec::new(alloc);
     for _ in 0..plan.pairs {
-        let Ok(minor) = system.minors().claim(&mut opener) else {
+        let Ok(minor) = system.claim(&mut opener) else {
             break;
         };
-        minors.push(minor)?;
+        if minors.push(minor).is_err() {
+            return Err(Refusal::NoMemory);
+        }
     }
     Ok((system, minors))
 }
 
-// Opens a pair, has a crew make its rounds there, and settles it.
+// Opens a pair, has a crew make its rounds there, and settles it: what was told, and the minor.
 fn at_pair<P: Object + Send, R: Threads + Wait + Sync>(
     rt: &R,
     system: &System<P>,
-    minor: &Minor,
+    minor: Minor,
     crew: Crew,
-) -> Option<Sums>
+) -> Option<(Sums, Minor)>
     requires some { 0 < crew.threads }
 {
     if minor.number() >= system.pairs() {
@@ -50,33 +52,38 @@ fn at_pair<P: Object + Send, R: Threads + Wait + Sync>(
     unlocked.ok()?;
     let slave = system.open_slave(rt, &mut master).ok()?;
     let all = share(rt, system, master, slave, crew)?;
-    let settled = system.settle(rt, all).ok()?;
-    Some(Sums {
-        calls: settled.told.calls,
-        written: settled.told.written.from_master,
-        read: settled.told.read.from_master,
-    })
+    let (closed, minor) = system.settle(rt, all).ok()?;
+    let told = closed.settled.told;
+    let sums = Sums {
+        calls: told.calls,
+        written: told.written.from_master,
+        read: told.read.from_master,
+    };
+    Some((sums, minor))
 }
 
-// The rounds at all pairs at once. A pair that was refused is none.
+// The rounds at all pairs at once, and the minors. A pair that was refused is none.
 fn at_all<P: Object + Send, R: Threads + Wait + Sync>(
     rt: &R,
     alloc: Global,
     system: &System<P>,
-    minors: &[Minor],
+    minors: Vec<Minor>,
     crew: Crew,
-) -> Option<Sums>
+) -> Option<(Sums, Vec<Minor>)>
     requires { 0 < crew.threads }
 {
-    let each = |i: usize| -> Option<Sums>
-        requires { (i < length minors.now) × (0 < crew.threads) }
-    { at_pair(rt, system, &minors[i], crew) };
-    let all = map_indices(rt, alloc, minors.len(), &each).ok()?;
+    let each = |minor: Minor| -> Option<(Sums, Minor)>
+        requires { 0 < crew.threads }
+    { at_pair(rt, system, minor, crew) };
+    let all = map_vec(rt, minors, &each).ok()?;
     let mut sums = Sums::none();
+    let mut minors = Vec::with_capacity(alloc, all.len()).ok()?;
     for one in all {
-        sums = sums.plus(&one?);
+        let (more, minor) = one?;
+        sums = sums.plus(&more);
+        minors.push(minor).ok()?;
     }
-    Some(sums)
+    Some((sums, minors))
 }
 
 /// Carries out a plan: what the ends of all pairs were told. It tells nothing where memory was refused, or a pair couldn't be opened or
@@ -87,9 +94,10 @@ pub fn serve<R: Threads + Wait + Sync>(rt: &R, alloc: Global, plan: &Plan) -> Op
         rounds: plan.rounds,
     };
     let (system, minors) = made(alloc, plan).ok()?;
-    let mut sums = at_all(rt, alloc, &system, &minors, crew)?;
-    if plan.warm {
-        sums = sums.plus(&at_all(rt, alloc, &system, &minors, crew)?);
+    let (sums, minors) = at_all(rt, alloc, &system, minors, crew)?;
+    if !plan.warm {
+        return Some(sums);
     }
-    Some(sums)
+    let (more, _minors) = at_all(rt, alloc, &system, minors, crew)?;
+    Some(sums.plus(&more))
 }

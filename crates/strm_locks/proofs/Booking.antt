@@ -1,6 +1,6 @@
 -- What an entry adds to the book of its pair, and what closing the book tells.
-use Rattle.std.proofs.Common.{◌≡◌, ℕ, zero, suc, ◌+◌, ◌<◌, min, List, [], ◌∷◌, ◌++◌, length, sym, refl, ap, ◌∙◌, subst, arith, append_assoc, length-append}
-use Rattle.std.specs.Prelude.{Result, Ok, Err, MatchOption, IsOk, IfOk, Option, None, Some, slice_index_or}
+use Rattle.std.proofs.Common.{◌≡◌, ◌≢◌, ℕ, zero, suc, ◌+◌, ◌<◌, min, List, [], ◌∷◌, ◌++◌, length, sym, refl, ap, ◌∙◌, subst, arith, append-nil, append_assoc, length-append}
+use Rattle.std.specs.Prelude.{false, true, Result, Ok, Err, MatchOption, IsOk, IfOk, Option, None, Some, slice_index_or}
 use Rattle.strm_types.specs.declared.answers.Turn.{Turn}
 use Rattle.strm_types.specs.declared.entries.Entry.TheVariants.{Called, Turned}
 use Rattle.strm_types.specs.declared.events.Caller.{Caller}
@@ -8,18 +8,22 @@ use Rattle.strm_types.specs.declared.names.Dir.TheVariants.{MasterToSlave, Slave
 use Rattle.strm_types.specs.declared.names.QueueName.{QueueName}
 use Rattle.strm_types.specs.declared.refusals.Refusal.{Refusal}
 use Rattle.strm_types.specs.Events.{Request, Reply}
-use Rattle.strm_types.specs.Journal.{PlainEntry}
-use Rattle.strm_laws.specs.Pair.{PairState, AddsEntry, call_refused}
+use Rattle.strm_types.specs.declared.refusals.NoMemory.{NoMemory}
+use Rattle.strm_types.specs.Journal.{PlainEntry, answer_len}
+use Rattle.strm_types.specs.Names.{is_enabled}
+use Rattle.strm_laws.specs.Pair.{PairState, AddsEntry, call_refused, restarted}
 use Rattle.strm_laws.proofs.Replay.{refused-by}
+use Rattle.strm_image.specs.declared.trace.Trace.{Trace}
 use Rattle.strm_locks.specs.declared.end.TheConstants.{ALL_PARTS}
 use Rattle.strm_locks.specs.declared.held.Settled.{Settled}
 use Rattle.strm_locks.specs.declared.told.Told.{Told}
 use Rattle.strm_locks.specs.declared.view.View.{View}
 use Rattle.strm_locks.specs.Tallies.{Tallies, calls_in}
-use Rattle.strm_locks.specs.Books.{pick, each, weigh, IsBelow, IsCounted, Kept, book_of, book_with, history_of, told_of, tally_of, Adds}
+use Rattle.strm_locks.specs.Books.{pick, each, weigh, IsBelow, IsCounted, IsKept, IsNew, Kept, book_of, book_with, history_of, told_of, tally_of, Adds}
 use Rattle.strm_locks.specs.Rules.{Knows}
-use Rattle.strm_locks.specs.Settles.{IsClosed, IsSettled}
+use Rattle.strm_locks.specs.Settles.{IsAll, IsShown}
 use Rattle.strm_locks.specs.Shares.{Did, Outcome, entry_of}
+use Rattle.strm_locks.specs.Turns.{Cuts}
 use Rattle.strm_locks.proofs.Sums.{same_told}
 
 -- the calls of a journal that gains a call, and of one that gains a turn
@@ -61,8 +65,12 @@ module _ (p q : PairState) where
     as_long : history_of q ≡ history_of p
     as_long = ap (λ es. calls_in es) (entered p q (Turned name turn) adds) ∙ calls-turned (p.past ++ p.journal) name turn
 
-    counts-still : (calls : ℕ) → IsCounted calls (history_of p) → IsCounted calls (history_of q)
-    counts-still calls is = subst (IsCounted calls) (sym as_long) is
+    -- no queue of a pair that nobody opened is enabled
+    not_new : IsNew p → ⊥
+    not_new new = let is : false ≡ true = sym (ap (λ (x : PairState). is_enabled name x.state.enabled) new) ∙ adds.step.enabled in absurd (cc)
+
+    keeps-still : (calls left : ℕ) → IsKept calls left p → IsKept calls left q
+    keeps-still calls left is = record { counted = subst (IsCounted calls) (sym as_long) is.counted; unopened = λ all. absurd (not_new (is.unopened all)); opened = is.opened }
 
     book-still : (calls left : ℕ) → Tallies p q (Turned name turn) → book_of calls q left ≡ book_of calls p left
     book-still calls left tally = λ k. book_with (same_told (told_of calls q) (told_of calls p) at k) (as_long k) left
@@ -97,38 +105,57 @@ answered A K L o p x y is same m = let e : Result A Refusal = Ok y in subst (λ 
 -- a turn, refused or not, leaves the number of calls and the book
 module _ (p q : PairState) (name : QueueName) (x : Result Turn Refusal) (calls left : ℕ) where
   abbrev Stays : Type 0
-  Stays = (IsCounted calls (history_of p) → IsCounted calls (history_of q)) × (book_of calls q left ≡ book_of calls p left)
+  Stays = (IsKept calls left p → IsKept calls left q) × (book_of calls q left ≡ book_of calls p left)
 
   pub turn-still : (o : Option Refusal) → MatchOption o (IsOk x) (λ r. (x ≡ Err r) × (q ≡ p)) → IfOk x (λ t. AddsEntry p q (Turned name t)) → IfOk x (λ t. Tallies p q (Turned name t)) → Stays
   turn-still o refused adds tally = at x refl adds tally
     where
       at : (y : Result Turn Refusal) → x ≡ y → IfOk y (λ t. AddsEntry p q (Turned name t)) → IfOk y (λ t. Tallies p q (Turned name t)) → Stays
-      at (Ok t) is adds tally = (counts-still p q name t adds calls, book-still p q name t adds calls left tally)
-      at (Err r) is adds tally = let same : q ≡ p = (refused-by o x refused r is).1 in (subst (λ z. IsCounted calls (history_of z)) (sym same), ap (λ z. book_of calls z left) same)
+      at (Ok t) is adds tally = (keeps-still p q name t adds calls left, book-still p q name t adds calls left tally)
+      at (Err r) is adds tally = let same : q ≡ p = (refused-by o x refused r is).1 in (subst (λ z. IsKept calls left z) (sym same), ap (λ z. book_of calls z left) same)
+
+-- a journal that begins anew, and a cut, leave the number of calls and the book
+pub restart-keeps : (p q : PairState) (calls left : ℕ) → q ≡ restarted p → IsKept calls left p → IsKept calls left q
+restart-keeps p q calls left is kept = subst (λ x. IsKept calls left x) (sym is) record {
+  counted = subst (IsCounted calls) (ap (λ es. calls_in es) (sym (append-nil (p.past ++ p.journal)))) kept.counted;
+  unopened = λ all. ap restarted (kept.unopened all);
+  opened = kept.opened;
+}
+
+pub cut-keeps : (p q : PairState) (r : Result Trace NoMemory) (calls left : ℕ) → Cuts p r q → IsKept calls left p → IsKept calls left q
+cut-keeps p q (Ok t) calls left cut kept = restart-keeps p q calls left cut.1 kept
+cut-keeps p q (Err z) calls left cut kept = subst (λ x. IsKept calls left x) (sym cut) kept
+
+-- the book of a pair that is called: it is open then, and no longer as new
+pub call-keeps : (p q : PairState) (caller : Caller) (asked : Request) (answer : Reply) (calls left left' : ℕ) → AddsEntry p q (Called caller asked answer) → left' ≢ ALL_PARTS
+    → IsKept calls left p → IsKept (min (calls + 1) 18446744073709551615) left' q
+call-keeps p q caller asked answer calls left left' adds used kept =
+    record { counted = counts-on p q caller asked answer adds calls kept.counted; unopened = λ all. absurd (used all); opened = λ _. omega arith }
 
 -- what a call did, by what it ensures
 module _ (a b : Kept) (caller : Caller) (asked : Request) (before bytes : List ℕ) where
   pub did : (M : Type 0) → (M → bytes ≡ before) → (x : Outcome) → MatchOption (call_refused a.pair caller asked) (IsOk x) (λ r. (x ≡ Err r) × ((b ≡ a) × M))
-      → IfOk x (λ y. Adds a.book (entry_of caller asked bytes y) b.book) → Did a caller asked before bytes x b
-  did M stays x refused adds = at x refl adds
+      → IfOk x (λ y. Adds a.book (entry_of caller asked bytes y) b.book) → IfOk x (λ y. AddsEntry a.pair b.pair (entry_of caller asked bytes y)) → IfOk x (λ y. answer_len y ≡ length bytes)
+      → Did a caller asked before bytes x b
+  did M stays x refused = at x refl
     where
-      at : (y : Outcome) → x ≡ y → IfOk y (λ z. Adds a.book (entry_of caller asked bytes z) b.book) → Did a caller asked before bytes y b
-      at (Ok z) is adds = adds
-      at (Err r) is adds = let t = refused-by (call_refused a.pair caller asked) x refused r is in (t.1.0, stays t.1.1, t.0)
+      at : (y : Outcome) → x ≡ y → IfOk y (λ z. Adds a.book (entry_of caller asked bytes z) b.book) → IfOk y (λ z. AddsEntry a.pair b.pair (entry_of caller asked bytes z))
+          → IfOk y (λ z. answer_len z ≡ length bytes) → Did a caller asked before bytes y b
+      at (Ok z) is book adds filled = (book, record { adds = adds; filled = filled })
+      at (Err r) is book adds filled = let t = refused-by (call_refused a.pair caller asked) x refused r is in (t.1.0, stays t.1.1, t.0)
 
   -- no number of the book falls
   pub below-did : (x : Outcome) → Did a caller asked before bytes x b → a.book.totals.calls < 18446744073709551616 → IsBelow a.book.totals b.book.totals
-  below-did (Ok y) d low zero = let n = d.calls in omega arith
-  below-did (Ok y) d low (suc i) = let n = d.bytes i in omega arith
+  below-did (Ok y) d low zero = let n = d.0.calls in omega arith
+  below-did (Ok y) d low (suc i) = let n = d.0.bytes i in omega arith
   below-did (Err r) d low i = let same : pick i b.book.totals ≡ pick i a.book.totals = ap (λ (k : Kept). pick i k.book.totals) d.0 in omega arith
 
 -- a seat with all parts finds in the book just what it was told
-pub settled-all : (v : View) (k : Kept) (s : Settled) → Knows v k.book → v.parts ≡ ALL_PARTS → IsClosed k s → IsSettled v.told v.made s
+pub settled-all : (v : View) (k : Kept) (s : Settled) → Knows v k.book → v.parts ≡ ALL_PARTS → IsShown k s → IsAll v.told v.made k.pair s
 settled-all v k s knows all closed =
     let whole = knows.whole all in
     let is : v.told ≡ k.book.totals = whole.0 in
     let numbers : s.told ≡ told_of k.book.totals.calls k.pair = closed.told ∙ closed.numbers in record {
-      pair = k.pair;
       shows = closed.pair;
       told_all = closed.told ∙ sym is;
       calls = λ h. whole.1 h ∙ ap (weigh h) closed.history;

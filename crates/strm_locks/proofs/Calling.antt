@@ -10,36 +10,39 @@ use Rattle.strm_types.specs.declared.events.Caller.{Caller}
 use Rattle.strm_types.specs.declared.events.Event.TheVariants.{OpenMaster}
 use Rattle.strm_types.specs.Events.{Request}
 use Rattle.strm_types.specs.Journal.{PlainEntry}
-use Rattle.strm_laws.specs.Pair.{call_refused}
+use Rattle.strm_laws.specs.Pair.{PairState}
 use Rattle.strm_locks.specs.declared.end.TheConstants.{ALL_PARTS}
 use Rattle.strm_locks.specs.declared.told.Told.{Told}
 use Rattle.strm_locks.specs.declared.view.View.{View}
-use Rattle.strm_locks.specs.Ends.{Calls, OpenedAs, Share}
-use Rattle.strm_locks.specs.Books.{pick, nothing, plus, minus, IsBelow, Fits, Book, Kept, Adds, tally_of}
+use Rattle.strm_locks.specs.Ends.{Calls, IsTold, OpenedAs, Share}
+use Rattle.strm_locks.specs.Books.{pick, nothing, plus, minus, IsBelow, IsCounted, Fits, Book, Kept, Adds, history_of, tally_of}
 use Rattle.strm_locks.specs.Rules.{share, fresh, holding, grown, Knows, Mine}
-use Rattle.strm_locks.specs.Shares.{Became, MayGive, Tells, Applied, Did, Grew, IsSeated, Opens, Opened, Outcome, entry_of, opener}
+use Rattle.strm_locks.specs.Shares.{Became, MayGive, Tells, Applied, Did, Does, Grew, IsSeated, Opens, Opened, Outcome, entry_of, opener}
 use Rattle.strm_locks.proofs.Sums.{same_told, pick-minus, pick-nothing, pick-plus}
 
 -- the view that is told what a call added to the book, and the one where nothing was added
-grown_once : (v : View) (b c : Book) (e : PlainEntry) → Adds b e c → IsBelow b.totals c.totals → grown v b c ≡ share (plus v.told (minus c.totals b.totals)) (v.made ++ e ∷ []) v.parts
-grown_once v b c e adds below =
+grown_once : (v : View) (b : Book) (k : Kept) (e : PlainEntry) → Adds b e k.book → IsBelow b.totals k.book.totals
+    → grown v b k ≡ share (plus v.told (minus k.book.totals b.totals)) (v.made ++ e ∷ []) v.parts (v.met ++ k.pair ∷ [])
+grown_once v b k e adds below = let c : Book = k.book in
     let sums : minus (plus v.told c.totals) b.totals ≡ plus v.told (minus c.totals b.totals) = same_told (minus (plus v.told c.totals) b.totals) (plus v.told (minus c.totals b.totals))
     (λ i. let a = pick-minus i (plus v.told c.totals) b.totals in let d = pick-plus i v.told c.totals in let x = pick-plus i v.told (minus c.totals b.totals) in let y = pick-minus i c.totals b.totals in let f = below i in omega arith) in
     let more : drop (length b.history) c.history ≡ e ∷ [] = ap (drop (length b.history)) adds.history ∙ drop-append_seam b.history (e ∷ []) in
     let parts : v.parts + b.left - c.left ≡ v.parts = (let p = adds.left in omega arith) in
-    λ k. share (sums k) (v.made ++ more k) (parts k)
+    λ j. share (sums j) (v.made ++ more j) (parts j) (v.met ++ k.pair ∷ [])
 
-pub grown_none : (v : View) (b c : Book) → c ≡ b → grown v b c ≡ share v.told v.made v.parts
-grown_none v b c same =
+pub grown_none : (v : View) (b : Book) (k : Kept) → k.book ≡ b → grown v b k ≡ share v.told v.made v.parts (v.met ++ k.pair ∷ [])
+grown_none v b k same =
     let sums : minus (plus v.told b.totals) b.totals ≡ v.told = same_told (minus (plus v.told b.totals) b.totals) v.told
     (λ i. let a = pick-minus i (plus v.told b.totals) b.totals in let d = pick-plus i v.told b.totals in omega arith) in
     let more : v.made ++ drop (length b.history) b.history ≡ v.made = ap (λ l. v.made ++ l) (drop-length b.history) ∙ append-nil v.made in
     let parts : v.parts + b.left - b.left ≡ v.parts = omega arith in
-    ap (grown v b) same ∙ (λ k. share (sums k) (more k) (parts k))
+    ap (λ (c : Book). share (minus (plus v.told c.totals) b.totals) (v.made ++ drop (length b.history) c.history) (v.parts + b.left - c.left) (v.met ++ k.pair ∷ [])) same
+    ∙ (λ j. share (sums j) (more j) (parts j) (v.met ++ k.pair ∷ []))
 
 -- an end's seat, by the view that it has
-pub seated : (m : Mine) (t : Told) (xs : List PlainEntry) (n : ℕ) → m ≡ (share t xs n, []) → 0 < n → IsSeated m t n
-seated m t xs n is some_part = record { shown = is ∙ ap (λ ys. (share t ys n, [])) (sym (ap (λ (x : Mine). x.0.made) is)); some_part = some_part }
+pub seated : (m : Mine) (t : Told) (xs : List PlainEntry) (n : ℕ) (ps : List PairState) → m ≡ (share t xs n ps, []) → 0 < n → IsSeated m t n
+seated m t xs n ps is some_part = let made = sym (ap (λ (x : Mine). x.0.made) is) in let met = sym (ap (λ (x : Mine). x.0.met) is) in
+    record { shown = is ∙ (λ k. (share t (made k) n (met k), [])); some_part = some_part }
 
 pub has_part : (m : Mine) (t : Told) (n : ℕ) → IsSeated m t n → 0 < m.0.parts
 has_part m t n s = let is : m.0.parts ≡ n = ap (λ (x : Mine). x.0.parts) s.shown in let p = s.some_part in omega arith
@@ -61,11 +64,11 @@ module _ (a : Kept) (caller : Caller) (asked : Request) (before bytes : List ℕ
   WasDone x = Did a caller asked before bytes x b
 
   more_history : (x : Outcome) → WasDone x → (more : List PlainEntry) × (b.book.history ≡ a.book.history ++ more)
-  more_history (Ok y) d = (entry_of caller asked bytes y ∷ [], d.history)
+  more_history (Ok y) d = (entry_of caller asked bytes y ∷ [], d.0.history)
   more_history (Err z) d = ([], ap (λ (k : Kept). k.book.history) d.0 ∙ sym (append-nil a.book.history))
 
   same_left : (x : Outcome) → WasDone x → b.book.left ≡ a.book.left
-  same_left (Ok y) d = d.left
+  same_left (Ok y) d = d.0.left
   same_left (Err z) d = ap (λ (k : Kept). k.book.left) d.0
 
   pub gives_applied : (v : View) (r : Outcome × Told) → 0 < v.parts → Applied a caller asked before bytes r b → MayGive (holding v a) b.book
@@ -83,11 +86,16 @@ module _ (a : Kept) (caller : Caller) (asked : Request) (before bytes : List ℕ
       let w : pick i r.1 ≡ pick i (minus b.book.totals a.book.totals) = ap (pick i) applied.grew.growth in
       let x = pick-minus i b.book.totals a.book.totals in let y = pick-plus i v.told r.1 in let z = knows.below i in let f = applied.grew.fits i in let g = applied.grew.below i in omega arith
 
-  tells : (e : PlainEntry) (t : Told) → Adds a.book e b.book → Grew a.book t b.book → Tells e t
-  tells e t adds grew =
+  -- what the call does to the pair
+  does : (x : Outcome) → WasDone x → Does a.pair caller asked before bytes x b.pair
+  does (Ok y) d = d.1
+  does (Err z) d = (ap (λ (k : Kept). k.pair) d.0, d.1, d.2)
+
+  tells : (e : PlainEntry) (t : Told) → IsCounted a.book.totals.calls (history_of a.pair) → Adds a.book e b.book → Grew a.book t b.book → Tells a.pair e t
+  tells e t counted adds grew =
       let n : t.calls ≡ b.book.totals.calls - a.book.totals.calls = ap (λ (x : Told). x.calls) grew.growth in
       let c = adds.calls in let f = grew.below 0 in record {
-        calls = dite (ℕ_discrete t.calls 1) (λ z. inl z) (λ z. inr (omega arith));
+        calls = dite (ℕ_discrete a.book.totals.calls 18446744073709551615) (λ z. inr (omega (arith, counted), omega arith)) (λ z. inl (omega (arith, counted), omega (arith, counted)));
         bytes = λ i. let w : pick (suc i) t ≡ pick (suc i) (minus b.book.totals a.book.totals) = ap (pick (suc i)) grew.growth in
             let x = pick-minus (suc i) b.book.totals a.book.totals in let y = adds.bytes i in omega arith;
       }
@@ -96,39 +104,40 @@ module _ (a : Kept) (caller : Caller) (asked : Request) (before bytes : List ℕ
   none i = let x = pick-minus i a.book.totals a.book.totals in let y = pick-nothing i in omega arith
 
   -- what the end is told of an answer, and of a refusal
-  module _ (v : View) (t : Told) (m' : Mine) (grew : Grew a.book t b.book) (now : m' ≡ (grown v a.book b.book, [])) where
+  module _ (v : View) (t : Told) (m' : Mine) (counted : IsCounted a.book.totals.calls (history_of a.pair)) (grew : Grew a.book t b.book) (now : m' ≡ (grown (holding v a) a.book b, [])) where
     abbrev ToldOf : Outcome → Type 0
     ToldOf x = MatchResult x
-        (λ y. let e : PlainEntry = entry_of caller asked bytes y in Tells e t × (m' ≡ (share (plus v.told t) (v.made ++ e ∷ []) v.parts, [])))
-        (λ z. (t ≡ nothing) × (m' ≡ (share v.told v.made v.parts, [])) × (bytes ≡ before) × (call_refused a.pair caller asked ≡ Some z))
+        (λ y. let e : PlainEntry = entry_of caller asked bytes y in Tells a.pair e t × (m' ≡ (share (plus v.told t) (v.made ++ e ∷ []) v.parts (v.met ++ a.pair ∷ [] ++ b.pair ∷ []), [])))
+        (λ z. (t ≡ nothing) × (m' ≡ (share v.told v.made v.parts (v.met ++ a.pair ∷ [] ++ b.pair ∷ []), [])))
 
     told_by : (x : Outcome) → WasDone x → ToldOf x
     told_by (Ok y) d = let e : PlainEntry = entry_of caller asked bytes y in (
-      tells e t d grew,
-      now ∙ (λ k. ((grown_once v a.book b.book e d grew.below ∙ ap (λ (x : Told). share (plus v.told x) (v.made ++ e ∷ []) v.parts) (sym grew.growth)) k, [])),
+      tells e t counted d.0 grew,
+      now ∙ (λ k. ((grown_once (holding v a) a.book b e d.0 grew.below ∙ ap (λ (x : Told). share (plus v.told x) (v.made ++ e ∷ []) v.parts (v.met ++ a.pair ∷ [] ++ b.pair ∷ [])) (sym grew.growth)) k, [])),
     )
     told_by (Err z) d = let same : b.book ≡ a.book = ap (λ (k : Kept). k.book) d.0 in (
       same_told t nothing (λ i. ap (pick i) grew.growth ∙ (ap (λ (y : Book). pick i (minus y.totals a.book.totals)) same ∙ none i)),
-      now ∙ (λ k. (grown_none v a.book b.book same k, [])),
-      d.1,
-      d.2,
+      now ∙ (λ k. (grown_none (holding v a) a.book b same k, [])),
     )
 
 module _ (a : Kept) (asked : Request) (before bytes : List ℕ) (b : Kept) (e : Share) (me m' : Mine) (r : Outcome × Told) (p : Told) where
   -- the end that is told so: its seat, and what is told by its answer
-  module _ (seat : IsSeated me e.told e.parts) (applied : Applied a e.caller asked before bytes r b) (now : m' ≡ (grown me.0 a.book b.book, [])) (sum : p ≡ plus e.told r.1) where
+  module _ (seat : IsSeated me e.told e.parts) (applied : Applied a e.caller asked before bytes r b) (now : m' ≡ (grown (holding me.0 a) a.book b, [])) (sum : p ≡ plus e.told r.1) where
     abbrev Was : Outcome → Type 0
-    Was x = ToldOf a e.caller asked before bytes b me.0 r.1 m' applied.grew now x
+    Was x = ToldOf a e.caller asked before bytes b me.0 r.1 m' applied.counted applied.grew now x
+
+    abbrev after : List PairState
+    after = me.0.met ++ a.pair ∷ [] ++ b.pair ∷ []
 
     was : (x : Outcome) → Was x → IsSeated m' p e.parts
-    was (Ok y) d = seated m' p (me.0.made ++ entry_of e.caller asked bytes y ∷ []) e.parts (d.1 ∙ (λ k. (share (told k) (me.0.made ++ entry_of e.caller asked bytes y ∷ []) (parts k), []))) seat.some_part
+    was (Ok y) d = seated m' p (me.0.made ++ entry_of e.caller asked bytes y ∷ []) e.parts after (d.1 ∙ (λ k. (share (told k) (me.0.made ++ entry_of e.caller asked bytes y ∷ []) (parts k) after, []))) seat.some_part
       where
         told : plus me.0.told r.1 ≡ p
         told = ap (λ (m : Mine). plus m.0.told r.1) seat.shown ∙ sym sum
 
         parts : me.0.parts ≡ e.parts
         parts = ap (λ (m : Mine). m.0.parts) seat.shown
-    was (Err z) d = seated m' p me.0.made e.parts (d.1 ∙ (λ k. (share (told k) me.0.made (parts k), []))) seat.some_part
+    was (Err z) d = seated m' p me.0.made e.parts after (d.1 ∙ (λ k. (share (told k) me.0.made (parts k) after, []))) seat.some_part
       where
         same : e.told ≡ plus e.told r.1
         same = same_told e.told (plus e.told r.1) (λ i. let x = pick-plus i e.told r.1 in let y : pick i r.1 ≡ pick i nothing = ap (pick i) d.0 in let n = pick-nothing i in omega arith)
@@ -140,18 +149,21 @@ module _ (a : Kept) (asked : Request) (before bytes : List ℕ) (b : Kept) (e : 
         parts = ap (λ (m : Mine). m.0.parts) seat.shown
 
     done : Was r.0
-    done = told_by a e.caller asked before bytes b me.0 r.1 m' applied.grew now r.0 applied.answer
+    done = told_by a e.caller asked before bytes b me.0 r.1 m' applied.counted applied.grew now r.0 applied.answer
 
     pub call_seated : IsSeated m' p e.parts
     call_seated = was r.0 done
 
-    module _ (e' : Share) (made : e.made ≡ me.0.made) (is : e' ≡ record e { told = p; made = m'.0.made }) where
-      tells_end : (x : Outcome) → Was x → Calls e asked before bytes x e'
-      tells_end (Ok y) d = (r.1, d.0, is ∙ (λ k. record e { told = sum k; made = list k }))
+    module _ (e' : Share) (made : e.made ≡ me.0.made) (met : e.met ≡ me.0.met) (is : e' ≡ record e { told = p; made = m'.0.made; met = m'.0.met }) where
+      passed : m'.0.met ≡ after → m'.0.met ≡ e.met ++ a.pair ∷ [] ++ b.pair ∷ []
+      passed all = all ∙ ap (λ ps. ps ++ a.pair ∷ [] ++ b.pair ∷ []) (sym met)
+
+      tells_end : (x : Outcome) → Was x → IsTold e a.pair asked bytes x b.pair e'
+      tells_end (Ok y) d = let ps = passed (ap (λ (m : Mine). m.0.met) d.1) in (r.1, d.0, is ∙ (λ k. record e { told = sum k; made = list k; met = ps k }))
         where
           list : m'.0.made ≡ e.made ++ entry_of e.caller asked bytes y ∷ []
           list = ap (λ (m : Mine). m.0.made) d.1 ∙ ap (λ xs. xs ++ entry_of e.caller asked bytes y ∷ []) (sym made)
-      tells_end (Err z) d = (is ∙ (λ k. record e { told = told k; made = list k }), d.2, (a.pair, d.3))
+      tells_end (Err z) d = let ps = passed (ap (λ (m : Mine). m.0.met) d.1) in is ∙ (λ k. record e { told = told k; made = list k; met = ps k })
         where
           told : p ≡ e.told
           told = sum ∙ same_told (plus e.told r.1) e.told (λ i. let x = pick-plus i e.told r.1 in let y : pick i r.1 ≡ pick i nothing = ap (pick i) d.0 in let n = pick-nothing i in omega arith)
@@ -160,12 +172,12 @@ module _ (a : Kept) (asked : Request) (before bytes : List ℕ) (b : Kept) (e : 
           list = ap (λ (m : Mine). m.0.made) d.1 ∙ sym made
 
       pub call_told : Calls e asked before bytes r.0 e'
-      call_told = tells_end r.0 done
+      call_told = record { found = a.pair; left = b.pair; sound = applied.sound; does = does a e.caller asked before bytes b r.0 applied.answer; told = tells_end r.0 done }
 
 module _ (a : Kept) (bytes : List ℕ) (b : Kept) where
   opens_by : (x : Outcome) → Opens a bytes x b → ((more : List PlainEntry) × (b.book.history ≡ a.book.history ++ more)) × (b.book.left ≤ a.book.left)
       × ((0 < a.book.left - b.book.left) ⊎ ((b.book.totals ≡ a.book.totals) × (b.book.history ≡ a.book.history)))
-  opens_by (Ok y) d = let p = d.0 in let q = d.2 in ((entry_of opener OpenMaster bytes y ∷ [], d.1.history), omega arith, inl (omega arith))
+  opens_by (Ok y) d = let p = d.0 in let q = d.3 in ((entry_of opener OpenMaster bytes y ∷ [], d.2.history), omega arith, inl (omega arith))
   opens_by (Err z) d = let same : b.book ≡ a.book = ap (λ (k : Kept). k.book) d.0 in let p : b.book.left ≡ a.book.left = ap (λ (y : Book). y.left) same in (
     ([], ap (λ (y : Book). y.history) same ∙ sym (append-nil a.book.history)),
     omega arith,
@@ -182,27 +194,28 @@ module _ (a : Kept) (bytes : List ℕ) (b : Kept) where
   }
 
   opens_told : (x : Answer ℕ) (t : Told) → Opens a bytes (Ok x) b → (a.book.left ≡ ALL_PARTS → a.book.totals ≡ nothing) → Grew a.book t b.book
-      → (t ≡ tally_of (entry_of opener OpenMaster bytes x)) × (grown fresh a.book b.book ≡ share t (entry_of opener OpenMaster bytes x ∷ []) ALL_PARTS)
-  opens_told x t d unopened grew = let e : PlainEntry = entry_of opener OpenMaster bytes x in let p = d.0 in let q = d.2 in
+      → (t ≡ tally_of (entry_of opener OpenMaster bytes x)) × (grown (holding fresh a) a.book b ≡ share t (entry_of opener OpenMaster bytes x ∷ []) ALL_PARTS (a.pair ∷ b.pair ∷ []))
+  opens_told x t d unopened grew = let e : PlainEntry = entry_of opener OpenMaster bytes x in let p = d.0 in let q = d.3 in
       let none : a.book.totals ≡ nothing = unopened p in
       let at : (i : ℕ) → pick i a.book.totals ≡ 0 = λ i. ap (pick i) none ∙ pick-nothing i in
-      let more : drop (length a.book.history) b.book.history ≡ e ∷ [] = ap (drop (length a.book.history)) d.1.history ∙ drop-append_seam a.book.history (e ∷ []) in
+      let more : drop (length a.book.history) b.book.history ≡ e ∷ [] = ap (drop (length a.book.history)) d.2.history ∙ drop-append_seam a.book.history (e ∷ []) in
       let parts : 0 + a.book.left - b.book.left ≡ ALL_PARTS = omega arith in
       let sums : minus (plus nothing b.book.totals) a.book.totals ≡ t = same_told (minus (plus nothing b.book.totals) a.book.totals) (minus b.book.totals a.book.totals)
       (λ i. let x = pick-minus i (plus nothing b.book.totals) a.book.totals in let y = pick-plus i nothing b.book.totals in let z = pick-minus i b.book.totals a.book.totals in let n = pick-nothing i in omega arith) ∙ sym grew.growth in
-      let calls : b.book.totals.calls ≡ 1 = (let n = d.1.calls in let z = at 0 in omega arith) in
+      let calls : b.book.totals.calls ≡ 1 = (let n = d.2.calls in let z = at 0 in omega arith) in
       let told : t ≡ tally_of e = grew.growth ∙ same_told (minus b.book.totals a.book.totals) (tally_of e) (first calls) in (
         told,
-        (λ k. share (sums k) (more k) (parts k)),
+        (λ k. share (sums k) (more k) (parts k) (a.pair ∷ b.pair ∷ [])),
       )
     where
       first : b.book.totals.calls ≡ 1 → (i : ℕ) → pick i (minus b.book.totals a.book.totals) ≡ pick i (tally_of (entry_of opener OpenMaster bytes x))
       first calls zero = let z = ap (pick 0) (unopened d.0) in omega arith
-      first calls (suc i) = let x = pick-minus (suc i) b.book.totals a.book.totals in let y = d.1.bytes i in omega arith
+      first calls (suc i) = let x = pick-minus (suc i) b.book.totals a.book.totals in let y = d.2.bytes i in omega arith
 
-  pub opened_as : (r : Outcome × Told) (m' : Mine) → Opened a bytes r b → (a.book.left ≡ ALL_PARTS → a.book.totals ≡ nothing) → m' ≡ (grown fresh a.book b.book, []) → OpenedAs bytes r.1 m' r.0
+  pub opened_as : (r : Outcome × Told) (m' : Mine) → Opened a bytes r b → (a.book.left ≡ ALL_PARTS → a.book.totals ≡ nothing) → m' ≡ (grown (holding fresh a) a.book b, [])
+      → OpenedAs a.pair b.pair bytes r.1 m' r.0
   opened_as r m' opened unopened now = at r.0 opened.answer
     where
-      at : (x : Outcome) → Opens a bytes x b → OpenedAs bytes r.1 m' x
-      at (Ok y) d = let t = opens_told y r.1 d unopened opened.grew in (t.0, now ∙ (λ k. (t.1 k, [])))
-      at (Err z) d = (now ∙ (λ k. (grown_none fresh a.book b.book (ap (λ (k : Kept). k.book) d.0) k, [])), ⊎_elim (λ e. inl e) (λ e. inr (a.pair, e)) d.1)
+      at : (x : Outcome) → Opens a bytes x b → OpenedAs a.pair b.pair bytes r.1 m' x
+      at (Ok y) d = let t = opens_told y r.1 d unopened opened.grew in (d.1, d.4, t.0, now ∙ (λ k. (t.1 k, [])))
+      at (Err z) d = (ap (λ (k : Kept). k.pair) d.0, d.1, now ∙ (λ k. (grown_none (holding fresh a) a.book b (ap (λ (k : Kept). k.book) d.0) k, [])))

@@ -14,7 +14,7 @@ use Rattle.strm_locks.specs.declared.end.TheConstants.{ALL_PARTS}
 use Rattle.strm_locks.specs.declared.lock.TheConstants.{WORD}
 use Rattle.strm_locks.specs.declared.view.View.{View}
 use Rattle.strm_locks.specs.Books.{pick, nothing, plus, weigh, Fits, Book, Kept, closed_book}
-use Rattle.strm_locks.specs.Rules.{fresh, total, AddsUp, Knows, Mine, holding, grown, leaving, taken, given, emptied, passed, looked, sat, kept_half, split_half, joined}
+use Rattle.strm_locks.specs.Rules.{fresh, total, AddsUp, Knows, Mine, holding, grown, leaving, closing, taken, given, emptied, passed, looked, sat, kept_half, split_half, joined}
 use Rattle.strm_locks.specs.Shares.{MayGive}
 use Rattle.strm_locks.proofs.Sums.{total-set, total-append, total-at, total-two, total-none, total-alone, total-split, total-join, each_set, each_snoc, pick-plus, pick-minus, pick-nothing, same_told, weigh-append}
 
@@ -52,6 +52,7 @@ knows s r id v at = record {
       let nobody : (j : ℕ) (u : View) → get_elem? s.views j ≡ some u → pick i u.told ≡ 0 =
       λ j u e. ap (pick i) (r.idle j u e (let a = total-at (λ x. x.parts) s.views j u e in let b = r.parts in omega arith)).0 ∙ pick-nothing i in
       let a = total-none (λ x. pick i x.told) s.views nobody in let b = r.totals i in let z = pick-nothing i in omega arith);
+  seats = record { seats = s.views; totals = r.totals; history = r.history; parts = r.parts };
 }
 
 -- Views change, and no sum over them does: the word, the slot and the book stay
@@ -164,7 +165,7 @@ Gives slots id me then = Allows AddsUp slots id me WORD (λ _. 0) (λ _. then me
 module _ (slots id : ℕ) (v : View) (k : Kept) (one : slots ≡ 1) (holds : v.holds ≡ 1) where
   gives_at : MayGive v k.book → Gives slots id (v, (0, k) ∷ []) (given (step slots WORD 0 0 none))
   gives_at g s r deep at small =
-      let b : Book = v.found in let c : Book = k.book in let w : View = grown v b c in
+      let b : Book = v.found in let c : Book = k.book in let w : View = grown v b k in
       let same : b ≡ r.book = r.found id v at (omega arith) in
       let held : word s ≡ 1 = (let a = total-at (λ x. x.holds) s.views id v at in let o = r.holders in let t = r.bit in omega arith) in
       let more : drop (length b.history) c.history ≡ g.history.0 = ap (drop (length b.history)) g.history.1 ∙ drop-append_seam b.history g.history.0 in (
@@ -185,24 +186,24 @@ module _ (slots id : ℕ) (v : View) (k : Kept) (one : slots ≡ 1) (holds : v.h
                   let o : pick i v.told ≡ pick i nothing = ap (pick i) was.0 in let y = pick-nothing i in omega arith),
               (λ j. was.1 j ++ (ap (drop (length b.history)) f.1 ∙ drop-length b.history) j),
             )) g.some_part),
-        (λ k' e. ap (λ (l : List (ℕ × Kept)). let m : Mine = (grown v b (get_or l 0 (0, k)).1.book, []) in m) e),
+        (λ k' e. ap (λ (l : List (ℕ × Kept)). let m : Mine = (grown v b (get_or l 0 (0, k)).1, []) in m) e),
       )
 
   empties_at : v.parts ≡ ALL_PARTS → k.book ≡ closed_book → Gives slots id (v, (0, k) ∷ []) (emptied (step slots WORD 0 0 none))
   empties_at all shut s r deep at small =
       let known = knows s r id v at in let told = known.whole all in
       let held : word s ≡ 1 = (let a = total-at (λ x. x.holds) s.views id v at in let o = r.holders in let b = r.bit in omega arith) in (
-        fresh,
+        closing v k.pair,
         gives,
         tt,
-        moved s r id 0 (set s.homes 0 (some k)) v fresh closed_book at (omega arith) (λ _. (k, set_here s.homes 0 (some k) (omega arith), shut)) (omega arith) (λ z. absurd (omega arith))
+        moved s r id 0 (set s.homes 0 (some k)) v (closing v k.pair) closed_book at (omega arith) (λ _. (k, set_here s.homes 0 (some k) (omega arith), shut)) (omega arith) (λ z. absurd (omega arith))
             (λ j u apart e o. let i = others_wait s r id v at holds j u apart e in absurd (omega arith))
             (λ i. let a = pick-nothing i in let b : pick i v.told ≡ pick i r.book.totals = ap (pick i) told.0 in omega arith)
             (λ h. let b = told.1 h in omega arith)
             (let b = known.parts in omega arith)
             (λ i. let a = pick-nothing i in omega arith)
             (λ _. (refl, refl)),
-        refl,
+        (λ k' e. ap (λ (l : List (ℕ × Kept)). let m : Mine = (closing v (get_or l 0 (0, k)).1.pair, []) in m) e),
       )
 
   passes_at : k.book ≡ v.found → Gives slots id (v, (0, k) ∷ []) (passed (step slots WORD 0 0 none))

@@ -10,7 +10,6 @@ use Rattle.strm_types.specs.Needs.{needs}
 use Rattle.strm_types.specs.Refused.{or_else, unless}
 use Rattle.strm_laws.specs.Pair.{PairState, call_refused}
 use Rattle.strm_laws.specs.Refusals.{blocks_asked, enough, has_room}
-use Rattle.strm_locks.specs.Ends.{IsRefused}
 
 abbrev is_erange : Option Refusal → Bool
 is_erange (Some Erange) = true
@@ -36,5 +35,5 @@ never p caller =
     let rest : Option Refusal = or_else (unless room JournalFull) (or_else (unless blocks Enosr) (or_else (unless (not (is_open p.state.ends.slave.opened)) Einval) (unless (not p.state.locked) Eagain))) in
     ap is_erange (flat (is_open p.state.ends.master.opened) rest) ∙ others (is_open p.state.ends.master.opened) room blocks (not (is_open p.state.ends.slave.opened)) (not p.state.locked)
 
-pub not_erange : (caller : Caller) (z : Refusal) → IsRefused caller OpenSlave z → z ≢ Erange
-not_erange caller z r same = let is : true ≡ false = sym (ap is_erange (r.1 ∙ ap (λ (x : Refusal). Some x) same)) ∙ never r.0 caller in absurd (cc)
+pub not_erange : (p : PairState) (caller : Caller) (z : Refusal) → call_refused p caller OpenSlave ≡ Some z → z ≢ Erange
+not_erange p caller z r same = let is : true ≡ false = sym (ap is_erange (r ∙ ap (λ (x : Refusal). Some x) same)) ∙ never p caller in absurd (cc)

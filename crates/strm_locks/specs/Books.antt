@@ -1,5 +1,5 @@
 -- What is told of calls, and the book of all that was told of a pair.
-use Rattle.std.specs.Prelude.{◌≡◌, ℕ, zero, suc, ◌+◌, ◌-◌, ◌<◌, ◌≤◌, min, List, [], ◌∷◌, ◌++◌, length}
+use Rattle.std.specs.Prelude.{◌≡◌, ◌≢◌, ℕ, zero, suc, ◌+◌, ◌-◌, ◌<◌, ◌≤◌, min, List, [], ◌∷◌, ◌++◌, length}
 use Rattle.strm_types.specs.declared.names.Dir.TheVariants.{MasterToSlave, SlaveToMaster}
 use Rattle.strm_types.specs.Journal.{PlainEntry}
 use Rattle.strm_laws.specs.Pair.{PairState, new_pair}
@@ -98,6 +98,12 @@ IsCounted calls entries = calls ≡ min (length entries) 18446744073709551615
 -- the pair is as it is made
 abbrev pub IsNew : PairState → Type 0
 IsNew p = p ≡ new_pair p.limits
+
+-- A pair with its numbers, as a lock keeps it: the calls are counted; while no end has a part it is as new, and else it was called.
+pub record IsKept (calls left : ℕ) (p : PairState) : Type 0 where
+  pub counted : IsCounted calls (history_of p)
+  pub unopened : left ≡ ALL_PARTS → IsNew p
+  pub opened : left ≢ ALL_PARTS → 0 < calls
 
 -- the book gains a call: its number where there is room for it, its bytes, and its entry
 pub record Adds (a : Book) (e : PlainEntry) (b : Book) : Type 0 where

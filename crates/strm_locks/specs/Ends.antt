@@ -1,37 +1,43 @@
 -- An end, as contracts see it, and what calls do to it.
-use Rattle.std.specs.Prelude.{◌≡◌, ◌≢◌, ℕ, Bool, ◌+◌, ◌-◌, ◌/◌, ◌⊎◌, List, [], ◌∷◌, ◌++◌, Some, Result, MatchResult}
+use Rattle.std.specs.Prelude.{◌≡◌, ◌≢◌, ℕ, Bool, ◌+◌, ◌-◌, ◌/◌, ◌⊎◌, List, [], ◌∷◌, ◌++◌, Result, Ok, Err, MatchResult}
 use Rattle.atomic_table.specs.Seated.{TableId}
 use Rattle.strm_types.specs.declared.answers.Answer.{Answer}
 use Rattle.strm_types.specs.declared.events.Caller.{Caller}
 use Rattle.strm_types.specs.declared.events.Event.TheVariants.{OpenMaster, OpenSlave}
 use Rattle.strm_types.specs.declared.names.Side.TheVariants.{Slave}
 use Rattle.strm_types.specs.declared.refusals.Refusal.{Refusal}
-use Rattle.strm_types.specs.declared.refusals.Refusal.TheVariants.{Einval, Erange}
+use Rattle.strm_types.specs.declared.refusals.Refusal.TheVariants.{Erange}
 use Rattle.strm_types.specs.Events.{Request}
 use Rattle.strm_types.specs.JobControl.{caller_of}
 use Rattle.strm_types.specs.Journal.{PlainEntry}
-use Rattle.strm_laws.specs.Pair.{PairState, call_refused}
+use Rattle.strm_laws.specs.Pair.{PairState}
 use Rattle.strm_locks.specs.declared.end.TheConstants.{ALL_PARTS}
 use Rattle.strm_locks.specs.declared.told.Told.{Told}
-use Rattle.strm_locks.specs.Books.{nothing, plus, tally_of}
-use Rattle.strm_locks.specs.Rules.{Mine, fresh, share}
-use Rattle.strm_locks.specs.Shares.{Outcome, Tells, entry_of, opener}
+use Rattle.strm_locks.specs.Books.{IsNew, nothing, plus, tally_of}
+use Rattle.strm_locks.specs.Rules.{Mine, share}
+use Rattle.strm_locks.specs.Shares.{Does, IsShut, Makes, Outcome, Tells, entry_of, opener}
+use Rattle.strm_locks.specs.Sounds.{IsSound}
 
--- an end: the table of its lock, whom it calls as, what it was told, the entries of its calls, and its parts
+-- an end: the table of its lock, whom it calls as, what it was told, the entries of its calls, its parts, and the pairs that its calls met, two for each: as the call found it, and as it left it
 pub record Share : Type 0 where
   pub table : TableId
   pub caller : Caller
   pub told : Told
   pub made : List PlainEntry
   pub parts : ℕ
+  pub met : List PairState
 
 -- the end is of this lock
 abbrev pub IsOf : TableId → Share → Type 0
 IsOf lock e = e.table ≡ lock
 
--- the end was told of one call more; nothing else changes
-abbrev pub Gains : Share → PlainEntry → Share → Type 0
-Gains a e b = (more : Told) × Tells e more × (b ≡ record a { told = plus a.told more; made = a.made ++ e ∷ [] })
+-- the end met the pair p, and left it as q
+abbrev pub passing : Share → PairState → PairState → Share
+passing a p q = record a { met = a.met ++ p ∷ [] ++ q ∷ [] }
+
+-- the end was told of one call more, of the pair p that became q; nothing else changes
+abbrev pub Gains : Share → PairState → PlainEntry → PairState → Share → Type 0
+Gains a p e q b = (more : Told) × Tells p e more × (b ≡ record (passing a p q) { told = plus a.told more; made = a.made ++ e ∷ [] })
 
 -- the end whose later calls a process of this group makes: only job control asks for that
 abbrev pub grouped_end : ℕ → Bool → Bool → Share → Share
@@ -42,59 +48,60 @@ abbrev pub kept_end : Share → Share
 kept_end e = record e { parts = e.parts - e.parts / 2 }
 
 abbrev pub split_end : Share → Share
-split_end e = record e { told = nothing; made = []; parts = e.parts / 2 }
+split_end e = record e { told = nothing; made = []; parts = e.parts / 2; met = [] }
 
 -- the slave's end that is cut off one that opens the slave
 abbrev pub slave_end : Share → Share
-slave_end e = record { table = e.table; caller = caller_of Slave; told = nothing; made = []; parts = e.parts / 2 }
-
--- an end was told of its call that opened the slave, and is cut in two
-abbrev pub OpensSlave : Share → Share → Type 0
-OpensSlave a c = (x : Answer ℕ) × (bytes : List ℕ) × (b : Share) × Gains a (entry_of a.caller OpenSlave bytes x) b × (c ≡ kept_end b)
+slave_end e = record { table = e.table; caller = caller_of Slave; told = nothing; made = []; parts = e.parts / 2; met = [] }
 
 -- one end of two, with what both were told and the parts of both
 abbrev pub joined_end : Share → Share → Share
-joined_end a b = record a { told = plus a.told b.told; made = a.made ++ b.made; parts = a.parts + b.parts }
+joined_end a b = record a { told = plus a.told b.told; made = a.made ++ b.made; parts = a.parts + b.parts; met = a.met ++ b.met }
 
--- some pair refuses the call for this
-abbrev pub IsRefused : Caller → Request → Refusal → Type 0
-IsRefused caller asked z = (p : PairState) × (call_refused p caller asked ≡ Some z)
+-- what an end is told of a call on the pair p, which became q: the call with this answer; or nothing, as it was refused
+abbrev pub IsTold : Share → PairState → Request → List ℕ → Outcome → PairState → Share → Type 0
+IsTold a p asked bytes r q b = MatchResult r
+    (λ x. Gains a p (entry_of a.caller asked bytes x) q b)
+    (λ _. b ≡ passing a p q)
 
--- A call by an end, with the bytes of the caller's buffer before and behind it: the end was told of it with this answer; or some pair refuses it for this reason, and the end and the bytes stay
-abbrev pub Calls : Share → Request → List ℕ → List ℕ → Outcome → Share → Type 0
-Calls a asked before bytes r b = MatchResult r
-    (λ x. Gains a (entry_of a.caller asked bytes x) b)
-    (λ z. (b ≡ a) × (bytes ≡ before) × IsRefused a.caller asked z)
+-- A call by an end, with the bytes of the caller's buffer before and behind it: the end met one pair, to which this call was done and nothing else, and was told of just that
+pub record Calls (a : Share) (asked : Request) (before bytes : List ℕ) (r : Outcome) (b : Share) : Type 0 where
+  pub found : PairState
+  pub left : PairState
+  pub sound : IsSound found
+  pub does : Does found a.caller asked before bytes r left
+  pub told : IsTold a found asked bytes r left b
 
--- why an end opens no slave: it has one part, which is told by ERANGE; or some pair refuses its call for this, which is never ERANGE
-abbrev pub OpensNoSlave : Share → Refusal → Type 0
-OpensNoSlave e z = ((e.parts ≡ 1) × (z ≡ Erange)) ⊎ ((e.parts ≢ 1) × (z ≢ Erange) × IsRefused e.caller OpenSlave z)
-
--- Why no master is opened: an end has the pair, or some pair refuses the call for this
-abbrev pub OpensNoMaster : Refusal → Type 0
-OpensNoMaster z = (z ≡ Einval) ⊎ IsRefused opener OpenMaster z
-
--- An end is cut in two, or comes back where it has one part. Here and below an end stands alone, or in what a system gives out.
-abbrev pub Splits : {E : Type 0} → (Share → E) → Share → Result (E × E) E → Type 0
-Splits stands e r = MatchResult r
-    (λ two. (e.parts ≢ 1) × (two.0 ≡ stands (kept_end e)) × (two.1 ≡ stands (split_end e)))
+-- An end is cut in two, or comes back where it has one part. Here and below an end stands alone, or in what a system gives out; the other may stand otherwise.
+abbrev pub Splits : {E : Type 0} → (Share → E) → (Share → E) → Share → Result (E × E) E → Type 0
+Splits stands other e r = MatchResult r
+    (λ two. (e.parts ≢ 1) × (two.0 ≡ stands (kept_end e)) × (two.1 ≡ other (split_end e)))
     (λ one. (e.parts ≡ 1) × (one ≡ stands e))
 
--- the end a is c since it called for the slave, whose end is given out; or it stays
+-- The end a is c since it called for the slave, whose end is given out: it made that call, and was cut in two. An end of one part makes no call, and is refused by ERANGE, and it alone.
 abbrev pub CallsSlave : {E : Type 0} → (Share → E) → Share → Result E Refusal → Share → Type 0
 CallsSlave stands a r c = MatchResult r
-    (λ slave. (a.parts ≢ 1) × OpensSlave a c × (slave ≡ stands (slave_end a)))
-    (λ z. (c ≡ a) × OpensNoSlave a z)
+    (λ slave. (a.parts ≢ 1) × (x : Answer ℕ) × (bytes : List ℕ) × (b : Share) × Calls a OpenSlave [] bytes (Ok x) b × (c ≡ kept_end b) × (slave ≡ stands (slave_end a)))
+    (λ z. ((a.parts ≡ 1) × (z ≡ Erange) × (c ≡ a)) ⊎ ((a.parts ≢ 1) × (z ≢ Erange) × Calls a OpenSlave [] [] (Err z) c))
 
--- the end that opened the pair: it has all parts, and was told of that call alone
+-- The end that opened a pair: it met one that nobody had opened, has all its parts, and was told of that call alone.
 pub record IsOpened (lock : TableId) (e : Share) : Type 0 where
   pub here : IsOf lock e
   pub caller : e.caller ≡ opener
   pub parts : e.parts ≡ ALL_PARTS
-  pub told : (a : Answer ℕ) × (bytes : List ℕ) × (e.told ≡ tally_of (entry_of opener OpenMaster bytes a)) × (e.made ≡ entry_of opener OpenMaster bytes a ∷ [])
+  pub found : PairState
+  pub left : PairState
+  pub met : e.met ≡ found ∷ left ∷ []
+  pub sound : IsSound found
+  pub new : IsNew found
+  pub answer : Answer ℕ
+  pub bytes : List ℕ
+  pub makes : Makes found opener OpenMaster bytes answer left
+  pub told : e.told ≡ tally_of (entry_of opener OpenMaster bytes answer)
+  pub made : e.made ≡ entry_of opener OpenMaster bytes answer ∷ []
 
--- What a seat that opens the master knows then: it has all parts and was told of that call alone, or it has nothing still, for a reason that a pair has or as an end has the pair
-abbrev pub OpenedAs : List ℕ → Told → Mine → Outcome → Type 0
-OpenedAs bytes told m r = MatchResult r
-    (λ a. let e = entry_of opener OpenMaster bytes a in (told ≡ tally_of e) × (m ≡ (share told (e ∷ []) ALL_PARTS, [])))
-    (λ z. (m ≡ (fresh, [])) × OpensNoMaster z)
+-- What a seat that opens the master of the pair p, which becomes q, knows then: it has all parts and was told of that call alone; or it has nothing still, and the pair stays
+abbrev pub OpenedAs : PairState → PairState → List ℕ → Told → Mine → Outcome → Type 0
+OpenedAs p q bytes told m r = MatchResult r
+    (λ a. let e = entry_of opener OpenMaster bytes a in IsNew p × Makes p opener OpenMaster bytes a q × (told ≡ tally_of e) × (m ≡ (share told (e ∷ []) ALL_PARTS (p ∷ q ∷ []), [])))
+    (λ z. (q ≡ p) × IsShut p z × (m ≡ (share nothing [] 0 (p ∷ q ∷ []), [])))

@@ -1,9 +1,11 @@
+pub mod Audits
 pub mod Books
 pub mod Ends
 pub mod Reports
 pub mod Rules
 pub mod Settles
 pub mod Shares
+pub mod Sounds
 pub mod Systems
 pub mod Tallies
 pub mod Turns

@@ -11,24 +11,20 @@ use Rattle.strm_locks.specs.declared.told.Told.{Told}
 use Rattle.strm_locks.specs.declared.view.View.{View}
 use Rattle.strm_locks.specs.Books.{pick, nothing, plus, minus, weigh, IsReordered, IsBelow, Fits, Book, Kept, closed_book}
 
-abbrev pub view : Told → List PlainEntry → ℕ → ℕ → Book → View
-view told made parts holds found = record { told = told; made = made; parts = parts; holds = holds; found = found; met = [] }
+abbrev pub view : Told → List PlainEntry → ℕ → ℕ → Book → List PairState → View
+view told made parts holds found met = record { told = told; made = made; parts = parts; holds = holds; found = found; met = met }
 
 -- a view without the lock
-abbrev pub share : Told → List PlainEntry → ℕ → View
-share told made parts = view told made parts 0 closed_book
+abbrev pub share : Told → List PlainEntry → ℕ → List PairState → View
+share told made parts met = view told made parts 0 closed_book met
 
--- a view that was told nothing
+-- a view that was told nothing and met no pair
 abbrev pub fresh : View
-fresh = share nothing [] 0
+fresh = share nothing [] 0 []
 
 -- the view v with the lock, which found this pair with its book
 abbrev pub holding : View → Kept → View
-holding v k = record (view v.told v.made v.parts 1 k.book) { met = v.met ++ k.pair ∷ [] }
-
--- the view of a seat that was told nothing and met this pair, and what it left of it
-abbrev pub visited : PairState → PairState → View
-visited p q = record fresh { met = p ∷ q ∷ [] }
+holding v k = view v.told v.made v.parts 1 k.book (v.met ++ k.pair ∷ [])
 
 -- the view v without the lock, which has left this pair
 abbrev pub leaving : View → PairState → View
@@ -54,6 +50,13 @@ pub record AddsUp (s : State Kept View) : Type 0 where
   pub fits : Fits book.totals
   pub idle : (id : ℕ) (v : View) → get_elem? s.views id ≡ some v → v.parts ≡ 0 → (v.told ≡ nothing) × (v.made ≡ [])
 
+-- What all seats were told adds up to the book, number by number; their entries are those of its history, each as often; and their parts with those that no end has are all.
+pub record AreToldOf (b : Book) : Type 0 where
+  pub seats : List View
+  pub totals : (i : ℕ) → total (λ v. pick i v.told) seats ≡ pick i b.totals
+  pub history : (h : PlainEntry → ℕ) → total (λ v. weigh h v.made) seats ≡ weigh h b.history
+  pub parts : total (λ v. v.parts) seats + b.left ≡ ALL_PARTS
+
 -- What a seat learns where it finds the book: it was told no more than the book has, and with all parts all that the book has; and nobody was told anything where no end has a part.
 pub record Knows (v : View) (b : Book) : Type 0 where
   pub below : IsBelow v.told b.totals
@@ -61,14 +64,20 @@ pub record Knows (v : View) (b : Book) : Type 0 where
   pub parts : v.parts + b.left ≤ ALL_PARTS
   pub whole : v.parts ≡ ALL_PARTS → (v.told ≡ b.totals) × IsReordered v.made b.history
   pub unopened : b.left ≡ ALL_PARTS → b.totals ≡ nothing
+  pub seats : AreToldOf b
 
 -- what a seat knows, with the slots that it has taken
 abbrev pub Mine : Type 0
 Mine = Me Kept View
 
--- the view v, told what the book c has beyond the book b
-abbrev pub grown : View → Book → Book → View
-grown v b c = share (minus (plus v.told c.totals) b.totals) (v.made ++ drop (length b.history) c.history) (v.parts + b.left - c.left)
+-- the view v, which has left this pair and is told what its book has beyond the book b
+abbrev pub grown : View → Book → Kept → View
+grown v b k =
+    let c = k.book in share (minus (plus v.told c.totals) b.totals) (v.made ++ drop (length b.history) c.history) (v.parts + b.left - c.left) (v.met ++ k.pair ∷ [])
+
+-- the view v, which has closed the book of this pair: it has nothing but what it met
+abbrev pub closing : View → PairState → View
+closing v p = share nothing [] 0 (v.met ++ p ∷ [])
 
 -- the lock is tried: where it was free the seat has it, with the pair and its book
 abbrev pub taken : Step Kept → Mine → ℕ → Mine → Type 0
@@ -76,11 +85,11 @@ taken st m n m' = (n ≡ 0 → (k : Kept) × (m' ≡ (holding m.0 k, (0, k) ∷ 
 
 -- the lock is given back with a pair whose book may have grown
 abbrev pub given : Step Kept → Mine → ℕ → Mine → Type 0
-given st m n m' = (k : Kept) → m.1 ≡ (0, k) ∷ [] → m' ≡ (grown m.0 m.0.found k.book, [])
+given st m n m' = (k : Kept) → m.1 ≡ (0, k) ∷ [] → m' ≡ (grown m.0 m.0.found k, [])
 
 -- the lock is given back with a pair whose book was closed
 abbrev pub emptied : Step Kept → Mine → ℕ → Mine → Type 0
-emptied st m n m' = m' ≡ (fresh, [])
+emptied st m n m' = (k : Kept) → m.1 ≡ (0, k) ∷ [] → m' ≡ (closing m.0 k.pair, [])
 
 -- the lock is given back at the end of a visit, with a pair whose book stayed: the pair that is left is met
 abbrev pub passed : Step Kept → Mine → ℕ → Mine → Type 0
@@ -94,13 +103,13 @@ looked st m n m' = (m' ≡ m) × Fits m.0.told × (m.0.parts ≤ ALL_PARTS)
 abbrev pub sat : Step Kept → Mine → ℕ → Mine → Type 0
 sat st m n m' = m' ≡ (fresh, [])
 
--- a seat is cut in two: the first keeps what was told and the greater half of the parts
+-- a seat is cut in two: the first keeps what was told and met, and the greater half of the parts
 abbrev pub kept_half : View → View
-kept_half v = view v.told v.made (v.parts - v.parts / 2) v.holds v.found
+kept_half v = view v.told v.made (v.parts - v.parts / 2) v.holds v.found v.met
 
 abbrev pub split_half : View → View
-split_half v = share nothing [] (v.parts / 2)
+split_half v = share nothing [] (v.parts / 2) []
 
 -- two seats are joined
 abbrev pub joined : View → View → View
-joined v w = view (plus v.told w.told) (v.made ++ w.made) (v.parts + w.parts) v.holds v.found
+joined v w = view (plus v.told w.told) (v.made ++ w.made) (v.parts + w.parts) v.holds v.found (v.met ++ w.met)

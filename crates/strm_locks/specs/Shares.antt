@@ -1,5 +1,5 @@
 -- What a seat at a lock has, and what a call under the lock does.
-use Rattle.std.specs.Prelude.{◌≡◌, ℕ, suc, ◌+◌, ◌-◌, ◌<◌, ◌≤◌, ◌⊎◌, List, [], ◌∷◌, ◌++◌, Some, Result, MatchResult}
+use Rattle.std.specs.Prelude.{◌≡◌, ◌≢◌, ℕ, suc, ◌+◌, ◌-◌, ◌<◌, ◌≤◌, ◌⊎◌, List, [], ◌∷◌, ◌++◌, length, Some, Result, MatchResult}
 use Rattle.atomic_table.specs.declared.shared.Seat.{Seat}
 use Rattle.strm_types.specs.declared.answers.Answer.{Answer}
 use Rattle.strm_types.specs.declared.entries.Entry.TheVariants.{Called}
@@ -10,17 +10,18 @@ use Rattle.strm_types.specs.declared.refusals.Refusal.{Refusal}
 use Rattle.strm_types.specs.declared.refusals.Refusal.TheVariants.{Einval}
 use Rattle.strm_types.specs.Events.{Request}
 use Rattle.strm_types.specs.JobControl.{caller_of}
-use Rattle.strm_types.specs.Journal.{PlainEntry, reply_in}
-use Rattle.strm_laws.specs.Pair.{call_refused}
+use Rattle.strm_types.specs.Journal.{PlainEntry, answer_len, reply_in}
+use Rattle.strm_laws.specs.Pair.{PairState, AddsEntry, call_refused}
 use Rattle.strm_locks.specs.declared.end.TheConstants.{ALL_PARTS}
 use Rattle.strm_locks.specs.declared.told.Told.{Told}
 use Rattle.strm_locks.specs.declared.view.View.{View}
-use Rattle.strm_locks.specs.Books.{pick, minus, IsBelow, Fits, Book, Kept, Adds, book_with, tally_of}
+use Rattle.strm_locks.specs.Books.{pick, minus, IsBelow, IsCounted, IsNew, Fits, Book, Kept, Adds, book_with, history_of, tally_of}
 use Rattle.strm_locks.specs.Rules.{Mine, share, holding, Knows}
+use Rattle.strm_locks.specs.Sounds.{IsSound}
 
 -- an end's seat, where the end was told this and has so many parts: it holds no lock
 pub record IsSeated (seat : Mine) (told : Told) (parts : ℕ) : Type 0 where
-  pub shown : seat ≡ (share told seat.0.made parts, [])
+  pub shown : seat ≡ (share told seat.0.made parts seat.0.met, [])
   pub some_part : 0 < parts
 
 -- a seat without the lock
@@ -34,6 +35,10 @@ IsSame s t = (t.table_id ≡ s.table_id) × (t.id ≡ s.id)
 -- the seat has the pair
 abbrev pub HasPair : Seat Kept View → Type 0
 HasPair s = (k : Kept) × (s.me.1 ≡ (0, k) ∷ [])
+
+-- the seat has a pair of which an end has a part
+abbrev pub HasOpened : Seat Kept View → Type 0
+HasOpened s = (k : Kept) × (s.me.1 ≡ (0, k) ∷ []) × (k.book.left ≢ ALL_PARTS)
 
 -- what was done to the pair that a seat has: it has another one then, made so of the first
 abbrev pub Became : (Kept → Kept → Type 0) → List (ℕ × Kept) → List (ℕ × Kept) → Type 0
@@ -60,15 +65,26 @@ Outcome = Result (Answer ℕ) Refusal
 abbrev pub entry_of : Caller → Request → List ℕ → Answer ℕ → PlainEntry
 entry_of caller asked bytes answer = Called caller asked (reply_in answer bytes)
 
--- what a call tells: itself, unless the pair's number of calls stands still, and the bytes that it wrote and read
-pub record Tells (e : PlainEntry) (more : Told) : Type 0 where
-  pub calls : (more.calls ≡ 1) ⊎ (more.calls ≡ 0)
+-- what a call on the pair p tells: itself, unless the number of the pair's calls stands still, and the bytes that it wrote and read
+pub record Tells (p : PairState) (e : PlainEntry) (more : Told) : Type 0 where
+  pub calls : ((length (history_of p) < 18446744073709551615) × (more.calls ≡ 1)) ⊎ ((18446744073709551615 ≤ length (history_of p)) × (more.calls ≡ 0))
   pub bytes : (i : ℕ) → pick (suc i) more ≡ pick (suc i) (tally_of e)
+
+-- The pair p makes just this call and becomes q: its journal gains the entry, and the caller's buffer has just the bytes that it gives.
+pub record Makes (p : PairState) (caller : Caller) (asked : Request) (bytes : List ℕ) (x : Answer ℕ) (q : PairState) : Type 0 where
+  pub adds : AddsEntry p q (entry_of caller asked bytes x)
+  pub filled : answer_len x ≡ length bytes
+
+-- What a call does to the pair p, which becomes q, and to the bytes in the caller's buffer: it is made; or the pair has a reason, and both stay
+abbrev pub Does : PairState → Caller → Request → List ℕ → List ℕ → Outcome → PairState → Type 0
+Does p caller asked before bytes r q = MatchResult r
+    (λ x. Makes p caller asked bytes x q)
+    (λ z. (q ≡ p) × (bytes ≡ before) × (call_refused p caller asked ≡ Some z))
 
 -- A call by a pair's book: where it is answered the book gains its entry; else the pair has a reason, and the pair, the book and the bytes in the caller's buffer stay
 abbrev pub Did : Kept → Caller → Request → List ℕ → List ℕ → Outcome → Kept → Type 0
 Did a caller asked before bytes r b = MatchResult r
-    (λ x. Adds a.book (entry_of caller asked bytes x) b.book)
+    (λ x. Adds a.book (entry_of caller asked bytes x) b.book × Makes a.pair caller asked bytes x b.pair)
     (λ z. (b ≡ a) × (bytes ≡ before) × (call_refused a.pair caller asked ≡ Some z))
 
 -- the book has grown by these numbers, which fit
@@ -77,8 +93,10 @@ pub record Grew (b : Book) (more : Told) (c : Book) : Type 0 where
   pub fits : Fits c.totals
   pub growth : more ≡ minus c.totals b.totals
 
--- a call, and what it told
+-- a call on a pair of which all holds that holds of every pair, and what it told
 pub record Applied (a : Kept) (caller : Caller) (asked : Request) (before bytes : List ℕ) (r : Outcome × Told) (b : Kept) : Type 0 where
+  pub sound : IsSound a.pair
+  pub counted : IsCounted a.book.totals.calls (history_of a.pair)
   pub answer : Did a caller asked before bytes r.0 b
   pub grew : Grew a.book r.1 b.book
 
@@ -86,12 +104,18 @@ pub record Applied (a : Kept) (caller : Caller) (asked : Request) (before bytes 
 abbrev pub opener : Caller
 opener = caller_of Master
 
--- The call that opens the master takes all parts out of the book. It is refused as the pair refuses it, and by EINVAL where an end has a part
+-- Why a pair isn't opened: it was opened before, and is an end's, or was dropped with one; else nobody opened it, and it refuses the call for this
+abbrev pub IsShut : PairState → Refusal → Type 0
+IsShut p z = ((0 < length (history_of p)) × (z ≡ Einval)) ⊎ (IsNew p × (call_refused p opener OpenMaster ≡ Some z))
+
+-- The call that opens the master of a pair that nobody opened takes all parts out of the book.
 abbrev pub Opens : Kept → List ℕ → Outcome → Kept → Type 0
 Opens a bytes r b = MatchResult r
-    (λ x. (a.book.left ≡ ALL_PARTS) × Adds a.book (entry_of opener OpenMaster bytes x) (book_with b.book.totals b.book.history a.book.left) × (b.book.left ≡ 0))
-    (λ z. (b ≡ a) × ((z ≡ Einval) ⊎ (call_refused a.pair opener OpenMaster ≡ Some z)))
+    (λ x. (a.book.left ≡ ALL_PARTS) × IsNew a.pair × Adds a.book (entry_of opener OpenMaster bytes x) (book_with b.book.totals b.book.history a.book.left) × (b.book.left ≡ 0)
+    × Makes a.pair opener OpenMaster bytes x b.pair)
+    (λ z. (b ≡ a) × IsShut a.pair z)
 
 pub record Opened (a : Kept) (bytes : List ℕ) (r : Outcome × Told) (b : Kept) : Type 0 where
+  pub sound : IsSound a.pair
   pub answer : Opens a bytes r.0 b
   pub grew : Grew a.book r.1 b.book

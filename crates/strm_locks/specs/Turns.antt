@@ -3,10 +3,13 @@ use Rattle.std.specs.Prelude.{◌≡◌, List, [], ◌∷◌, Option, None, Some
 use Rattle.atomic_table.specs.Seated.{TableId}
 use Rattle.strm_types.specs.declared.entries.Entry.TheVariants.{Turned}
 use Rattle.strm_types.specs.declared.refusals.NoMemory.{NoMemory}
+use Rattle.strm_types.specs.declared.refusals.Refusal.{Refusal}
 use Rattle.strm_laws.specs.Pair.{PairState, AddsEntry, queue_refused, restarted}
 use Rattle.strm_image.specs.declared.trace.Trace.{Trace}
 use Rattle.strm_image.specs.Traces.{IsTrace}
 use Rattle.strm_locks.specs.declared.held.Made.{Made}
+use Rattle.strm_locks.specs.Shares.{IsShut}
+use Rattle.strm_locks.specs.Sounds.{IsSound}
 
 -- The pair p makes this turn and becomes q: of the queue that was enabled first, with the pair's own answer. The turn is an entry of the journal then; a refused one leaves the pair
 pub record Makes (p : PairState) (m : Made) (q : PairState) : Type 0 where
@@ -26,16 +29,20 @@ pub record Visited : Type 0 where
 
 -- the visit was made under this lock: it found a pair and left another, and what lies between is its turn
 abbrev pub IsVisit : TableId → Visited → Type 0
-IsVisit lock v = (v.table ≡ lock) × (p : PairState) × (q : PairState) × (v.met ≡ p ∷ q ∷ []) × Visits p v.made q
+IsVisit lock v = (v.table ≡ lock) × (p : PairState) × (q : PairState) × (v.met ≡ p ∷ q ∷ []) × IsSound p × Visits p v.made q
 
 -- the visit was made under this lock, and the pair that it found begins its journal anew; it made no turn
 abbrev pub IsRestart : TableId → Visited → Type 0
-IsRestart lock v = (v.table ≡ lock) × (p : PairState) × (v.met ≡ p ∷ restarted p ∷ []) × (v.made ≡ None)
+IsRestart lock v = (v.table ≡ lock) × (p : PairState) × (v.met ≡ p ∷ restarted p ∷ []) × IsSound p × (v.made ≡ None)
 
 -- The pair p hands out this trace of itself, and begins its journal anew; or memory is refused, and it stays
 abbrev pub Cuts : PairState → Result Trace NoMemory → PairState → Type 0
 Cuts p r q = MatchResult r (λ t. IsTrace p t × (q ≡ restarted p)) (λ _. q ≡ p)
 
--- the visit was made under this lock, and cut the pair that it found; it made no turn
+-- The visit was made under this lock, and cut the pair that it found; it made no turn. The trace is of that pair, so its entries are legal from its base.
 abbrev pub IsCut : TableId → Visited → Result Trace NoMemory → Type 0
-IsCut lock v r = (v.table ≡ lock) × (p : PairState) × (q : PairState) × (v.met ≡ p ∷ q ∷ []) × Cuts p r q × (v.made ≡ None)
+IsCut lock v r = (v.table ≡ lock) × (p : PairState) × (q : PairState) × (v.met ≡ p ∷ q ∷ []) × IsSound p × Cuts p r q × (v.made ≡ None)
+
+-- the visit was made under this lock, and found a pair that it left as it was, as it doesn't open; it made no turn
+abbrev pub IsRefusedOpen : TableId → Visited → Refusal → Type 0
+IsRefusedOpen lock v z = (v.table ≡ lock) × (p : PairState) × (v.met ≡ p ∷ p ∷ []) × IsSound p × IsShut p z × (v.made ≡ None)

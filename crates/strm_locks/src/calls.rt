@@ -1,14 +1,15 @@
 //! What ends do on a pair under its lock.
 
-ghost use Rattle.std.specs.Prelude.{◌≡◌, [], MatchResult};
+ghost use Rattle.std.specs.Prelude.{◌≡◌, ◌≢◌, [], ◌∷◌, ◌++◌, MatchResult};
 ghost use Rattle.strm_types.specs.Events.{request};
 ghost use Rattle.strm_locks.specs.Books.{closed_book};
-ghost use Rattle.strm_locks.specs.Ends.{IsOf, IsOpened, Calls, CallsSlave, OpenedAs, OpensNoMaster, Splits, joined_end};
+ghost use Rattle.strm_locks.specs.Ends.{IsOf, IsOpened, Calls, CallsSlave, OpenedAs, Splits, joined_end};
 ghost use Rattle.strm_locks.specs.Rules.{fresh};
-ghost use Rattle.strm_locks.specs.Settles.{IsClosed, IsSettled, Settles};
-ghost use Rattle.strm_locks.specs.Shares.{IsSame, IsSeated, HasPair, Became, Applied, Opened};
-ghost use Rattle.strm_laws.specs.Pair.{restarted};
-ghost use Rattle.strm_locks.specs.Turns.{Cuts, IsCut, IsRestart, IsVisit, Visits};
+ghost use Rattle.strm_locks.specs.Settles.{IsAll, IsShown, IsSettled};
+ghost use Rattle.strm_locks.specs.Shares.{IsSame, IsSeated, HasOpened, HasPair, Became, Applied, Opened};
+ghost use Rattle.strm_locks.specs.Sounds.{IsSound};
+ghost use Rattle.strm_laws.specs.Pair.{PairState, new_pair, restarted};
+ghost use Rattle.strm_locks.specs.Turns.{Cuts, IsCut, IsRefusedOpen, IsRestart, IsVisit, Visits};
 
 use crate::end::{ALL_PARTS, End, StillShared};
 use crate::gate::{Gate, NoGate};
@@ -17,7 +18,7 @@ use crate::lock::Lock;
 use crate::object::Object;
 use crate::rule::Place;
 use crate::told::Told;
-use crate::visit::{Cut, Visit};
+use crate::visit::{Closed, Cut, NotOpened, Visit};
 use std::alloc::Global;
 use std::sync::Wait;
 use strm_image::Trace;
@@ -34,11 +35,12 @@ impl<P: Object> Lock<P> {
         out: &mut Content,
     ) -> (Result<Answer<u32>, Refusal>, Told)
         requires own { seat.old.table_id ≡ self.now }
-        requires lock { HasPair seat.old }
+        requires lock { HasOpened seat.old }
         ensures same { IsSame seat.old seat.new × (seat.new.me.0 ≡ seat.old.me.0) }
         ensures did { Became (λ k k'. Applied k caller (request event.now) out.old.items out.new.items result k') seat.old.me.1 seat.new.me.1 }
     {
         let held = seat.slot_mut(&self.table.shared, 0);
+        held.audit();
         held.call_told(caller, event, out)
     }
 
@@ -53,6 +55,7 @@ impl<P: Object> Lock<P> {
         ensures did { Became (λ k k'. Opened k out.new.items result k') seat.old.me.1 seat.new.me.1 }
     {
         let held = seat.slot_mut(&self.table.shared, 0);
+        held.audit();
         held.open(out)
     }
 
@@ -60,9 +63,10 @@ impl<P: Object> Lock<P> {
         requires own { seat.old.table_id ≡ self.now }
         requires lock { HasPair seat.old }
         ensures same { IsSame seat.old seat.new × (seat.new.me.0 ≡ seat.old.me.0) }
-        ensures did { Became (λ k k'. (k'.book ≡ k.book) × Visits k.pair result k'.pair) seat.old.me.1 seat.new.me.1 }
+        ensures did { Became (λ k k'. (k'.book ≡ k.book) × IsSound k.pair × Visits k.pair result k'.pair) seat.old.me.1 seat.new.me.1 }
     {
         let held = seat.slot_mut(&self.table.shared, 0);
+        held.audit();
         held.turn_first()
     }
 
@@ -70,9 +74,10 @@ impl<P: Object> Lock<P> {
         requires own { seat.old.table_id ≡ self.now }
         requires lock { HasPair seat.old }
         ensures same { IsSame seat.old seat.new × (seat.new.me.0 ≡ seat.old.me.0) }
-        ensures did { Became (λ k k'. (k'.book ≡ k.book) × (k'.pair ≡ restarted k.pair)) seat.old.me.1 seat.new.me.1 }
+        ensures did { Became (λ k k'. (k'.book ≡ k.book) × IsSound k.pair × (k'.pair ≡ restarted k.pair)) seat.old.me.1 seat.new.me.1 }
     {
         let held = seat.slot_mut(&self.table.shared, 0);
+        held.audit();
         held.restart();
     }
 
@@ -80,9 +85,10 @@ impl<P: Object> Lock<P> {
         requires own { seat.old.table_id ≡ self.now }
         requires lock { HasPair seat.old }
         ensures same { IsSame seat.old seat.new × (seat.new.me.0 ≡ seat.old.me.0) }
-        ensures did { Became (λ k k'. (k'.book ≡ k.book) × Cuts k.pair result k'.pair) seat.old.me.1 seat.new.me.1 }
+        ensures did { Became (λ k k'. (k'.book ≡ k.book) × IsSound k.pair × Cuts k.pair result k'.pair) seat.old.me.1 seat.new.me.1 }
     {
         let held = seat.slot_mut(&self.table.shared, 0);
+        held.audit();
         held.cut(alloc)
     }
 
@@ -90,27 +96,33 @@ impl<P: Object> Lock<P> {
         requires own { seat.old.table_id ≡ self.now }
         requires lock { HasPair seat.old }
         ensures same { IsSame seat.old seat.new × (seat.new.me.0 ≡ seat.old.me.0) }
-        ensures did { Became (λ k k'. (k'.book ≡ closed_book) × IsClosed k result) seat.old.me.1 seat.new.me.1 }
+        ensures did { Became (λ k k'. (k'.book ≡ closed_book) × IsShown k result × (k'.pair ≡ new_pair k.pair.limits)) seat.old.me.1 seat.new.me.1 }
     {
         let held = seat.slot_mut(&self.table.shared, 0);
         held.close()
     }
 
-    /// Opens the master of a pair that no end has a part of: `open(2)` of the master device. The end has all parts, and was told of this call
-    /// alone. It is refused as the pair refuses the call, and by EINVAL where an end has the pair.
-    pub fn open<R: Wait>(&self, rt: &R) -> Result<End<P>, Refusal>
-        ensures { MatchResult result (IsOpened self.now) OpensNoMaster }
+    /// Opens the master of a pair that nobody opened since it was made or settled: `open(2)` of the master device. The end has all parts, and
+    /// was told of this call alone. It is refused as that pair refuses the call: by JournalFull or ENOSR, where its sizes have no room for it;
+    /// and by EINVAL where the pair was opened before, and is an end's, or was dropped with one.
+    pub fn open<R: Wait>(&self, rt: &R) -> Result<End<P>, NotOpened<P>>
+        ensures { MatchResult result (IsOpened self.now) (λ n. IsRefusedOpen self.now n.visit n.refusal) }
     {
         let mut seat = self.sit();
         let mut out = Content::new();
         let (answer, told) = self.open_by(rt, &mut seat, &mut out);
-        answer?;
-        Ok(End {
-            seat,
-            caller: Caller::of(Side::Master),
-            told,
-            parts: ALL_PARTS,
-        })
+        match answer {
+            Ok(_) => Ok(End {
+                seat,
+                caller: Caller::of(Side::Master),
+                told,
+                parts: ALL_PARTS,
+            }),
+            Err(refusal) => {
+                let visit = Visit { seat, made: None };
+                Err(NotOpened { refusal, visit })
+            }
+        }
     }
 
     // The same by a seat that was told nothing. It has all parts then, or nothing still; and no lock.
@@ -123,7 +135,7 @@ impl<P: Object> Lock<P> {
         requires own { seat.old.table_id ≡ self.now }
         requires fresh { seat.old.me ≡ (fresh, []) }
         ensures same { IsSame seat.old seat.new }
-        ensures opened { OpenedAs out.new.items result.1 seat.new.me result.0 }
+        ensures opened { (p : PairState) × (q : PairState) × IsSound p × OpenedAs p q out.new.items result.1 seat.new.me result.0 }
     {
         self.take(rt, seat);
         let (answer, told) = self.open_held(seat, out);
@@ -132,7 +144,8 @@ impl<P: Object> Lock<P> {
     }
 
     /// Makes one call as the end does, with the bytes that it gives in `out`. The end was told of it then: its entry, with this caller, event
-    /// and answer, and the bytes that it wrote and read. It is refused as the pair refuses it; the end and `out` stay then.
+    /// and answer, and the bytes that it wrote and read. It is refused as the pair refuses it; the pair, what the end was told and `out` stay
+    /// then. The end meets the pair once, and nothing else is done to it between.
     pub fn call<R: Wait>(
         &self,
         rt: &R,
@@ -153,7 +166,6 @@ impl<P: Object> Lock<P> {
     /// Opens the slave by a call of an end: `open(2)` of the slave device. The end was told of that call; the new one calls as the slave, was
     /// told nothing, and has half of the end's parts, rounded down. An end of one part is refused, without a call, and it alone by ERANGE; each
     /// other refusal is the pair's. The end stays where it is refused.
-    #[tactic(auto, using(crate::proofs::Refusing::not_erange))]
     pub fn open_slave<R: Wait>(&self, rt: &R, end: &mut End<P>) -> Result<End<P>, Refusal>
         requires { IsOf self.now end.old }
         ensures { CallsSlave (λ e. e) end.old result end.new }
@@ -176,9 +188,9 @@ impl<P: Object> Lock<P> {
 
     /// Cuts an end in two, both with its caller: the first was told all that it was, and the second nothing; it has half of the parts, rounded
     /// down. An end of one part comes back.
-    pub fn split(&self, end: End<P>) -> Result<(End<P>, End<P>), End<P>>
+    pub fn split_end(&self, end: End<P>) -> Result<(End<P>, End<P>), End<P>>
         requires { IsOf self.now end }
-        ensures { Splits (λ e. e) end result }
+        ensures { Splits (λ e. e) (λ e. e) end result }
     {
         if end.parts == 1 {
             return Err(end);
@@ -207,7 +219,7 @@ impl<P: Object> Lock<P> {
     }
 
     /// One end of two, with what both were told and the parts of both. It calls as the first does.
-    pub fn join(&self, first: End<P>, second: End<P>) -> End<P>
+    pub fn join_ends(&self, first: End<P>, second: End<P>) -> End<P>
         requires first { IsOf self.now first }
         requires second { IsOf self.now second }
         ensures { result ≡ joined_end first second }
@@ -234,26 +246,31 @@ impl<P: Object> Lock<P> {
     }
 
     /// Settles with an end that has all parts: what it was told, with those that were joined to it, is what the pair's book has and what its
-    /// ledgers say, and its entries are the calls of the journal, in some order. The pair is as new since, and may be opened again.
+    /// ledgers say, and its entries are the calls of the journal, in some order. The pair is left as new, and may be opened again.
     ///
     /// An end that lacks parts comes back: another end has them, or was dropped with them.
-    pub fn settle<R: Wait>(&self, rt: &R, end: End<P>) -> Result<Settled, (StillShared, End<P>)>
+    pub fn settle<R: Wait>(&self, rt: &R, end: End<P>) -> Result<Closed<P>, (StillShared, End<P>)>
         requires { IsOf self.now end }
-        ensures { Settles (λ e. e) end result }
+        ensures { MatchResult result
+            (λ c. (end.parts ≡ ALL_PARTS) × IsOf c.visit.table end × IsSettled end c.settled c.visit.met)
+            (λ back. (end.parts ≢ ALL_PARTS) × (back.1 ≡ end)) }
     {
         if end.parts != ALL_PARTS {
             return Err((StillShared, end));
         }
         let End { mut seat, .. } = end;
-        Ok(self.settle_by(rt, &mut seat))
+        let settled = self.settle_by(rt, &mut seat);
+        let visit = Visit { seat, made: None };
+        Ok(Closed { settled, visit })
     }
 
-    // The same by the seat of such an end, which has nothing since, and no lock.
+    // The same by the seat of such an end, which has nothing since but what it met, and no lock.
     fn settle_by<R: Wait>(&self, rt: &R, seat: &mut Place<P>) -> Settled
         requires own { seat.old.table_id ≡ self.now }
         requires all { IsSeated seat.old.me seat.old.me.0.told ALL_PARTS }
-        ensures back { seat.new.me ≡ (fresh, []) }
-        ensures settled { IsSettled seat.old.me.0.told seat.old.me.0.made result }
+        ensures same { IsSame seat.old seat.new }
+        ensures settled { (p : PairState) × IsAll seat.old.me.0.told seat.old.me.0.made p result
+            × (seat.new.me.0.met ≡ seat.old.me.0.met ++ p ∷ [] ++ new_pair p.limits ∷ []) }
     {
         self.take(rt, seat);
         let settled = self.close_held(seat);

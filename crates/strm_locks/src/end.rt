@@ -18,11 +18,12 @@ pub const ALL_PARTS: u64 = 9223372036854775808;
 pub struct StillShared;
 
 /// A share of a pair that a thread holds: it calls as one side, and is told what its own calls did. `Lock::open` makes the first of a pair,
-/// `open_slave` and `split` make more, `join` makes one of two.
+/// `open_slave` and `split_end` make more, `join_ends` makes one of two.
 ///
 /// It may be sent to another thread. One that is dropped takes its parts with it: the pair is never settled then.
 ///
-/// Contracts see which lock it is of, whom it calls as, what it was told, the entries of its calls, and its parts.
+/// Contracts see which lock it is of, whom it calls as, what it was told, the entries of its calls, its parts, and the pairs that its calls met:
+/// each as the call found it, and as it left it.
 #[derive(Drop)]
 pub struct End<P: Object> {
     pub(crate) seat: Place<P>,
@@ -37,7 +38,7 @@ impl<P: Object> Model for End<P> {
 
     ghost Value = { Share };
 
-    ghost view = { λ e. record { table = e.seat.table_id; caller = e.caller; told = e.told; made = e.seat.me.0.made; parts = e.parts } };
+    ghost view = { λ e. record { table = e.seat.table_id; caller = e.caller; told = e.told; made = e.seat.me.0.made; parts = e.parts; met = e.seat.me.0.met } };
 
     ghost invariant = { λ e. IsSeated e.seat.me e.told e.parts };
 }

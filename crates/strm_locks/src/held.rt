@@ -1,9 +1,9 @@
 //! What a lock holds: a pair with its book.
 
-ghost use Rattle.std.specs.Prelude.{◌≡◌, MatchResult, MatchOption, IsOk, Err, IfOk, IfSome};
+ghost use Rattle.std.specs.Prelude.{◌≡◌, ◌≢◌, length, MatchOption, IsOk, Err, IfOk};
 ghost use Rattle.strm_types.specs.declared.entries.Entry.TheVariants.{Called, Turned};
 ghost use Rattle.strm_types.specs.Events.{request};
-ghost use Rattle.strm_types.specs.Journal.{reply_in};
+ghost use Rattle.strm_types.specs.Journal.{answer_len, reply_in};
 ghost use Rattle.strm_laws.specs.Pair.{AddsEntry, call_refused, queue_refused, restarted};
 
 use crate::end::ALL_PARTS;
@@ -46,19 +46,21 @@ pub struct Made {
 }
 
 impl<P: Object> Model for Held<P> {
-    ghost use Rattle.strm_locks.specs.Books.{IsCounted, Kept, history_of, kept};
+    ghost use Rattle.strm_locks.specs.Books.{IsKept, Kept, kept};
 
     ghost Value = { Kept };
 
     ghost view = { λ h. kept h.calls (P.pair_of h.pair) h.left };
 
-    ghost invariant = { λ h. IsCounted h.calls (history_of (P.pair_of h.pair)) };
+    ghost invariant = { λ h. IsKept h.calls h.left (P.pair_of h.pair) };
 }
 
 impl<P: Object> Held<P> {
-    ghost use Rattle.strm_locks.specs.Books.{closed_book, Adds, IsBelow, IsNew, Fits, minus};
-    ghost use Rattle.strm_locks.specs.Settles.{IsClosed};
+    ghost use Rattle.strm_laws.specs.Pair.{new_pair};
+    ghost use Rattle.strm_locks.specs.Books.{closed_book, history_of, Adds, IsBelow, IsCounted, IsNew, Fits, minus};
+    ghost use Rattle.strm_locks.specs.Settles.{IsShown};
     ghost use Rattle.strm_locks.specs.Shares.{entry_of, Did, Opens};
+    ghost use Rattle.strm_locks.specs.Sounds.{IsSound};
     ghost use Rattle.strm_locks.specs.Turns.{Cuts, Visits};
 
     /// A pair that nobody opened, with a closed book.
@@ -75,17 +77,28 @@ impl<P: Object> Held<P> {
         }
     }
 
-    /// Makes a call of the pair. The book gains its entry and its tally; a refused call leaves the pair, the book and `out`.
-    pub fn call(
+    // What holds of every pair, and that its calls are counted.
+    pub(crate) fn audit(&self)
+        ensures sound { IsSound self.now.pair }
+        ensures counted { IsCounted self.now.book.totals.calls (history_of self.now.pair) }
+    {
+        let _calls = self.calls;
+        self.pair.audit();
+    }
+
+    // Makes a call of a pair that is open. The book gains its entry and its tally; a refused call leaves the pair, the book and `out`.
+    fn call(
         &mut self,
         caller: Caller,
         event: &Event<&[u8]>,
         out: &mut Content,
     ) -> Result<Answer<u32>, Refusal>
+        requires open { self.old.book.left ≢ ALL_PARTS }
         ensures refused { MatchOption (call_refused self.old.pair caller (request event.now)) (IsOk result)
             (λ r. (result ≡ Err r) × ((self.new ≡ self.old) × (out.new ≡ out.old))) }
         ensures adds { IfOk result (λ answer.
             AddsEntry self.old.pair self.new.pair (Called caller (request event.now) (reply_in answer out.new.items))) }
+        ensures filled { IfOk result (λ answer. answer_len answer ≡ length out.new.items) }
         ensures book { IfOk result (λ answer.
             Adds self.old.book (entry_of caller (request event.now) out.new.items answer) self.new.book) }
     {
@@ -98,8 +111,8 @@ impl<P: Object> Held<P> {
         }
     }
 
-    /// Makes a turn of an enabled queue. The book stays.
-    pub fn turn(&mut self, name: QueueName) -> Result<Turn, Refusal>
+    // Makes a turn of an enabled queue. The book stays.
+    fn turn(&mut self, name: QueueName) -> Result<Turn, Refusal>
         ensures refused { MatchOption (queue_refused self.old.pair name) (IsOk result)
             (λ r. (result ≡ Err r) × (self.new ≡ self.old)) }
         ensures adds { IfOk result (λ turn. AddsEntry self.old.pair self.new.pair (Turned name turn)) }
@@ -108,26 +121,26 @@ impl<P: Object> Held<P> {
         self.pair.turn(name)
     }
 
-    /// Begins the pair's journal anew, at the state that it has, in place: no memory is taken, and nothing is refused. The book stays: its
-    /// history has the calls of the entries that go.
-    pub fn restart(&mut self)
+    // Begins the pair's journal anew, at the state that it has, in place: no memory is taken, and nothing is refused. The book stays: its
+    // history has the calls of the entries that go.
+    pub(crate) fn restart(&mut self)
         ensures pair { self.new.pair ≡ restarted self.old.pair }
         ensures book { self.new.book ≡ self.old.book }
     {
         self.pair.restart();
     }
 
-    /// Cuts the pair: it hands out the base at which the journal began and all entries since, and begins the journal anew, as `restart` does.
-    /// Where memory is refused the pair stays. The book stays in either case: its history has the calls of the entries that go.
-    pub fn cut(&mut self, alloc: Global) -> Result<Trace, NoMemory>
+    // Cuts the pair: it hands out the base at which the journal began and all entries since, and begins the journal anew, as `restart` does.
+    // Where memory is refused the pair stays. The book stays in either case: its history has the calls of the entries that go.
+    pub(crate) fn cut(&mut self, alloc: Global) -> Result<Trace, NoMemory>
         ensures pair { Cuts self.old.pair result self.new.pair }
         ensures book { self.new.book ≡ self.old.book }
     {
         self.pair.cut(alloc)
     }
 
-    /// What all ends were told together.
-    pub fn told(&self) -> Told
+    // What all ends were told together.
+    fn told(&self) -> Told
         ensures { result ≡ self.now.book.totals }
     {
         Told {
@@ -160,6 +173,7 @@ impl<P: Object> Held<P> {
         event: &Event<&[u8]>,
         out: &mut Content,
     ) -> (Result<Answer<u32>, Refusal>, Told)
+        requires open { self.old.book.left ≢ ALL_PARTS }
         ensures answer { Did self.old caller (request event.now) out.old.items out.new.items result.0 self.new }
         ensures below { IsBelow self.old.book.totals self.new.book.totals }
         ensures fits { Fits self.new.book.totals }
@@ -171,38 +185,51 @@ impl<P: Object> Held<P> {
         (answer, after.minus(&before))
     }
 
-    // The call that opens the master, where no end has a part: it gives all parts away. Else EINVAL, which tells nothing.
+    // The call that opens the master of a pair that nobody opened: it gives all parts away. Else EINVAL, which tells nothing.
     pub(crate) fn open(&mut self, out: &mut Content) -> (Result<Answer<u32>, Refusal>, Told)
         ensures answer { Opens self.old out.new.items result.0 self.new }
         ensures below { IsBelow self.old.book.totals self.new.book.totals }
         ensures fits { Fits self.new.book.totals }
         ensures growth { result.1 ≡ minus self.new.book.totals self.old.book.totals }
     {
+        let before = self.told();
         if self.left != ALL_PARTS {
-            let told = self.told();
-            return (Err(Refusal::Einval), told.minus(&told));
+            return (Err(Refusal::Einval), Told::nothing());
         }
         let caller = Caller::of(Side::Master);
-        let (answer, more) = self.call_told(caller, &Event::OpenMaster, out);
-        if answer.is_ok() {
-            self.left = 0;
+        match self.pair.call(caller, &Event::OpenMaster, out) {
+            Err(refusal) => (Err(refusal), Told::nothing()),
+            Ok(granted) => {
+                let calls = self.calls.saturating_add(1);
+                self.calls = calls;
+                self.left = 0;
+                let after = self.told();
+                (Ok(granted), after.minus(&before))
+            }
         }
-        (answer, more)
+    }
+
+    // What the book has, and the ledgers of the pair.
+    pub(crate) fn look(&self) -> Settled
+        ensures { IsShown self.now result }
+    {
+        self.audit();
+        let told = self.told();
+        let ms = self.pair.ledger(Dir::MasterToSlave);
+        let sm = self.pair.ledger(Dir::SlaveToMaster);
+        Settled { told, ms, sm }
     }
 
     // Closes the book, and gives what it had. The pair is as new, and no end has a part.
     pub(crate) fn close(&mut self) -> Settled
-        ensures pair { IsNew self.new.pair }
+        ensures pair { self.new.pair ≡ new_pair self.old.pair.limits }
         ensures closed { self.new.book ≡ closed_book }
-        ensures gives { IsClosed self.old result }
+        ensures gives { IsShown self.old result }
     {
-        self.pair.audit();
-        let told = self.told();
-        let ms = self.pair.ledger(Dir::MasterToSlave);
-        let sm = self.pair.ledger(Dir::SlaveToMaster);
+        let settled = self.look();
         self.pair.reset();
         self.calls = 0;
         self.left = ALL_PARTS;
-        Settled { told, ms, sm }
+        settled
     }
 }

@@ -2,6 +2,7 @@
 //! calls wrote, read and were. What is locked is any `Object`: a pair as contracts see it.
 #![tactic(auto)]
 
+mod audits;
 mod calls;
 mod end;
 mod gate;
@@ -15,6 +16,7 @@ mod view;
 mod visit;
 mod workers;
 
+pub use audits::Audit;
 pub use end::{ALL_PARTS, End, StillShared};
 pub use gate::{Gate, NoGate};
 pub use held::{Held, Made, Settled};
@@ -22,5 +24,5 @@ pub use lock::Lock;
 pub use object::Object;
 pub use system::{PairEnd, System};
 pub use told::{Each, Told};
-pub use visit::{Cut, Visit};
+pub use visit::{Closed, Cut, NotOpened, Visit};
 pub use workers::{Report, Round, work};

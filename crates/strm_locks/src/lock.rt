@@ -3,7 +3,7 @@
 
 ghost use Rattle.std.specs.Prelude.{◌≡◌, ◌≤◌, [], ◌∷◌};
 ghost use Rattle.strm_locks.specs.Books.{closed_book, Kept, Fits};
-ghost use Rattle.strm_locks.specs.Rules.{fresh, kept_half, split_half, joined, grown, leaving};
+ghost use Rattle.strm_locks.specs.Rules.{fresh, kept_half, split_half, joined, grown, leaving, closing};
 ghost use Rattle.strm_locks.specs.Shares.{IsFree, IsSame, HasLock, MayGive};
 
 use crate::end::ALL_PARTS;
@@ -107,7 +107,7 @@ impl<P: Object> Lock<P> {
         requires held { seat.old.me.0.holds ≡ 1 }
         requires lock { (k : Kept) × (seat.old.me.1 ≡ (0, k) ∷ []) × MayGive seat.old.me.0 k.book }
         ensures same { IsSame seat.old seat.new }
-        ensures told { (k : Kept) → seat.old.me.1 ≡ (0, k) ∷ [] → seat.new.me ≡ (grown seat.old.me.0 seat.old.me.0.found k.book, []) }
+        ensures told { (k : Kept) → seat.old.me.1 ≡ (0, k) ∷ [] → seat.new.me ≡ (grown seat.old.me.0 seat.old.me.0.found k, []) }
     {
         self.table.shared.store::<Give>(seat, WORD, 0);
         self.wake();
@@ -118,7 +118,8 @@ impl<P: Object> Lock<P> {
         requires own { seat.old.table_id ≡ self.now }
         requires held { (seat.old.me.0.holds ≡ 1) × (seat.old.me.0.parts ≡ ALL_PARTS) }
         requires lock { (k : Kept) × (seat.old.me.1 ≡ (0, k) ∷ []) × (k.book ≡ closed_book) }
-        ensures { IsSame seat.old seat.new × (seat.new.me ≡ (fresh, [])) }
+        ensures same { IsSame seat.old seat.new }
+        ensures met { (k : Kept) → seat.old.me.1 ≡ (0, k) ∷ [] → seat.new.me ≡ (closing seat.old.me.0 k.pair, []) }
     {
         self.table.shared.store::<Empty>(seat, WORD, 0);
         self.wake();

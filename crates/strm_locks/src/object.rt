@@ -2,13 +2,12 @@
 
 ghost use Rattle.std.specs.Prelude.{◌≡◌, MatchOption, IsOk, Err, IfOk, length, slice_get};
 ghost use Rattle.strm_types.specs.declared.entries.Entry.TheVariants.{Called, Turned};
-ghost use Rattle.strm_types.specs.Cells.{plain};
 ghost use Rattle.strm_types.specs.Events.{request};
 ghost use Rattle.strm_types.specs.Journal.{answer_len, reply_in};
 ghost use Rattle.strm_laws.specs.Ledgers.{ledger_of};
 ghost use Rattle.strm_laws.specs.Pair.{PairState, AddsEntry, call_refused, new_pair, queue_refused, restarted};
 ghost use Rattle.strm_laws.specs.State.{book};
-ghost use Rattle.strm_laws.specs.Step.{IsLegal, replay};
+ghost use Rattle.strm_locks.specs.Sounds.{IsSound};
 ghost use Rattle.strm_locks.specs.Tallies.{Tallies, bytes_read};
 ghost use Rattle.strm_locks.specs.Turns.{Cuts};
 
@@ -60,10 +59,9 @@ pub trait Object: Drop {
     fn ledger(&self, direction: Dir) -> Ledger
         ensures { result ≡ ledger_of direction (pair_of self.now).state (pair_of self.now).fates };
 
-    /// What holds of every pair: its journal is legal, and leads to its state. It does nothing.
+    /// What holds of every pair, whatever was called. It does nothing.
     fn audit(&self)
-        ensures legal { IsLegal plain (pair_of self.now).base (pair_of self.now).journal }
-        ensures replayed { (pair_of self.now).state ≡ replay plain (pair_of self.now).base (pair_of self.now).journal };
+        ensures { IsSound (pair_of self.now) };
 
     /// Begins the journal anew, at the state that the pair has, in place. It takes no memory.
     fn restart(&mut self)

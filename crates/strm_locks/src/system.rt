@@ -1,24 +1,25 @@
 //! Pairs that threads share, a lock each, and the numbers by which they are opened.
 
-ghost use Rattle.std.specs.Prelude.{◌≡◌, ◌≢◌, ◌<◌, ◌≤◌, All, Some, IfOk, MatchResult, length, slice_get};
+ghost use Rattle.std.specs.Prelude.{◌≡◌, ◌≢◌, ◌<◌, ◌≤◌, ◌⊎◌, All, Some, IfOk, OnErr, MatchResult, length, slice_get};
 ghost use Rattle.strm_types.specs.Events.{request};
-ghost use Rattle.strm_minors.specs.Openers.{opening};
+ghost use Rattle.strm_minors.specs.Openers.{Gains, Holds, Loses, Unites, opening, past};
+ghost use Rattle.strm_minors.specs.Openers as minors;
 ghost use Rattle.strm_locks.specs.Books.{IsNew};
-ghost use Rattle.strm_locks.specs.Ends.{Calls, CallsSlave, IsOpened, OpensNoMaster, Splits, grouped_end, joined_end};
-ghost use Rattle.strm_locks.specs.Settles.{Settles};
-ghost use Rattle.strm_locks.specs.Systems.{IsOne, numbered};
-ghost use Rattle.strm_locks.specs.Turns.{IsCut, IsRestart, IsVisit};
+ghost use Rattle.strm_locks.specs.Ends.{Calls, CallsSlave, IsOpened, Splits, grouped_end};
+ghost use Rattle.strm_locks.specs.Settles.{IsSettled};
+ghost use Rattle.strm_locks.specs.Systems.{IsOne, joined_ends, numbered};
+ghost use Rattle.strm_locks.specs.Turns.{IsCut, IsRefusedOpen, IsRestart, IsVisit};
 
 use crate::end::{ALL_PARTS, End, StillShared};
 use crate::gate::Gate;
-use crate::held::{Held, Settled};
+use crate::held::Held;
 use crate::lock::Lock;
 use crate::object::Object;
-use crate::visit::{Cut, Visit};
+use crate::visit::{Closed, Cut, NotOpened, Visit};
 use std::alloc::{AllocError, Global};
 use std::marker::Model;
 use std::sync::Wait;
-use strm_minors::{Minor, Minors, Opener};
+use strm_minors::{Minor, Minors, NoMinor, Opener};
 use strm_types::{Answer, Content, Event, Refusal};
 
 /// Up to 64 pairs, each under a lock of its own, and their minor numbers. Threads share it by a `&`. No lock is round the whole: calls on
@@ -42,19 +43,24 @@ impl<P: Object> Model for System<P> {
     ghost invariant = { λ s. (s.minors.pairs ≡ length s.locks.items) × (length s.locks.items ≤ 64) };
 }
 
-/// An end of one of a system's pairs, with the pair's number. One that is handed in is of that system.
+/// An end of one of a system's pairs, with the pair's number, and with the minor by which the pair was opened: the end that opened it has that,
+/// the first of two that it is cut in, and one that is joined of such. One that is handed in is of that system.
 #[derive(Drop)]
 pub struct PairEnd<P: Object> {
     pair: u32,
     end: End<P>,
+    minor: Option<Minor>,
 }
 
 impl<P: Object> Model for PairEnd<P> {
+    ghost use Rattle.std.specs.Prelude.{◌≡◌, IfSome};
     ghost use Rattle.strm_locks.specs.Systems.{Numbered};
 
     ghost Value = { Numbered };
 
-    ghost view = { λ e. record { pair = e.pair; end = e.end } };
+    ghost view = { λ e. record { pair = e.pair; end = e.end; minor = e.minor } };
+
+    ghost invariant = { λ e. IfSome e.minor (λ minor. minor ≡ e.pair) };
 }
 
 impl<P: Object> PairEnd<P> {
@@ -74,7 +80,7 @@ impl<P: Object> PairEnd<P> {
 
     /// Sets who makes the end's later calls, as [`End::set_group`] does.
     pub fn set_group(&mut self, group: u32, ignores: bool, orphaned: bool)
-        ensures { self.new ≡ numbered self.old.pair (grouped_end group ignores orphaned self.old.end) }
+        ensures { self.new ≡ numbered self.old.pair self.old.minor (grouped_end group ignores orphaned self.old.end) }
     {
         self.end.set_group(group, ignores, orphaned);
     }
@@ -114,32 +120,68 @@ impl<P: Object> System<P> {
         self.locks.len() as u32
     }
 
-    /// The numbers of its pairs: openers claim them there, and release them.
-    pub fn minors(&self) -> &Minors
-        ensures word { result.now ≡ self.now.minors }
-        ensures pairs { result.now.pairs ≡ length self.now.locks }
+    /// Claims a minor, as [`Minors::claim`] does: it is the number of a pair.
+    pub fn claim(&self, opener: &mut Opener) -> Result<Minor, NoMinor>
+        requires { minors.IsOf self.now.minors opener.old }
+        ensures within { IfOk result (λ minor. minor < length self.now.locks) }
+        ensures claimed { IfOk result (λ minor. Gains (past minor opener.old) opener.new minor) }
+        ensures none { OnErr result (opener.new ≡ past (length self.now.locks) opener.old) }
     {
-        &self.minors
+        self.minors.claim(opener)
+    }
+
+    /// Releases a minor that the opener holds, as [`Minors::release`] does. That of a pair which is open can't be: an end has it.
+    pub fn release(&self, opener: &mut Opener, minor: Minor)
+        requires own { minors.IsOf self.now.minors opener.old }
+        requires held { Holds opener.old minor }
+        ensures { Loses opener.old opener.new minor }
+    {
+        self.minors.release(opener, minor);
+    }
+
+    /// The opener as it was, and a second one, which holds no minor: one for each thread that claims.
+    pub fn split_opener(&self, opener: Opener) -> (Opener, Opener)
+        requires { minors.IsOf self.now.minors opener }
+        ensures first { result.0 ≡ opener }
+        ensures second { result.1 ≡ opening self.now.minors }
+    {
+        self.minors.split_opener(opener)
+    }
+
+    /// One opener of two, which holds the minors of both.
+    pub fn join_openers(&self, first: Opener, second: Opener) -> Opener
+        requires first { minors.IsOf self.now.minors first }
+        requires second { minors.IsOf self.now.minors second }
+        ensures { Unites first second result }
+    {
+        self.minors.join_openers(first, second)
     }
 
     // The lock of a pair.
-    fn lock(&self, pair: u32) -> &Lock<P>
+    pub(crate) fn lock(&self, pair: u32) -> &Lock<P>
         requires { pair < length self.now.locks }
         ensures { slice_get self.now.locks pair ≡ Some result.now }
     {
         &self.locks[pair as usize]
     }
 
-    /// Opens the master of a minor's pair, as [`Lock::open`] does.
-    pub fn open<R: Wait>(&self, rt: &R, minor: &Minor) -> Result<PairEnd<P>, Refusal>
-        requires { minor.now < length self.now.locks }
+    /// Opens the master of a minor's pair, as [`Lock::open`] does. The end has the minor then, till it settles; where the pair isn't opened, the
+    /// minor comes back.
+    pub fn open<R: Wait>(&self, rt: &R, minor: Minor) -> Result<PairEnd<P>, (NotOpened<P>, Minor)>
+        requires { minor < length self.now.locks }
         ensures { MatchResult result
-            (λ e. (e.pair ≡ minor.now) × IsOne self.now e × IsOpened e.end.table e.end)
-            OpensNoMaster }
+            (λ e. (e.pair ≡ minor) × (e.minor ≡ Some minor) × IsOne self.now e × IsOpened e.end.table e.end)
+            (λ n. (n.1 ≡ minor) × (slice_get self.now.locks minor ≡ Some n.0.visit.table) × IsRefusedOpen n.0.visit.table n.0.visit n.0.refusal) }
     {
         let pair = minor.number();
-        let end = self.lock(pair).open(rt)?;
-        Ok(PairEnd { pair, end })
+        match self.lock(pair).open(rt) {
+            Ok(end) => Ok(PairEnd {
+                pair,
+                end,
+                minor: Some(minor),
+            }),
+            Err(why) => Err((why, minor)),
+        }
     }
 
     /// Makes one call as the end does, as [`Lock::call`] does.
@@ -152,6 +194,8 @@ impl<P: Object> System<P> {
     ) -> Result<Answer<u32>, Refusal>
         requires { IsOne self.now end.old }
         ensures pair { end.new.pair ≡ end.old.pair }
+        ensures minor { end.new.minor ≡ end.old.minor }
+        ensures one { IsOne self.now end.new }
         ensures told { Calls end.old.end (request event.now) out.old.items out.new.items result end.new.end }
     {
         self.lock(end.pair).call(rt, &mut end.end, event, out)
@@ -161,32 +205,44 @@ impl<P: Object> System<P> {
     pub fn open_slave<R: Wait>(&self, rt: &R, end: &mut PairEnd<P>) -> Result<PairEnd<P>, Refusal>
         requires { IsOne self.now end.old }
         ensures pair { end.new.pair ≡ end.old.pair }
-        ensures opened { CallsSlave (numbered end.old.pair) end.old.end result end.new.end }
+        ensures minor { end.new.minor ≡ end.old.minor }
+        ensures one { IsOne self.now end.new }
+        ensures slave { IfOk result (λ slave. IsOne self.now slave) }
+        ensures opened { CallsSlave (numbered end.old.pair None) end.old.end result end.new.end }
     {
         let slave = self.lock(end.pair).open_slave(rt, &mut end.end)?;
         Ok(PairEnd {
             pair: end.pair,
             end: slave,
+            minor: None,
         })
     }
 
-    /// Cuts an end in two, as [`Lock::split`] does. An end of one part comes back.
-    pub fn split(&self, end: PairEnd<P>) -> Result<(PairEnd<P>, PairEnd<P>), PairEnd<P>>
+    /// Cuts an end in two, as [`Lock::split_end`] does: the first keeps the minor, if the end has it. An end of one part comes back.
+    pub fn split_end(&self, end: PairEnd<P>) -> Result<(PairEnd<P>, PairEnd<P>), PairEnd<P>>
         requires { IsOne self.now end }
-        ensures { Splits (numbered end.pair) end.end result }
+        ensures { Splits (numbered end.pair end.minor) (numbered end.pair None) end.end result }
     {
-        let PairEnd { pair, end } = end;
-        match self.lock(pair).split(end) {
+        let PairEnd { pair, end, minor } = end;
+        match self.lock(pair).split_end(end) {
             Ok((first, second)) => Ok((
-                PairEnd { pair, end: first },
-                PairEnd { pair, end: second },
+                PairEnd {
+                    pair,
+                    end: first,
+                    minor,
+                },
+                PairEnd {
+                    pair,
+                    end: second,
+                    minor: None,
+                },
             )),
-            Err(end) => Err(PairEnd { pair, end }),
+            Err(end) => Err(PairEnd { pair, end, minor }),
         }
     }
 
-    /// One end of two of one pair, as [`Lock::join`] does. Ends of two pairs come back.
-    pub fn join(
+    /// One end of two of one pair, as [`Lock::join_ends`] does, with the minor, if one of them has it. Ends of two pairs come back.
+    pub fn join_ends(
         &self,
         first: PairEnd<P>,
         second: PairEnd<P>,
@@ -194,34 +250,50 @@ impl<P: Object> System<P> {
         requires first { IsOne self.now first }
         requires second { IsOne self.now second }
         ensures { MatchResult result
-            (λ e. (first.pair ≡ second.pair) × (e ≡ numbered first.pair (joined_end first.end second.end)))
+            (λ e. (first.pair ≡ second.pair) × (e ≡ joined_ends first second))
             (λ r. (first.pair ≢ second.pair) × (r.0 ≡ first) × (r.1 ≡ second)) }
     {
         if first.pair != second.pair {
             return Err((first, second));
         }
-        let PairEnd { pair, end } = first;
+        let PairEnd { pair, end, minor } = first;
         let PairEnd {
             pair: _,
             end: other,
+            minor: rest,
         } = second;
-        let end = self.lock(pair).join(end, other);
-        Ok(PairEnd { pair, end })
+        let end = self.lock(pair).join_ends(end, other);
+        let minor = match minor {
+            Some(minor) => Some(minor),
+            None => rest,
+        };
+        Ok(PairEnd { pair, end, minor })
     }
 
-    /// Settles the end's pair, as [`Lock::settle`] does. An end that lacks parts comes back.
+    /// Settles the end's pair, as [`Lock::settle`] does, and gives the minor back, to be opened again or released. An end that lacks parts or
+    /// the minor comes back.
     pub fn settle<R: Wait>(
         &self,
         rt: &R,
         end: PairEnd<P>,
-    ) -> Result<Settled, (StillShared, PairEnd<P>)>
+    ) -> Result<(Closed<P>, Minor), (StillShared, PairEnd<P>)>
         requires { IsOne self.now end }
-        ensures { Settles (numbered end.pair) end.end result }
+        ensures { MatchResult result
+            (λ c. (end.end.parts ≡ ALL_PARTS) × (end.minor ≡ Some c.1) × (c.1 ≡ end.pair)
+            × (slice_get self.now.locks end.pair ≡ Some c.0.visit.table) × IsSettled end.end c.0.settled c.0.visit.met)
+            (λ back. ((end.end.parts ≢ ALL_PARTS) ⊎ (end.minor ≡ None)) × (back.1 ≡ end)) }
     {
-        let PairEnd { pair, end } = end;
+        let PairEnd { pair, end, minor } = end;
+        let Some(minor) = minor else {
+            let minor = None;
+            return Err((StillShared, PairEnd { pair, end, minor }));
+        };
         match self.lock(pair).settle(rt, end) {
-            Ok(settled) => Ok(settled),
-            Err((shared, end)) => Err((shared, PairEnd { pair, end })),
+            Ok(closed) => Ok((closed, minor)),
+            Err((shared, end)) => {
+                let minor = Some(minor);
+                Err((shared, PairEnd { pair, end, minor }))
+            }
         }
     }
 

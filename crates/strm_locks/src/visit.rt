@@ -1,13 +1,13 @@
-//! A visit to a pair, which makes a turn under its lock, begins its journal anew, or cuts it.
+//! A visit to a pair, which makes a turn under its lock, begins its journal anew, cuts it, settles it, or finds that it doesn't open.
 
 ghost use Rattle.std.specs.Prelude.{◌≡◌};
 
-use crate::held::Made;
+use crate::held::{Made, Settled};
 use crate::object::Object;
 use crate::rule::Place;
 use std::marker::Model;
 use strm_image::Trace;
-use strm_types::NoMemory;
+use strm_types::{NoMemory, Refusal};
 
 /// What a visit to a pair was: the seat that had the lock, and the turn that it made there, if it made one. No end was told of it: a turn writes
 /// and reads nothing, and nor does who begins the journal anew or cuts it.
@@ -34,6 +34,20 @@ impl<P: Object> Visit<P> {
     {
         self.made
     }
+}
+
+/// Why a pair wasn't opened, and the visit that found it so, and left it so.
+#[derive(Drop)]
+pub struct NotOpened<P: Object> {
+    pub refusal: Refusal,
+    pub visit: Visit<P>,
+}
+
+/// A pair that was settled: what was told in all, and the visit, by the end's own seat, that left the pair as new.
+#[derive(Drop)]
+pub struct Closed<P: Object> {
+    pub settled: Settled,
+    pub visit: Visit<P>,
 }
 
 /// A cut of a pair: the visit that made it, and the trace that the pair handed out, unless memory was refused.

@@ -1,6 +1,6 @@
 -- The calls of a turn of a module's queue, one after the other, up to the one that asks for no other.
-use Rattle.std.proofs.Common.{ℕ, zero, suc, ◌≡◌, ◌≤◌, ◌<◌, ◌+◌, ◌-◌, ◌*◌, Bool, true, false, List, [], ◌∷◌, ◌++◌, length, map, refl, sym, ap, subst, ◌∙◌, arith}
-use Rattle.std.specs.Prelude.{◌==◌, not, nat_lt, slice_index_or, None}
+use Rattle.std.proofs.Common.{ℕ, zero, suc, ◌≡◌, ◌≤◌, ◌<◌, ◌+◌, ◌-◌, ◌*◌, Bool, true, false, cond, List, [], ◌∷◌, ◌++◌, length, map, refl, sym, ap, subst, ◌∙◌, arith}
+use Rattle.std.specs.Prelude.{◌&&◌, ◌==◌, not, nat_lt, slice_index_or, None, Some}
 use Rattle.std.specs.Bool.{OnTrue}
 use Rattle.std.specs.List.{AllByRecursion}
 use Rattle.std.proofs.lemmas.Bool.{false≢true}
@@ -14,7 +14,12 @@ use Rattle.strm_types.specs.declared.rules.Fates.{Fates}
 use Rattle.strm_types.specs.declared.spots.Spot.{Spot}
 use Rattle.strm_types.specs.Cells.{plain}
 use Rattle.strm_types.specs.Deliver.{Fate, tallied}
-use Rattle.strm_types.specs.Input.{stages_done, to_treat}
+use Rattle.strm_types.specs.Input.{input_begins, is_data, passes, stages, stages_done, to_treat, treats}
+use Rattle.strm_types.specs.Message.{Message, cells_of, size_of}
+use Rattle.strm_types.specs.OutputTurns.{Outgoing, output_serves, posted, unchanged}
+use Rattle.strm_types.specs.Queue.{first_size, left_with}
+use Rattle.strm_types.specs.Service.{Serving}
+use Rattle.strm_types.specs.Termios.{opost}
 use Rattle.strm_laws.specs.Kept.{AreIdle}
 use Rattle.strm_types.specs.Ldterms.{Ldterm, Stage, Between, Begun, Answered}
 use Rattle.strm_laws.specs.ModuleTurns.{module_turn_ended, module_turned, moved_on}
@@ -25,7 +30,7 @@ use Rattle.strm_laws.specs.State.{State, stream}
 use Rattle.strm_types.specs.LdtermCalls.{Begins, Ends, bytes_left}
 use Rattle.strm_laws.specs.TurnCalls.{Stopped, asks_on, ldterm_of, led, module_at, treated}
 use Rattle.strm_laws.specs.TurnOutcomes.{TurnOutcome}
-use Rattle.strm_laws.proofs.ModuleTurnCalls.{Reached, UnderWay, index-map, led-at, led-length, moves-within, none_there, reached-last, reached-next, under_way}
+use Rattle.strm_laws.proofs.ModuleTurnCalls.{Reached, UnderWay, index-map, led-at, led-length, module-ends, moves-within, none_there, reached-last, reached-next, under_way}
 use Rattle.strm_laws.proofs.StackSpares.{range-spare}
 use Rattle.strm_frame.specs.Serves.{stop_at}
 use Rattle.strm_pair.specs.AnyModules.{turn_cost}
@@ -42,6 +47,7 @@ pub record GoOn (here : Spot) (bytes : ℕ) (s0 st : State ℕ) (f f' : Fates) :
   pub tells : f' ≡ tallied gone f
   pub count : ℕ
   pub few : count ≤ 3 * bytes + stages_done (ldterm_of (module_at here st)).stage
+  pub some : 0 < count
   pub left : spare s0 ≤ spare st + (3 * bytes + 33 * count)
 
 -- They go on, or the turn is at its end.
@@ -129,13 +135,14 @@ module _ (here : Spot) where
           tells = told-on;
           count = suc count;
           few = omega (arith, few, on.done);
+          some = omega arith;
           left = omega (arith, held, falls);
         }
 
     -- or it is at its end
     ends-there : (count : ℕ) → count ≤ 3 * bytes + stages_done (ldterm_of (module_at here s)).stage → spare s0 ≤ spare s + (3 * bytes + 33 * count)
-        → call.again ≡ false → TreatsAs here (bytes + call.bytes) s0 st f f''
-    ends-there count few held over =
+        → (bytes + call.bytes ≡ 0 → bytes_left here.way false (ldterm_of (module_at here s0)) ≡ 0) → call.again ≡ false → TreatsAs here (bytes + call.bytes) s0 st f f''
+    ends-there count few held went over =
         let ps = (stream here.side s).modules in
         let stop = stop_in call in
         let last = λ (name : QueueName). reached-last here s0 name again bytes gone s r stop (sym tells.asks ∙ over) (stopped-at call.stopped again call.bytes s tells.bytes tells.ends) in
@@ -145,6 +152,7 @@ module _ (here : Spot) where
         record {
           gone = all;
           within = omega (arith, (last any_name).0, same);
+          some = went;
           stands = subst (λ v. here.at - 1 < length (stream here.side v).modules) (sym state) (omega (arith, r.inside, led-length here again stop s));
           moves = λ name. ap (λ n. moved_on plain here name n s0) (sym same) ∙ (last name).1 ∙ ap (λ n. to name n (led here again stop s).state) same ∙ ap (to name (bytes + call.bytes)) (sym state);
           tells = told-on;
@@ -152,15 +160,111 @@ module _ (here : Spot) where
         }
 
     pub along : (count : ℕ) → count ≤ 3 * bytes + stages_done (ldterm_of (module_at here s)).stage → spare s0 ≤ spare s + (3 * bytes + 33 * count)
+        → (call.again ≡ false → bytes + call.bytes ≡ 0 → bytes_left here.way false (ldterm_of (module_at here s0)) ≡ 0)
         → (more : Bool) → call.again ≡ more → Along more here (bytes + call.bytes) s0 st f f''
-    along count few held true is = goes-on count few held is
-    along count few held false is = ends-there count few held is
+    along count few held went true is = goes-on count few held is
+    along count few held went false is = ends-there count few held (went is) is
 
     pub comes-closer : (more : Bool) → call.again ≡ more → still_to_come more here st < suc (3 * bytes_left here.way again (ldterm_of (module_at here s)) - stages_done (ldterm_of (module_at here s)).stage)
     comes-closer true works =
         let on = further again call s st tells state r.inside r.begins works in
         omega (arith, on.treat, on.done, on.begun)
     comes-closer false over = omega arith
+
+-- a turn treats a byte where its message has one
+module _ (here : Spot) where
+  -- of M_DATA on a read queue each byte is a cell, as it is of a store's messages
+  abbrev pub FullFirst : List (Message ℕ) → Type 0
+  FullFirst [] = Unit {0}
+  FullFirst (m ∷ rest) = is_data m.kind ≡ true → length (cells_of m) ≡ size_of m
+
+  abbrev pub Full : Module ℕ → Type 0
+  Full (OfLdterm l) = FullFirst l.read_queue.messages
+  Full (OfPtem p) = Unit {0}
+  Full (OfPckt p) = Unit {0}
+
+  input-whole : (ms : List (Message ℕ)) (l : Ldterm ℕ) → FullFirst ms → let t = input_begins plain (record here { way = Up }) None 0 ms l in t.again ≡ false → t.bytes ≡ 0 → first_size ms ≡ 0
+  input-whole [] l full over none = refl
+  input-whole (m ∷ rest) l full over none = at (is_data m.kind) refl over none
+    where
+      up : Spot
+      up = record here { way = Up }
+
+      begun : Ldterm ℕ
+      begun = record l { read_queue = left_with rest l.read_queue; in_work = Some m }
+
+      at : (typed : Bool) → is_data m.kind ≡ typed → (cond {A = Serving ℕ (Ldterm ℕ)} typed (treats plain up (length (cells_of m)) 0 begun) (passes plain up Up m rest l)).again ≡ false
+          → (cond {A = Serving ℕ (Ldterm ℕ)} typed (treats plain up (length (cells_of m)) 0 begun) (passes plain up Up m rest l)).bytes ≡ 0 → size_of m ≡ 0
+      at true is over none =
+          let t = stages plain up (3 * length (cells_of m) - stages_done l.stage) 0 begun in
+          let bytes = ap (λ again. cond {A = ℕ} again (to_treat begun - to_treat t.state) (length (cells_of m))) over in
+          let whole = full is in
+          omega (arith, bytes, whole, none)
+      at false is over none = none
+
+  output-whole : (ms : List (Message ℕ)) (l : Ldterm ℕ) → (output_serves plain (record here { way = Down }) None 0 ms l).bytes ≡ 0 → first_size ms ≡ 0
+  output-whole [] l none = refl
+  output-whole (m ∷ rest) l none = at (is_data m.kind && opost l.termios) (cells_of m) none
+    where
+      at : (treated : Bool) (xs : List ℕ) → (cond {A = Outgoing ℕ} treated (posted plain (record here { way = Down }) None 0 xs m l) (unchanged m l)).bytes ≡ 0 → size_of m ≡ 0
+      at false xs none = none
+      at true [] none = none
+      at true (x ∷ xs) none = absurd (omega (arith, none))
+
+  whole-at : (way : Way) (p : Module ℕ) → Full p → let t = module_serves plain (record here { way = way }) 0 false None p in t.again ≡ false → t.bytes ≡ 0 → bytes_left way false (ldterm_of p) ≡ 0
+  whole-at Up (OfLdterm l) full over none = input-whole l.read_queue.messages l full over none
+  whole-at Down (OfLdterm l) full over none = output-whole l.write_queue.messages l none
+  whole-at Up (OfPtem p) full over none = refl
+  whole-at Down (OfPtem p) full over none = refl
+  whole-at Up (OfPckt p) full over none = refl
+  whole-at Down (OfPckt p) full over none = refl
+
+  -- a first call that is the last one
+  module _ (call : Call) (s : State ℕ) (tells : TellsAs here false call s) (low : here.at - 1 < length (stream here.side s).modules) (full : Full (module_at here s)) (over : call.again ≡ false) (none : call.bytes ≡ 0) where
+    abbrev ps : List (Module ℕ)
+    ps = (stream here.side s).modules
+
+    went-whole : call.stopped ≡ false → bytes_left here.way false (ldterm_of (module_at here s)) ≡ 0
+    went-whole goes =
+        let on = none-in here call goes in
+        let i = here.at - 1 in
+        let again = sym (index-map none_there (λ p. (module_serves plain here 0 false None p).again) false i ps low) ∙ ap (λ o. asks_on here false o ps) (sym on) ∙ sym tells.asks ∙ over in
+        let bytes = sym (index-map none_there (λ p. (module_serves plain here 0 false None p).bytes) 0 i ps low) ∙ ap (λ o. treated here false o ps) (sym on) ∙ sym tells.bytes ∙ none in
+        whole-at here.way (module_at here s) full again bytes
+
+    stopped-some : (stopped : Bool) (M : Type 0) → M → OnTrue stopped (M → 0 < call.bytes) → stopped ≡ true → 0 < call.bytes
+    stopped-some true M many some is = some many
+    stopped-some false M many some is = absurd (false≢true is)
+
+    pub first-went : (M : Type 0) → M → OnTrue call.stopped (M → 0 < call.bytes) → bytes_left here.way false (ldterm_of (module_at here s)) ≡ 0
+    first-went M many some = at call.stopped refl
+      where
+        at : (stopped : Bool) → call.stopped ≡ stopped → bytes_left here.way false (ldterm_of (module_at here s)) ≡ 0
+        at true is = let went = stopped-some call.stopped M many some is in absurd (omega (arith, went, none))
+        at false is = went-whole is
+
+  -- the last call treats what has begun
+  last-done : (again : Bool) (call : Call) (s : State ℕ) → TellsAs here again call s → here.at - 1 < length (stream here.side s).modules → Begins here.way again (ldterm_of (module_at here s)) → call.again ≡ false
+      → stages_done (ldterm_of (module_at here s)).stage ≤ 3 * call.bytes
+  last-done again call s tells low begins over = at call.stopped refl tells.ends
+    where
+      at : (stopped : Bool) → call.stopped ≡ stopped → OnTrue stopped (Ends here.way again (ldterm_of (module_at here s)) call.bytes) → stages_done (ldterm_of (module_at here s)).stage ≤ 3 * call.bytes
+      at true is ends = ends.done
+      at false is ends =
+          let on = none-in here call is in
+          let i = here.at - 1 in
+          let qs = (stream here.side s).modules in
+          let ended = sym (index-map none_there (λ p. (module_serves plain here 0 again None p).again) false i qs low) ∙ ap (λ o. asks_on here again o qs) (sym on) ∙ sym tells.asks ∙ over in
+          let bytes = tells.bytes ∙ ap (λ o. treated here again o qs) on ∙ index-map none_there (λ p. (module_serves plain here 0 again None p).bytes) 0 i qs low in
+          let e = (module-ends here again (module_at here s) begins ended).0.done in
+          omega (arith, e, bytes)
+
+  -- and so calls behind the first one treat a byte
+  pub later-went : (bytes : ℕ) (s0 s : State ℕ) (f f' : Fates) (call : Call) → GoOn here bytes s0 s f f' → TellsAs here true call s → call.again ≡ false → bytes + call.bytes ≡ 0
+      → bytes_left here.way false (ldterm_of (module_at here s0)) ≡ 0
+  later-went bytes s0 s f f' call on tells over none =
+      let done = last-done true call s tells on.reached.inside on.reached.begins over in
+      absurd (let few = on.few in let some = on.some in omega (arith, few, some, done, none))
 
 -- what a first call begins with
 module _ (here : Spot) where
@@ -204,7 +308,8 @@ pub turned-by : (name : QueueName) (here : Spot) (bytes : ℕ) (old s0 st : Stat
     → module_turned plain name (Moved bytes) old ≡ record { turn = Moved bytes; state = module_turn_ended name here (not (bytes == 0)) st; gone = treats.gone }
 turned-by name here bytes old s0 st f f' may treats =
     let within = subst (λ v. bytes ≤ bytes_left here.way false (ldterm_of (module_at here v))) may.stays treats.within in
-    may.moves (Moved bytes) ∙ moves-within here name bytes old (omega (arith, may.inside, may.within)) within ∙ ap (λ v. moved_on plain here name bytes v) (sym may.stays) ∙ treats.moves name
+    let some = subst (λ v. bytes ≡ 0 → bytes_left here.way false (ldterm_of (module_at here v)) ≡ 0) may.stays treats.some in
+    may.moves (Moved bytes) ∙ moves-within here name bytes old (omega (arith, may.inside, may.within)) within some ∙ ap (λ v. moved_on plain here name bytes v) (sym may.stays) ∙ treats.moves name
 
 -- bytes were taken where some were treated
 pub some-taken : (bytes : ℕ) → nat_lt 0 bytes ≡ not (bytes == 0)

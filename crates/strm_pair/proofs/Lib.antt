@@ -19,6 +19,7 @@ pub mod ModuleSteps
 pub mod NearestStays
 pub mod ServeSteps
 pub mod CallsOn
+pub mod MovingOn
 pub mod TurnSteps
 mod NamedPlaces
 mod ModuleTurns

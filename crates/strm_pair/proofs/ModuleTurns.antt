@@ -88,7 +88,7 @@ may-move name at s found few moves =
     let ps = (stream name.side s).modules in
     let low = found-low name.place ps at found in
     let size = index-map none_there (λ p. first_size (messages_at module_queue name.way p)) 0 (at - 1) ps (omega (arith, low.0, low.1)) in
-    record { stays = refl; named = refl; inside = low.0; within = low.1; low = low.2; few = omega (arith, few, size, whole name.way (slice_index_or ps (at - 1) none_there)); moves = moves }
+    record { stays = refl; named = refl; found = found; inside = low.0; within = low.1; low = low.2; few = omega (arith, few, size, whole name.way (slice_index_or ps (at - 1) none_there)); moves = moves }
 
 -- as many modules stand behind a writer that waits
 change-long : (f : Module ℕ → Module ℕ) (i : ℕ) (ps : List (Module ℕ)) → length (change_among f i ps) ≡ length ps

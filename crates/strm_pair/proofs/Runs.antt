@@ -7,7 +7,7 @@ use Rattle.strm_types.specs.declared.entries.Entry.TheVariants.{Turned}
 use Rattle.strm_types.specs.declared.names.QueueName.{QueueName}
 use Rattle.strm_types.specs.Journal.{PlainEntry, room_used}
 use Rattle.strm_types.specs.Refused.{turn_blocks}
-use Rattle.strm_laws.specs.Pair.{PairState, AddsEntry, RanTurns, next_refused, queue_refused, refused_of}
+use Rattle.strm_laws.specs.Pair.{PairState, AddsEntry, RanTurns, Stops, next_refused, queue_refused, refused_of}
 use Rattle.strm_laws.specs.Refusals.{enough}
 use Rattle.strm_laws.proofs.Balances.{both-true}
 use Rattle.strm_laws.proofs.Replay.{turn-allowed}
@@ -28,9 +28,9 @@ full-refuses p name full none =
     (let less = room.0 in grind (arith, nat_tests, full))
 
 pub one-more : (turns left : ℕ) (old mid new : PairState) (name : QueueName) (turn : Turn) → IsRunning turns left old mid → slice_get mid.state.enabled 0 ≡ Some name
-    → AddsEntry mid new (Turned name turn) → IsRunning (turns + 1) left old new
-one-more turns left old mid new name turn run first adds = record {
-  ran = subst (λ n. RanTurns n old new) (let e : suc turns ≡ turns + 1 = omega arith in e) (mid, (run.ran, record { name = name; turn = turn; first = first; adds = adds }));
+    → AddsEntry mid new (Turned name turn) → Stops mid new name turn → IsRunning (turns + 1) left old new
+one-more turns left old mid new name turn run first adds stops = record {
+  ran = subst (λ n. RanTurns n old new) (let e : suc turns ≡ turns + 1 = omega arith in e) (mid, (run.ran, record { name = name; turn = turn; first = first; adds = adds; stops = stops }));
   entries = ap (λ (es : List PlainEntry). length es) adds.journal ∙ length-append mid.journal (Turned name turn ∷ []) ∙ (let same = run.entries in omega arith);
   limits = adds.limits ∙ run.limits;
   room = run.room;

@@ -200,6 +200,7 @@ module _ (s t : StoreValue) (p q : Streams) (x : Stack) (here : Spot) (again : B
         sent = e.sent ∙ ap (λ ls. (called here again stop ls).sent) same;
         tells = e.tells ∙ ap (λ ls. tallied (called here again stop ls).gone f) same;
         itself = tells-by e;
+        some = e.some;
         beside = r.beside;
         chains = e.chains;
         falls = e.falls;
@@ -287,6 +288,7 @@ module _ (r s : StoreValue) (o p : Streams) (here : Spot) (again : Bool) (call :
         state = led_state;
         tells = told ∙ ap (λ (u : Carried ℕ (State ℕ)). tallied u.gone f') is ∙ ap (tallied (on w.sent w.state).gone) a.tells ∙ sym (tallied-append w.gone (on w.sent w.state).gone f);
         itself = a.itself;
+        some = a.some;
         beside = beside;
         hand = λ i. omega (arith, all i, a.hands.counts i, hands.counts i);
         room = next-room s t call.again (cost_of most_cost (parcels_in s sent_on)) (next_cost here (state_in s p)) (next_cost here (state_in t q))

@@ -6,6 +6,7 @@ pub mod Took
 pub mod Taken
 pub mod Framing
 pub mod Effects
+pub mod Readiness
 pub mod Renewed
 pub mod Lists
 pub mod Streams

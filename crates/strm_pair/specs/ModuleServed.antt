@@ -4,6 +4,7 @@ use Rattle.std.specs.Bool.{OnTrue}
 use Rattle.strm_types.specs.declared.answers.Turn.TheVariants.{Moved}
 use Rattle.strm_types.specs.declared.books.Book.{Book}
 use Rattle.strm_types.specs.declared.both.Both.{Both}
+use Rattle.strm_types.specs.declared.limits.TheConstants.{STOP_BLOCKS}
 use Rattle.strm_types.specs.declared.names.QueueName.{QueueName}
 use Rattle.strm_types.specs.declared.rules.Fates.{Fates}
 use Rattle.strm_types.specs.declared.spots.Spot.{Spot}
@@ -99,6 +100,7 @@ pub record StackServes (old new : StoreValue) (x y : Stack) (here : Spot) (again
   pub bytes : served.bytes ≡ treated here again (stop_of served) (modules_in old x)
   pub asks : served.again ≡ asks_on here again (stop_of served) (modules_in old x)
   pub over : OnTrue served.stopped (served.again ≡ false)
+  pub some : OnTrue served.stopped (HasRoom old STOP_BLOCKS → 0 < served.bytes)
   pub ends : OnTrue served.stopped (HoldsAt (λ p. Ends here.way again (ldterm_of p) served.bytes) (modules_in old x) (here.at - 1))
   pub made : made_of (called here again (stop_of served) (modules_in old x)).gone ≤ most_made served.bytes
   pub held : IsStackHeld new y
@@ -120,6 +122,7 @@ pub record ActsAs (old new : StoreValue) (p q : Streams) (here : Spot) (again : 
   pub sent : parcels_in new sent_on ≡ (acts_in here again call (state_in old p)).sent
   pub tells : told' ≡ tallied (acts_in here again call (state_in old p)).gone told
   pub itself : TellsAs here again call (state_in old p)
+  pub some : OnTrue call.stopped (HasRoom old STOP_BLOCKS → 0 < call.bytes)
   pub beside : AreBeside new q
   pub chains : AreChains new sent_on
   pub falls : AreLower far (turn_height here) (parcels_in new sent_on)
@@ -132,16 +135,18 @@ pub record CallsAs (old new : StoreValue) (p q : Streams) (here : Spot) (again :
   pub state : state_in new q ≡ (led here again (stop_in call) (state_in old p)).state
   pub tells : told' ≡ tallied (led here again (stop_in call) (state_in old p)).gone told
   pub itself : TellsAs here again call (state_in old p)
+  pub some : OnTrue call.stopped (HasRoom old STOP_BLOCKS → 0 < call.bytes)
   pub beside : AreBeside new q
   pub hand : IsKeptAll new q
   pub room : OnTrue call.again (HasRoom new (next_cost here (state_in new q)))
   pub left : spare (state_in old p) ≤ spare (state_in new q) + call_units call.bytes
   pub pool : SamePool old new
 
--- Calls treated so many bytes of a turn, which would end here, and so much of the books was taken at most.
+-- Calls treated so many bytes of a turn, one at least where the message has any, and it would end here. So much of the books was taken at most.
 pub record TreatsAs (here : Spot) (bytes : ℕ) (old new : State ℕ) (told told' : Fates) : Type 0 where
   pub gone : List (Fate ℕ)
   pub within : bytes ≤ bytes_left here.way false (ldterm_of (module_at here old))
+  pub some : bytes ≡ 0 → bytes_left here.way false (ldterm_of (module_at here old)) ≡ 0
   pub stands : here.at - 1 < length (stream here.side new).modules
   pub moves : (name : QueueName) → moved_on plain here name bytes old
       ≡ record { turn = Moved bytes; state = module_turn_ended name here (not (bytes == 0)) new; gone = gone }

@@ -1,11 +1,11 @@
 -- What a turn of a module's queue begins with.
-use Rattle.std.specs.Prelude.{ℕ, ◌≡◌, ◌<◌, ◌≤◌, false, length}
+use Rattle.std.specs.Prelude.{ℕ, ◌≡◌, ◌<◌, ◌≤◌, false, length, Some}
 use Rattle.strm_types.specs.declared.answers.Turn.{Turn}
 use Rattle.strm_types.specs.declared.limits.TheConstants.{MODULES}
 use Rattle.strm_types.specs.declared.names.QueueName.{QueueName}
 use Rattle.strm_types.specs.declared.spots.Spot.{Spot}
 use Rattle.strm_types.specs.Cells.{plain}
-use Rattle.strm_laws.specs.ModuleTurns.{module_turned, moved_within}
+use Rattle.strm_laws.specs.ModuleTurns.{module_turned, moved_by, moved_within, place_named}
 use Rattle.strm_laws.specs.State.{State, stream}
 use Rattle.strm_types.specs.LdtermCalls.{bytes_left}
 use Rattle.strm_laws.specs.TurnCalls.{ldterm_of, module_at}
@@ -18,13 +18,14 @@ use Rattle.strm_pair.specs.declared.serving.Begun.TheVariants.{Over, Serves}
 pub record MayMove (old new : State ℕ) (name : QueueName) (here : Spot) : Type 0 where
   pub stays : new ≡ old
   pub named : here ≡ record { side = name.side; at = here.at; way = name.way }
+  pub found : place_named name.place (stream name.side old).modules ≡ Some here.at
   pub inside : 0 < here.at
   pub within : here.at ≤ length (stream here.side old).modules
   pub low : here.at ≤ MODULES
   pub few : bytes_left here.way false (ldterm_of (module_at here old)) ≤ 16777216
   pub moves : (turn : Turn) → module_turned plain name turn old ≡ moved_within plain here name turn old
 
--- Or the turn is over, whatever it is answered.
+-- Or the turn is over, and moved nothing, whatever it is answered.
 abbrev pub BeginsAs : (old new : State ℕ) → QueueName → Begun → Type 0
-BeginsAs old new name (Over answer) = (turn : Turn) → module_turned plain name turn old ≡ stayed_put answer new
+BeginsAs old new name (Over answer) = (moved_by answer ≡ 0) × ((turn : Turn) → module_turned plain name turn old ≡ stayed_put answer new)
 BeginsAs old new name (Serves here) = MayMove old new name here

@@ -2,7 +2,7 @@
 //! Programming Guide, "Service Procedures").
 
 ghost use Rattle.std.specs.Prelude.{◌≡◌, ◌≤◌, ◌<◌, ◌+◌, ◌^◌, length, false};
-ghost use Rattle.strm_types.specs.declared.limits.TheConstants.{MODULES};
+ghost use Rattle.strm_types.specs.declared.limits.TheConstants.{MODULES, STOP_BLOCKS};
 ghost use Rattle.strm_laws.specs.State.{stream};
 ghost use Rattle.strm_types.specs.LdtermCalls.{bytes_left};
 ghost use Rattle.strm_laws.specs.TurnCalls.{ldterm_of, module_at};
@@ -147,14 +147,14 @@ impl Streams {
         call
     }
 
-    /// The calls of a turn, until one asks for no other: how many bytes they treated.
+    /// The calls of a turn, until one asks for no other: how many bytes they treated, one at least where the message has any.
     pub(crate) fn call_on<B: Blocks>(
         &mut self,
         store: &mut B,
         here: Spot,
         told: &mut Fates,
     ) -> usize
-        requires may { MayDeliver (B.value store.old) self.old 25 }
+        requires may { MayDeliver (B.value store.old) self.old STOP_BLOCKS }
         requires inside { 0 < here.at }
         requires low { here.at ≤ MODULES }
         requires within { here.at ≤ length (stream here.side (state_in (B.value store.old) self.old)).modules }

@@ -3,7 +3,7 @@
 ghost use Rattle.std.specs.Prelude.{◌≡◌, ◌+◌, ◌≤◌, ◌<◌, ◌^◌, [], ◌∷◌, ◌++◌, length, vec_capacity, true, IfOk};
 ghost use Rattle.strm_types.specs.declared.entries.Entry.TheVariants.{Called, Turned};
 ghost use Rattle.strm_types.specs.Events.{request, payload_of};
-ghost use Rattle.strm_types.specs.Journal.{entry_in, entry_len, answer_len, reply_in};
+ghost use Rattle.strm_types.specs.Journal.{entry_in, entry_len, answer_len, reply_in, room_used};
 ghost use Rattle.strm_laws.specs.Restorable.{IsWithinCall};
 ghost use Rattle.strm_types.specs.declared.limits.TheConstants.{BANDS};
 ghost use Rattle.strm_pair.specs.Journals.{IsStored, has_room_for};
@@ -105,6 +105,13 @@ impl Journal {
         ensures { result + length (journal_of self.now) ≡ self.now.most_entries }
     {
         self.most_entries - self.entries.len()
+    }
+
+    /// How many more bytes of entries fit.
+    pub fn bytes_left(&self) -> usize
+        ensures { result + room_used (journal_of self.now) ≡ self.now.most_bytes }
+    {
+        self.most_bytes - self.bytes.len()
     }
 
     // Adds an entry with its bytes: those of its call, in two parts, and those of its answer. Inlined, so that an entry is

@@ -21,6 +21,7 @@ mod naming;
 mod pair;
 mod past;
 mod putting;
+mod readiness;
 mod refusals;
 pub mod restore_laws;
 mod room;
@@ -32,4 +33,5 @@ mod turning;
 mod writing;
 
 pub use pair::{Pair, Recorded};
+pub use readiness::Ready;
 pub use running::Ran;

@@ -7,7 +7,7 @@ ghost use Rattle.strm_types.specs.declared.entries.Entry.TheVariants.{Called, Tu
 ghost use Rattle.strm_laws.specs.Earlier.{modules_on};
 ghost use Rattle.strm_types.specs.declared.job_control.Verdict.TheVariants.{Allowed, Stopped};
 ghost use Rattle.strm_laws.specs.Based.{based};
-ghost use Rattle.strm_laws.specs.Pair.{new_pair, call_refused, call_verdict, queue_refused, AddsEntry};
+ghost use Rattle.strm_laws.specs.Pair.{new_pair, call_refused, call_verdict, queue_refused, AddsEntry, Stops};
 ghost use Rattle.strm_types.specs.Journal.{entries_in, entry_len, reply_in, answer_len};
 ghost use Rattle.strm_laws.specs.Refusals.{enough, has_room};
 ghost use Rattle.strm_laws.specs.Step.{replay, IsLegal};
@@ -166,11 +166,26 @@ impl<B: Blocks + Drop> Pair<B> {
         self.streams.book(direction).written
     }
 
-    /// What holds of the ledgers of every pair, as [`Pair::ledger`] tells of one direction. It does nothing.
+    /// What holds of every pair, whatever was called. The plain state that contracts see is what its message blocks stand for, read along their
+    /// chains ([`Pair::store`]): it is the one to which its journal leads from its base (`replayed`), each entry a legal step with the answer
+    /// that it stores (`legal`). Each queue is in order of rank, and first come within a rank (`ordered`). Each message has a message block at
+    /// least, and all blocks are free where there is no message (`blocks`). What has gone is what the entries say (`told`). In each direction
+    /// what was written and made is what stands on queues and in lines, and what has gone by each rule (`balanced`); and every byte that stood
+    /// there where the journal begins, or was booked since, has exactly one place, in its own direction, and no other byte has any (`once`,
+    /// `own`). What [`Pair::count`] and [`Pair::is_full`] tell of a queue are the sums of its messages. It does nothing.
     pub fn audit(&self)
-        ensures { (dir : Dir) → Balanced dir self.now.state self.now.fates }
+        ensures replayed { self.now.state ≡ replay plain self.now.base self.now.journal }
+        ensures legal { IsLegal plain self.now.base self.now.journal }
+        ensures ordered { AreOrdered self.now.state }
+        ensures blocks { IsPoolOf (messages_in self.now.state) self.now.limits self.now.free }
+        ensures told { self.now.fates ≡ told_by plain self.now.base self.now.journal self.now.base_fates }
+        ensures balanced { (dir : Dir) → Balanced dir self.now.state self.now.fates }
+        ensures once { (o : Origin) → places_of o self.now.base self.now.journal
+            ≡ (if is_booked o self.now.base (replay tagged (based self.now.base) self.now.journal) then 1 else 0) }
+        ensures own { (o : Origin) → own_places_of o self.now.base self.now.journal
+            ≡ (if is_booked o self.now.base (replay tagged (based self.now.base) self.now.journal) then 1 else 0) }
     {
-        let _ = &self.fates;
+        self.store.audit();
     }
 
     /// The ledger of a direction: how many bytes were written and made there, how many stand on its queues and in its unfinished
@@ -189,6 +204,7 @@ impl<B: Blocks + Drop> Pair<B> {
         ensures own { (o : Origin) → own_places_of o self.now.base self.now.journal
             ≡ (if is_booked o self.now.base (replay tagged (based self.now.base) self.now.journal) then 1 else 0) }
     {
+        self.audit();
         let book = self.streams.book(direction);
         let inline = self.streams.line_lens(direction) as u64;
         let fates = self.fates.of(direction);
@@ -423,12 +439,14 @@ impl<B: Blocks + Drop> Pair<B> {
     /// full (ERANGE), the journal is full, or too few blocks of a kind are free (ENOSR): 8 for a driver's queue, 32 for a module's. It
     /// changes nothing then. Else the journal gains the turn with its answer.
     ///
-    /// A turn of a module's queue may stop within its message where fewer than 32 blocks are left, and its answer says how far it went.
+    /// A turn of ldterm's may stop within its message where fewer than 32 blocks are left, and its answer says how far it went: a byte at
+    /// least where the message has any, so that no turn moves nothing of it.
     /// The cost is that of one message. No memory is taken.
     pub fn turn(&mut self, name: QueueName) -> Result<Turn, Refusal>
         ensures refused { MatchOption (queue_refused self.old name) (IsOk result)
             (λ r. (result ≡ Err r) × (self.new ≡ self.old)) }
         ensures adds { IfOk result (λ turn. AddsEntry self.old self.new (Turned name turn)) }
+        ensures stops { IfOk result (λ turn. Stops self.old self.new name turn) }
     {
         if let Some(refusal) = self.turn_refusal(name) {
             return Err(refusal);
@@ -451,7 +469,7 @@ impl<B: Blocks + Drop> Pair<B> {
         ensures ordered { AreOrdered self.now.state }
         ensures blocks { IsPoolOf (messages_in self.now.state) self.now.limits self.now.free }
     {
-        self.store.audit();
+        self.audit();
         Recorded {
             base: self.base.text.as_slice(),
             entries: self.journal.entries.as_slice(),
@@ -460,5 +478,6 @@ impl<B: Blocks + Drop> Pair<B> {
     }
 }
 
+mod polling;
 mod restoring;
 mod tracing;

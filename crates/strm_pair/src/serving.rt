@@ -2,10 +2,13 @@
 //! head's, 0, over the modules from the top, to the driver's.
 
 ghost use Rattle.std.specs.Prelude.{ℕ, ◌≡◌, ◌≤◌, ◌<◌, length, false};
+ghost use Rattle.strm_types.specs.declared.limits.TheConstants.{STOP_BLOCKS};
+ghost use Rattle.strm_types.specs.declared.names.Place.TheVariants.{Ldterm};
 ghost use Rattle.strm_types.specs.Cells.{plain};
 ghost use Rattle.strm_types.specs.ModuleQueues.{at_place};
 ghost use Rattle.strm_laws.specs.Ledgers.{FewBooked};
 ghost use Rattle.strm_laws.specs.ModuleTurns.{module_turn_ended, module_turned, place_named, queue_ended, stayed_at};
+ghost use Rattle.strm_laws.specs.Pair.{MovesOn};
 ghost use Rattle.strm_types.specs.Service.{end_relieves, has_more};
 ghost use Rattle.strm_laws.specs.Stacked.{module_queue};
 ghost use Rattle.strm_laws.specs.State.{stream, with_stream};
@@ -121,18 +124,19 @@ impl Streams {
     }
 
     /// A turn of a module's queue, which is off the list of enabled queues: its first message is treated, as far as the blocks that are
-    /// free allow, unless it may not go on.
+    /// free allow and for a byte at least where it has any, unless it may not go on.
     pub(crate) fn turn_module<B: Blocks>(
         &mut self,
         store: &mut B,
         name: QueueName,
         told: &mut Fates,
     ) -> Turn
-        requires { MayDeliver (B.value store.old) self.old 25 }
+        requires { MayDeliver (B.value store.old) self.old STOP_BLOCKS }
         ensures turn { result ≡ (module_turned plain name result (state_in (B.value store.old) self.old)).turn }
         ensures leads { let s = B.value store.old in let is = module_turned plain name result (state_in s self.old) in
             Leads s (B.value store.new) self.new told.old told.new is.state is.gone }
         ensures few { FewBooked (state_in (B.value store.new) self.new) }
+        ensures stops { name.place ≡ Ldterm → MovesOn (state_in (B.value store.old) self.old) name result }
     {
         match self.begin_module_turn(store, name) {
             Begun::Over(turn) => turn,

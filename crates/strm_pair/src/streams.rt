@@ -9,6 +9,7 @@ ghost use Rattle.strm_types.specs.declared.answers.Answer.TheVariants.{Done, Byt
 ghost use Rattle.strm_types.specs.declared.names.Openness.TheVariants.{Open};
 ghost use Rattle.strm_types.specs.Events.{request};
 ghost use Rattle.strm_laws.specs.Calls.{delivers, mode_set, opened_slave, performed, read_at};
+ghost use Rattle.strm_laws.specs.Pair.{MovesOn};
 ghost use Rattle.strm_laws.specs.Turns.{turned};
 ghost use Rattle.strm_types.specs.declared.limits.TheConstants.{READ_MAX};
 ghost use Rattle.strm_frame.specs.Hands.{HasRoom};
@@ -259,6 +260,7 @@ impl Streams {
         ensures leads { let s = B.value store.old in let is = turned plain name result (state_in s self.old) in
             Leads s (B.value store.new) self.new told.old told.new is.state is.gone }
         ensures few { FewBooked (state_in (B.value store.new) self.new) }
+        ensures stops { MovesOn (state_in (B.value store.old) self.old) name result }
     {
         self.enabled.remove(name);
         match name.place {

@@ -25,6 +25,7 @@ mod turns;
 use crate::tests::faults::plays_slowly;
 use crate::tests::scenes::plays_scenes;
 use std::alloc::{AllocError, Global};
+use std::io::{Read, Write};
 use std::process::Abort;
 use std::test::Fail;
 use strm_blocks::{Reserve, TableStore};
@@ -61,11 +62,11 @@ fn ends_as(rt: &impl Abort, title: &str, number: usize, ended: ScriptEnd, wanted
 // The number of the first line, from 1, in which two texts differ or one of them ends.
 fn first_other(one: &[u8], other: &[u8]) -> usize {
     let mut line = 1usize;
-    for (here, there) in one.iter().zip(other) {
-        if *here != *there {
+    for at in 0..one.len() {
+        if other.get(at) != Some(&one[at]) {
             break;
         }
-        if *here == b'\n' {
+        if one[at] == b'\n' {
             line = line.saturating_add(1);
         }
     }
@@ -76,6 +77,11 @@ fn first_other(one: &[u8], other: &[u8]) -> usize {
 fn wrote(rt: &impl Abort, title: &str, number: usize, written: &[u8], wanted: &[u8]) {
     let answer = first_other(written, wanted);
     assert!(rt; written == wanted, "{title}, {number}, answer {answer}");
+}
+
+// Runs a script over a store, and says how it ended.
+fn runs<B: Reserve, R: Read, W: Write>(alloc: Global, reader: &mut R, writer: &mut W) -> ScriptEnd {
+    run_script::<B, _, _>(alloc, reader, writer)
 }
 
 // Runs a script over a store and compares what it writes, its status and its first short line.
@@ -89,7 +95,7 @@ fn plays_over<B: Reserve>(
 ) {
     let mut reader = script;
     let mut written = Vec::new(alloc);
-    let ended = run_script::<B, _, _>(alloc, &mut reader, &mut written);
+    let ended = runs::<B, _, _>(alloc, &mut reader, &mut written);
     wrote(rt, title, script.len(), written.as_slice(), answers);
     ends_as(rt, title, script.len(), ended, end);
 }

@@ -3,7 +3,7 @@
 use Rattle.std.proofs.Common.{◌≡◌, ℕ, zero, suc, ◌+◌, ◌-◌, ◌*◌, ◌≤◌, Bool, true, false, cond, List, [], ◌∷◌, map, min, Option, None, Some, is_some, slice_index_or, refl, sym, ap, subst, ◌∙◌, arith}
 use Rattle.std.proofs.lemmas.Bool.{eq-eqb}
 use Rattle.std.proofs.lemmas.Bool.Decides.{nat_tests}
-use Rattle.std.specs.Prelude.{nat_lt}
+use Rattle.std.specs.Prelude.{max, nat_lt}
 use Rattle.strm_types.specs.declared.answers.Turn.{Turn}
 use Rattle.strm_types.specs.declared.answers.Turn.TheVariants.{Moved, Blocked, Idle}
 use Rattle.strm_types.specs.declared.names.Place.{Place}
@@ -125,7 +125,7 @@ module _ (side : Side) (at : ℕ) (way : Way) (name : QueueName) (s : State ℕ)
   abbrev first_there : ℕ
   first_there = at_place (λ p. first_size (messages_at module_queue way p)) 0 at (stream side s).modules
 
-  module _ (n m : ℕ) (same : min n first_there ≡ min m first_there) where
+  module _ (n m : ℕ) (same : min (max 1 n) first_there ≡ min (max 1 m) first_there) where
     asked-alike : (asks : Asks) → asked_turn plain (there side at way) asks name (Moved n) s ≡ asked_turn plain (there side at way) asks name (Moved m) s
     asked-alike asked.Empty = refl
     asked-alike asked.Held = refl
@@ -147,6 +147,11 @@ first-among way i [] = refl
 first-among way zero (p ∷ ps) = refl
 first-among way (suc i) (p ∷ ps) = first-among way i ps
 
+-- a turn for as many bytes as there are goes to the end
+goes-past : (n size : ℕ) → size ≤ n → min (max 1 n) size ≡ size
+goes-past zero size whole = omega (arith, whole)
+goes-past (suc n) size whole = omega (arith, whole)
+
 goes-whole : (side : Side) (way : Way) (n : ℕ) (s : State ℕ) (t : Stream ℕ) → (stream side s).modules ≡ t.modules → first_size (messages_named Ldterm way t.modules) ≤ n
     → turned_named plain (named side way) (whole_module Ldterm way t) s (place_named Ldterm t.modules) ≡ turned_named plain (named side way) (Moved n) s (place_named Ldterm t.modules)
 goes-whole side way n s t is whole = by (place_named Ldterm t.modules) refl
@@ -161,7 +166,8 @@ goes-whole side way n s t is whole = by (place_named Ldterm t.modules) refl
         let fits = subst (λ o. first_size (at_found (messages_at module_queue way) [] t.modules o) ≤ n) found whole in
         let size = first-among way (at - 1) t.modules in
         let first : first_there side at way (named side way) s ≡ at_place say 0 at t.modules = ap (λ ps. at_place say 0 at ps) is in
-        rw found (there-alike side at way (named side way) s (at_place say 0 at t.modules) n (omega (arith, fits, size, first)))
+        let whole : first_there side at way (named side way) s ≤ n = omega (arith, fits, size, first) in
+        rw found (there-alike side at way (named side way) s (at_place say 0 at t.modules) n (goes-past (at_place say 0 at t.modules) _ (omega (arith, first)) ∙ sym (goes-past n _ whole)))
 
 -- what an account says of a turn that was answered so
 pub record Accounted (turn : Turn) (name : QueueName) (s : State ℕ) : Type 0 where

@@ -1,3 +1,3 @@
 pub mod Known
-pub mod Shut
+pub mod Sizes
 pub mod Storms

@@ -11,4 +11,4 @@ mod tests;
 pub use laws::entries_are_tallied;
 pub use locked::{Locked, Store, unopened};
 pub use storms::{StormPlan, StormReport, storm};
-pub use systems::system;
+pub use systems::{system, system_over};

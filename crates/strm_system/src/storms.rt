@@ -6,8 +6,8 @@ ghost use Rattle.strm_system.specs.Storms.{IsStorm, all_counted};
 
 mod counts;
 mod crew;
-mod dealing;
-mod hands;
+pub(crate) mod dealing;
+pub(crate) mod hands;
 mod plans;
 mod random;
 

@@ -2,6 +2,7 @@
 
 mod journals;
 mod minors;
+mod rows;
 mod server;
 mod steps;
 mod storms;

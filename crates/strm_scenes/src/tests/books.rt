@@ -1,13 +1,15 @@
 //! A pair of an image whose book of what the master writes is full: writes are refused in both directions, and reads go on.
 
 use super::no_memory::{SIZES, first_wrong};
+use crate::trials::steps::{AGAIN, MASTER, SLAVE, Step, follow, new_pair, restored};
+use crate::trials::texts::image_of;
 use std::alloc::{AllocError, Global};
 use std::process::Abort;
 use std::test::Fail;
-use strm_blocks::{Reserve, TableStore};
+use strm_blocks::{Blocks, Reserve, TableStore};
 use strm_pair::Pair;
 use strm_raw::RawStore;
-use strm_types::{Caller, Content, Event, RULES, Refusal, Side};
+use strm_types::{Event, RULES, Refusal};
 
 // Where the ledgers begin, from the end of an image: written, made and a number for each rule, of 8 bytes each, in both directions.
 const LEDGERS: usize = 2 * 8 * (2 + RULES);
@@ -23,37 +25,38 @@ fn fill(image: &mut Vec<u8>, number: usize) {
     }
 }
 
-// Opens a pair, fills in its image what the master wrote and what was read of it, and makes calls on a pair of that image.
-fn refuses_writes<B: Reserve>(rt: &impl Abort, alloc: Global) -> Result<(), Fail> {
-    let store = B::reserve(alloc, SIZES.mblks, SIZES.dblks)?;
-    let Ok(mut pair) = Pair::new(alloc, SIZES, store) else {
-        return Err(Fail::from(AllocError));
-    };
-    let mut out = Content::new();
-    assert_eq!(rt; first_wrong(&mut pair, &mut out, 3), None);
-    let Ok(mut image) = pair.image(alloc) else {
-        return Err(Fail::from(AllocError));
-    };
+// Opens a pair, and fills in its image what the master wrote and what was read of it.
+fn full_image<B: Blocks + Drop>(
+    rt: &impl Abort,
+    alloc: Global,
+    pair: &mut Pair<B>,
+) -> Result<Vec<u8>, AllocError> {
+    assert!(rt; first_wrong(pair, 3).is_none());
+    let mut image = image_of(alloc, pair)?;
     fill(&mut image, 0);
     fill(&mut image, 2);
-    let store = B::reserve(alloc, SIZES.mblks, SIZES.dblks)?;
-    let Ok(mut full) = Pair::restore(alloc, SIZES, image.as_slice(), store) else {
+    Ok(image)
+}
+
+const REFUSED: [Step<'static>; 3] = [
+    Step::Call(MASTER, Event::Write { bytes: b"a" }, Err(Refusal::Erange)),
+    Step::Call(SLAVE, Event::Write { bytes: b"a" }, Err(Refusal::Erange)),
+    Step::Call(SLAVE, Event::Read { n: 1 }, AGAIN),
+];
+
+// Makes calls on a pair of that image.
+fn refuses_writes<B: Reserve>(rt: &impl Abort, alloc: Global) -> Result<(), AllocError> {
+    let mut pair: Pair<B> = new_pair(alloc, SIZES)?;
+    let image = full_image(rt, alloc, &mut pair)?;
+    let Some(mut full) = restored::<B>(alloc, SIZES, image.as_slice())? else {
         panic!(rt; "an image is refused")
     };
-    let write = Event::Write {
-        bytes: b"a".as_slice(),
-    };
-    for side in [Side::Master, Side::Slave] {
-        let came = full.call(Caller::of(side), &write, &mut out);
-        assert!(rt; came == Err(Refusal::Erange));
-    }
-    let read = full.call(Caller::of(Side::Slave), &Event::Read { n: 1 }, &mut out);
-    assert!(rt; read == Err(Refusal::Eagain));
+    follow(rt, &mut full, "a full book", &REFUSED);
     Ok(())
 }
 
 #[test]
 fn a_full_book_refuses_writes_of_both_sides(rt: HostRuntime) -> Result<(), Fail> {
     refuses_writes::<RawStore>(&rt, rt.alloc())?;
-    refuses_writes::<TableStore>(&rt, rt.alloc())
+    Ok(refuses_writes::<TableStore>(&rt, rt.alloc())?)
 }

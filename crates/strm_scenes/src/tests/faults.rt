@@ -1,11 +1,10 @@
 //! Readers and writers that are slow, interrupted, or fail at a call, and scripts that they carry.
 
-use super::{BROKEN, FIRST_ANSWERS, FIRST_RUN, WELL, ends_as, wrote};
+use super::{BROKEN, FIRST_ANSWERS, FIRST_RUN, WELL, ends_as, runs, wrote};
 use std::alloc::Global;
 use std::io::{self, Error, ErrorKind, Read, Write};
 use std::process::Abort;
 use strm_raw::RawStore;
-use strm_script::run_script;
 
 // A reader that is interrupted first, so many times, and then gives a script's bytes one a call, up to the call that
 // fails.
@@ -94,7 +93,7 @@ pub fn plays_slowly(
         calls_left: usize::MAX,
         flushes: true,
     };
-    let ended = run_script::<RawStore, _, _>(alloc, &mut reader, &mut writer);
+    let ended = runs::<RawStore, _, _>(alloc, &mut reader, &mut writer);
     ends_as(rt, "interruptions", interruptions, ended, WELL);
     wrote(
         rt,
@@ -140,7 +139,7 @@ fn a_reader_that_fails_leaves_the_answers_of_whole_lines(rt: HostRuntime) {
             calls_left: calls,
         };
         let mut written = Vec::new(rt.alloc());
-        let ended = run_script::<RawStore, _, _>(rt.alloc(), &mut reader, &mut written);
+        let ended = runs::<RawStore, _, _>(rt.alloc(), &mut reader, &mut written);
         ends_as(&rt, "at call", calls, ended, BROKEN);
         wrote_whole_lines(&rt, calls, written.as_slice());
     }
@@ -156,7 +155,7 @@ fn a_writer_that_fails_has_the_front_of_the_answers(rt: HostRuntime) {
             calls_left: calls,
             flushes: true,
         };
-        let ended = run_script::<RawStore, _, _>(rt.alloc(), &mut reader, &mut writer);
+        let ended = runs::<RawStore, _, _>(rt.alloc(), &mut reader, &mut writer);
         let all = calls == FIRST_ANSWERS.len();
         ends_as(
             &rt,
@@ -179,7 +178,7 @@ fn a_flush_that_fails_is_a_write_fault(rt: HostRuntime) {
         calls_left: usize::MAX,
         flushes: false,
     };
-    let ended = run_script::<RawStore, _, _>(rt.alloc(), &mut reader, &mut writer);
+    let ended = runs::<RawStore, _, _>(rt.alloc(), &mut reader, &mut writer);
     ends_as(&rt, "a flush", 0, ended, BROKEN);
     wrote(&rt, "a flush", 0, writer.written.as_slice(), FIRST_ANSWERS);
 }

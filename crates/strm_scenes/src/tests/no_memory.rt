@@ -1,6 +1,10 @@
 //! Calls on a pair where all memory is taken. No allocator that counts can stand in its store, which is made with
 //! `Global`, so a test takes what there is: whatever asks for more behind that is refused.
 
+use crate::trials::steps::{
+    AGAIN, DONE, INVALID, MASTER, SLAVE, SLAVE_HEAD, Step, entries, goes, new_pair, reset, restart,
+    runqueues,
+};
 use std::alloc::{AllocError, Global};
 use std::process::Abort;
 use std::test::Fail;
@@ -8,28 +12,7 @@ use strm_blocks::{Blocks, Reserve, TableStore};
 use strm_pair::Pair;
 use strm_raw::RawStore;
 use strm_types::{
-    Answer, Band, Caller, Config, Content, Event, FlushQueues, Mode, Place, Prio, QueueName,
-    ReadMode, Refusal, Side, TIOCGWINSZ, Wanted, Way,
-};
-
-const MASTER: Caller = Caller {
-    side: Side::Master,
-    group: 0,
-    ignores: false,
-    orphaned: false,
-};
-
-const SLAVE: Caller = Caller {
-    side: Side::Slave,
-    group: 0,
-    ignores: false,
-    orphaned: false,
-};
-
-const SLAVE_HEAD: QueueName = QueueName {
-    side: Side::Slave,
-    place: Place::Head,
-    way: Way::Up,
+    Answer, Band, Config, Event, FlushQueues, Mode, Prio, ReadMode, Refusal, TIOCGWINSZ, Wanted,
 };
 
 pub const SIZES: Config = Config {
@@ -39,32 +22,34 @@ pub const SIZES: Config = Config {
     journal_bytes: 8192,
 };
 
-static BYTES: [u8; 300] = [b'z'; 300];
+const BYTES: &[u8] = &[b'z'; 300];
 
-type Came = Result<Answer<u32>, Refusal>;
+const AB: &[u8] = b"ab";
+
+const CDE: &[u8] = b"cde";
 
 // Calls, each with what it answers. All turns that can be made are made behind each of them.
-const CALLS: [(Caller, Event<&'static [u8]>, Came); 24] = [
-    (MASTER, Event::OpenMaster, Ok(Answer::Done)),
-    (MASTER, Event::Unlock, Ok(Answer::Done)),
-    (SLAVE, Event::OpenSlave, Ok(Answer::Done)),
-    (
+const CALLS: &[Step<'static>] = &[
+    Step::Call(MASTER, Event::OpenMaster, DONE),
+    Step::Call(MASTER, Event::Unlock, DONE),
+    Step::Call(SLAVE, Event::OpenSlave, DONE),
+    Step::Call(
         MASTER,
-        Event::Write { bytes: &BYTES },
+        Event::Write { bytes: BYTES },
         Ok(Answer::Count(300)),
     ),
-    (SLAVE, Event::Read { n: 4096 }, Ok(Answer::Bytes(300))),
-    (SLAVE, Event::Read { n: 4096 }, Err(Refusal::Eagain)),
-    (
+    Step::Call(SLAVE, Event::Read { n: 4096 }, Ok(Answer::Bytes(300))),
+    Step::Call(SLAVE, Event::Read { n: 4096 }, AGAIN),
+    Step::Call(
         MASTER,
         Event::Put {
             prio: Prio::Band(Band(1)),
-            control: Some(b"ab"),
-            body: Some(b"cde"),
+            control: Some(AB),
+            body: Some(CDE),
         },
-        Ok(Answer::Done),
+        DONE,
     ),
-    (
+    Step::Call(
         SLAVE,
         Event::Nread,
         Ok(Answer::Sizes {
@@ -72,7 +57,7 @@ const CALLS: [(Caller, Event<&'static [u8]>, Came); 24] = [
             messages: 1,
         }),
     ),
-    (
+    Step::Call(
         SLAVE,
         Event::Get {
             wanted: Wanted::Any,
@@ -87,7 +72,7 @@ const CALLS: [(Caller, Event<&'static [u8]>, Came); 24] = [
             more_data: false,
         }),
     ),
-    (
+    Step::Call(
         SLAVE,
         Event::Get {
             wanted: Wanted::Any,
@@ -102,36 +87,32 @@ const CALLS: [(Caller, Event<&'static [u8]>, Came); 24] = [
             more_data: false,
         }),
     ),
-    (
+    Step::Call(
         SLAVE,
         Event::Mode {
             mode: Mode::Read(ReadMode::MessageDiscard),
         },
-        Ok(Answer::Done),
+        DONE,
     ),
-    (
-        SLAVE,
-        Event::Write { bytes: &BYTES },
-        Ok(Answer::Count(300)),
-    ),
-    (MASTER, Event::Read { n: 1 }, Ok(Answer::Bytes(1))),
-    (
+    Step::Call(SLAVE, Event::Write { bytes: BYTES }, Ok(Answer::Count(300))),
+    Step::Call(MASTER, Event::Read { n: 1 }, Ok(Answer::Bytes(1))),
+    Step::Call(
         MASTER,
         Event::Flush {
             what: FlushQueues::Both,
             band: None,
         },
-        Ok(Answer::Done),
+        DONE,
     ),
-    (
+    Step::Call(
         MASTER,
         Event::Flush {
             what: FlushQueues::Read,
             band: Some(Band(0)),
         },
-        Ok(Answer::Done),
+        DONE,
     ),
-    (
+    Step::Call(
         MASTER,
         Event::Ioctl {
             command: TIOCGWINSZ,
@@ -139,12 +120,12 @@ const CALLS: [(Caller, Event<&'static [u8]>, Came); 24] = [
         },
         Ok(Answer::Pending(1)),
     ),
-    (
+    Step::Call(
         MASTER,
         Event::IoctlResult { number: 1 },
         Ok(Answer::Nak(Refusal::Einval)),
     ),
-    (
+    Step::Call(
         SLAVE,
         Event::Ioctl {
             command: TIOCGWINSZ,
@@ -152,16 +133,12 @@ const CALLS: [(Caller, Event<&'static [u8]>, Came); 24] = [
         },
         Ok(Answer::Nak(Refusal::Einval)),
     ),
-    (SLAVE, Event::Signals, Ok(Answer::Signals(0))),
-    (MASTER, Event::Look, Err(Refusal::Einval)),
-    (MASTER, Event::Pop, Err(Refusal::Einval)),
-    (
-        SLAVE,
-        Event::Write { bytes: &BYTES },
-        Ok(Answer::Count(300)),
-    ),
-    (MASTER, Event::Shut, Ok(Answer::Done)),
-    (SLAVE, Event::Shut, Ok(Answer::Done)),
+    Step::Call(SLAVE, Event::Signals, Ok(Answer::Signals(0))),
+    Step::Call(MASTER, Event::Look, INVALID),
+    Step::Call(MASTER, Event::Pop, INVALID),
+    Step::Call(SLAVE, Event::Write { bytes: BYTES }, Ok(Answer::Count(300))),
+    Step::Call(MASTER, Event::Shut, DONE),
+    Step::Call(SLAVE, Event::Shut, DONE),
 ];
 
 // More blocks than a heap has that gives them as large as the machine's memory.
@@ -193,60 +170,99 @@ pub fn all_memory(alloc: Global) -> Result<Vec<Vec<u8>>, AllocError> {
 }
 
 // Makes the turns that can be made; whether none was refused.
-fn turns<B: Blocks + Drop>(pair: &mut Pair<B>) -> bool {
-    pair.runqueues().stopped.is_none()
+fn rests<B: Blocks + Drop>(pair: &mut Pair<B>) -> bool {
+    runqueues(pair).stopped.is_none()
 }
 
 // Makes so many of the calls, and the turns behind each: the first call that doesn't go as it says, if any.
-pub fn first_wrong<B: Blocks + Drop>(
-    pair: &mut Pair<B>,
-    out: &mut Content,
-    calls: usize,
-) -> Option<usize> {
-    for at in 0..CALLS.len().min(calls) {
-        let (caller, event, came) = &CALLS[at];
-        if pair.call(*caller, event, out) != *came || !turns(pair) {
+pub fn first_wrong<B: Blocks + Drop>(pair: &mut Pair<B>, calls: usize) -> Option<usize> {
+    let all: &[Step<'_>] = CALLS;
+    for at in 0..all.len().min(calls) {
+        if !goes(pair, &all[at]) || !rests(pair) {
             return Some(at);
         }
     }
     None
 }
 
-// Makes the calls on a pair over a store, where all memory is taken.
-fn calls_without_memory<B: Reserve>(rt: &impl Abort, alloc: Global) -> Result<(), Fail> {
-    let store = B::reserve(alloc, SIZES.mblks, SIZES.dblks)?;
-    let Ok(mut pair) = Pair::new(alloc, SIZES, store) else {
-        return Err(Fail::from(AllocError));
-    };
-    let mut out = Content::new();
+// Whether a pair can be cut.
+fn is_cut<B: Blocks + Drop>(alloc: Global, pair: &mut Pair<B>) -> bool {
+    pair.cut(alloc).is_ok()
+}
+
+// How many messages and bytes stand at the slave's head.
+fn at_the_head<B: Blocks + Drop>(pair: &Pair<B>) -> (usize, usize) {
+    pair.sizes(SLAVE_HEAD)
+}
+
+// What is seen of a pair: the first call that doesn't go as it says, how many entries the journal has then, whether it is cut, how many entries
+// that leaves, how many there are where it has begun anew, and the first wrong call and the head's sizes once more in a pair as new.
+#[derive(Drop)]
+struct Seen {
+    first: Option<usize>,
+    entries: usize,
+    is_cut: bool,
+    kept: usize,
+    anew: usize,
+    second: Option<usize>,
+    shown: (usize, usize),
+}
+
+fn look<B: Blocks + Drop>(alloc: Global, pair: &mut Pair<B>) -> Seen {
+    let first = first_wrong(pair, CALLS.len());
+    let made = entries(pair);
+    let is_cut = is_cut(alloc, pair);
+    let kept = entries(pair);
+    restart(pair);
+    let anew = entries(pair);
+    reset(pair);
+    let second = first_wrong(pair, CALLS.len());
+    Seen {
+        first,
+        entries: made,
+        is_cut,
+        kept,
+        anew,
+        second,
+        shown: at_the_head(pair),
+    }
+}
+
+fn has_memory(alloc: Global) -> bool {
+    Vec::<u8>::with_capacity(alloc, 1).is_ok()
+}
+
+// Makes the calls on a pair where all memory is taken.
+fn goes_without_memory<B: Blocks + Drop>(
+    rt: &impl Abort,
+    alloc: Global,
+    pair: &mut Pair<B>,
+) -> Result<(), AllocError> {
     let taken = all_memory(alloc)?;
-    let is_left = taken.len() < MOST_TAKEN && Vec::<u8>::with_capacity(alloc, 1).is_ok();
     let most = taken.len() >= MOST_TAKEN;
-    let first = first_wrong(&mut pair, &mut out, CALLS.len());
-    let entries = pair.journal().entries.len();
-    let is_cut = pair.cut(alloc).is_ok();
-    let kept = pair.journal().entries.len();
-    pair.restart();
-    let is_anew = pair.journal().entries.is_empty();
-    pair.reset();
-    let second = first_wrong(&mut pair, &mut out, CALLS.len());
-    let shown = pair.sizes(SLAVE_HEAD);
+    let is_left = !most && has_memory(alloc);
+    let seen = look(alloc, pair);
     drop(taken);
     assert!(rt; !is_left, "all memory is taken");
-    assert_eq!(rt; first, None);
-    assert!(rt; entries > CALLS.len());
+    assert!(rt; seen.first.is_none());
+    assert!(rt; seen.entries > CALLS.len());
     assert!(rt;
-        most || (!is_cut && kept == entries),
+        most || (!seen.is_cut && seen.kept == seen.entries),
         "a cut is refused, and the journal stays"
     );
-    assert!(rt; is_anew, "it begins anew without memory");
-    assert_eq!(rt; second, None, "once more, in a pair as new");
-    assert_eq!(rt; shown, (0, 0));
+    assert!(rt; seen.anew == 0, "it begins anew without memory");
+    assert!(rt; seen.second.is_none(), "once more, in a pair as new");
+    assert!(rt; seen.shown == (0, 0));
     Ok(())
+}
+
+fn takes_no_memory<B: Reserve>(rt: &impl Abort, alloc: Global) -> Result<(), AllocError> {
+    let mut pair: Pair<B> = new_pair(alloc, SIZES)?;
+    goes_without_memory(rt, alloc, &mut pair)
 }
 
 #[test]
 fn calls_take_no_memory(rt: HostRuntime) -> Result<(), Fail> {
-    calls_without_memory::<RawStore>(&rt, rt.alloc())?;
-    calls_without_memory::<TableStore>(&rt, rt.alloc())
+    takes_no_memory::<RawStore>(&rt, rt.alloc())?;
+    Ok(takes_no_memory::<TableStore>(&rt, rt.alloc())?)
 }

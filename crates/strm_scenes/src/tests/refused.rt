@@ -1,18 +1,20 @@
 //! Calls that ask for memory, where it is refused: the answer says so, all stays as it was, and the same call goes well once there is
 //! memory. `tools/refusals --tests strm_scenes may_be_refused` refuses each request of them in turn.
 
-ghost use Rattle.std.specs.Prelude.{◌≡◌, [], replicate};
+ghost use Rattle.std.specs.Prelude.{◌≡◌, [], IfOk, replicate};
+ghost use Rattle.strm_types.specs.declared.limits.TheConstants.{LISTS};
 
 use super::no_memory::{MOST_TAKEN, SIZES, all_memory, first_wrong};
-use super::{BROKEN, FIRST_ANSWERS, FIRST_RUN, WELL, ends_as, plays_over, wrote};
-use std::alloc::Global;
+use super::{BROKEN, FIRST_ANSWERS, FIRST_RUN, WELL, ends_as, plays_over, runs, wrote};
+use crate::trials::steps::{entries, store_of};
+use std::alloc::{AllocError, Global};
 use std::process::Abort;
 use std::test::Fail;
 use strm_blocks::{Reserve, TableStore};
 use strm_pair::Pair;
 use strm_raw::RawStore;
-use strm_script::{ScriptEnd, run_script};
-use strm_types::{Content, LISTS, NoMemory, Refusal};
+use strm_script::ScriptEnd;
+use strm_types::{NoMemory, Refusal};
 
 // A line that is full, a byte that finds no room in it, and its end.
 const FULL_LINE: &[u8] =
@@ -23,18 +25,15 @@ const FULL_ANSWERS: &[u8] =
 
 const SCRIPTS: [(&[u8], &[u8]); 2] = [(FIRST_RUN, FIRST_ANSWERS), (FULL_LINE, FULL_ANSWERS)];
 
-// Makes a store that holds nothing.
-fn store_of<B: Reserve>(rt: &impl Abort, alloc: Global) -> B
-    ensures lists { (B.value result).lists ≡ replicate LISTS [] }
-    ensures hand { (B.value result).hand ≡ [] }
+// A store that holds nothing, which is asked for once more where it is refused.
+fn store_twice<B: Reserve>(alloc: Global) -> Result<B, AllocError>
+    ensures lists { IfOk result (λ store. (B.value store).lists ≡ replicate LISTS []) }
+    ensures hand { IfOk result (λ store. (B.value store).hand ≡ []) }
 {
-    if let Ok(store) = B::reserve(alloc, SIZES.mblks, SIZES.dblks) {
-        return store;
+    match store_of(alloc, &SIZES) {
+        Ok(store) => Ok(store),
+        Err(AllocError) => store_of(alloc, &SIZES),
     }
-    let Ok(store) = B::reserve(alloc, SIZES.mblks, SIZES.dblks) else {
-        panic!(rt; "a store is refused twice")
-    };
-    store
 }
 
 // Makes a pair. Where that is refused, the store comes back with all its blocks free.
@@ -51,6 +50,14 @@ fn pair_of<B: Reserve>(rt: &impl Abort, alloc: Global, store: B) -> Pair<B>
         panic!(rt; "a pair is refused twice")
     };
     pair
+}
+
+// A pair over a store of its own, which has made its first 4 calls.
+fn opened_pair<B: Reserve>(rt: &impl Abort, alloc: Global) -> Result<Pair<B>, AllocError> {
+    let store: B = store_twice(alloc)?;
+    let mut pair = pair_of(rt, alloc, store);
+    assert!(rt; first_wrong(&mut pair, 4).is_none());
+    Ok(pair)
 }
 
 // Makes the image of a pair, which has 300 bytes on a queue.
@@ -84,16 +91,33 @@ fn restored<B: Reserve>(rt: &impl Abort, alloc: Global, store: B, image: &[u8]) 
     pair
 }
 
+// How many entries a cut hands out, unless it is refused.
+fn cut<B: Reserve>(alloc: Global, pair: &mut Pair<B>) -> Option<usize> {
+    let trace = pair.cut(alloc).ok()?;
+    Some(trace.entries.len())
+}
+
+// Whether a pair that is made of an image has this image.
+fn is_restored<B: Reserve>(
+    rt: &impl Abort,
+    alloc: Global,
+    image: &[u8],
+) -> Result<bool, AllocError> {
+    let store: B = store_twice(alloc)?;
+    let pair = restored(rt, alloc, store, image);
+    Ok(image_of(rt, alloc, &pair).as_slice() == image)
+}
+
 // Cuts a pair, which has made 4 calls and a turn. Where that is refused, its journal stays.
 fn cuts<B: Reserve>(rt: &impl Abort, alloc: Global, pair: &mut Pair<B>) {
-    let entries = pair.journal().entries.len();
-    let mut trace = pair.cut(alloc);
-    if trace.is_err() {
-        assert_eq!(rt; pair.journal().entries.len(), entries);
-        trace = pair.cut(alloc);
+    let made = entries(pair);
+    let mut handed_out = cut(alloc, pair);
+    if handed_out.is_none() {
+        assert!(rt; entries(pair) == made);
+        handed_out = cut(alloc, pair);
     }
-    assert!(rt; matches!(&trace, Ok(trace) if trace.entries.len() == entries && entries > 4));
-    assert!(rt; pair.journal().entries.is_empty());
+    assert!(rt; handed_out == Some(made) && made > 4);
+    assert!(rt; entries(pair) == 0);
 }
 
 // Looks at a script's answers: all of them, or the front of them behind a fault.
@@ -110,7 +134,7 @@ fn answers(rt: &impl Abort, ended: ScriptEnd, written: &[u8], wanted: &[u8]) {
 fn script_goes<B: Reserve>(rt: &impl Abort, alloc: Global, script: &[u8], wanted: &[u8]) {
     let mut reader = script;
     let mut written = Vec::new(alloc);
-    let ended = run_script::<B, _, _>(alloc, &mut reader, &mut written);
+    let ended = runs::<B, _, _>(alloc, &mut reader, &mut written);
     answers(rt, ended, written.as_slice(), wanted);
     if ended != WELL {
         plays_over::<B>(rt, alloc, "a script", script, wanted, WELL);
@@ -118,31 +142,27 @@ fn script_goes<B: Reserve>(rt: &impl Abort, alloc: Global, script: &[u8], wanted
 }
 
 // Makes each call that asks for memory, and once more where it is refused.
-fn makes_all<B: Reserve>(rt: &impl Abort, alloc: Global) {
-    let mut pair = pair_of(rt, alloc, store_of::<B>(rt, alloc));
-    let mut out = Content::new();
-    assert_eq!(rt; first_wrong(&mut pair, &mut out, 4), None);
+fn makes_all<B: Reserve>(rt: &impl Abort, alloc: Global) -> Result<(), AllocError> {
+    let mut pair: Pair<B> = opened_pair(rt, alloc)?;
     let image = image_of(rt, alloc, &pair);
-    let again = restored(rt, alloc, store_of::<B>(rt, alloc), image.as_slice());
-    assert!(rt; image_of(rt, alloc, &again) == image);
+    assert!(rt; is_restored::<B>(rt, alloc, image.as_slice())?);
     cuts(rt, alloc, &mut pair);
     for (script, wanted) in &SCRIPTS {
         script_goes::<B>(rt, alloc, *script, *wanted);
     }
+    Ok(())
 }
 
 #[test]
-fn any_one_request_for_memory_may_be_refused(rt: HostRuntime) {
-    makes_all::<RawStore>(&rt, rt.alloc());
-    makes_all::<TableStore>(&rt, rt.alloc());
+fn any_one_request_for_memory_may_be_refused(rt: HostRuntime) -> Result<(), Fail> {
+    makes_all::<RawStore>(&rt, rt.alloc())?;
+    Ok(makes_all::<TableStore>(&rt, rt.alloc())?)
 }
 
 // Makes each call that asks for memory where all is taken, and once more where it was given back. A heap of which not all can be taken is left out.
 fn refuses_all<B: Reserve>(rt: &impl Abort, alloc: Global) -> Result<(), Fail> {
-    let mut pair = pair_of(rt, alloc, store_of::<B>(rt, alloc));
-    let mut out = Content::new();
-    assert_eq!(rt; first_wrong(&mut pair, &mut out, 4), None);
-    let store = store_of::<B>(rt, alloc);
+    let pair: Pair<B> = opened_pair(rt, alloc)?;
+    let store: B = store_twice(alloc)?;
     let mut reader = FIRST_RUN;
     let mut written = Vec::new(alloc);
     let taken = all_memory(alloc)?;
@@ -152,7 +172,7 @@ fn refuses_all<B: Reserve>(rt: &impl Abort, alloc: Global) -> Result<(), Fail> {
     let no_store = B::reserve(alloc, 1, 1).is_err();
     let came = Pair::new(alloc, SIZES, store);
     let no_image = pair.image(alloc).is_err();
-    let ended = run_script::<B, _, _>(alloc, &mut reader, &mut written);
+    let ended = runs::<B, _, _>(alloc, &mut reader, &mut written);
     drop(taken);
     assert!(rt; no_store && no_image);
     let Err((NoMemory, store)) = came else {

@@ -28,8 +28,8 @@ pub(crate) struct Job<P: Object> {
     pub calls: u32,
 }
 
-// Both ends of the pair of a new minor, which is unlocked. The master's hand counts the three calls of that.
-fn opened<P: Object, R: Wait>(
+/// Both ends of the pair of a new minor, which is unlocked. The master's hand counts the three calls of that.
+pub(crate) fn opened<P: Object, R: Wait>(
     rt: &R,
     system: &System<P>,
     opener: &mut Opener,
@@ -38,10 +38,10 @@ fn opened<P: Object, R: Wait>(
     ensures opener { IsOf system.now.minors opener.new }
     ensures ends { IfOk result (λ two. IsOne system.now two.0.end × IsOne system.now two.1.end) }
 {
-    let Ok(minor) = system.minors().claim(opener) else {
+    let Ok(minor) = system.claim(opener) else {
         return Err(AllocError);
     };
-    let Ok(mut end) = system.open(rt, &minor) else {
+    let Ok(mut end) = system.open(rt, minor) else {
         return Err(AllocError);
     };
     let unlocked = system.call(rt, &mut end, &Event::Unlock, &mut Content::new());

@@ -71,6 +71,22 @@ impl<P: Object> Hand<P> {
         }
     }
 
+    /// Makes a call. One that is granted is counted.
+    pub fn make<R: Wait>(
+        &mut self,
+        rt: &R,
+        system: &System<P>,
+        event: &Event<&[u8]>,
+    ) -> Result<(), Refusal>
+        requires { IsOne system.now self.old.end }
+        ensures { IsOne system.now self.new.end }
+    {
+        let answer = system.call(rt, &mut self.end, event, &mut Content::new())?;
+        let side = self.end.end().caller().side;
+        self.own = together(&self.own, &noted(side, &answer));
+        Ok(())
+    }
+
     /// Makes the call that a number picks, or cuts the pair. A call that is granted is counted.
     pub fn call<R: Wait>(
         &mut self,
@@ -88,10 +104,7 @@ impl<P: Object> Hand<P> {
                 Err(NoMemory) => Err(Refusal::NoMemory),
             };
         };
-        let answer = system.call(rt, &mut self.end, &event, &mut Content::new())?;
-        let side = self.end.end().caller().side;
-        self.own = together(&self.own, &noted(side, &answer));
-        Ok(())
+        self.make(rt, system, &event)
     }
 
     /// Cuts the end in two. The first keeps what was counted. An end of one part can't be cut.
@@ -100,14 +113,14 @@ impl<P: Object> Hand<P> {
         ensures { IfOk result (λ two. IsOne system.now two.0.end × IsOne system.now two.1.end) }
     {
         let Hand { end, own } = self;
-        match system.split(end) {
+        match system.split_end(end) {
             Ok((end, other)) => Ok((Hand { end, own }, Hand::new(other))),
             Err(_) => Err(AllocError),
         }
     }
 
-    // One hand of two of a pair. Those of two pairs can't be joined.
-    fn joined(self, system: &System<P>, other: Hand<P>) -> Result<Hand<P>, AllocError>
+    /// One hand of two of a pair. Those of two pairs can't be joined.
+    pub fn joined(self, system: &System<P>, other: Hand<P>) -> Result<Hand<P>, AllocError>
         requires one { IsOne system.now self.end }
         requires two { IsOne system.now other.end }
         ensures { IfOk result (λ h. IsOne system.now h.end) }
@@ -117,7 +130,7 @@ impl<P: Object> Hand<P> {
             end: rest,
             own: more,
         } = other;
-        match system.join(end, rest) {
+        match system.join_ends(end, rest) {
             Ok(end) => Ok(Hand {
                 end,
                 own: together(&own, &more),
@@ -126,13 +139,13 @@ impl<P: Object> Hand<P> {
         }
     }
 
-    // Whether the pair is settled, its ends were told what was counted, and both ledgers balance.
-    fn settles<R: Wait>(self, rt: &R, system: &System<P>) -> bool
+    /// Whether the pair is settled, its ends were told what was counted, and both ledgers balance.
+    pub fn settles<R: Wait>(self, rt: &R, system: &System<P>) -> bool
         requires { IsOne system.now self.end }
     {
         let Hand { end, own } = self;
         match system.settle(rt, end) {
-            Ok(settled) => agrees(&settled, &own),
+            Ok((closed, _minor)) => agrees(&closed.settled, &own),
             Err(_) => false,
         }
     }
@@ -142,8 +155,8 @@ fn same(one: &Each, two: &Each) -> bool {
     one.from_master == two.from_master && one.from_slave == two.from_slave
 }
 
-// Whether all bytes of a ledger are somewhere. No sum of 23 numbers of 64 bits saturates one of 128.
-fn balances(ledger: &Ledger) -> bool {
+/// Whether all bytes of a ledger are somewhere. No sum of 23 numbers of 64 bits saturates one of 128.
+pub(crate) fn balances(ledger: &Ledger) -> bool {
     let mut there = ledger.queued as u128 + ledger.inline as u128;
     for gone in ledger.fates {
         there = there.saturating_add(gone as u128);

@@ -3,7 +3,7 @@
 ghost use Rattle.strm_minors.specs.Openers.{IsOf};
 ghost use Rattle.strm_locks.specs.Systems.{IsOne};
 
-use super::steps::{opened, restart, settled, writes};
+use super::steps::{cut, opened, restart, settled, writes};
 use super::systems::{SIZES, system};
 use std::alloc::Global;
 use std::process::Abort;
@@ -40,7 +40,7 @@ fn a_session_goes_on_behind_a_full_journal(rt: HostRuntime) -> Result<(), Fail> 
 }
 
 // Cuts the pair of an end, and once more where memory is refused.
-fn cut<P: Object, R: Wait + Abort>(
+fn is_cut<P: Object, R: Wait + Abort>(
     rt: &R,
     alloc: Global,
     system: &System<P>,
@@ -48,12 +48,10 @@ fn cut<P: Object, R: Wait + Abort>(
 ) -> Trace
     requires { IsOne system.now end.now }
 {
-    let trace = system.cut(rt, alloc, end).trace;
-    if let Ok(trace) = trace {
+    if let Some(trace) = cut(rt, alloc, system, end) {
         return trace;
     }
-    let again = system.cut(rt, alloc, end).trace;
-    let Ok(trace) = again else {
+    let Some(trace) = cut(rt, alloc, system, end) else {
         panic!(rt; "a cut is refused twice")
     };
     trace
@@ -71,8 +69,8 @@ fn writes_and_is_cut<P: Object, R: Wait + Abort>(
 {
     let (mut master, slave) = opened(rt, system, opener);
     assert!(rt; writes(rt, system, &mut master, b"abc"));
-    let first = cut(rt, alloc, system, &master);
-    let second = cut(rt, alloc, system, &slave);
+    let first = is_cut(rt, alloc, system, &master);
+    let second = is_cut(rt, alloc, system, &slave);
     let settled = settled(rt, system, master, slave);
     assert!(rt; settled.told.calls == 4 && settled.ms.written == 3);
     (first, second)

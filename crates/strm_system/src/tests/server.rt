@@ -38,15 +38,18 @@ fn listen<P: Object, R: Wait>(rt: &R, system: &System<P>, end: PairEnd<P>) -> Pa
     unreachable!()
 }
 
-// Opens a pair, gives its ends to two threads, and settles it: how many calls they made.
+// Opens a pair, gives its ends to two threads, and settles it: how many calls they made, and the minor.
 fn serve<P: Object + Send, R: Threads + Wait + Sync>(
     rt: &R,
     system: &System<P>,
-    minor: &Minor,
-) -> Result<u64, Refusal>
-    requires { minor.now < length system.now.locks }
+    minor: Minor,
+) -> Result<(u64, Minor), Refusal>
+    requires { minor < length system.now.locks }
 {
-    let mut master = system.open(rt, minor)?;
+    let mut master = match system.open(rt, minor) {
+        Ok(end) => end,
+        Err((why, _minor)) => return Err(why.refusal),
+    };
     system.call(rt, &mut master, &Event::Unlock, &mut Content::new())?;
     let slave = system.open_slave(rt, &mut master)?;
     let (master, slave) = join(
@@ -60,11 +63,11 @@ fn serve<P: Object + Send, R: Threads + Wait + Sync>(
             ensures { IsOne system.entry.now result }
         { listen(rt, system, slave) },
     );
-    let Ok(both) = system.join(master, slave) else {
+    let Ok(both) = system.join_ends(master, slave) else {
         return Err(Refusal::StillShared);
     };
     match system.settle(rt, both) {
-        Ok(settled) => Ok(settled.told.calls),
+        Ok((closed, minor)) => Ok((closed.settled.told.calls, minor)),
         Err(_) => Err(Refusal::StillShared),
     }
 }
@@ -73,8 +76,9 @@ fn serve<P: Object + Send, R: Threads + Wait + Sync>(
 fn eight_pairs_are_served(rt: HostRuntime) -> Result<(), Fail> {
     let (system, mut opener) = system(rt.alloc(), 8, SIZES)?;
     for _ in 0..8 {
-        let minor = system.minors().claim(&mut opener)?;
-        assert!(rt; matches!(serve(&rt, &system, &minor), Ok(calls) if calls >= 5));
+        let minor = system.claim(&mut opener)?;
+        let (calls, _minor) = serve(&rt, &system, minor)?;
+        assert!(rt; calls >= 5);
     }
     Ok(())
 }

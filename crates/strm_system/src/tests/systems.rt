@@ -1,17 +1,22 @@
 //! Systems of pairs: what their ends are told, and what is refused. What tests do is said for any system; a test makes one of real pairs.
 
+ghost use Rattle.std.specs.Prelude.{◌<◌, length};
 ghost use Rattle.strm_minors.specs.Openers.{IsOf};
 ghost use Rattle.strm_locks.specs.Systems.{IsOne};
 
-use super::steps::{call, joined, open_slave, opened, opened_master, settled, split, writes};
+use super::steps::{
+    call, claimed, cut, halves, joined, makes, no_slave, opened, opened_master, reads, settled,
+    settled_with, slave_of, split, tried, unlock, writes,
+};
 pub(crate) use crate::system;
 use std::alloc::Global;
 use std::process::Abort;
 use std::sync::Wait;
 use std::test::Fail;
 use std::thread::Threads;
-use strm_locks::{NoGate, Object, PairEnd, Settled, System};
-use strm_minors::Opener;
+use strm_image::Trace;
+use strm_locks::{ALL_PARTS, NoGate, Object, PairEnd, Settled, System};
+use strm_minors::{Minor, Minors, Opener};
 use strm_types::{Answer, Config, Content, Event, Refusal, StopSignal, TIOCSPGRP};
 
 pub(crate) const SIZES: Config = Config {
@@ -32,21 +37,12 @@ const NO_JOURNAL: Config = Config {
 fn opens_and_refuses<P: Object, R: Wait + Abort>(rt: &R, system: &System<P>, opener: &mut Opener)
     requires { IsOf system.now.minors opener.old }
 {
-    let Ok(minor) = system.minors().claim(opener) else {
-        panic!(rt; "no minor")
-    };
-    let Ok(mut master) = system.open(rt, &minor) else {
-        panic!(rt; "refused")
-    };
-    assert!(rt; matches!(&system.open(rt, &minor), Err(Refusal::Einval)));
-    assert!(rt; matches!(&open_slave(rt, system, &mut master), Err(Refusal::Eagain)));
+    let mut master = opened_master(rt, system, opener);
+    assert!(rt; no_slave(rt, system, &mut master) == Some(Refusal::Eagain));
     assert!(rt; master.end().told().calls == 1);
-    let mut out = Content::new();
-    let unlocked = call(rt, system, &mut master, &Event::Unlock, &mut out);
-    assert!(rt; unlocked.is_ok() && master.end().told().calls == 2);
-    let Ok(slave) = open_slave(rt, system, &mut master) else {
-        panic!(rt; "refused")
-    };
+    unlock(rt, system, &mut master);
+    assert!(rt; master.end().told().calls == 2);
+    let slave = slave_of(rt, system, &mut master);
     assert!(rt; master.end().told().calls == 3 && slave.end().told().calls == 0);
 }
 
@@ -55,6 +51,69 @@ fn openings_are_refused_and_told(rt: HostRuntime) -> Result<(), Fail> {
     let (system, mut opener) = system(rt.alloc(), 1, SIZES)?;
     opens_and_refuses(&rt, &system, &mut opener);
     Ok(())
+}
+
+// A pair that was opened isn't opened by a minor of the same number, till it settles. Its own minor comes back then, and opens it again.
+fn is_opened_twice<P: Object, R: Wait + Abort>(
+    rt: &R,
+    system: &System<P>,
+    first: Minor,
+    second: Minor,
+)
+    requires first { first < length system.now.locks }
+    requires second { second < length system.now.locks }
+{
+    let Ok(end) = tried(rt, system, first) else {
+        panic!(rt; "refused")
+    };
+    let Err((why, _)) = tried(rt, system, second) else {
+        panic!(rt; "opened twice")
+    };
+    assert!(rt; why == Refusal::Einval);
+    let Some((told, minor)) = settled_with(rt, system, end) else {
+        panic!(rt; "shared")
+    };
+    assert!(rt; told.told.calls == 1 && tried(rt, system, minor).is_ok());
+}
+
+fn strange_minor<P: Object, R: Wait + Abort>(
+    rt: &R,
+    system: &System<P>,
+    opener: &mut Opener,
+    stranger: Minor,
+)
+    requires { IsOf system.now.minors opener.old }
+{
+    let minor = claimed(rt, system, opener);
+    if stranger.number() < system.pairs() {
+        is_opened_twice(rt, system, minor, stranger);
+    }
+}
+
+#[test]
+fn a_pair_is_opened_again_where_it_settled(rt: HostRuntime) -> Result<(), Fail> {
+    let (other, mut stranger) = Minors::new(rt.alloc(), 1)?;
+    let minor = other.claim(&mut stranger)?;
+    let (system, mut opener) = system(rt.alloc(), 1, SIZES)?;
+    strange_minor(&rt, &system, &mut opener, minor);
+    Ok(())
+}
+
+// No pair has a journal and no block, nor more than a store may have.
+#[test]
+fn sizes_are_refused(rt: HostRuntime) {
+    for blocks in [0, 65537] {
+        let few = Config {
+            mblks: blocks,
+            ..SIZES
+        };
+        assert!(rt; matches!(&system(rt.alloc(), 1, few), Err(Refusal::Einval)));
+        let few = Config {
+            dblks: blocks,
+            ..SIZES
+        };
+        assert!(rt; matches!(&system(rt.alloc(), 0, few), Err(Refusal::Einval)));
+    }
 }
 
 // The master writes, a worker makes the turn, and the slave reads.
@@ -69,13 +128,11 @@ fn carries<P: Object + Send, R: Threads + Wait + Sync + Abort>(
     ensures master { IsOne system.now master.new }
     ensures slave { IsOne system.now slave.new }
 {
-    let mut out = Content::new();
     assert!(rt; writes(rt, system, master, b"abc"));
     let report = system.run_workers(rt, 1, 1, &NoGate);
     assert!(rt; report.started == 1 && report.turns == 1);
     assert!(rt; report.blocked == 0 && report.refused == 0 && report.idle == 0);
-    let read = call(rt, system, slave, &Event::Read { n: 10 }, &mut out);
-    assert!(rt; read.is_ok() && out.as_slice() == b"abc".as_slice());
+    assert!(rt; reads(rt, system, slave, b"abc"));
     assert!(rt; master.end().told().calls == 4 && slave.end().told().read.from_master == 3);
 }
 
@@ -88,9 +145,6 @@ fn carries_and_settles<P: Object + Send, R: Threads + Wait + Sync + Abort>(
 {
     let (mut master, mut slave) = opened(rt, system, opener);
     carries(rt, system, &mut master, &mut slave);
-    let Err((_, master)) = system.settle(rt, master) else {
-        panic!(rt; "settled")
-    };
     all_is_told(rt, &settled(rt, system, master, slave));
 }
 
@@ -119,16 +173,20 @@ fn carries_and_is_cut<P: Object + Send, R: Threads + Wait + Sync + Abort>(
 {
     let (mut master, mut slave) = opened(rt, system, opener);
     carries(rt, system, &mut master, &mut slave);
-    let (Ok(trace), Ok(rest)) = (
-        system.cut(rt, alloc, &master).trace,
-        system.cut(rt, alloc, &slave).trace,
-    ) else {
+    let first = cut(rt, alloc, system, &master);
+    let second = cut(rt, alloc, system, &slave);
+    has_all_and_none(rt, first, second);
+    all_is_told(rt, &settled(rt, system, master, slave));
+}
+
+// The first trace has all six entries, and the second begins behind them.
+fn has_all_and_none<R: Abort>(rt: &R, first: Option<Trace>, second: Option<Trace>) {
+    let (Some(trace), Some(rest)) = (first, second) else {
         panic!(rt; "no memory")
     };
     assert!(rt; trace.entries.len() == 6 && trace.bytes.as_slice() == b"abcabc".as_slice());
     assert!(rt; rest.entries.is_empty() && rest.bytes.is_empty());
     assert!(rt; trace.base.as_slice() != rest.base.as_slice());
-    all_is_told(rt, &settled(rt, system, master, slave));
 }
 
 #[test]
@@ -141,13 +199,14 @@ fn what_ends_were_told_stays_where_a_pair_is_cut(rt: HostRuntime) -> Result<(), 
 fn runs_out_of_minors<P: Object, R: Wait + Abort>(rt: &R, system: &System<P>, opener: &mut Opener)
     requires { IsOf system.now.minors opener.old }
 {
-    let minors = system.minors();
-    let (Ok(first), Ok(second)) = (minors.claim(opener), minors.claim(opener)) else {
-        panic!(rt; "no minor")
-    };
+    let first = claimed(rt, system, opener);
+    let second = claimed(rt, system, opener);
     assert!(rt; first.number() == 0 && second.number() == 1);
-    assert!(rt; minors.claim(opener).is_err());
-    assert!(rt; matches!(&system.open(rt, &second), Err(Refusal::JournalFull)));
+    assert!(rt; system.claim(opener).is_err());
+    let Err((why, minor)) = tried(rt, system, second) else {
+        panic!(rt; "opened")
+    };
+    assert!(rt; why == Refusal::JournalFull && minor.number() == 1);
 }
 
 #[test]
@@ -162,7 +221,7 @@ fn joins_two_pairs<P: Object, R: Wait + Abort>(rt: &R, system: &System<P>, opene
 {
     let first = opened_master(rt, system, opener);
     let second = opened_master(rt, system, opener);
-    let Err((first, second)) = system.join(first, second) else {
+    let Err((first, second)) = system.join_ends(first, second) else {
         panic!(rt; "joined")
     };
     assert!(rt; first.pair() == 0 && second.pair() == 1);
@@ -176,37 +235,74 @@ fn ends_of_two_pairs_come_back(rt: HostRuntime) -> Result<(), Fail> {
     Ok(())
 }
 
-// The end of one part that is left of an end with all.
-fn last_part<P: Object, R: Abort>(rt: &R, system: &System<P>, end: PairEnd<P>) -> PairEnd<P>
+// Cuts an end in two so often, first halves first, and joins all again. The last one has one part, and opens no slave.
+fn splits_and_joins<P: Object, R: Wait + Abort>(
+    rt: &R,
+    system: &System<P>,
+    end: PairEnd<P>,
+    times: u32,
+) -> PairEnd<P>
     requires { IsOne system.now end }
     ensures { IsOne system.now result }
 {
-    let mut end = end;
-    for _ in 0..63 {
-        let Ok((_, half)) = split(system, end) else {
-            panic!(rt; "one part")
-        };
-        end = half;
+    if times == 0 {
+        return is_last(rt, system, end);
     }
+    let (first, second) = halves(rt, system, end);
+    let first = splits_and_joins(rt, system, first, times - 1);
+    let Some(end) = joined(system, first, second) else {
+        panic!(rt; "two pairs")
+    };
+    end
+}
+
+// An end of one part.
+fn is_last<P: Object, R: Wait + Abort>(rt: &R, system: &System<P>, end: PairEnd<P>) -> PairEnd<P>
+    requires { IsOne system.now end }
+    ensures { IsOne system.now result }
+{
+    let Err(end) = split(system, end) else {
+        panic!(rt; "split")
+    };
+    let mut end = end;
+    assert!(rt; end.end().parts() == 1);
+    assert!(rt; no_slave(rt, system, &mut end) == Some(Refusal::Erange));
     end
 }
 
 fn splits_to_one_part<P: Object, R: Wait + Abort>(rt: &R, system: &System<P>, opener: &mut Opener)
     requires { IsOf system.now.minors opener.old }
 {
-    let end = last_part(rt, system, opened_master(rt, system, opener));
-    let Err(mut end) = split(system, end) else {
-        panic!(rt; "split")
+    let end = opened_master(rt, system, opener);
+    let end = splits_and_joins(rt, system, end, 63);
+    assert!(rt; end.end().parts() == ALL_PARTS);
+    let Some((settled, _)) = settled_with(rt, system, end) else {
+        panic!(rt; "shared")
     };
-    assert!(rt; end.end().parts() == 1);
-    assert!(rt; matches!(&open_slave(rt, system, &mut end), Err(Refusal::Erange)));
-    assert!(rt; system.settle(rt, end).is_err());
+    assert!(rt; settled.told.calls == 1);
 }
 
 #[test]
 fn an_end_of_one_part_opens_no_slave(rt: HostRuntime) -> Result<(), Fail> {
     let (system, mut opener) = system(rt.alloc(), 1, SIZES)?;
     splits_to_one_part(&rt, &system, &mut opener);
+    Ok(())
+}
+
+// A part of an end settles nothing, nor does what is left without it.
+fn parts_settle_nothing<P: Object, R: Wait + Abort>(rt: &R, system: &System<P>, opener: &mut Opener)
+    requires { IsOf system.now.minors opener.old }
+{
+    let end = opened_master(rt, system, opener);
+    let (first, second) = halves(rt, system, end);
+    assert!(rt; settled_with(rt, system, second).is_none());
+    assert!(rt; settled_with(rt, system, first).is_none());
+}
+
+#[test]
+fn an_end_that_lacks_parts_settles_nothing(rt: HostRuntime) -> Result<(), Fail> {
+    let (system, mut opener) = system(rt.alloc(), 1, SIZES)?;
+    parts_settle_nothing(&rt, &system, &mut opener);
     Ok(())
 }
 
@@ -220,12 +316,10 @@ fn stops_the_job<P: Object, R: Wait + Abort>(
     requires shell { IsOne system.now shell.old }
     requires job { IsOne system.now job.old }
 {
-    let mut out = Content::new();
     let read = Event::Read { n: 10 };
-    let stopped = call(rt, system, job, &read, &mut out);
+    let stopped = call(rt, system, job, &read, &mut Content::new());
     assert!(rt; matches!(&stopped, Ok(Answer::Stop(StopSignal::Ttin))));
-    assert!(rt; call(rt, system, shell, &read, &mut out).is_ok());
-    assert!(rt; out.as_slice() == b"abc".as_slice());
+    assert!(rt; reads(rt, system, shell, b"abc"));
     assert!(rt; job.end().told().calls == 1 && job.end().told().read.from_master == 0);
     assert!(rt; shell.end().told().calls == 2 && shell.end().told().read.from_master == 3);
 }
@@ -238,17 +332,15 @@ fn job_reads<P: Object + Send, R: Threads + Wait + Sync + Abort>(
     requires { IsOf system.now.minors opener.old }
 {
     let (mut master, slave) = opened(rt, system, opener);
-    let Ok((mut shell, mut job)) = split(system, slave) else {
-        panic!(rt; "one part")
-    };
+    let (mut shell, mut job) = halves(rt, system, slave);
     shell.set_group(5, false, false);
     job.set_group(7, false, false);
     let foreground = Event::Ioctl {
         command: TIOCSPGRP,
         body: [0, 0, 0, 5].as_slice(),
     };
-    let set = call(rt, system, &mut shell, &foreground, &mut Content::new());
-    assert!(rt; set.is_ok() && writes(rt, system, &mut master, b"abc"));
+    assert!(rt; makes(rt, system, &mut shell, &foreground));
+    assert!(rt; writes(rt, system, &mut master, b"abc"));
     assert!(rt; system.run_workers(rt, 1, 1, &NoGate).turns == 1);
     stops_the_job(rt, system, &mut shell, &mut job);
 }

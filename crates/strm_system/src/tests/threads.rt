@@ -1,10 +1,9 @@
 //! Threads at one pair and at several: what they hand over, what their ends are told, and that two of them run at once.
 
-ghost use Rattle.std.specs.Prelude.{◌≤◌, IfSome};
 ghost use Rattle.strm_minors.specs.Openers.{IsOf};
 ghost use Rattle.strm_locks.specs.Systems.{IsOne};
 
-use super::steps::{call, joined, opened, opened_master, restart, settled, split, writes};
+use super::steps::{makes, opened, opened_master, settled, turn, writes};
 use super::systems::{SIZES, system};
 use std::process::Abort;
 use std::sync::Wait;
@@ -13,7 +12,7 @@ use std::test::Fail;
 use std::thread::{Threads, join, yield_now};
 use strm_locks::{Gate, Object, PairEnd, System};
 use strm_minors::Opener;
-use strm_types::{Content, Event, FlushQueues};
+use strm_types::Event;
 
 // How many bytes the writer hands over, five at a time.
 const ALL: u64 = 80;
@@ -39,13 +38,12 @@ fn read_all<P: Object, R: Wait>(rt: &R, system: &System<P>, end: PairEnd<P>) -> 
     ensures { IsOne system.now result }
 {
     let mut end = end;
-    let mut out = Content::new();
     for _ in rt.forever() {
         if end.end().told().read.from_master >= ALL {
             return end;
         }
-        let _ = system.turn(rt, end.pair());
-        let _ = call(rt, system, &mut end, &Event::Read { n: 64 }, &mut out);
+        turn(rt, system, &end);
+        let _ = makes(rt, system, &mut end, &Event::Read { n: 64 });
     }
     unreachable!()
 }
@@ -107,102 +105,6 @@ fn hand_over<P: Object + Send, R: Threads + Wait + Sync + Abort>(
 fn threads_read_what_they_write(rt: HostRuntime) -> Result<(), Fail> {
     let (system, mut opener) = system(rt.alloc(), 1, SIZES)?;
     hand_over(&rt, &system, &mut opener);
-    Ok(())
-}
-
-// A thousand calls of an end: writes, reads and a flush in turn, and the journal begun anew behind each hundred. It gives back how many were
-// answered.
-fn work<P: Object, R: Wait>(rt: &R, system: &System<P>, end: PairEnd<P>) -> (PairEnd<P>, u64)
-    requires { IsOne system.now end }
-    ensures { IsOne system.now result.0 }
-{
-    let mut end = end;
-    let mut out = Content::new();
-    let mut done = 0u64;
-    for at in 0..1000u32 {
-        let event = match at % 5 {
-            0 | 1 => Event::Write {
-                bytes: b"abcdefg\n".as_slice(),
-            },
-            2 | 3 => Event::Read { n: 5 },
-            _ => Event::Flush {
-                what: FlushQueues::Both,
-                band: None,
-            },
-        };
-        if call(rt, system, &mut end, &event, &mut out).is_ok() {
-            done = done.saturating_add(1);
-        }
-        if at % 100 == 99 {
-            restart(rt, system, &end);
-        }
-    }
-    (end, done)
-}
-
-// Two ends of a pair, a thread each. It gives back one end of both.
-fn work_both<P: Object + Send, R: Threads + Wait + Sync>(
-    rt: &R,
-    system: &System<P>,
-    first: PairEnd<P>,
-    second: PairEnd<P>,
-) -> Option<(PairEnd<P>, u64)>
-    requires first { IsOne system.now first }
-    requires second { IsOne system.now second }
-    ensures { IfSome result (λ r. IsOne system.now r.0) }
-{
-    let (one, two) = join(
-        rt,
-        || -> (PairEnd<P>, u64)
-            requires { IsOne system.now first }
-            ensures { IsOne system.entry.now result.0 }
-        { work(rt, system, first) },
-        || -> (PairEnd<P>, u64)
-            requires { IsOne system.now second }
-            ensures { IsOne system.entry.now result.0 }
-        { work(rt, system, second) },
-    );
-    let (first, done) = one;
-    let (second, more) = two;
-    let end = joined(system, first, second)?;
-    Some((end, done.saturating_add(more)))
-}
-
-fn four_work<P: Object + Send, R: Threads + Wait + Sync + Abort>(
-    rt: &R,
-    system: &System<P>,
-    opener: &mut Opener,
-)
-    requires { IsOf system.now.minors opener.old }
-{
-    let (master, slave) = opened(rt, system, opener);
-    let (Ok((m1, m2)), Ok((s1, s2))) = (split(system, master), split(system, slave)) else {
-        panic!(rt; "one part")
-    };
-    let (one, two) = join(
-        rt,
-        || -> Option<(PairEnd<P>, u64)>
-            requires { IsOne system.now m1 × IsOne system.now s1 }
-            ensures { IfSome result (λ r. IsOne system.entry.now r.0) }
-        { work_both(rt, system, m1, s1) },
-        || -> Option<(PairEnd<P>, u64)>
-            requires { IsOne system.now m2 × IsOne system.now s2 }
-            ensures { IfSome result (λ r. IsOne system.entry.now r.0) }
-        { work_both(rt, system, m2, s2) },
-    );
-    let (Some((first, done)), Some((second, more))) = (one, two) else {
-        panic!(rt; "two pairs")
-    };
-    let settled = settled(rt, system, first, second);
-    assert!(rt; settled.told.calls == done.saturating_add(more).saturating_add(3));
-    assert!(rt; settled.told.written.from_master == settled.ms.written);
-    assert!(rt; settled.ms.written > 0 && settled.sm.written > 0);
-}
-
-#[test]
-fn four_threads_are_told_what_the_pair_did(rt: HostRuntime) -> Result<(), Fail> {
-    let (system, mut opener) = system(rt.alloc(), 1, SIZES)?;
-    four_work(&rt, &system, &mut opener);
     Ok(())
 }
 

@@ -1,82 +1,12 @@
-//! Workers at pairs that nobody can open, and at pairs in memory: each visit takes the lock and gives it back, and is counted.
+//! Workers at pairs that nobody opened, and at pairs in memory: each visit takes the lock and gives it back, and is counted.
 
-ghost use Rattle.std.specs.Prelude.{◌≡◌, ◌+◌, ◌*◌, ◌<◌, Some};
-ghost use Rattle.strm_types.specs.Events.{request};
-ghost use Rattle.strm_types.specs.declared.events.Caller.{Caller};
-ghost use Rattle.strm_laws.specs.Pair.{call_refused};
-ghost use Rattle.strm_system.specs.Shut.{shut};
+ghost use Rattle.std.specs.Prelude.{◌≡◌, ◌+◌, ◌*◌, ◌<◌};
 
-use std::alloc::Global;
+use super::systems::{SIZES, system};
+use crate::{Locked, Store};
 use std::test::Fail;
-use strm_image::Trace;
-use strm_locks::{End, Lock, Made, NoGate, Object, PairEnd, Round, System, work};
-use strm_types::{
-    Answer, Caller, Content, Dir, Event, Ledger, NoMemory, Place, QueueName, Refusal, Side, Turn,
-    Way,
-};
-
-// A pair whose journal takes no entry.
-#[derive(Drop)]
-struct Shut;
-
-// Why it refuses a call.
-fn refusal(event: &Event<&[u8]>) -> Refusal
-    ensures { (caller : Caller) → call_refused shut caller (request event.now) ≡ Some result }
-{
-    match event {
-        Event::OpenMaster => Refusal::JournalFull,
-        _ => Refusal::Enxio,
-    }
-}
-
-impl Object for Shut {
-    ghost pair_of = { λ _. shut };
-
-    fn call(
-        &mut self,
-        _caller: Caller,
-        event: &Event<&[u8]>,
-        _out: &mut Content,
-    ) -> Result<Answer<u32>, Refusal> {
-        Err(refusal(event))
-    }
-
-    fn turn(&mut self, _name: QueueName) -> Result<Turn, Refusal> {
-        Err(Refusal::Einval)
-    }
-
-    fn first_enabled(&self) -> Option<QueueName> {
-        None
-    }
-
-    fn written(&self, _direction: Dir) -> u64 {
-        0
-    }
-
-    fn read(&self, _direction: Dir) -> u64 {
-        0
-    }
-
-    fn ledger(&self, _direction: Dir) -> Ledger {
-        Ledger {
-            written: 0,
-            made: 0,
-            queued: 0,
-            inline: 0,
-            fates: [0; 21],
-        }
-    }
-
-    fn audit(&self) {}
-
-    fn restart(&mut self) {}
-
-    fn cut(&mut self, _alloc: Global) -> Result<Trace, NoMemory> {
-        Err(NoMemory)
-    }
-
-    fn reset(&mut self) {}
-}
+use strm_locks::{End, Lock, Made, NoGate, PairEnd, Round, System, work};
+use strm_types::{Place, QueueName, Refusal, Side, Turn, Way};
 
 fn may_be_sent<T: Send>() {}
 
@@ -85,29 +15,21 @@ fn may_be_shared<T: Sync>() {}
 // Threads share locks and systems, and have ends of their own.
 #[test]
 fn ends_may_be_sent_and_locks_shared() {
-    may_be_sent::<End<Shut>>();
-    may_be_sent::<PairEnd<Shut>>();
-    may_be_shared::<Lock<Shut>>();
-    may_be_shared::<System<Shut>>();
+    may_be_sent::<End<Locked<Store>>>();
+    may_be_sent::<PairEnd<Locked<Store>>>();
+    may_be_shared::<Lock<Locked<Store>>>();
+    may_be_shared::<System<Locked<Store>>>();
 }
 
+// Four workers visit two pairs that nobody opened, so no queue is enabled there.
 #[test]
 fn threads_take_turns_at_two_locks(rt: HostRuntime) -> Result<(), Fail> {
-    let mut pairs = Vec::new(rt.alloc());
-    pairs.push(Shut)?;
-    pairs.push(Shut)?;
-    let (system, mut opener) = System::new(rt.alloc(), pairs)?;
+    let (system, _) = system(rt.alloc(), 2, SIZES)?;
     let report = system.run_workers(&rt, 4, 10000, &NoGate);
     assert_eq!(rt; report.started, 4);
     assert_eq!(rt; report.idle, 40000);
-
-    let minor = system.minors().claim(&mut opener)?;
-    let Err(refused) = system.open(&rt, &minor) else {
-        panic!(rt; "opened")
-    };
-    assert!(rt; refused == Refusal::JournalFull);
-    let report = system.run_workers(&rt, 2, 1, &NoGate);
-    assert_eq!(rt; report.turns, 0);
+    let report = system.run_workers(&rt, 0, 1, &NoGate);
+    assert!(rt; report.started == 0 && report.idle == 0);
     Ok(())
 }
 

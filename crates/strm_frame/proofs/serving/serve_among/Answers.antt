@@ -63,6 +63,7 @@ returns-clause-does g c =
       bytes = e.bytes ∙ sym (said-of f (λ p. (serves p).bytes) xs i x d _ c.requires.within refl);
       again = e.again ∙ sym (said-of f (λ p. (serves p).again) xs i x d _ c.requires.within refl);
       stopped = e.stopped;
+      some = e.some;
       stops = OnTrue_from r.stopped (HoldsAt may (map f xs) i)
           (λ is e'. subst may (sym (get_or-map f xs i d e' c.requires.within)) (OnTrue_at is e.stops));
       made = subst (λ fates. made_of fates ≤ most_made r.bytes) (sym (act-gone acts f xs i x d c.requires.within refl)) e.made;

@@ -110,3 +110,18 @@ returns-clause-begun g c = λ byte within.
     run-begun s x run most c.requires.held c.requires.stage few (subst (λ l. cells ≡ l ++ drop (length l) cells) is front.front)
     (subst (AllByRecursion (λ b. is_plain x.termios b ≡ true)) is (all-plain x.termios c.odd_bytes-odd.result c.take_front-front.result.items c.odd_bytes-odd.ensures front.plain)) (c.run_room-most.ensures.may (omega arith))
     c.args.here (omega arith) (c.run_room-most.ensures.many (omega arith)) byte within
+
+-- a run begins only where there is room for the blocks that it takes too
+pub returns-then-is_empty-clause-many : goal.returns-then-is_empty-clause-many
+returns-then-is_empty-clause-many g c = λ many.
+    let did = c.take_front-front.ensures.did c.args.told.now in
+    record { mblks = (let a = did.mblks in let r = many.mblks in omega (arith, a, r)); dblks = (let a = did.dblks in let r = many.dblks in omega (arith, a, r)) }
+
+pub returns-clause-many : goal.returns-clause-many
+returns-clause-many g c = λ many.
+    let run = c.as_slice-run.result.now in
+    let some : 0 < length run = (let e = sym c.is_empty.ensures ∙ c.if-is_empty.false in grind (arith, nat_tests)) in
+    let few : length run ≤ c.run_room-most.result = subst (λ l. length l ≤ c.run_room-most.result) (sym c.as_slice-run.ensures.value) c.take_front-front.ensures.few in
+    let room = c.run_room-most.ensures.many (omega (arith, some, few)) in
+    let does = returns-clause-does g c in
+    record { mblks = (let a = does.mblks in let r = room.mblks in omega (arith, a, r)); dblks = (let a = does.dblks in let r = room.dblks in omega (arith, a, r)) }

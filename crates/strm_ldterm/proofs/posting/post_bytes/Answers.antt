@@ -1,5 +1,8 @@
 -- Bytes go out block by block, until none is left or blocks are few.
-use Rattle.std.proofs.Common.{◌≤◌, [], arith}
+use Rattle.std.proofs.Common.{◌≤◌, [], sym, ◌∙◌, arith}
+use Rattle.strm_types.specs.declared.limits.TheConstants.{STOP_BLOCKS}
+use Rattle.strm_frame.specs.Serves.{least_free}
+use Rattle.strm_ldterm.proofs.Bytes.{lower, some-went}
 use Rattle.strm_ldterm.proofs.Joining.{still-kept}
 use Rattle.strm_ldterm.proofs.Poured.{pours-are, pours-more, pours-none, pours-some}
 use Rattle.strm_ldterm.proofs.posting.post_bytes.Goals as goal
@@ -37,4 +40,17 @@ loop-left-preserved g c =
     let l = pours-are s t c.args.here c.args.ldterm.now c.loop-left.ldterm c.args.bytes c.loop-left.left c.args.told.now c.loop-left.told c.requires.work c.requires.bytes c.loop-left.invariant in
     let within : c.post_front-left.result ≤ c.loop-left.left = (let w = c.post_front-left.ensures.within in omega arith) in
     pours-more s t c.args.here c.args.ldterm.now c.loop-left.ldterm c.args.bytes c.loop-left.left c.args.told.now c.loop-left.told c.requires.work c.requires.bytes c.loop-left.invariant
-    (g.B.Blocks.value c.post_front-left.new.store) c.post_front-left.new.ldterm c.post_front-left.result 1 c.post_front-left.new.told c.audit.ensures within c.post_front-left.ensures.does c.post_front-left.ensures.begun
+    (g.B.Blocks.value c.post_front-left.new.store) c.post_front-left.new.ldterm c.post_front-left.result 1 c.post_front-left.new.told c.audit.ensures c.post_front-left.ensures.some within c.post_front-left.ensures.does c.post_front-left.ensures.begun
+
+pub returns-else-not-are_few : goal.returns-else-not-are_few
+returns-else-not-are_few g c =
+    let s = g.B.Blocks.value c.args.store.now in
+    let t = g.B.Blocks.value c.loop-left.store in
+    let few = lower (least_free t) STOP_BLOCKS (sym c.are_few.ensures ∙ c.if-not-are_few.false) in
+    record {
+      fewer = c.loop-left.invariant.fewer;
+      does = c.loop-left.invariant.does;
+      begun = c.loop-left.invariant.begun;
+      stops = λ some. few;
+      some = λ some many. some-went s t c.args.bytes c.loop-left.left c.loop-left.invariant.some few many;
+    }

@@ -36,6 +36,7 @@ returns g c =
       again = e.again_is;
       stopped = OnTrue_from r.stopped _ e.stops;
       stops = OnTrue_from r.stopped _ e.ends;
+      some = OnTrue_from r.stopped _ e.some;
       made = subst (λ bytes. made_of (ldterm_serves plain here 0 again stop p).acted.gone ≤ most_made bytes) (sym e.bytes) (serves-makes here again stop p (c.audit.ensures s));
       held = e.does.held;
       own = e.does.own;

@@ -2,23 +2,24 @@ use Rattle.std.proofs.Common.{sym, ap, subst, ◌∙◌}
 use Rattle.strm_types.specs.Events.{request}
 use Rattle.strm_types.specs.Journal.{reply_in}
 use Rattle.strm_laws.specs.Pair.{call_refused}
-use Rattle.strm_locks.specs.Books.{Adds, IsCounted, book_of, history_of, kept}
+use Rattle.strm_locks.specs.Books.{Adds, IsKept, Kept, book_of, kept}
 use Rattle.strm_locks.specs.Shares.{entry_of}
 use Rattle.strm_laws.proofs.Replay.{refused-by}
-use Rattle.strm_locks.proofs.Booking.{adds-call, answered, counts-on, refused-on}
+use Rattle.strm_locks.proofs.Booking.{adds-call, answered, call-keeps, refused-on}
 use Rattle.strm_locks.proofs.held.Held.call.Goals as goal
 
 pub invariant_of-self : goal.invariant_of-self
 invariant_of-self g c =
     let same = (refused-by _ c.call.result c.call.ensures.refused c.in-Err.refusal c.in-Err.is).1 in
-    subst (λ p. IsCounted c.self.inside.calls (history_of p)) (sym same.0) c.self.invariant
+    subst (λ p. IsKept c.self.inside.calls c.self.inside.left p) (sym same.0) c.self.invariant
 
 pub invariant_of-self-in-Ok : goal.invariant_of-self-in-Ok
 invariant_of-self-in-Ok g c =
     let p = g.P.Object.pair_of c.self.inside.pair in
     let q = g.P.Object.pair_of c.call.new.self in
-    subst (λ n. IsCounted n (history_of q)) (sym c.saturating_add-self-inside.ensures)
-    (counts-on p q c.args.caller (request c.args.event.now) (reply_in c.in-Ok.answer c.call.new.out.items) c.in-Ok.ensures.adds c.self.inside.calls c.self.invariant)
+    subst (λ n. IsKept n c.self.inside.left q) (sym c.saturating_add-self-inside.ensures)
+    (call-keeps p q c.args.caller (request c.args.event.now) (reply_in c.in-Ok.answer c.call.new.out.items) c.self.inside.calls c.self.inside.left c.self.inside.left c.in-Ok.ensures.adds
+    (λ all. c.requires (sym (ap (λ (k : Kept). k.book.left) c.self.view_is) ∙ all)) c.self.invariant)
 
 pub returns-in-Err-clause-refused : goal.returns-in-Err-clause-refused
 returns-in-Err-clause-refused g c =

@@ -6,4 +6,4 @@ pub slot_mut-held-requires : goal.slot_mut-held-requires
 slot_mut-held-requires g c = (search rules, lent _ c.requires.lock)
 
 pub returns-clause-did : goal.returns-clause-did
-returns-clause-did g c = became _ _ c.slot_mut-held.result.now c.close.new.self c.slot_mut-held.ensures.value (c.close.ensures.closed, c.close.ensures.gives)
+returns-clause-did g c = became _ _ c.slot_mut-held.result.now c.close.new.self c.slot_mut-held.ensures.value (c.close.ensures.closed, c.close.ensures.gives, c.close.ensures.pair)

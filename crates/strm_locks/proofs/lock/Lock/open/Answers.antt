@@ -1,19 +1,40 @@
-use Rattle.std.proofs.Common.{rules, refl, ap, subst}
+use Rattle.std.proofs.Common.{rules, ◌∷◌, [], refl, ap, subst, ◌∙◌}
+use Rattle.strm_laws.specs.Pair.{PairState}
 use Rattle.strm_locks.specs.Ends.{OpenedAs}
 use Rattle.strm_locks.specs.Rules.{Mine}
 use Rattle.strm_locks.proofs.Calling.{seated}
 use Rattle.strm_locks.proofs.lock.Lock.open.Goals as goal
 
 pub invariant_of-result : goal.invariant_of-result
-invariant_of-result g c =
-    let t = subst (λ x. OpenedAs c.open_by-answer.new.out.items c.open_by-answer.result.1 c.open_by-answer.new.seat.me x) c.in_ok-answer.was c.open_by-answer.ensures.opened in
-    seated _ _ _ _ t.1 (search rules)
+invariant_of-result g c = let o = c.open_by-answer.ensures.opened in
+    let t = subst (λ x. OpenedAs o.0 o.1 c.open_by-answer.new.out.items c.open_by-answer.result.1 c.open_by-answer.new.seat.me x) c.in-Ok.is o.3 in
+    seated _ _ _ _ _ t.3 (search rules)
 
-pub returns : goal.returns
-returns g c =
-    let t = subst (λ x. OpenedAs c.open_by-answer.new.out.items c.open_by-answer.result.1 c.open_by-answer.new.seat.me x) c.in_ok-answer.was c.open_by-answer.ensures.opened in record {
-      here = search rules;
+pub returns-in-Ok : goal.returns-in-Ok
+returns-in-Ok g c = let o = c.open_by-answer.ensures.opened in
+    let t = subst (λ x. OpenedAs o.0 o.1 c.open_by-answer.new.out.items c.open_by-answer.result.1 c.open_by-answer.new.seat.me x) c.in-Ok.is o.3 in record {
+      here = c.open_by-answer.ensures.same.0 ∙ c.sit-seat.ensures.0;
       caller = c.of.ensures;
       parts = refl;
-      told = (c.in_ok-answer.field-0, c.open_by-answer.new.out.items, t.0, ap (λ (m : Mine). m.0.made) t.1);
+      found = o.0;
+      left = o.1;
+      met = ap (λ (m : Mine). m.0.met) t.3;
+      sound = o.2;
+      new = t.0;
+      answer = _;
+      bytes = c.open_by-answer.new.out.items;
+      makes = t.1;
+      told = t.2;
+      made = ap (λ (m : Mine). m.0.made) t.3;
     }
+
+pub returns-in-Err : goal.returns-in-Err
+returns-in-Err g c = let o = c.open_by-answer.ensures.opened in
+    let t = subst (λ x. OpenedAs o.0 o.1 c.open_by-answer.new.out.items c.open_by-answer.result.1 c.open_by-answer.new.seat.me x) c.in-Err.is o.3 in (
+      c.open_by-answer.ensures.same.0 ∙ c.sit-seat.ensures.0,
+      o.0,
+      ap (λ (m : Mine). m.0.met) t.2 ∙ ap (λ (q : PairState). o.0 ∷ q ∷ []) t.0,
+      o.2,
+      t.1,
+      refl,
+    )

@@ -13,5 +13,10 @@ give-requires-clause-lock g c = let k = c.take.ensures.lock.0 in let h = c.take.
 pub returns-clause-opened : goal.returns-clause-opened
 returns-clause-opened g c = let k = c.take.ensures.lock.0 in let h = c.take.ensures.lock.1 in
     let did = c.open_held-answer.ensures.did k (ap (λ (m : Mine). m.1) h.seen) in
-    let is : c.open_held-answer.new.seat.me.0 ≡ holding fresh k = c.open_held-answer.ensures.same.1 ∙ ap (λ (m : Mine). m.0) h.seen ∙ ap (λ (m : Mine). holding m.0 k) c.requires.fresh in
-    opened_as k c.open_held-answer.new.out.items did.0 c.open_held-answer.result c.give.new.seat.me did.2 h.knows.unopened (c.give.ensures.told did.0 did.1 ∙ ap (λ w. (grown w w.found did.0.book, [])) is)
+    let is : c.open_held-answer.new.seat.me.0 ≡ holding fresh k = c.open_held-answer.ensures.same.1 ∙ ap (λ (m : Mine). m.0) h.seen ∙ ap (λ (m : Mine). holding m.0 k) c.requires.fresh in (
+      k.pair,
+      did.0.pair,
+      did.2.sound,
+      opened_as k c.open_held-answer.new.out.items did.0 c.open_held-answer.result c.give.new.seat.me did.2 h.knows.unopened
+          (c.give.ensures.told did.0 did.1 ∙ ap (λ w. (grown w w.found did.0, [])) is),
+    )

@@ -6,4 +6,4 @@ pub slot_mut-held-requires : goal.slot_mut-held-requires
 slot_mut-held-requires g c = (search rules, lent _ c.requires.lock)
 
 pub returns-clause-did : goal.returns-clause-did
-returns-clause-did g c = became _ _ c.slot_mut-held.result.now c.open.new.self c.slot_mut-held.ensures.value record { answer = c.open.ensures.answer; grew = record { below = c.open.ensures.below; fits = c.open.ensures.fits; growth = c.open.ensures.growth } }
+returns-clause-did g c = became _ _ c.slot_mut-held.result.now c.open.new.self c.slot_mut-held.ensures.value record { sound = c.audit.ensures.sound; answer = c.open.ensures.answer; grew = record { below = c.open.ensures.below; fits = c.open.ensures.fits; growth = c.open.ensures.growth } }

@@ -15,6 +15,7 @@ returns g c = let k = c.take.ensures.lock.0 in let h = c.take.ensures.lock.1 in
     let now = c.pass.ensures.met did.0 did.1 ∙ ap (λ v. (leaving v did.0.pair, [])) is in (
       c.pass.ensures.same.0 ∙ c.restart_held.ensures.same.0.0 ∙ c.take.ensures.same.0 ∙ c.sit-seat.ensures.0,
       k.pair,
-      ap (λ (m : Mine). m.0.met) now ∙ ap (λ (p : PairState). k.pair ∷ p ∷ []) did.2.1,
+      ap (λ (m : Mine). m.0.met) now ∙ ap (λ (p : PairState). k.pair ∷ p ∷ []) did.2.2,
+      did.2.1,
       refl,
     )

@@ -6,4 +6,4 @@ pub slot_mut-held-requires : goal.slot_mut-held-requires
 slot_mut-held-requires g c = (search rules, lent _ c.requires.lock)
 
 pub returns-clause-did : goal.returns-clause-did
-returns-clause-did g c = became _ _ c.slot_mut-held.result.now c.turn_first.new.self c.slot_mut-held.ensures.value (c.turn_first.ensures.book, c.turn_first.ensures.made)
+returns-clause-did g c = became _ _ c.slot_mut-held.result.now c.turn_first.new.self c.slot_mut-held.ensures.value (c.turn_first.ensures.book, c.audit.ensures.sound, c.turn_first.ensures.made)

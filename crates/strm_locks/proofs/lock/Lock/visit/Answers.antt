@@ -17,4 +17,5 @@ returns g c = let k = c.take.ensures.lock.0 in let h = c.take.ensures.lock.1 in
       did.0.pair,
       ap (λ (m : Mine). m.0.met) now,
       did.2.1,
+      did.2.2,
     )

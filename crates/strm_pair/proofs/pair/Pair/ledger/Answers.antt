@@ -1,19 +1,13 @@
--- What stands on the queues is what the balance leaves, and the journal is a legal one.
-use Rattle.std.proofs.Common.{ℕ, ◌≡◌, ◌+◌, ◌-◌, if◌then◌else◌, List, ap, subst, ◌∙◌, arith}
+-- What stands on the queues is what the balance leaves.
+use Rattle.std.proofs.Common.{ℕ, ◌≡◌, ◌+◌, ◌-◌, List, ap, ◌∙◌, arith}
 use Rattle.strm_types.specs.declared.books.Book.{Book}
 use Rattle.strm_types.specs.declared.ledger.Ledger.{Ledger}
-use Rattle.strm_types.specs.Cells.{tagged}
-use Rattle.strm_laws.specs.Ledgers.{inline, is_booked, ledger_of, own_places_of, places_of, queued}
+use Rattle.strm_laws.specs.Ledgers.{inline, ledger_of, queued}
 use Rattle.strm_laws.specs.Pair.{PairState}
-use Rattle.strm_laws.specs.Based.{based}
 use Rattle.strm_laws.specs.State.{book}
-use Rattle.strm_laws.specs.Step.{replay}
-use Rattle.strm_laws.proofs.JournalPlaces.{one-place, own-place}
 use Rattle.strm_laws.proofs.LedgerSums.{sum_of}
-use Rattle.strm_laws.proofs.BaseSteps.{restorable-unread}
-use Rattle.strm_laws.proofs.RefusedForgets.{legal-from}
 use Rattle.strm_pair.specs.BaseTexts.{start_in}
-use Rattle.strm_pair.specs.Pairs.{state_in, journal_of}
+use Rattle.strm_pair.specs.Pairs.{state_in}
 use Rattle.strm_pair.proofs.Balanced.{balance, elsewhere-few}
 use Rattle.strm_pair.proofs.pair.Pair.ledger.Goals as goal
 
@@ -85,19 +79,3 @@ returns-clause-balance g c =
     let is = c.book-book.ensures s in
     let gone = ap (λ counts. sum_of counts) c.of-fates.ensures in
     omega (arith, all, gone, c.sum.ensures, c.line_lens-inline.ensures s, ap (λ (b : Book). b.written) is, ap (λ (b : Book). b.made) is)
-
-pub returns-clause-once : goal.returns-clause-once
-returns-clause-once g c = λ o.
-    let p = c.self.inside in
-    let base = (start_in p.base).state in
-    let is = c.self.invariant.kept.based.restorable in
-    subst (λ (v : PairState). places_of o v.base v.journal ≡ (if is_booked o v.base (replay tagged (based v.base) v.journal) then 1 else 0)) c.self.view_is
-    (one-place o base (journal_of p.journal) (restorable-unread base is) is.idle (legal-from base (journal_of p.journal) is.idle c.self.invariant.kept.legal))
-
-pub returns-clause-own : goal.returns-clause-own
-returns-clause-own g c = λ o.
-    let p = c.self.inside in
-    let base = (start_in p.base).state in
-    let is = c.self.invariant.kept.based.restorable in
-    subst (λ (v : PairState). own_places_of o v.base v.journal ≡ (if is_booked o v.base (replay tagged (based v.base) v.journal) then 1 else 0)) c.self.view_is
-    (own-place o base (journal_of p.journal) (restorable-unread base is) is.idle (legal-from base (journal_of p.journal) is.idle c.self.invariant.kept.legal))

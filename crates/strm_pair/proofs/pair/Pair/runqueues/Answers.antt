@@ -30,7 +30,7 @@ pub loop-turns-preserved : goal.loop-turns-preserved
 loop-turns-preserved g c =
     let l = c.loop-turns in
     one-more l.turns c.entries_left-left.result c.args.self.now l.self c.turn.new.self c.in-Some.queue c.in_default-turn.field-0 l.invariant
-    (sym c.first_enabled.ensures ∙ c.in-Some.is) c.in_default-turn.ensures.adds
+    (sym c.first_enabled.ensures ∙ c.in-Some.is) c.in_default-turn.ensures.adds c.in_default-turn.ensures.stops
 
 pub returns-in-None-clause-rest : goal.returns-in-None-clause-rest
 returns-in-None-clause-rest g c = none-first _ (sym c.first_enabled-2.ensures ∙ c.in-None.is)

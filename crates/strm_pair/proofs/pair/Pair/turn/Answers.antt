@@ -7,7 +7,7 @@ use Rattle.strm_types.specs.Journal.{PlainEntry}
 use Rattle.strm_laws.specs.Step.{IsTurn, after}
 use Rattle.strm_laws.specs.Refusals.{enough}
 use Rattle.strm_types.specs.Refused.{turn_blocks}
-use Rattle.strm_laws.specs.Pair.{PairState, AddsEntry, queue_refused}
+use Rattle.strm_laws.specs.Pair.{PairState, AddsEntry, MovesOn, queue_refused}
 use Rattle.strm_laws.proofs.Replay.{turn-allowed}
 use Rattle.strm_pair.specs.BaseTexts.{start_in}
 use Rattle.strm_pair.specs.Pairs.{state_in, journal_of, free_in}
@@ -94,3 +94,9 @@ turn-turn-requires g c =
       room = asked-free (turn_blocks c.args.name.place) s (turn-free old (journal_of p.journal) p.limits asked c.args.name allowed);
       range = (turn-allowed old (journal_of p.journal) p.limits asked c.args.name allowed).1;
     }
+
+pub returns-clause-stops : goal.returns-clause-stops
+returns-clause-stops g c = subst (λ (v : PairState). MovesOn v.state c.args.name c.turn-turn.result) c.self.view_is c.turn-turn.ensures.stops
+
+pub returns-in-Some-clause-stops : goal.returns-in-Some-clause-stops
+returns-in-Some-clause-stops g c = search rules

@@ -1,5 +1,5 @@
 -- What the first message asks says what becomes of the turn.
-use Rattle.std.proofs.Common.{ℕ, ◌≤◌, length, sym, ap, subst, ◌∙◌, arith}
+use Rattle.std.proofs.Common.{ℕ, ◌≤◌, length, refl, sym, ap, subst, ◌∙◌, arith}
 use Rattle.std.proofs.lemmas.List.{length-map}
 use Rattle.strm_types.specs.declared.answers.Turn.TheVariants.{Blocked, Idle}
 use Rattle.strm_types.specs.declared.spots.Asks.TheVariants as asked
@@ -80,7 +80,7 @@ returns-else-has_room_past-clause-begins g c =
     let none = sym c.has_room_past.ensures ∙ c.if-has_room_past.false in
     let behind = c.stay-in-Room.ensures.state ∙ ap (λ (v : State ℕ). (stayed_at Blocked (spot_of name at) v).state) (c.wait_past.ensures.state s) in
     subst (BeginsAs st new name) (sym c.stay-in-Room.ensures.over)
-    (λ turn. turned-asks name at (asked.Room band) turn st c.requires.idle found asks ∙ turned-waits name at band turn st none ∙ ap (stayed_put Blocked) (sym behind))
+    (refl, λ turn. turned-asks name at (asked.Room band) turn st c.requires.idle found asks ∙ turned-waits name at band turn st none ∙ ap (stayed_put Blocked) (sym behind))
 
 pub returns-in-Held-clause-begins : goal.returns-in-Held-clause-begins
 returns-in-Held-clause-begins g c =
@@ -91,7 +91,7 @@ returns-in-Held-clause-begins g c =
     let new = state_in s c.stay-in-Held.new.self in
     let found = sym (c.module_named.ensures s) ∙ c.in-Some.is in
     let asks = sym c.in-Held.is ∙ c.asks.ensures.asks ∙ ap (λ (t : Stream ℕ). at_place (module_asks name.way) asked.Empty at t.modules) (c.end.ensures.stream s) in
-    subst (BeginsAs st new name) (sym c.stay-in-Held.ensures.over) (λ turn. turned-asks name at asked.Held turn st c.requires.idle found asks ∙ ap (stayed_put Blocked) (sym c.stay-in-Held.ensures.state))
+    subst (BeginsAs st new name) (sym c.stay-in-Held.ensures.over) (refl, λ turn. turned-asks name at asked.Held turn st c.requires.idle found asks ∙ ap (stayed_put Blocked) (sym c.stay-in-Held.ensures.state))
 
 pub returns-in-Empty-clause-begins : goal.returns-in-Empty-clause-begins
 returns-in-Empty-clause-begins g c =
@@ -102,7 +102,7 @@ returns-in-Empty-clause-begins g c =
     let new = state_in s c.stay.new.self in
     let found = sym (c.module_named.ensures s) ∙ c.in-Some.is in
     let asks = sym c.in-Empty.is ∙ c.asks.ensures.asks ∙ ap (λ (t : Stream ℕ). at_place (module_asks name.way) asked.Empty at t.modules) (c.end.ensures.stream s) in
-    subst (BeginsAs st new name) (sym c.stay.ensures.over) (λ turn. turned-asks name at asked.Empty turn st c.requires.idle found asks ∙ ap (stayed_put Idle) (sym c.stay.ensures.state))
+    subst (BeginsAs st new name) (sym c.stay.ensures.over) (refl, λ turn. turned-asks name at asked.Empty turn st c.requires.idle found asks ∙ ap (stayed_put Idle) (sym c.stay.ensures.state))
 
 pub asks-requires : goal.asks-requires
 asks-requires g c =

@@ -9,6 +9,7 @@ use Rattle.strm_laws.proofs.Balances.{turn-few}
 use Rattle.strm_laws.proofs.StackSpares.{range-spare, spare-low}
 use Rattle.strm_laws.proofs.StepBooks.{serves-books}
 use Rattle.strm_pair.specs.Pairs.{state_in}
+use Rattle.strm_pair.proofs.MovingOn.{driver-moves}
 use Rattle.strm_pair.proofs.streams.Streams.turn.Goals as goal
 
 pub returns-in-Driver-clause-few : goal.returns-in-Driver-clause-few
@@ -20,3 +21,12 @@ returns-in-Driver-clause-few g c =
     subst FewBooked (sym e.delivers.leads.state)
     (turn-few plain from behind.state behind.gone c.requires.range (serves-books plain side (stream side from).driver.queue.messages from)
     (spare-low behind.state (omega (arith, e.delivers.left, ap spare e.delivers.leads.state, range-spare from c.requires.range))))
+
+-- a driver's message goes whole
+pub returns-in-Driver-clause-stops : goal.returns-in-Driver-clause-stops
+returns-in-Driver-clause-stops g c =
+    let from = state_in (g.B.Blocks.value c.args.store.now) (record c.args.self.now { enabled = c.remove.new.self }) in
+    driver-moves c.args.name c.turn_driver.result from c.in-Driver.is c.turn_driver.ensures.turn
+
+pub returns-in-Ldterm-clause-stops : goal.returns-in-Ldterm-clause-stops
+returns-in-Ldterm-clause-stops g c = c.turn_module.ensures.stops c.in-Ldterm.is

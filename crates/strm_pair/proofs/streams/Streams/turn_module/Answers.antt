@@ -20,6 +20,7 @@ use Rattle.strm_frame.proofs.Handing.{no-hand}
 use Rattle.strm_pair.specs.Framing.{rests}
 use Rattle.strm_pair.specs.Pairs.{state_in}
 use Rattle.strm_pair.proofs.CallsOn.{some-taken, turned-by}
+use Rattle.strm_pair.proofs.MovingOn.{serves-moves, stays-moves}
 use Rattle.strm_pair.proofs.streams.Streams.turn_module.Goals as goal
 
 pub end_module_turn-requires-clause-within : goal.end_module_turn-requires-clause-within
@@ -33,11 +34,11 @@ overflow_cast-result g c =
     omega (arith, c.call_on-bytes.ensures.treats.within, begins.few, left)
 
 pub returns-in-Over-clause-turn : goal.returns-in-Over-clause-turn
-returns-in-Over-clause-turn g c = sym (ap (λ (t : TurnOutcome ℕ). t.turn) (c.in-Over.ensures.begins c.in-Over.turn))
+returns-in-Over-clause-turn g c = sym (ap (λ (t : TurnOutcome ℕ). t.turn) (c.in-Over.ensures.begins.1 c.in-Over.turn))
 
 pub returns-in-Over-clause-leads : goal.returns-in-Over-clause-leads
 returns-in-Over-clause-leads g c =
-    let is = c.in-Over.ensures.begins c.in-Over.turn in
+    let is = c.in-Over.ensures.begins.1 c.in-Over.turn in
     record {
       state = sym (ap (λ (t : TurnOutcome ℕ). t.state) is);
       tells = sym (ap (λ (t : TurnOutcome ℕ). tallied t.gone c.args.told.now) is);
@@ -80,7 +81,7 @@ pub returns-in-Over-clause-few : goal.returns-in-Over-clause-few
 returns-in-Over-clause-few g c =
     let s = g.B.Blocks.value c.args.store.now in
     let old = state_in s c.args.self.now in
-    let is = c.in-Over.ensures.begins c.in-Over.turn in
+    let is = c.in-Over.ensures.begins.1 c.in-Over.turn in
     let books = subst (λ (t : TurnOutcome ℕ). BooksMade plain old t.gone t.state) is (module-books plain c.args.name c.in-Over.turn old) in
     turn-few plain old (state_in s c.begin_module_turn.new.self) [] c.requires.range books (λ dir. let low = range-low dir old c.requires.range in let same = books.made dir in omega (arith, low.1, same))
 
@@ -105,3 +106,12 @@ returns-in-Serves-clause-few g c =
     subst FewBooked (sym shows)
     (turn-few plain old (module_turned plain c.args.name (Moved on.result) old).state (module_turned plain c.args.name (Moved on.result) old).gone c.requires.range (module-books plain c.args.name (Moved on.result) old)
     (spare-low (module_turned plain c.args.name (Moved on.result) old).state (omega (arith, range-spare old c.requires.range, stays, behind, same, on.ensures.treats.left, within, few, left))))
+
+-- a byte went, where the message has one
+pub returns-in-Over-clause-stops : goal.returns-in-Over-clause-stops
+returns-in-Over-clause-stops g c = λ place. stays-moves c.args.name (state_in (g.B.Blocks.value c.args.store.now) c.args.self.now) c.in-Over.turn c.in-Over.ensures.begins.0
+
+pub returns-in-Serves-clause-stops : goal.returns-in-Serves-clause-stops
+returns-in-Serves-clause-stops g c = λ place.
+    let s = g.B.Blocks.value c.args.store.now in
+    serves-moves c.args.name c.in-Serves.here (state_in s c.args.self.now) (state_in s c.begin_module_turn.new.self) c.call_on-bytes.result c.in-Serves.ensures.begins c.call_on-bytes.ensures.treats.some place

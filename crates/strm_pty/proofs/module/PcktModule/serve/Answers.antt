@@ -18,6 +18,7 @@ returns g c =
       again = search rules;
       stopped = search rules;
       stops = search rules;
+      some = search rules;
       made = search rules;
       held = tt;
       own = search rules;

@@ -14,4 +14,4 @@ returns-clause-counts g c SlaveToMaster =
     (subst (λ (xs : List ℕ). 0 < length xs) e c.first-2.ensures.some, subst (λ (xs : List ℕ). slice_index_or xs 0 0 < 2 ^ 64) e c.first-2.ensures.small)
 
 pub returns-clause-agrees : goal.returns-clause-agrees
-returns-clause-agrees g c = (c.audit.ensures (direction_of (head_of c.args.side))).agree
+returns-clause-agrees g c = (c.audit.ensures.balanced (direction_of (head_of c.args.side))).agree
