@@ -6,8 +6,8 @@
     your terminal (raw) -> write m -> ldterm -> read s -> libstrm_host -> program
     your terminal <- read m <- ldterm <- write s <- libstrm_host <- program
 
-libstrm_host stands beside libstrm (tools/library and tools/host with one PREFIX). A resize of your terminal is a TIOCSWINSZ of the master, whose SIGWINCH
-goes on to the program. The journal of a session is what a bug report needs: strm_record.replay.
+libstrm_host stands beside libstrm (tools/library and tools/host with one PREFIX). A resize of your terminal is a TIOCSWINSZ of the master, whose
+SIGWINCH goes on to the program. The journal of a session is what a bug report needs: strm_record.replay.
 """
 import argparse
 import os

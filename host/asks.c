@@ -25,7 +25,7 @@ strm_refusal host_ioctl(strm_host *h, uint32_t side, uint32_t command, const uin
         *pending = r.value;
     }
     e = strm_run(h->pair);
-    if (e && e != STRM_ENOSR) return e;
+    if (e && !host_waited(e)) return e;
     ask.op = STRM_OP_IOCTL_RESULT, ask.a = *pending;
     e = strm_call(h->pair, &ask, none, 0, out, sizeof out, &r);
     if (e == STRM_EAGAIN || e == STRM_JOURNAL_FULL) return e;
@@ -190,7 +190,7 @@ strm_refusal host_answers(strm_host *h, bool *moved)
         strm_refusal e = STRM_EAGAIN;
         if (a->asked && (reads_only(&a->ask) || (!held && in_place(h, a)))) e = done(h, a, &value);
         if (e == STRM_JOURNAL_FULL || e == STRM_ERANGE) return e;
-        if (e == STRM_EAGAIN || e == STRM_ENOSR) {
+        if (host_waited(e)) {
             held = held || a->asked;
             k++;
             continue;

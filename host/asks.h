@@ -1,4 +1,5 @@
-/* What the shim in a program and its host say to each other: one message of each over a socket of SOCK_SEQPACKET, the first with the terminal's descriptor. */
+/* What the shim in a program and its host say to each other: one message of each over a socket of SOCK_SEQPACKET, the first with the terminal's
+ * descriptor. */
 #ifndef STRM_HOST_ASKS_H
 #define STRM_HOST_ASKS_H
 

@@ -1,5 +1,5 @@
-/* While a program puts out much, the kernel is told of modes without OPOST: it looks at each byte otherwise, to find nothing to do. Who isn't reached by
- * the shim and reads modes then sees OPOST off; and as what it sets says nothing of OPOST, this stays so till it has set ICANON again. */
+/* While a program puts out much, the kernel is told of modes without OPOST: it looks at each byte otherwise, to find nothing to do. Who isn't reached
+ * by the shim and reads modes then sees OPOST off; and as what it sets says nothing of OPOST, this stays so till it has set ICANON again. */
 #define _GNU_SOURCE
 #include <sys/epoll.h>
 #include <sys/timerfd.h>

@@ -48,6 +48,9 @@ struct strm_host {
     uint8_t down[4097], up[4096];
 };
 
+/* What is refused till others have moved: it is tried again. */
+static inline bool host_waited(strm_refusal e) { return e == STRM_EAGAIN || e == STRM_ENOSR; }
+
 /* modes.c */
 host_modes host_shown(const strm_host *h);                  /* what a program is told */
 int host_mirrors(strm_host *h);                             /* puts the modes at the kernel */

@@ -1,5 +1,5 @@
-/* The modes of a terminal as Linux has them, as the pair has them, and as the kernel is told: the words of both have the same bits, as Linux took System
- * V's; of the control bytes EOL and EOL2 have other places, where System V has MIN and TIME. */
+/* The modes of a terminal as Linux has them, as the pair has them, and as the kernel is told: the words of both have the same bits, as Linux took
+ * System V's; of the control bytes EOL and EOL2 have other places, where System V has MIN and TIME. */
 #define _GNU_SOURCE
 #include <string.h>
 #include <sys/ioctl.h>

@@ -94,7 +94,7 @@ static strm_refusal makes_room(strm_host *h)
     h->blocked = strm_enabled(h->pair, 0) == STRM_NO_QUEUE;
     e = h->blocked ? STRM_OK : strm_run(h->pair);
     if (e == STRM_ENOSR) h->blocked = true;
-    return e == STRM_ENOSR ? STRM_OK : e;
+    return host_waited(e) ? STRM_OK : e;
 }
 
 static strm_refusal writes(strm_host *h, bool *moved)
@@ -111,7 +111,7 @@ static strm_refusal writes(strm_host *h, bool *moved)
         }
         e = goes_down(h);
         if (!e) *moved = true;
-        if (e == STRM_EAGAIN || e == STRM_ENOSR) e = makes_room(h);
+        if (host_waited(e)) e = makes_room(h);
         if (e) return e;
     }
     return STRM_OK;
@@ -218,7 +218,7 @@ static strm_refusal runs(strm_host *h, bool *moved)
     if (strm_enabled(h->pair, 0) == STRM_NO_QUEUE) return STRM_OK;
     e = strm_runqueues(h->pair, &turns);
     if (turns) *moved = true;
-    return e == STRM_ENOSR ? STRM_OK : e;
+    return host_waited(e) ? STRM_OK : e;
 }
 
 /* ------------------------------------------------------------------------------------------------------------- a pump */

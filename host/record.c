@@ -19,8 +19,8 @@ struct strm_recorder {
 static const char *const calls[] = { "open_master", "unlock", "open_slave", "close", "push", "pop", "look", "flush", "write", "read", "put", "get",
     "mode", "nread", "ioctl", "ioctl_result", "signals" };
 static const char *const answers[] = { "done", "name", "count", "bytes", "message", "sizes", "pending", "nak", "signals", "stopped" };
-static const char *const queues[] = { "m.head.r", NULL, "m.ldterm.r", "m.ldterm.w", NULL, "m.drv.w", "s.head.r", NULL, "s.ldterm.r", "s.ldterm.w", NULL,
-    "s.drv.w" };
+static const char *const queues[] = { "m.head.r", NULL, "m.ldterm.r", "m.ldterm.w", NULL, "m.drv.w", "s.head.r", NULL, "s.ldterm.r", "s.ldterm.w",
+    NULL, "s.drv.w" };
 static const char *const turns[] = { "idle", "blocked", "moved" };
 
 #define COUNT(of) (sizeof(of) / sizeof *(of))

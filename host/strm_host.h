@@ -81,7 +81,8 @@ typedef struct strm_host strm_host;
 
 /* Starts the program words[0], found as by execvp(3), as the leader of a new session on the pair, with the environment given, or the caller's where
  * it is NULL, and a window of that size, where it isn't NULL. What execve(2) says where it can't be run; EINVAL: the pair is no terminal;
- * ELIBACC: the shim isn't there; ENOMEM, EMFILE, ENOSPC and others: what the system, or the pair (strm_host_errno), has no room for. *made stays then. */
+ * ELIBACC: the shim isn't there; ENOMEM, EMFILE, ENOSPC and others: what the system, or the pair (strm_host_errno), has no room for. *made stays
+ * then. */
 int strm_host_spawn(strm_host **made, strm_pair *pair, char *const words[], char *const environment[], const strm_winsize *size);
 
 /* What a pump has seen. SHOWS: bytes wait at the master's head, and a read takes them. MOVED: something went on, in either direction. ENDED: the

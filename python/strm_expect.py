@@ -19,7 +19,7 @@ fails nothing. One that makes no call for `timeout` seconds is broken off.
     child = spawn("bash --norc")                    # a program of the system, on a pair (strm_host)
     child.expect(r"\\$ ", timeout=5)
 
-Of it the same is told where a process of its foreground asks the terminal for input without a time-out, and what it shows is matched till then, or for
+Of it the same is told where a process of its foreground asks the terminal for input without a time-out; what it shows is matched till then, or for
 `timeout` seconds, 30 where none is said (None: without a limit). With `child.rests = False` the time alone tells, as a relay (ssh, tmux,
 script) asks for keys while another program is at work. TIMEOUT is another name of AtRest.
 

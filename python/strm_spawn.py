@@ -153,7 +153,7 @@ class Child:
     # ------------------------------------------------------------------------------------------------------------- by hand
 
     def interact(self, escape_character=chr(29), input_filter=None, output_filter=None):
-        """Between the terminal of this process and the program, until that ends or the escape character (^]) is typed. The filters are handed bytes."""
+        """Between the terminal of this process and the program, until that ends or the escape character (^]) is typed. Filters are handed bytes."""
         leaves = escape_character.encode() if isinstance(escape_character, str) else escape_character
         typed, shows = sys.stdin.fileno(), sys.stdout.fileno()
         before = termios.tcgetattr(typed) if os.isatty(typed) else None

@@ -1,4 +1,5 @@
-/* Bulk output of a program, on a terminal of Linux and on a pair, by the same harness: bulk PROGRAM [MEGABYTES [ROUNDS]]. Says how many megabytes a second come. */
+/* Bulk output of a program, on a terminal of Linux and on a pair, by the same harness: bulk PROGRAM [MEGABYTES [ROUNDS]]. Says how many megabytes a
+ * second come, and what a megabyte takes of the processor. */
 #define _GNU_SOURCE
 #include <errno.h>
 #include <fcntl.h>

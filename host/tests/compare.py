@@ -1,4 +1,4 @@
-"""Programs of the system on a pair and on a terminal of Linux: says where what they show differs. compare.py [--long] [-j N] [NAME ..]"""
+"""Programs of the system on a pair and on a terminal of Linux: says where what they show differs. compare.py [-j N] [NAME ..]"""
 import argparse
 import concurrent.futures
 import os
@@ -16,8 +16,8 @@ from programs import PROGRAMS  # noqa: E402
 from strm_host import Bridge  # noqa: E402
 
 PLAIN = {
-    "TERM": "xterm", "PS1": "$ ", "PS2": "> ", "LC_ALL": "C.UTF-8", "HISTFILE": "", "INPUTRC": "/dev/null", "PYTHON_HISTORY": "/dev/null", "PAGER": "cat",
-    "SHELL": "/bin/sh", "SCREENDIR": "", "TMUX": "", "LESSHISTFILE": "-", "PYTHONDONTWRITEBYTECODE": "1",
+    "TERM": "xterm", "PS1": "$ ", "PS2": "> ", "LC_ALL": "C.UTF-8", "HISTFILE": "", "INPUTRC": "/dev/null", "PYTHON_HISTORY": "/dev/null",
+    "PAGER": "cat", "SHELL": "/bin/sh", "LESSHISTFILE": "-",
 }  # fmt: skip
 FILES = {
     "text": "".join(f"line {n}\n" for n in range(1, 6)),

@@ -1,5 +1,5 @@
-"""A program on a pseudoterminal of Linux alone, with the modes that a terminal of the pair has at first: what a bridge is compared with. It has the methods of
-strm_host.Bridge that a comparison needs, and is at rest by the same look."""
+"""A program on a pseudoterminal of Linux alone, with the modes that a terminal of the pair has at first: what a bridge is compared with. It has the
+methods of strm_host.Bridge that a comparison needs, and is at rest by the same look."""
 import errno
 import fcntl
 import os

@@ -1,5 +1,5 @@
-"""Sessions of a login server at once: sessions.py LOGIND FOLDER [SESSIONS [WRAPPER ..]]. Each is a connection of telnet that says its window, types into its
-shell and sees what it shows; then the journal of each is made again. The status is 1 where anything isn't as it should be."""
+"""Sessions of a login server at once: sessions.py LOGIND FOLDER [SESSIONS [WRAPPER ..]]. Each is a connection of telnet that says its window, types
+into its shell and sees what it shows; then the journal of each is made again. The status is 1 where anything isn't as it should be."""
 import os
 import pathlib
 import re
@@ -13,7 +13,7 @@ sys.path.insert(0, str(pathlib.Path(__file__).parents[2] / "python"))
 
 from strm_record import read_journal, replay  # noqa: E402
 
-SECONDS = float(os.environ.get("SECONDS_MOST", 240))
+SECONDS = 240
 OFFERS = bytes([255, 251, 1, 255, 251, 3, 255, 253, 31])
 
 

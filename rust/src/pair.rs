@@ -78,6 +78,11 @@ impl Pair {
         Ok(pair)
     }
 
+    /// The address of the pair's handle (strm_pair), for other libraries of C, as libstrm_host is one: the pair stays where it is while they use it.
+    pub fn as_mut_ptr(&mut self) -> *mut std::ffi::c_void {
+        ptr::from_mut(&mut self.handle).cast()
+    }
+
     /// Opens both sides, and pushes `ptem` and `ldterm` on the slave.
     pub fn open_terminal(&mut self) -> Result<(), Refused> {
         self.open_master()?;
