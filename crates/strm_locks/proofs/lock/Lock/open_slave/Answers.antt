@@ -1,5 +1,5 @@
 use Rattle.std.proofs.Common.{rules, ◌≡◌, ◌≢◌, sym, ap, ◌∙◌, subst, inr}
-use Rattle.std.specs.Prelude.{Err}
+use Rattle.std.specs.Prelude.{Err, Ok}
 use Rattle.strm_types.specs.declared.events.Event.TheVariants.{OpenSlave}
 use Rattle.strm_locks.specs.Ends.{Calls, Share, slave_end}
 use Rattle.strm_locks.specs.Shares.{Outcome}
@@ -21,10 +21,10 @@ pub returns-in-Ok : goal.returns-in-Ok
 returns-in-Ok g c =
     let t = subst (λ (r : Outcome). Calls c.args.end.now OpenSlave c.new-out.result.items c.call.new.out.items r c.call.new.end) c.in-Ok.is c.call.ensures in (
       search rules,
-      _,
+      c.in-Ok.field-0,
       c.call.new.out.items,
       c.call.new.end,
-      subst (λ xs. Calls c.args.end.now OpenSlave xs c.call.new.out.items _ c.call.new.end) c.new-out.ensures t,
+      subst (λ xs. Calls c.args.end.now OpenSlave xs c.call.new.out.items (Ok c.in-Ok.field-0) c.call.new.end) c.new-out.ensures t,
       c.cut_slave.ensures.first,
       c.cut_slave.ensures.second ∙ ap slave_end t.told.2,
     )
