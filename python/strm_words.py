@@ -128,7 +128,7 @@ class Plan(NamedTuple):
     begins_anew: bool = False
 
 
-TERMINAL = Plan(TERMINAL_BLOCKS, 64, 16384, (4096, 512), True)
+TERMINAL = Plan(TERMINAL_BLOCKS + 4096, 64, 16384, (4096, 512), True)
 
 
 class Ready(IntFlag):

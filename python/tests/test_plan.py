@@ -3,7 +3,7 @@ import random
 import unittest
 
 from strm import (
-    BLOCKS_LEAST, BLOCKS_MOST, COMMANDS, HIGH, JOURNAL_LEAST, MASTER, SLAVE, TERMINAL, TERMINAL_BLOCKS, WRITE_MOST, Pair, Plan, Ready,
+    BLOCKS_LEAST, BLOCKS_MOST, COMMANDS, HIGH, JOURNAL_LEAST, MASTER, SLAVE, TERMINAL, WRITE_MOST, Pair, Plan, Ready,
     Refused, Winsize,
 )  # fmt: skip
 
@@ -43,7 +43,7 @@ class Plans(unittest.TestCase):
         with Pair.make(TERMINAL) as pair:
             self.assertEqual((pair.plan, pair.room()), (TERMINAL, TERMINAL[:3]))
         with Pair.terminal() as pair:
-            self.assertEqual((pair.plan.blocks, pair.plan.reserve), (TERMINAL_BLOCKS, (4096, 512)))
+            self.assertEqual(pair.plan, TERMINAL._replace(begins_anew=False))
 
     def test_pairs_of_images(self):
         with Pair.terminal() as pair:

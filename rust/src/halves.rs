@@ -107,8 +107,7 @@ macro_rules! half {
         $(#[$what])*
         ///
         /// Reads and writes never wait: `WouldBlock` is EAGAIN. Each makes the turns that are to be made before it and behind it, so what one
-        /// half wrote the other reads. A half may move to another thread; the pair is locked during each call. Dropped, a half closes its
-        /// side: the other one reads what was written, and then the end of input.
+        /// half wrote the other reads. A half may move to another thread; the pair is locked during each call.
         #[derive(Debug)]
         pub struct $name(Half);
 
@@ -152,11 +151,16 @@ macro_rules! half {
 
 half! {
     /// The master's end of a pair: of a terminal emulator, or of a login server.
+    ///
+    /// Dropped, it hangs up: the slave reads what has reached it, and then the end of input. What flow control still held back is gone, as
+    /// where a line is cut.
     Master
 }
 
 half! {
     /// The slave's end of a pair: of a program. Under ICANON a read is one line, and a read of no bytes an EOF key.
+    ///
+    /// Dropped, it closes its side once all that it wrote has left its modules: the master reads it to its end, and then the end of input.
     Slave
 }
 

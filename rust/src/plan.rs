@@ -59,8 +59,8 @@ pub struct Plan {
 }
 
 impl Plan {
-    /// The plan of a terminal: few calls of its journal are kept, and neither end takes what the other needs.
-    pub const TERMINAL: Plan = Plan { blocks: TERMINAL_BLOCKS, entries: 64, bytes: 16_384, reserve: [4096, 512], begins_anew: true };
+    /// The plan of a terminal, with so many blocks beside the greater reserve: neither end takes what the other needs, and its journal is small.
+    pub const TERMINAL: Plan = Plan { blocks: TERMINAL_BLOCKS + 4096, entries: 64, bytes: 16_384, reserve: [4096, 512], begins_anew: true };
 
     pub(crate) fn ffi(&self) -> ffi::Plan {
         let Plan { blocks, entries, bytes, reserve, begins_anew } = *self;

@@ -125,7 +125,7 @@ fn turns_that_do_not_end_are_an_error() -> Outcome {
     Ok(())
 }
 
-/// Writes all, and waits by yielding.
+/// Writes all, waits by yielding, and closes.
 fn writes(mut half: impl Write, bytes: &[u8]) -> io::Result<()> {
     let mut rest = bytes;
     while !rest.is_empty() {
@@ -138,30 +138,35 @@ fn writes(mut half: impl Write, bytes: &[u8]) -> io::Result<()> {
     Ok(())
 }
 
-/// Reads so many bytes, and waits by yielding.
-fn reads(mut half: impl Read, count: usize) -> io::Result<Vec<u8>> {
+/// Reads up to the end of input, and waits by yielding.
+fn reads(mut half: impl Read) -> io::Result<Vec<u8>> {
     let (mut got, mut room) = (Vec::new(), [0; 4096]);
-    while got.len() < count {
+    loop {
         match half.read(&mut room) {
+            Ok(0) => return Ok(got),
             Ok(n) => got.extend_from_slice(&room[..n]),
             Err(error) if error.kind() == ErrorKind::WouldBlock => thread::yield_now(),
             Err(error) => return Err(error),
         }
     }
-    Ok(got)
 }
 
 #[test]
 fn two_threads_move_a_megabyte() -> Outcome {
-    let mut pair = Pair::new(Sizes { blocks: BLOCKS_LEAST, entries: 64, bytes: 8192 })?;
-    pair.open_master()?;
-    pair.unlock()?;
-    pair.open_slave()?;
-    let (master, slave) = pair.split();
-    let text: Vec<u8> = (0..1_000_000_u32).map(|number| (number % 251) as u8).collect();
-    let sent = text.clone();
-    let writer = thread::spawn(move || writes(master, &sent));
-    let got = reads(slave, text.len())?;
-    assert!(writer.join().map_or(false, |written| written.is_ok()) && got == text);
+    for has_modules in [false, true] {
+        let mut pair = Pair::new(Sizes { blocks: BLOCKS_LEAST, entries: 64, bytes: 8192 })?;
+        pair.open_master()?;
+        pair.unlock()?;
+        pair.open_slave()?;
+        if has_modules {
+            pair.push(Side::Slave, Module::Ldterm)?;
+        }
+        let (master, slave) = pair.split();
+        let text: Vec<u8> = (0..1_000_000_u32).map(|number| b'0' + (number % 10) as u8).collect();
+        let sent = text.clone();
+        let writer = thread::spawn(move || writes(slave, &sent));
+        let got = reads(master)?;
+        assert!(writer.join().map_or(false, |written| written.is_ok()) && got == text);
+    }
     Ok(())
 }

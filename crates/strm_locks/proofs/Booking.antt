@@ -1,5 +1,5 @@
 -- What an entry adds to the book of its pair, and what closing the book tells.
-use Rattle.std.proofs.Common.{◌≡◌, ◌≢◌, ℕ, zero, suc, ◌+◌, ◌<◌, min, List, [], ◌∷◌, ◌++◌, length, sym, refl, ap, ◌∙◌, subst, arith, append-nil, append_assoc, length-append}
+use Rattle.std.proofs.Common.{◌≡◌, ◌≢◌, ℕ, zero, suc, ◌+◌, ◌<◌, min, List, [], ◌∷◌, ◌++◌, length, sym, refl, ap, ◌∙◌, subst, arith, append_assoc, length-append}
 use Rattle.std.specs.Prelude.{false, true, Result, Ok, Err, MatchOption, IsOk, IfOk, Option, None, Some, slice_index_or}
 use Rattle.strm_types.specs.declared.answers.Turn.{Turn}
 use Rattle.strm_types.specs.declared.entries.Entry.TheVariants.{Called, Turned}
@@ -8,12 +8,10 @@ use Rattle.strm_types.specs.declared.names.Dir.TheVariants.{MasterToSlave, Slave
 use Rattle.strm_types.specs.declared.names.QueueName.{QueueName}
 use Rattle.strm_types.specs.declared.refusals.Refusal.{Refusal}
 use Rattle.strm_types.specs.Events.{Request, Reply}
-use Rattle.strm_types.specs.declared.refusals.NoMemory.{NoMemory}
 use Rattle.strm_types.specs.Journal.{PlainEntry, answer_len}
 use Rattle.strm_types.specs.Names.{is_enabled}
-use Rattle.strm_laws.specs.Pair.{PairState, AddsEntry, call_refused, restarted}
+use Rattle.strm_laws.specs.Pair.{PairState, AddsEntry, call_refused}
 use Rattle.strm_laws.proofs.Replay.{refused-by}
-use Rattle.strm_image.specs.declared.trace.Trace.{Trace}
 use Rattle.strm_locks.specs.declared.end.TheConstants.{ALL_PARTS}
 use Rattle.strm_locks.specs.declared.held.Settled.{Settled}
 use Rattle.strm_locks.specs.declared.told.Told.{Told}
@@ -23,7 +21,6 @@ use Rattle.strm_locks.specs.Books.{pick, each, weigh, IsBelow, IsCounted, IsKept
 use Rattle.strm_locks.specs.Rules.{Knows}
 use Rattle.strm_locks.specs.Settles.{IsAll, IsShown}
 use Rattle.strm_locks.specs.Shares.{Did, Outcome, entry_of}
-use Rattle.strm_locks.specs.Turns.{Cuts}
 use Rattle.strm_locks.proofs.Sums.{same_told}
 
 -- the calls of a journal that gains a call, and of one that gains a turn
@@ -113,18 +110,6 @@ module _ (p q : PairState) (name : QueueName) (x : Result Turn Refusal) (calls l
       at : (y : Result Turn Refusal) → x ≡ y → IfOk y (λ t. AddsEntry p q (Turned name t)) → IfOk y (λ t. Tallies p q (Turned name t)) → Stays
       at (Ok t) is adds tally = (keeps-still p q name t adds calls left, book-still p q name t adds calls left tally)
       at (Err r) is adds tally = let same : q ≡ p = (refused-by o x refused r is).1 in (subst (λ z. IsKept calls left z) (sym same), ap (λ z. book_of calls z left) same)
-
--- a journal that begins anew, and a cut, leave the number of calls and the book
-pub restart-keeps : (p q : PairState) (calls left : ℕ) → q ≡ restarted p → IsKept calls left p → IsKept calls left q
-restart-keeps p q calls left is kept = subst (λ x. IsKept calls left x) (sym is) record {
-  counted = subst (IsCounted calls) (ap (λ es. calls_in es) (sym (append-nil (p.past ++ p.journal)))) kept.counted;
-  unopened = λ all. ap restarted (kept.unopened all);
-  opened = kept.opened;
-}
-
-pub cut-keeps : (p q : PairState) (r : Result Trace NoMemory) (calls left : ℕ) → Cuts p r q → IsKept calls left p → IsKept calls left q
-cut-keeps p q (Ok t) calls left cut kept = restart-keeps p q calls left cut.1 kept
-cut-keeps p q (Err z) calls left cut kept = subst (λ x. IsKept calls left x) (sym cut) kept
 
 -- the book of a pair that is called: it is open then, and no longer as new
 pub call-keeps : (p q : PairState) (caller : Caller) (asked : Request) (answer : Reply) (calls left left' : ℕ) → AddsEntry p q (Called caller asked answer) → left' ≢ ALL_PARTS

@@ -52,13 +52,13 @@ impl<P: Object> Lock<P> {
     {
         let mut seat = self.sit();
         self.take(rt, &mut seat);
-        let Settled { told, ms, sm } = self.look_held(&mut seat);
+        let shown = self.look_held(&mut seat);
         self.pass(&mut seat);
         let visit = Visit { seat, made: None };
         Audit {
-            told,
-            ms,
-            sm,
+            told: shown.told,
+            ms: shown.ms,
+            sm: shown.sm,
             visit,
         }
     }

@@ -3,7 +3,7 @@
 ghost use Rattle.std.specs.Prelude.{◌≡◌, ◌≢◌, [], ◌∷◌, ◌++◌, MatchResult};
 ghost use Rattle.strm_types.specs.Events.{request};
 ghost use Rattle.strm_locks.specs.Books.{closed_book};
-ghost use Rattle.strm_locks.specs.Ends.{IsOf, IsOpened, Calls, CallsSlave, OpenedAs, Splits, joined_end};
+ghost use Rattle.strm_locks.specs.Ends.{IsOf, IsOpened, Calls, CallsSlave, OpenedAs, Splits, joined_end, kept_end, slave_end};
 ghost use Rattle.strm_locks.specs.Rules.{fresh};
 ghost use Rattle.strm_locks.specs.Settles.{IsAll, IsShown, IsSettled};
 ghost use Rattle.strm_locks.specs.Shares.{IsSame, IsSeated, HasOpened, HasPair, Became, Applied, Opened};
@@ -174,16 +174,28 @@ impl<P: Object> Lock<P> {
             return Err(Refusal::Erange);
         }
         let mut out = Content::new();
-        self.call(rt, end, &Event::OpenSlave, &mut out)?;
+        match self.call(rt, end, &Event::OpenSlave, &mut out) {
+            Err(refusal) => Err(refusal),
+            Ok(_) => Ok(self.cut_slave(end)),
+        }
+    }
+
+    // Cuts the slave's end off an end, which has two parts at least.
+    fn cut_slave(&self, end: &mut End<P>) -> End<P>
+        requires own { IsOf self.now end.old }
+        requires two { end.old.parts ≢ 1 }
+        ensures first { end.new ≡ kept_end end.old }
+        ensures second { result ≡ slave_end end.old }
+    {
         let given = self.split_seat(&mut end.seat);
         let half = end.parts / 2;
         end.parts -= half;
-        Ok(End {
+        End {
             seat: given,
             caller: Caller::of(Side::Slave),
             told: Told::nothing(),
             parts: half,
-        })
+        }
     }
 
     /// Cuts an end in two, both with its caller: the first was told all that it was, and the second nothing; it has half of the parts, rounded

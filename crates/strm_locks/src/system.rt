@@ -210,12 +210,14 @@ impl<P: Object> System<P> {
         ensures slave { IfOk result (λ slave. IsOne self.now slave) }
         ensures opened { CallsSlave (numbered end.old.pair None) end.old.end result end.new.end }
     {
-        let slave = self.lock(end.pair).open_slave(rt, &mut end.end)?;
-        Ok(PairEnd {
-            pair: end.pair,
-            end: slave,
-            minor: None,
-        })
+        match self.lock(end.pair).open_slave(rt, &mut end.end) {
+            Err(refusal) => Err(refusal),
+            Ok(slave) => Ok(PairEnd {
+                pair: end.pair,
+                end: slave,
+                minor: None,
+            }),
+        }
     }
 
     /// Cuts an end in two, as [`Lock::split_end`] does: the first keeps the minor, if the end has it. An end of one part comes back.

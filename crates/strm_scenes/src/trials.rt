@@ -158,7 +158,6 @@ const ALL_BLOCKS: Config = Config {
 
 // A write of more bytes than the mark is taken up to it.
 fn takes_512<B: Blocks + Drop>(rt: &impl Abort, pair: &mut Pair<B>, bytes: &[u8]) {
-    follow(rt, pair, "a huge write", &OPENING);
     assert!(rt; answers(pair, SLAVE, &Event::Write { bytes }, Ok(Answer::Count(512))));
 }
 
@@ -168,6 +167,7 @@ fn is_written_to<B: Reserve>(
     bytes: &[u8],
 ) -> Result<(), AllocError> {
     let mut pair: Pair<B> = new_pair(alloc, ALL_BLOCKS)?;
+    opens(rt, &mut pair);
     takes_512(rt, &mut pair, bytes);
     Ok(())
 }

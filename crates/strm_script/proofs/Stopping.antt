@@ -166,8 +166,10 @@ goes-whole side way n s t is whole = by (place_named Ldterm t.modules) refl
         let fits = subst (λ o. first_size (at_found (messages_at module_queue way) [] t.modules o) ≤ n) found whole in
         let size = first-among way (at - 1) t.modules in
         let first : first_there side at way (named side way) s ≡ at_place say 0 at t.modules = ap (λ ps. at_place say 0 at ps) is in
-        let whole : first_there side at way (named side way) s ≤ n = omega (arith, fits, size, first) in
-        rw found (there-alike side at way (named side way) s (at_place say 0 at t.modules) n (goes-past (at_place say 0 at t.modules) _ (omega (arith, first)) ∙ sym (goes-past n _ whole)))
+        let there = first_there side at way (named side way) s in
+        let all : there ≤ at_place say 0 at t.modules = omega (arith, first) in
+        let far : there ≤ n = omega (arith, fits, size, first) in
+        rw found (there-alike side at way (named side way) s (at_place say 0 at t.modules) n (goes-past (at_place say 0 at t.modules) there all ∙ sym (goes-past n there far)))
 
 -- what an account says of a turn that was answered so
 pub record Accounted (turn : Turn) (name : QueueName) (s : State ℕ) : Type 0 where

@@ -2,17 +2,19 @@
 
 mod counter;
 mod rig;
-mod stacks;
 mod stock;
+mod turner;
 mod turns;
 
 use counter::Counter;
-use stacks::{Step, plays};
 use std::test::Fail;
+use stock::Stock;
 use strm_blocks::{Blocks, TableStore};
-use strm_frame::{Enabled, deliver};
+use strm_frame::{Enabled, Stream, deliver};
 use strm_msg::from_bytes;
+use strm_queue::{Queue, Table};
 use strm_types::{Band, Fates, ModuleName, MsgKind, Place, QueueName, Side, Spot, Way};
+use turner::Turner;
 
 #[test]
 fn a_message_is_handed_on_until_an_end_takes_it(rt: HostRuntime) -> Result<(), Fail> {
@@ -26,64 +28,64 @@ fn a_message_is_handed_on_until_an_end_takes_it(rt: HostRuntime) -> Result<(), F
         way: Way::Up,
     };
     deliver(&mut store, &mut counter, 16, to, message, &mut told);
-    assert!(rt; counter.seen == 5);
-    assert!(rt; store.free_blocks() == (10, 10));
+    assert_eq!(rt; counter.seen, 5);
+    assert_eq!(rt; store.free_blocks(), (10, 10));
     Ok(())
 }
 
-const THREE_AT_MOST: [Step; 16] = [
-    Step::Look(None),
-    Step::Pop(None),
-    Step::Push(ModuleName::Ptem, true),
-    Step::Push(ModuleName::Ptem, false),
-    Step::Look(Some(ModuleName::Ptem)),
-    Step::Push(ModuleName::Ldterm, true),
-    Step::Push(ModuleName::Ldterm, false),
-    Step::Look(Some(ModuleName::Ldterm)),
-    Step::Push(ModuleName::Pckt, true),
-    Step::Push(ModuleName::Pckt, false),
-    Step::Look(Some(ModuleName::Pckt)),
-    Step::Pop(Some((ModuleName::Pckt, false))),
-    Step::Pop(Some((ModuleName::Ldterm, false))),
-    Step::Pop(Some((ModuleName::Ptem, false))),
-    Step::Push(ModuleName::Ptem, true),
-    Step::Look(Some(ModuleName::Ptem)),
-];
+#[test]
+fn a_stack_holds_three_modules_each_name_once(rt: HostRuntime) -> Result<(), Fail> {
+    let mut stack = Stream::new();
+    assert!(rt; look(&stack).is_none());
+    assert!(rt; stack.pop().is_none());
+    for name in [ModuleName::Ptem, ModuleName::Ldterm, ModuleName::Pckt] {
+        assert!(rt; push(&mut stack, name));
+        assert!(rt; !push(&mut stack, name));
+        assert!(rt; look(&stack) == Some(name));
+    }
+    for name in [ModuleName::Pckt, ModuleName::Ldterm, ModuleName::Ptem] {
+        assert!(rt; stack.pop().map(|turner| turner.name) == Some(name));
+    }
+    assert!(rt; push(&mut stack, ModuleName::Ptem));
+    Ok(())
+}
 
-const NEAREST: [Step; 9] = [
-    Step::Push(ModuleName::Ptem, true),
-    Step::Push(ModuleName::Ldterm, true),
-    Step::Push(ModuleName::Pckt, true),
-    Step::Past(Way::Down, 0, Some(1)),
-    Step::Past(Way::Down, 2, Some(3)),
-    Step::Past(Way::Down, 3, None),
-    Step::Past(Way::Up, 4, None),
-    Step::Before(Way::Down, 4, Some(3)),
-    Step::Before(Way::Down, 1, None),
-];
+fn push(stack: &mut Stream<Turner>, name: ModuleName) -> bool {
+    stack.push(Turner { name }).is_ok()
+}
 
-const WAITS: [Step; 6] = [
-    Step::Push(ModuleName::Ptem, true),
-    Step::Push(ModuleName::Ldterm, true),
-    Step::LetWait(Way::Down, 2, 1),
-    Step::LetWait(Way::Up, 3, 3),
-    Step::Pop(Some((ModuleName::Ldterm, false))),
-    Step::Pop(Some((ModuleName::Ptem, true))),
-];
-
-const STACKS: [(&str, &[Step]); 3] = [
-    (
-        "a stack holds three modules, each name once",
-        &THREE_AT_MOST,
-    ),
-    ("the nearest queue past a place is found", &NEAREST),
-    ("a writer waits at the nearest queue", &WAITS),
-];
+fn look(stack: &Stream<Turner>) -> Option<ModuleName> {
+    stack.look()
+}
 
 #[test]
-fn modules_stand_on_a_stack(rt: HostRuntime) -> Result<(), Fail> {
-    for (name, steps) in STACKS {
-        plays(&rt, rt.alloc(), name, steps)?;
+fn the_nearest_queue_past_a_place_is_found(rt: HostRuntime) -> Result<(), Fail> {
+    let mut stack = Stream::new();
+    for name in [ModuleName::Ptem, ModuleName::Ldterm, ModuleName::Pckt] {
+        let queue = Some(Queue::new(0, 512, 128, Table::new(rt.alloc())?));
+        assert!(rt; stack.push(Stock { name, queue }).is_ok());
+    }
+    assert!(rt; stack.place_past(Way::Down, 0) == Some(1));
+    assert!(rt; stack.place_past(Way::Down, 2) == Some(3));
+    assert!(rt; stack.place_past(Way::Down, 3).is_none());
+    assert!(rt; stack.place_past(Way::Up, 4).is_none());
+    assert!(rt; stack.place_before(Way::Down, 4) == Some(3));
+    assert!(rt; stack.place_before(Way::Down, 1).is_none());
+    Ok(())
+}
+
+#[test]
+fn a_writer_waits_at_the_nearest_queue(rt: HostRuntime) -> Result<(), Fail> {
+    let mut stack = Stream::new();
+    for name in [ModuleName::Ptem, ModuleName::Ldterm] {
+        let queue = Some(Queue::new(0, 512, 128, Table::new(rt.alloc())?));
+        assert!(rt; stack.push(Stock { name, queue }).is_ok());
+    }
+    stack.let_wait_past(Way::Down, Band(2), 1);
+    stack.let_wait_past(Way::Up, Band(3), 3);
+    for waits in [true, false] {
+        let queue = stack.modules.pop().and_then(|stock| stock.queue);
+        assert!(rt; queue.map(|queue| queue.flows.at(Band(2)).want_write) == Some(waits));
     }
     Ok(())
 }
@@ -102,9 +104,9 @@ fn the_queues_of_a_popped_module_leave_the_enabled_list(rt: HostRuntime) -> Resu
         enabled.enable(side.driver());
     }
     enabled.forget(Side::Slave, ModuleName::Ptem);
-    assert!(rt; enabled.as_slice().len() == 6);
+    assert_eq!(rt; enabled.as_slice().len(), 6);
     enabled.forget(Side::Slave, ModuleName::Ldterm);
-    assert!(rt; enabled.as_slice().len() == 4);
+    assert_eq!(rt; enabled.as_slice().len(), 4);
     assert!(rt; enabled.contains(Side::Slave.driver()));
     assert!(rt; enabled.contains(Side::Master.driver()));
     Ok(())

@@ -4,7 +4,7 @@ mod rewriting;
 mod writing;
 
 use std::alloc::{AllocError, Global};
-use std::test::Fail;
+use std::test::*;
 use strm_image::read;
 
 // An image of version 2 up to its streams: both sides are open, the slave isn't locked, the next ioctl is the first one.
@@ -29,190 +29,161 @@ const TERMIOS: [u8; 35] = [0; 35];
 
 const LINE: [u8; 7] = [0; 7];
 
-// A text: its front, what stands between that and some bytes, these bytes, what stands behind them, and how many bytes each side wrote; and
-// whether it is an image. No byte was made or has gone.
-struct Row<'a> {
-    front: &'a [u8],
-    before: &'a [&'a [u8]],
-    bytes: &'a [u8],
-    behind: &'a [&'a [u8]],
+// Whether an image stands there: its front, the streams and enabled queues, and how many bytes each side wrote. No byte was made or has
+// gone.
+fn is_image(
+    alloc: Global,
+    front: &[u8],
+    parts: &[&[u8]],
     written: [u8; 2],
-    is_image: bool,
-}
-
-fn is_image(alloc: Global, row: &Row<'_>) -> Result<bool, AllocError> {
+) -> Result<bool, AllocError> {
     let mut text = Vec::new(alloc);
-    text.extend_from_slice(row.front)?;
-    for part in row.before {
+    text.extend_from_slice(front)?;
+    for part in parts {
         text.extend_from_slice(*part)?;
     }
-    text.extend_from_slice(row.bytes)?;
-    for part in row.behind {
-        text.extend_from_slice(*part)?;
-    }
-    for count in row.written {
+    for count in written {
         text.extend_from_slice(&[0, 0, 0, 0, 0, 0, 0, count])?;
         text.extend_from_slice(&[0; 176])?;
     }
     Ok(read(text.as_slice()).is_some())
 }
 
-// A front with what stands behind it.
-macro_rules! whole {
-    ($front:expr, $parts:expr, $written:expr, $is_image:expr $(,)?) => {
-        Row {
-            front: $front,
-            before: &[],
-            bytes: &[],
-            behind: $parts,
-            written: $written,
-            is_image: $is_image,
-        }
-    };
+// Whether one stands there where the slave has this head, with its modules and without its queues.
+fn has_head(alloc: Global, head: &[u8]) -> Result<bool, AllocError> {
+    let parts: [&[u8]; 8] = [&HEAD, &NONE, &QUEUE, &QUEUE, head, &QUEUE, &QUEUE, &NONE];
+    is_image(alloc, &OPEN, &parts, [0, 0])
 }
 
-// Bytes between parts of an open pair.
-macro_rules! between {
-    ($before:expr, $bytes:expr, $behind:expr, $written:expr, $is_image:expr $(,)?) => {
-        Row {
-            front: &OPEN,
-            before: $before,
-            bytes: $bytes,
-            behind: $behind,
-            written: $written,
-            is_image: $is_image,
-        }
-    };
+// The same where the slave's driver has these messages, with their number in front, of so many bytes that it wrote.
+fn has_messages(alloc: Global, messages: &[u8], written: u8) -> Result<bool, AllocError> {
+    let parts: [&[u8]; 10] = [
+        &HEAD, &NONE, &QUEUE, &QUEUE, &HEAD, &NONE, &QUEUE, &BANDS, messages, &NONE,
+    ];
+    is_image(alloc, &OPEN, &parts, [0, written])
 }
 
-// The head of the slave, with its modules and without its queues.
-const BEFORE_HEAD: &[&[u8]] = &[&HEAD, &NONE, &QUEUE, &QUEUE];
-
-const BEHIND_HEAD: &[&[u8]] = &[&QUEUE, &QUEUE, &NONE];
-
-macro_rules! head {
-    ($bytes:expr, $is_image:expr $(,)?) => {
-        between!(BEFORE_HEAD, $bytes, BEHIND_HEAD, [0, 0], $is_image)
-    };
+// The same where the queue of the slave's head has these flags and bands.
+fn has_bands(alloc: Global, bands: &[u8]) -> Result<bool, AllocError> {
+    let parts: [&[u8]; 10] = [
+        &HEAD,
+        &NONE,
+        &QUEUE,
+        &QUEUE,
+        &HEAD,
+        &NONE,
+        bands,
+        &[0, 0, 0, 0],
+        &QUEUE,
+        &NONE,
+    ];
+    is_image(alloc, &OPEN, &parts, [0, 0])
 }
 
-// The messages of the slave's driver, with their number in front, of so many bytes that it wrote.
-const BEFORE_MESSAGES: &[&[u8]] = &[&HEAD, &NONE, &QUEUE, &QUEUE, &HEAD, &NONE, &QUEUE, &BANDS];
-
-const BEHIND_MESSAGES: &[&[u8]] = &[&NONE];
-
-macro_rules! messages {
-    ($bytes:expr, $written:expr, $is_image:expr $(,)?) => {
-        between!(BEFORE_MESSAGES, $bytes, BEHIND_MESSAGES, [0, $written], $is_image)
-    };
+// The same where these queues are enabled, with their number in front, and the slave has an ldterm.
+fn has_enabled(alloc: Global, enabled: &[u8]) -> Result<bool, AllocError> {
+    let parts: [&[u8]; 13] = [
+        &HEAD,
+        &NONE,
+        &QUEUE,
+        &QUEUE,
+        &HEAD,
+        &[1, 1],
+        &TERMIOS,
+        &LINE,
+        &QUEUE,
+        &QUEUE,
+        &QUEUE,
+        &QUEUE,
+        enabled,
+    ];
+    is_image(alloc, &OPEN, &parts, [0, 0])
 }
 
-// The flags and bands of the queue of the slave's head.
-const BEFORE_BANDS: &[&[u8]] = &[&HEAD, &NONE, &QUEUE, &QUEUE, &HEAD, &NONE];
-
-const BEHIND_BANDS: &[&[u8]] = &[&[0, 0, 0, 0], &QUEUE, &NONE];
-
-macro_rules! bands {
-    ($bytes:expr, $is_image:expr $(,)?) => {
-        between!(BEFORE_BANDS, $bytes, BEHIND_BANDS, [0, 0], $is_image)
-    };
-}
-
-// The enabled queues, with their number in front, where the slave has an ldterm.
-const BEFORE_ENABLED: &[&[u8]] = &[
-    &HEAD,
-    &NONE,
-    &QUEUE,
-    &QUEUE,
-    &HEAD,
-    &[1, 1],
-    &TERMIOS,
-    &LINE,
-    &QUEUE,
-    &QUEUE,
-    &QUEUE,
-    &QUEUE,
-];
-
-macro_rules! enabled {
-    ($bytes:expr, $is_image:expr $(,)?) => {
-        between!(BEFORE_ENABLED, $bytes, &[], [0, 0], $is_image)
-    };
-}
-
-// The column and the line of the slave's ldterm, of so many bytes that the master wrote.
-const BEFORE_LINE: &[&[u8]] = &[
-    &HEAD,
-    &NONE,
-    &QUEUE,
-    &QUEUE,
-    &HEAD,
-    &[1, 1],
-    &TERMIOS,
-    &[0, 1],
-];
-
-const BEHIND_LINE: &[&[u8]] = &[&QUEUE, &QUEUE, &QUEUE, &QUEUE, &NONE];
-
-macro_rules! line {
-    ($bytes:expr, $written:expr, $is_image:expr $(,)?) => {
-        between!(BEFORE_LINE, $bytes, BEHIND_LINE, [$written, 0], $is_image)
-    };
+// The same where the slave's ldterm has this column and line, of so many bytes that the master wrote.
+fn has_line(alloc: Global, line: &[u8], written: u8) -> Result<bool, AllocError> {
+    let parts: [&[u8]; 14] = [
+        &HEAD,
+        &NONE,
+        &QUEUE,
+        &QUEUE,
+        &HEAD,
+        &[1, 1],
+        &TERMIOS,
+        &[0, 1],
+        line,
+        &QUEUE,
+        &QUEUE,
+        &QUEUE,
+        &QUEUE,
+        &NONE,
+    ];
+    is_image(alloc, &OPEN, &parts, [written, 0])
 }
 
 // The parts of a pair as it is opened, one more, and one less.
-const NEW: &[&[u8]] = &[
+const NEW: [&[u8]; 9] = [
     &HEAD, &NONE, &QUEUE, &QUEUE, &HEAD, &NONE, &QUEUE, &QUEUE, &NONE,
 ];
 
-const LONGER: &[&[u8]] = &[
+const LONGER: [&[u8]; 10] = [
     &HEAD, &NONE, &QUEUE, &QUEUE, &HEAD, &NONE, &QUEUE, &QUEUE, &NONE, &NONE,
 ];
 
-const SHORTER: &[&[u8]] = &[&HEAD, &NONE, &QUEUE, &QUEUE, &HEAD, &NONE, &QUEUE, &QUEUE];
+const SHORTER: [&[u8]; 8] = [&HEAD, &NONE, &QUEUE, &QUEUE, &HEAD, &NONE, &QUEUE, &QUEUE];
 
-// Fronts with the parts of a new pair: another magic, version 3, a side that was opened in no known way, a
+// Fronts with the parts of a new pair, and whether an image stands there: another magic, version 3, a side that was opened in no known way, a
 // lock that is neither, ioctl 0.
-const FRONTS: [Row<'static>; 10] = [
-    whole!(&OPEN, NEW, [0, 0], true),
-    whole!(&CLOSED, NEW, [0, 0], true),
-    whole!(
-        &[83, 84, 80, 74, 2, 1, 1, 0, 0, 0, 0, 1],
-        NEW,
-        [0, 0],
+const FRONTS: [([u8; 12], bool); 7] = [
+    (OPEN, true),
+    (CLOSED, true),
+    ([83, 84, 80, 74, 2, 1, 1, 0, 0, 0, 0, 1], false),
+    ([83, 84, 80, 73, 3, 1, 1, 0, 0, 0, 0, 1], false),
+    ([83, 84, 80, 73, 2, 3, 1, 0, 0, 0, 0, 1], false),
+    ([83, 84, 80, 73, 2, 1, 1, 2, 0, 0, 0, 1], false),
+    ([83, 84, 80, 73, 2, 1, 1, 0, 0, 0, 0, 0], false),
+];
+
+#[test]
+fn fronts(rt: HostRuntime) -> Result<(), Fail> {
+    for row in &FRONTS {
+        assert_eq!(rt; is_image(rt.alloc(), &row.0, &NEW, [0, 0])?, row.1);
+    }
+    assert!(rt; !is_image(rt.alloc(), &OPEN, &NEW, [1, 0])?);
+    assert!(rt; !is_image(rt.alloc(), &OPEN, &LONGER, [0, 0])?);
+    assert!(rt; !is_image(rt.alloc(), &OPEN, &SHORTER, [0, 0])?);
+    Ok(())
+}
+
+// Heads of the slave with their modules, and whether an image stands there.
+const HEADS: [(&[u8], bool); 13] = [
+    (&[2, 2, 3, 2, 31, 1, 0, 0], true),
+    (&[3, 0, 0, 0, 0, 0], false),
+    (&[0, 3, 0, 0, 0, 0], false),
+    (&[0, 0, 7, 0, 0, 0, 5, 0, 0, 0], true),
+    (&[0, 0, 4, 0, 0, 0, 0, 0, 0, 0], false),
+    (&[0, 0, 8, 0, 0, 0], false),
+    (&[0, 0, 0, 2, 9, 9, 0, 0], false),
+    (&[0, 0, 0, 1, 32, 0, 0], false),
+    (&[0, 0, 0, 1, 0, 0, 0], false),
+    (&[0, 0, 0, 0, 1, 0, 0, 0, 4, 0, 0, 0, 1, 0], true),
+    (
+        &[
+            0, 0, 0, 0, 2, 0, 0, 0, 4, 0, 0, 0, 1, 0, 0, 0, 0, 9, 0, 0, 0, 1, 7, 0,
+        ],
+        true,
+    ),
+    (
+        &[
+            0, 0, 0, 0, 2, 0, 0, 0, 4, 0, 0, 0, 1, 2, 0, 0, 0, 9, 0, 0, 0, 1, 7, 0,
+        ],
         false,
     ),
-    whole!(
-        &[83, 84, 80, 73, 3, 1, 1, 0, 0, 0, 0, 1],
-        NEW,
-        [0, 0],
-        false,
-    ),
-    whole!(
-        &[83, 84, 80, 73, 2, 3, 1, 0, 0, 0, 0, 1],
-        NEW,
-        [0, 0],
-        false,
-    ),
-    whole!(
-        &[83, 84, 80, 73, 2, 1, 1, 2, 0, 0, 0, 1],
-        NEW,
-        [0, 0],
-        false,
-    ),
-    whole!(
-        &[83, 84, 80, 73, 2, 1, 1, 0, 0, 0, 0, 0],
-        NEW,
-        [0, 0],
-        false,
-    ),
-    whole!(&OPEN, NEW, [1, 0], false),
-    whole!(&OPEN, LONGER, [0, 0], false),
-    whole!(&OPEN, SHORTER, [0, 0], false),
+    (&[0, 0, 0, 0, 3, 0], false),
 ];
 
 // A foreground group on the master's side.
-const ON_MASTER: &[&[u8]] = &[
+const ON_MASTER: [&[u8]; 9] = [
     &[0, 0, 4, 0, 0, 0, 5, 0, 0],
     &NONE,
     &QUEUE,
@@ -225,7 +196,7 @@ const ON_MASTER: &[&[u8]] = &[
 ];
 
 // An answer of 257 bytes.
-const LONG: &[&[u8]] = &[
+const LONG: [&[u8]; 10] = [
     &HEAD,
     &NONE,
     &QUEUE,
@@ -240,101 +211,78 @@ const LONG: &[&[u8]] = &[
     &NONE,
 ];
 
-// Heads of the slave with their modules.
-const HEADS: [Row<'static>; 15] = [
-    head!(&[2, 2, 3, 2, 31, 1, 0, 0], true),
-    head!(&[3, 0, 0, 0, 0, 0], false),
-    head!(&[0, 3, 0, 0, 0, 0], false),
-    head!(&[0, 0, 7, 0, 0, 0, 5, 0, 0, 0], true),
-    head!(&[0, 0, 4, 0, 0, 0, 0, 0, 0, 0], false),
-    head!(&[0, 0, 8, 0, 0, 0], false),
-    head!(&[0, 0, 0, 2, 9, 9, 0, 0], false),
-    head!(&[0, 0, 0, 1, 32, 0, 0], false),
-    head!(&[0, 0, 0, 1, 0, 0, 0], false),
-    head!(&[0, 0, 0, 0, 1, 0, 0, 0, 4, 0, 0, 0, 1, 0], true),
-    head!(
-        &[
-            0, 0, 0, 0, 2, 0, 0, 0, 4, 0, 0, 0, 1, 0, 0, 0, 0, 9, 0, 0, 0, 1, 7, 0,
-        ],
-        true,
-    ),
-    head!(
-        &[
-            0, 0, 0, 0, 2, 0, 0, 0, 4, 0, 0, 0, 1, 2, 0, 0, 0, 9, 0, 0, 0, 1, 7, 0,
-        ],
-        false,
-    ),
-    head!(&[0, 0, 0, 0, 3, 0], false),
-    whole!(&OPEN, ON_MASTER, [0, 0], false),
-    whole!(&OPEN, LONG, [0, 0], false),
-];
+#[test]
+fn heads_and_slots(rt: HostRuntime) -> Result<(), Fail> {
+    for row in &HEADS {
+        assert_eq!(rt; has_head(rt.alloc(), row.0)?, row.1);
+    }
+    assert!(rt; !is_image(rt.alloc(), &OPEN, &ON_MASTER, [0, 0])?);
+    assert!(rt; !is_image(rt.alloc(), &OPEN, &LONG, [0, 0])?);
+    Ok(())
+}
 
 // A signal, an ioctl under way, a module and a message on the slave's side.
-const SIGNALLED: &[&[u8]] = &[
-    &HEAD,
-    &NONE,
-    &QUEUE,
-    &QUEUE,
-    &[0, 0, 0, 1, 2, 0],
-    &NONE,
-    &QUEUE,
-    &QUEUE,
-    &NONE,
-    &[],
+const OF_AN_OPEN_SIDE: [[&[u8]; 10]; 4] = [
+    [
+        &HEAD,
+        &NONE,
+        &QUEUE,
+        &QUEUE,
+        &[0, 0, 0, 1, 2, 0],
+        &NONE,
+        &QUEUE,
+        &QUEUE,
+        &NONE,
+        &[],
+    ],
+    [
+        &HEAD,
+        &NONE,
+        &QUEUE,
+        &QUEUE,
+        &[0, 0, 0, 0, 1, 0, 0, 0, 1, 0, 0, 0, 1],
+        &NONE,
+        &QUEUE,
+        &QUEUE,
+        &NONE,
+        &[],
+    ],
+    [
+        &HEAD,
+        &NONE,
+        &QUEUE,
+        &QUEUE,
+        &HEAD,
+        &[1, 3],
+        &QUEUE,
+        &QUEUE,
+        &NONE,
+        &[],
+    ],
+    [
+        &HEAD,
+        &NONE,
+        &QUEUE,
+        &QUEUE,
+        &HEAD,
+        &NONE,
+        &BANDS,
+        &[0, 0, 0, 1, 0, 0, 0, 0, 0, 0, 0, 1, 0, 0, 0, 0],
+        &QUEUE,
+        &NONE,
+    ],
 ];
 
-const ASKING: &[&[u8]] = &[
-    &HEAD,
-    &NONE,
-    &QUEUE,
-    &QUEUE,
-    &[0, 0, 0, 0, 1, 0, 0, 0, 1, 0, 0, 0, 1],
-    &NONE,
-    &QUEUE,
-    &QUEUE,
-    &NONE,
-    &[],
-];
+#[test]
+fn closed_sides(rt: HostRuntime) -> Result<(), Fail> {
+    for parts in &OF_AN_OPEN_SIDE {
+        assert!(rt; is_image(rt.alloc(), &OPEN, parts, [0, 0])?);
+        assert!(rt; !is_image(rt.alloc(), &CLOSED, parts, [0, 0])?);
+    }
+    Ok(())
+}
 
-const WITH_MODULE: &[&[u8]] = &[
-    &HEAD,
-    &NONE,
-    &QUEUE,
-    &QUEUE,
-    &HEAD,
-    &[1, 3],
-    &QUEUE,
-    &QUEUE,
-    &NONE,
-    &[],
-];
-
-const WITH_MESSAGE: &[&[u8]] = &[
-    &HEAD,
-    &NONE,
-    &QUEUE,
-    &QUEUE,
-    &HEAD,
-    &NONE,
-    &BANDS,
-    &[0, 0, 0, 1, 0, 0, 0, 0, 0, 0, 0, 1, 0, 0, 0, 0],
-    &QUEUE,
-    &NONE,
-];
-
-// An open side may have them, and a closed one none.
-const SIDES: [Row<'static>; 8] = [
-    whole!(&OPEN, SIGNALLED, [0, 0], true),
-    whole!(&CLOSED, SIGNALLED, [0, 0], false),
-    whole!(&OPEN, ASKING, [0, 0], true),
-    whole!(&CLOSED, ASKING, [0, 0], false),
-    whole!(&OPEN, WITH_MODULE, [0, 0], true),
-    whole!(&CLOSED, WITH_MODULE, [0, 0], false),
-    whole!(&OPEN, WITH_MESSAGE, [0, 0], true),
-    whole!(&CLOSED, WITH_MESSAGE, [0, 0], false),
-];
-
-const ALL_MODULES: &[&[u8]] = &[
+const ALL_MODULES: [&[u8]; 16] = [
     &HEAD,
     &NONE,
     &QUEUE,
@@ -353,125 +301,153 @@ const ALL_MODULES: &[&[u8]] = &[
     &NONE,
 ];
 
-// Modules behind a head of the slave; columns and lines of an ldterm.
-const MODULES: [Row<'static>; 8] = [
-    whole!(&OPEN, ALL_MODULES, [0, 0], true),
-    head!(&[0, 0, 0, 0, 0, 1, 3], true),
-    head!(&[0, 0, 0, 0, 0, 2, 3, 3], false),
-    head!(&[0, 0, 0, 0, 0, 4, 3, 3, 3, 3], false),
-    head!(&[0, 0, 0, 0, 0, 1, 4], false),
-    line!(&[0, 0, 255, 255, 2, 97, 98], 2, true),
-    line!(&[0, 0, 255, 255, 2, 97, 98], 1, false),
-    line!(&[0, 1, 0, 0, 0], 0, false),
+// Modules behind a head of the slave, and whether an image stands there.
+const MODULES: [(&[u8], bool); 4] = [
+    (&[0, 0, 0, 0, 0, 1, 3], true),
+    (&[0, 0, 0, 0, 0, 2, 3, 3], false),
+    (&[0, 0, 0, 0, 0, 4, 3, 3, 3, 3], false),
+    (&[0, 0, 0, 0, 0, 1, 4], false),
 ];
 
-const ENABLED: [Row<'static>; 6] = [
-    enabled!(&[4, 1, 1, 1, 0, 2, 1, 1, 1, 0, 1, 2, 1], true),
-    enabled!(&[2, 1, 1, 1, 1, 1, 1], false),
-    enabled!(&[1, 1, 0, 0], false),
-    enabled!(&[1, 0, 1, 0], false),
-    enabled!(&[1, 0, 2, 0], false),
-    enabled!(&[1, 2, 2, 1], false),
+// Columns and lines of an ldterm, how many bytes the master wrote, and whether an image stands there.
+const LINES: [(&[u8], u8, bool); 3] = [
+    (&[0, 0, 255, 255, 2, 97, 98], 2, true),
+    (&[0, 0, 255, 255, 2, 97, 98], 1, false),
+    (&[0, 1, 0, 0, 0], 0, false),
 ];
 
-const FLOWS: [Row<'static>; 8] = [
-    bands!(
+#[test]
+fn modules(rt: HostRuntime) -> Result<(), Fail> {
+    assert!(rt; is_image(rt.alloc(), &OPEN, &ALL_MODULES, [0, 0])?);
+    for row in &MODULES {
+        assert_eq!(rt; has_head(rt.alloc(), row.0)?, row.1);
+    }
+    for row in &LINES {
+        assert_eq!(rt; has_line(rt.alloc(), row.0, row.1)?, row.2);
+    }
+    Ok(())
+}
+
+// Enabled queues, and whether an image stands there.
+const ENABLED: [(&[u8], bool); 6] = [
+    (&[4, 1, 1, 1, 0, 2, 1, 1, 1, 0, 1, 2, 1], true),
+    (&[2, 1, 1, 1, 1, 1, 1], false),
+    (&[1, 1, 0, 0], false),
+    (&[1, 0, 1, 0], false),
+    (&[1, 0, 2, 0], false),
+    (&[1, 2, 2, 1], false),
+];
+
+#[test]
+fn enabled(rt: HostRuntime) -> Result<(), Fail> {
+    for row in &ENABLED {
+        assert_eq!(rt; has_enabled(rt.alloc(), row.0)?, row.1);
+    }
+    Ok(())
+}
+
+// Flags and bands of a queue, and whether an image stands there.
+const FLOWS: [(&[u8], bool); 8] = [
+    (
         &[
             3, 0, 2, 0, 0, 0, 20, 0, 0, 0, 4, 0, 1, 255, 0, 0, 20, 0, 0, 0, 4, 0, 1,
         ],
         true,
     ),
-    bands!(
+    (
         &[
             3, 0, 2, 0, 0, 0, 20, 0, 0, 0, 4, 0, 1, 255, 0, 0, 20, 0, 0, 0, 4, 0, 0,
         ],
         false,
     ),
-    bands!(&[1, 0, 1, 9, 0, 0, 20, 0, 0, 0, 4, 0, 0], false),
-    bands!(
+    (&[1, 0, 1, 9, 0, 0, 20, 0, 0, 0, 4, 0, 0], false),
+    (
         &[
             1, 0, 2, 9, 0, 0, 0, 2, 0, 0, 0, 1, 0, 9, 0, 0, 0, 2, 0, 0, 0, 1, 0,
         ],
         false,
     ),
-    bands!(
+    (
         &[
             1, 0, 2, 9, 0, 0, 0, 2, 0, 0, 0, 1, 0, 8, 0, 0, 0, 2, 0, 0, 0, 1, 0,
         ],
         false,
     ),
-    bands!(&[1, 0, 1, 9, 0, 0, 0, 0, 0, 0, 0, 0, 0], false),
-    bands!(&[1, 0, 1, 9, 0, 0, 0, 1, 0, 0, 0, 2, 0], false),
-    bands!(&[4, 0, 0], false),
+    (&[1, 0, 1, 9, 0, 0, 0, 0, 0, 0, 0, 0, 0], false),
+    (&[1, 0, 1, 9, 0, 0, 0, 1, 0, 0, 0, 2, 0], false),
+    (&[4, 0, 0], false),
 ];
 
-// The last two fall in rank.
-const MESSAGES: [Row<'static>; 4] = [
-    messages!(
-        &[0, 0, 0, 1, 0, 200, 0, 0, 0, 0, 0, 1, 0, 0, 0, 1, 97],
-        1,
-        true,
-    ),
-    messages!(
-        &[0, 0, 0, 1, 1, 0, 1, 0, 0, 0, 1, 97, 0, 0, 0, 0, 0],
-        1,
-        true,
-    ),
-    messages!(
-        &[0, 0, 0, 1, 0x87, 0, 0, 0, 0, 0, 0, 1, 0, 0, 0, 0],
-        0,
-        true,
-    ),
-    messages!(
+#[test]
+fn bands(rt: HostRuntime) -> Result<(), Fail> {
+    for row in &FLOWS {
+        assert_eq!(rt; has_bands(rt.alloc(), row.0)?, row.1);
+    }
+    Ok(())
+}
+
+// Messages with their number in front, and how many bytes the slave wrote, of which each is an image. The last two fall in rank.
+const MESSAGES: [(&[u8], u8); 4] = [
+    (&[0, 0, 0, 1, 0, 200, 0, 0, 0, 0, 0, 1, 0, 0, 0, 1, 97], 1),
+    (&[0, 0, 0, 1, 1, 0, 1, 0, 0, 0, 1, 97, 0, 0, 0, 0, 0], 1),
+    (&[0, 0, 0, 1, 0x87, 0, 0, 0, 0, 0, 0, 1, 0, 0, 0, 0], 0),
+    (
         &[
             0, 0, 0, 2, 0, 1, 0, 0, 0, 0, 0, 1, 0, 0, 0, 0, 0, 0, 0, 0, 0, 0, 0, 1, 0, 0, 0, 0,
         ],
         0,
-        true,
     ),
 ];
 
-// The last two rise in rank.
-const NO_MESSAGES: [Row<'static>; 9] = [
-    messages!(
-        &[0, 0, 0, 1, 0x86, 0, 0, 0, 0, 0, 0, 1, 0, 0, 0, 0],
-        0,
-        false,
-    ),
-    messages!(
-        &[0, 0, 0, 1, 0x87, 1, 0, 0, 0, 0, 0, 1, 0, 0, 0, 0],
-        0,
-        false,
-    ),
-    messages!(&[0, 0, 0, 1, 0, 0, 1, 0, 0, 0, 0, 1, 0, 0, 0, 0], 0, false),
-    messages!(&[0, 0, 0, 1, 1, 0, 0, 0, 0, 0, 0, 1, 0, 0, 0, 0], 0, false),
-    messages!(&[0, 0, 0, 1, 0, 0, 0, 0, 0, 0, 0, 0, 0, 0, 0, 0], 0, false),
-    messages!(
-        &[0, 0, 0, 1, 1, 0, 1, 0, 0, 0, 0, 0, 0, 0, 0, 1, 97],
-        0,
-        false,
-    ),
-    messages!(
-        &[0, 0, 0, 1, 0, 0, 0, 0, 0, 0, 0, 1, 0, 0, 0, 2, 97],
-        1,
-        false,
-    ),
-    messages!(
-        &[255, 255, 255, 255, 0, 0, 0, 0, 0, 0, 0, 1, 0, 0, 0, 0],
-        0,
-        false,
-    ),
-    messages!(
+// Those of which none is an image. The last two rise in rank.
+const NO_MESSAGES: [(&[u8], u8); 9] = [
+    (&[0, 0, 0, 1, 0x86, 0, 0, 0, 0, 0, 0, 1, 0, 0, 0, 0], 0),
+    (&[0, 0, 0, 1, 0x87, 1, 0, 0, 0, 0, 0, 1, 0, 0, 0, 0], 0),
+    (&[0, 0, 0, 1, 0, 0, 1, 0, 0, 0, 0, 1, 0, 0, 0, 0], 0),
+    (&[0, 0, 0, 1, 1, 0, 0, 0, 0, 0, 0, 1, 0, 0, 0, 0], 0),
+    (&[0, 0, 0, 1, 0, 0, 0, 0, 0, 0, 0, 0, 0, 0, 0, 0], 0),
+    (&[0, 0, 0, 1, 1, 0, 1, 0, 0, 0, 0, 0, 0, 0, 0, 1, 97], 0),
+    (&[0, 0, 0, 1, 0, 0, 0, 0, 0, 0, 0, 1, 0, 0, 0, 2, 97], 1),
+    (&[255, 255, 255, 255, 0, 0, 0, 0, 0, 0, 0, 1, 0, 0, 0, 0], 0),
+    (
         &[
             0, 0, 0, 2, 0, 0, 0, 0, 0, 0, 0, 1, 0, 0, 0, 0, 0, 1, 0, 0, 0, 0, 0, 1, 0, 0, 0, 0,
         ],
         0,
+    ),
+];
+
+#[test]
+fn messages(rt: HostRuntime) -> Result<(), Fail> {
+    for row in &MESSAGES {
+        assert!(rt; has_messages(rt.alloc(), row.0, row.1)?);
+    }
+    for row in &NO_MESSAGES {
+        assert!(rt; !has_messages(rt.alloc(), row.0, row.1)?);
+    }
+    Ok(())
+}
+
+// An M_IOCTL of 16 bytes, the fewest, and one of 15.
+const IOCTLS: [(&[u8], bool); 2] = [
+    (
+        &[
+            0, 0, 0, 1, 0x0e, 0, 0, 0, 0, 0, 0, 1, 0, 0, 0, 16, 0, 0, 0, 1, 0, 0, 0, 0, 0, 0, 0, 0,
+            0, 0, 0, 0,
+        ],
+        true,
+    ),
+    (
+        &[
+            0, 0, 0, 1, 0x0e, 0, 0, 0, 0, 0, 0, 1, 0, 0, 0, 15, 0, 0, 0, 1, 0, 0, 0, 0, 0, 0, 0, 0,
+            0, 0, 0,
+        ],
         false,
     ),
 ];
 
 // An M_IOCTL of 273 bytes.
-const LONG_IOCTL: &[&[u8]] = &[
+const LONG_IOCTL: [&[u8]; 11] = [
     &HEAD,
     &NONE,
     &QUEUE,
@@ -485,48 +461,11 @@ const LONG_IOCTL: &[&[u8]] = &[
     &NONE,
 ];
 
-// An M_IOCTL of 16 bytes, the fewest, and one of 15.
-const IOCTLS: [Row<'static>; 3] = [
-    messages!(
-        &[
-            0, 0, 0, 1, 0x0e, 0, 0, 0, 0, 0, 0, 1, 0, 0, 0, 16, 0, 0, 0, 1, 0, 0, 0, 0, 0, 0, 0, 0,
-            0, 0, 0, 0,
-        ],
-        0,
-        true,
-    ),
-    messages!(
-        &[
-            0, 0, 0, 1, 0x0e, 0, 0, 0, 0, 0, 0, 1, 0, 0, 0, 15, 0, 0, 0, 1, 0, 0, 0, 0, 0, 0, 0, 0,
-            0, 0, 0,
-        ],
-        0,
-        false,
-    ),
-    whole!(&OPEN, LONG_IOCTL, [0, 0], false),
-];
-
-const TABLES: [(&str, &[Row<'static>]); 9] = [
-    ("fronts", &FRONTS),
-    ("heads", &HEADS),
-    ("sides", &SIDES),
-    ("modules", &MODULES),
-    ("enabled", &ENABLED),
-    ("flows", &FLOWS),
-    ("messages", &MESSAGES),
-    ("no messages", &NO_MESSAGES),
-    ("ioctls", &IOCTLS),
-];
-
 #[test]
-fn texts_are_images_or_none(rt: HostRuntime) -> Result<(), Fail> {
-    for (name, rows) in TABLES {
-        for at in 0..rows.len() {
-            assert!(rt;
-                is_image(rt.alloc(), &rows[at])? == rows[at].is_image,
-                "{name}: row {at}"
-            );
-        }
+fn ioctls(rt: HostRuntime) -> Result<(), Fail> {
+    for row in &IOCTLS {
+        assert_eq!(rt; has_messages(rt.alloc(), row.0, 0)?, row.1);
     }
+    assert!(rt; !is_image(rt.alloc(), &OPEN, &LONG_IOCTL, [0, 0])?);
     Ok(())
 }

@@ -5,8 +5,6 @@
 #[cfg(test)]
 mod blocks;
 #[cfg(test)]
-mod calls;
-#[cfg(test)]
 mod frame;
 #[cfg(test)]
 mod head;

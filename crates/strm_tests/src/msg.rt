@@ -2,10 +2,11 @@
 
 mod rows;
 
-use crate::blocks::steps::Shown;
-use rows::{Call, Case, Seen, plays};
+use rows::{Call, Case, Seen, Wanted, plays, plays_on_a_copy};
 use std::test::Fail;
-use strm_types::{MsgKind, Refusal};
+use strm_blocks::{Blocks, TableStore};
+use strm_msg::{control_len, data_len, from_bytes, message_size, set_kinds};
+use strm_types::{Band, MsgKind, Refusal};
 
 // Bytes that are all alike.
 const LETTERS: &[u8] = &[b'x'; 600];
@@ -21,8 +22,6 @@ const X88: &[u8] = &[b'x'; 88];
 const X20: &[u8] = &[b'x'; 20];
 
 const IN_AND_OUT: Case<'static> = Case {
-    name: "bytes go in and come out",
-    blocks: (10, 10),
     first: (MsgKind::Data, X300),
     second: None,
     rows: &[
@@ -32,9 +31,20 @@ const IN_AND_OUT: Case<'static> = Case {
     ],
 };
 
+#[test]
+fn bytes_go_in_and_come_out(rt: HostRuntime) -> Result<(), Fail> {
+    plays(&rt, rt.alloc(), 10, 10, &IN_AND_OUT)
+}
+
+#[test]
+fn a_message_has_the_bytes_of_all_its_blocks(rt: HostRuntime) -> Result<(), Fail> {
+    let mut store = TableStore::new(rt.alloc(), 4, 4)?;
+    let message = from_bytes(&mut store, MsgKind::Sig, Band(0), X300)?;
+    assert!(rt; message_size(&store, &message) == 300);
+    Ok(())
+}
+
 const COPIED: Case<'static> = Case {
-    name: "copies have the parts of what was copied",
-    blocks: (4, 3),
     first: (MsgKind::Proto, b"head"),
     second: Some((MsgKind::Data, b"body..")),
     rows: &[
@@ -51,11 +61,14 @@ const COPIED: Case<'static> = Case {
     ],
 };
 
+#[test]
+fn copies_have_the_parts_of_what_was_copied(rt: HostRuntime) -> Result<(), Fail> {
+    plays(&rt, rt.alloc(), 4, 3, &COPIED)
+}
+
 const WHOLE: Seen = (300, (Some(4), Some(300)), (1, 1));
 
 const TRIMMED: Case<'static> = Case {
-    name: "bytes are trimmed within a run",
-    blocks: (4, 4),
     first: (MsgKind::Proto, b"head"),
     second: Some((MsgKind::Data, X300)),
     rows: &[
@@ -72,28 +85,36 @@ const TRIMMED: Case<'static> = Case {
     ],
 };
 
-// A copy is trimmed while a duplicate stands beside it, and then they are freed.
+#[test]
+fn bytes_are_trimmed_within_a_run(rt: HostRuntime) -> Result<(), Fail> {
+    plays(&rt, rt.alloc(), 4, 4, &TRIMMED)
+}
+
 const OF_A_COPY: Case<'static> = Case {
-    name: "a copy is trimmed and the message stays",
-    blocks: (10, 10),
     first: (MsgKind::Data, LETTERS),
     second: None,
     rows: &[
-        (Call::StandCopy, (600, (None, Some(600)), (1, 4))),
         (Call::Dup(None), (600, (None, Some(600)), (1, 4))),
         (Call::Adjust(300, true), (300, (None, Some(300)), (1, 4))),
         (Call::Adjust(-301, false), (300, (None, Some(300)), (1, 4))),
-        (Call::StandBack, (600, (None, Some(600)), (7, 7))),
-        (
-            Call::Dup(Some((600, (None, Some(600)), (4, 7)))),
-            (600, (None, Some(600)), (7, 7)),
-        ),
     ],
 };
 
+const OF_THE_COPIED: Case<'static> = Case {
+    first: (MsgKind::Data, LETTERS),
+    second: None,
+    rows: &[(
+        Call::Dup(Some((600, (None, Some(600)), (4, 7)))),
+        (600, (None, Some(600)), (7, 7)),
+    )],
+};
+
+#[test]
+fn a_copy_is_trimmed_and_the_message_stays(rt: HostRuntime) -> Result<(), Fail> {
+    plays_on_a_copy(&rt, rt.alloc(), &OF_A_COPY, &OF_THE_COPIED)
+}
+
 const JOINED: Case<'static> = Case {
-    name: "bytes of a run are joined",
-    blocks: (3, 3),
     first: (MsgKind::Data, b"abc"),
     second: Some((MsgKind::Data, b"de")),
     rows: &[
@@ -127,9 +148,12 @@ const JOINED: Case<'static> = Case {
     ],
 };
 
+#[test]
+fn bytes_of_a_run_are_joined(rt: HostRuntime) -> Result<(), Fail> {
+    plays(&rt, rt.alloc(), 3, 3, &JOINED)
+}
+
 const FRONT: Case<'static> = Case {
-    name: "only the front run is joined",
-    blocks: (3, 3),
     first: (MsgKind::Proto, b"head"),
     second: Some((MsgKind::Data, b"body")),
     rows: &[
@@ -162,11 +186,14 @@ const FRONT: Case<'static> = Case {
     ],
 };
 
-const LARGE: Shown<'static> = (MsgKind::Data, X256);
+#[test]
+fn only_the_front_run_is_joined(rt: HostRuntime) -> Result<(), Fail> {
+    plays(&rt, rt.alloc(), 3, 3, &FRONT)
+}
+
+const LARGE: Wanted<'static> = (MsgKind::Data, X256);
 
 const AT_MOST_A_BLOCK: Case<'static> = Case {
-    name: "at most a data block is joined",
-    blocks: (4, 4),
     first: (MsgKind::Data, LETTERS),
     second: None,
     rows: &[
@@ -190,46 +217,19 @@ const AT_MOST_A_BLOCK: Case<'static> = Case {
     ],
 };
 
-const OF_NO_PARTS: Case<'static> = Case {
-    name: "a message has the bytes of all its blocks",
-    blocks: (4, 4),
-    first: (MsgKind::Sig, X300),
-    second: None,
-    rows: &[(Call::Size(300), (0, (None, None), (2, 2)))],
-};
-
-const X44: &[u8] = &[b'x'; 44];
-
-const TURNED: Case<'static> = Case {
-    name: "blocks of control become data",
-    blocks: (4, 4),
-    first: (MsgKind::Proto, X300),
-    second: None,
-    rows: &[
-        (Call::Turn(MsgKind::Data), (300, (None, Some(300)), (2, 2))),
-        (
-            Call::Show(&[LARGE, (MsgKind::Data, X44)]),
-            (300, (None, Some(300)), (2, 2)),
-        ),
-    ],
-};
-
-const CASES: [&Case<'static>; 9] = [
-    &IN_AND_OUT,
-    &COPIED,
-    &TRIMMED,
-    &OF_A_COPY,
-    &JOINED,
-    &FRONT,
-    &AT_MOST_A_BLOCK,
-    &OF_NO_PARTS,
-    &TURNED,
-];
+#[test]
+fn at_most_a_data_block_is_joined(rt: HostRuntime) -> Result<(), Fail> {
+    plays(&rt, rt.alloc(), 4, 4, &AT_MOST_A_BLOCK)
+}
 
 #[test]
-fn calls_answer_as_they_are_to(rt: HostRuntime) -> Result<(), Fail> {
-    for case in CASES {
-        plays(&rt, rt.alloc(), case)?;
-    }
+fn blocks_of_control_become_data(rt: HostRuntime) -> Result<(), Fail> {
+    let mut store = TableStore::new(rt.alloc(), 4, 4)?;
+    let message = from_bytes(&mut store, MsgKind::Proto, Band(3), X300)?;
+    let count = store.blocks(&message);
+    set_kinds(&mut store, &message, count, MsgKind::Data);
+    assert!(rt; control_len(&store, &message) == None);
+    assert!(rt; data_len(&store, &message) == Some(300));
+    assert!(rt; store.band(&message) == Band(3));
     Ok(())
 }

@@ -7,6 +7,7 @@ ghost use Rattle.strm_queue.specs.Stored.{IsReady};
 mod packets;
 mod sharing;
 
+use std::process::Abort;
 use std::test::Fail;
 use strm_blocks::{Blocks, NoBlocks, TableStore};
 use strm_frame::Acts;
@@ -49,25 +50,27 @@ fn goes_to(mut acts: Acts, spots: &[Spot]) -> bool {
     acts.sent.take_first().is_none()
 }
 
-// Puts a row's message, which is of data or of a kind without parts, and says whether what comes of it is as wanted.
-fn puts<B: Blocks>(store: &mut B, table: Table, row: &Row<'_>) -> Result<bool, NoBlocks>
+// Puts a row's message, which is of data or of a kind without parts.
+fn puts<B: Blocks>(rt: &impl Abort, store: &mut B, table: Table, row: &Row<'_>) -> Result<(), Fail>
     requires { list_at (B.value store.old) 3 ≡ [] }
 {
     if row.kind.is_control_kind() {
-        return Err(NoBlocks);
+        return Err(NoBlocks.into());
     }
     let mut queue = fresh(store, table);
     let mut told = Fates::none();
     let message = from_bytes(store, row.kind, Band(0), row.bytes)?;
     let (mblks, dblks) = store.free_blocks();
-    if mblks < 2 || dblks < 2 || row.here.at == 0 || row.here.at as usize > MODULES + 1 {
-        return Err(NoBlocks);
-    }
+    assert!(rt; mblks >= 2);
+    assert!(rt; dblks >= 2);
+    assert!(rt; row.here.at > 0);
+    assert!(rt; row.here.at as usize <= MODULES + 1);
     let acts = put(store, &mut queue, row.across, row.here, message, &mut told);
-    Ok(acts.notes.as_slice() == row.notes
-        && goes_to(acts, row.sent)
-        && queue.total() == row.left.0
-        && told.from_master[17] == row.left.1)
+    assert_eq!(rt; acts.notes.as_slice(), row.notes);
+    assert!(rt; goes_to(acts, row.sent));
+    assert_eq!(rt; queue.total(), row.left.0);
+    assert_eq!(rt; told.from_master[17], row.left.1);
+    Ok(())
 }
 
 const OPEN: Across = Across {
@@ -116,7 +119,7 @@ const ASKS: &[u8] = b"\0\0\0\x05\0\0\0\x07\0\0\0\0\0\0\0\0payload";
 
 const TELLS: &[u8] = b"\0\0\0\x06\0\0\0\0\0\0\0\0\0\0\0\0";
 
-const ROWS: &[Row<'static>] = &[
+const ROWS: [Row<'static>; 8] = [
     Row {
         here: MASTER,
         across: OPEN,
@@ -193,9 +196,9 @@ const ROWS: &[Row<'static>] = &[
 
 #[test]
 fn drivers_keep_answer_and_send_on(rt: HostRuntime) -> Result<(), Fail> {
-    for at in 0..ROWS.len() {
+    for row in &ROWS {
         let mut store = TableStore::new(rt.alloc(), 10, 10)?;
-        assert!(rt; puts(&mut store, Table::new(rt.alloc())?, &ROWS[at])?, "row {at}");
+        puts(&rt, &mut store, Table::new(rt.alloc())?, row)?;
     }
     Ok(())
 }

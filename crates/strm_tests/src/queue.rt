@@ -16,6 +16,11 @@ const PUT_BACK: [Step<'static>; 7] = [
     Step::TakeNone,
 ];
 
+#[test]
+fn what_is_put_back_is_taken_next(rt: HostRuntime) -> Result<(), Fail> {
+    plays(&rt, rt.alloc(), 3, &PUT_BACK)
+}
+
 const OF_ALL_RANKS: [Step<'static>; 10] = [
     Step::Put(MsgKind::Data, 0, b"a"),
     Step::Put(MsgKind::Data, 1, b"b"),
@@ -29,6 +34,11 @@ const OF_ALL_RANKS: [Step<'static>; 10] = [
     Step::Take(b"a"),
 ];
 
+#[test]
+fn ranks_come_in_order(rt: HostRuntime) -> Result<(), Fail> {
+    plays(&rt, rt.alloc(), 0, &OF_ALL_RANKS)
+}
+
 const HUNDRED_AND_FIFTY: &[u8] = &[b'x'; 150];
 
 const AT_THE_MARK: [Step<'static>; 7] = [
@@ -40,6 +50,11 @@ const AT_THE_MARK: [Step<'static>; 7] = [
     Step::Flush,
     Step::Counts(0, 0),
 ];
+
+#[test]
+fn a_band_is_full_from_its_mark_on(rt: HostRuntime) -> Result<(), Fail> {
+    plays(&rt, rt.alloc(), 0, &AT_THE_MARK)
+}
 
 const OF_BANDS: [Step<'static>; 11] = [
     Step::Put(MsgKind::Data, 0, b"a"),
@@ -54,6 +69,11 @@ const OF_BANDS: [Step<'static>; 11] = [
     Step::Take(b"a"),
     Step::TakeNone,
 ];
+
+#[test]
+fn bands_come_from_255_down(rt: HostRuntime) -> Result<(), Fail> {
+    plays(&rt, rt.alloc(), 5, &OF_BANDS)
+}
 
 const FULL_IN_ONE_BAND: [Step<'static>; 14] = [
     Step::Put(MsgKind::Data, 7, HUNDRED_AND_FIFTY),
@@ -71,6 +91,11 @@ const FULL_IN_ONE_BAND: [Step<'static>; 14] = [
     Step::Full(0, false),
     Step::Flush,
 ];
+
+#[test]
+fn marks_of_a_band_leave_the_others(rt: HostRuntime) -> Result<(), Fail> {
+    plays(&rt, rt.alloc(), 7, &FULL_IN_ONE_BAND)
+}
 
 const COMING_DOWN: [Step<'static>; 21] = [
     Step::Put(MsgKind::Data, 200, b"a"),
@@ -97,6 +122,11 @@ const COMING_DOWN: [Step<'static>; 21] = [
     Step::Flush,
 ];
 
+#[test]
+fn writers_go_at_the_low_mark_of_their_band(rt: HostRuntime) -> Result<(), Fail> {
+    plays(&rt, rt.alloc(), 0, &COMING_DOWN)
+}
+
 const FLUSHED_IN_ONE_BAND: [Step<'static>; 12] = [
     Step::Put(MsgKind::Data, 0, b"a"),
     Step::Put(MsgKind::Data, 200, b"bc"),
@@ -111,6 +141,11 @@ const FLUSHED_IN_ONE_BAND: [Step<'static>; 12] = [
     Step::Take(b"a"),
     Step::TakeNone,
 ];
+
+#[test]
+fn a_flush_of_a_band_leaves_the_others(rt: HostRuntime) -> Result<(), Fail> {
+    plays(&rt, rt.alloc(), 0, &FLUSHED_IN_ONE_BAND)
+}
 
 const MARKED_IN_ALL_BANDS: [Step<'static>; 17] = [
     Step::Put(MsgKind::Data, 0, HUNDRED_AND_FIFTY),
@@ -132,26 +167,7 @@ const MARKED_IN_ALL_BANDS: [Step<'static>; 17] = [
     Step::Flush,
 ];
 
-// A name, the number of the queue's list, and steps.
-const CASES: [(&str, usize, &[Step<'static>]); 8] = [
-    ("what is put back is taken next", 3, &PUT_BACK),
-    ("ranks come in order", 0, &OF_ALL_RANKS),
-    ("a band is full from its mark on", 0, &AT_THE_MARK),
-    ("bands come from 255 down", 5, &OF_BANDS),
-    ("marks of a band leave the others", 7, &FULL_IN_ONE_BAND),
-    ("writers go at the low mark of their band", 0, &COMING_DOWN),
-    (
-        "a flush of a band leaves the others",
-        0,
-        &FLUSHED_IN_ONE_BAND,
-    ),
-    ("all bands get the marks", 0, &MARKED_IN_ALL_BANDS),
-];
-
 #[test]
-fn queues_are_as_they_are_to_be(rt: HostRuntime) -> Result<(), Fail> {
-    for (name, list, steps) in CASES {
-        plays(&rt, rt.alloc(), name, list, steps)?;
-    }
-    Ok(())
+fn all_bands_get_the_marks(rt: HostRuntime) -> Result<(), Fail> {
+    plays(&rt, rt.alloc(), 0, &MARKED_IN_ALL_BANDS)
 }

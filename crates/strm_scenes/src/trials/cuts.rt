@@ -1,7 +1,7 @@
 //! The journal that is handed out with its base, and begins anew.
 
 use super::steps::{
-    MASTER, MASTER_DRIVER, OPENING, SIZES, SLAVE, SLAVE_HEAD, Step, follow, has_entered, new_pair,
+    MASTER, MASTER_DRIVER, SIZES, SLAVE, SLAVE_HEAD, Step, follow, has_entered, new_pair, opens,
     reset, restart,
 };
 use super::texts::image_of;
@@ -105,7 +105,7 @@ fn is_cut_thrice<B: Blocks + Drop>(
     pair: &mut Pair<B>,
 ) -> Result<(), AllocError> {
     let unopened = image_of(alloc, pair)?;
-    follow(rt, pair, "opening", &OPENING);
+    opens(rt, pair);
     let opened = image_of(alloc, pair)?;
     assert!(rt; cuts(alloc, pair, unopened.as_slice(), 3, b"")?);
     follow(rt, pair, "between two cuts", &BETWEEN);
@@ -146,7 +146,7 @@ fn is_led_by_cuts<B: Blocks + Drop>(
     pair: &mut Pair<B>,
     twin: &mut Pair<B>,
 ) -> Result<(), AllocError> {
-    follow(rt, pair, "opening", &OPENING);
+    opens(rt, pair);
     assert!(rt; leads(alloc, pair, twin)?);
     follow(rt, pair, "between two cuts", &BETWEEN);
     assert!(rt; leads(alloc, pair, twin)?);
@@ -162,7 +162,7 @@ fn begins_anew<B: Blocks + Drop>(
 ) -> Result<(), AllocError> {
     let unopened = image_of(alloc, pair)?;
     assert!(rt; begins_at(pair, unopened.as_slice()));
-    follow(rt, pair, "opening", &OPENING);
+    opens(rt, pair);
     follow(rt, pair, "between two cuts", &BETWEEN);
     let crossed = image_of(alloc, pair)?;
     restart(pair);

@@ -1,6 +1,6 @@
 //! The image of a pair.
 
-use super::steps::{DONE, MASTER, MASTER_DRIVER, OPENING, SIZES, SLAVE, Step, follow, new_pair};
+use super::steps::{DONE, MASTER, MASTER_DRIVER, SIZES, SLAVE, Step, follow, new_pair, opens};
 use super::texts::{buffer, image_into, image_of};
 use std::alloc::{AllocError, Global};
 use std::process::Abort;
@@ -101,7 +101,7 @@ fn is_shown<B: Blocks + Drop>(
     pair: &mut Pair<B>,
 ) -> Result<(), AllocError> {
     assert!(rt; is_silent(alloc, pair)?, "a new pair");
-    follow(rt, pair, "opening", &OPENING);
+    opens(rt, pair);
     assert!(rt; is_opened(alloc, pair)?, "an opened pair");
     follow(rt, pair, "typing", &TYPING);
     assert!(rt; has_two(alloc, pair)?, "what stands on queues");

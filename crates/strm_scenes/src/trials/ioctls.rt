@@ -4,7 +4,6 @@ use super::steps::{
     AGAIN, Came, DONE, INVALID, MASTER, MASTER_DRIVER, NOT_OPEN, OPENING, Run, SIZES, SLAVE,
     SLAVE_DRIVER, Step,
 };
-use std::test::Fail;
 use strm_types::{Answer, Config, Event, Refusal, TIOCGWINSZ, Turn};
 
 const ASK: Event<&'static [u8]> = Event::Ioctl {

@@ -2,7 +2,7 @@
 //! what calls were answered, and of what stands on the queues. No ioctl is among them: the bytes of an M_IOCTL are none of a direction, but
 //! count in the sizes of a queue.
 
-use super::steps::{OPENING, follow, new_pair};
+use super::steps::{new_pair, opens};
 use std::alloc::{AllocError, Global};
 use std::process::Abort;
 use std::test::Fail;
@@ -319,7 +319,7 @@ fn walk_of<B: Reserve>(alloc: Global) -> Result<Walk<B>, AllocError> {
 
 // Goes on both sides, where bytes go by each of those rules.
 fn goes_on<B: Blocks + Drop>(rt: &impl Abort, walk: &mut Walk<B>) {
-    follow(rt, &mut walk.pair, "opening", &OPENING);
+    opens(rt, &mut walk.pair);
     walk.goes(rt, 20000);
     assert!(rt; walk.in_lines > 20);
     for rule in TYPED {

@@ -5,7 +5,6 @@ use super::steps::{
     AGAIN, Came, DONE, INVALID, MASTER, MASTER_DRIVER, OPENING, ORDINARY, Run, SIZES, SLAVE,
     SLAVE_HEAD, Step,
 };
-use std::test::Fail;
 use strm_types::{Answer, Band, ControlMode, Event, Mode, Prio, Refusal, Rule, Turn, Wanted};
 
 const AB: &[u8] = b"ab";

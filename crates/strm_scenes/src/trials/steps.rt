@@ -299,6 +299,11 @@ pub const OPENING: [Step<'static>; 3] = [
     Step::Call(MASTER, Event::OpenSlave, DONE),
 ];
 
+/// Opens both sides.
+pub fn opens<B: Blocks + Drop>(rt: &impl Abort, pair: &mut Pair<B>) {
+    follow(rt, pair, "opening", &OPENING);
+}
+
 /// Goes through the steps of a run on a new pair of its sizes.
 pub fn follow_run<B: Reserve>(
     rt: &impl Abort,

@@ -3,8 +3,9 @@
 
 ghost use Rattle.std.specs.Prelude.{◌≡◌};
 ghost use Rattle.std.specs.Prelude.{if◌then◌else◌, [], ◌∷◌};
-ghost use Rattle.strm_tests.specs.Toys.{is_flush, onward, stays};
+ghost use Rattle.strm_tests.specs.Toys.{stays};
 
+use super::turner::onward;
 use arrayvec::ArrayVec;
 use strm_blocks::{Blocks, InHand};
 use strm_frame::{Acts, LetGo, Module, Outbox, Sent, Served, TurnEnd, clear_queue, end_queue_turn};
@@ -39,24 +40,6 @@ fn note_if(holds: bool, note: Note) -> ArrayVec<Note, 4>
         notes.push(note);
     }
     notes
-}
-
-// Whether a kind is M_FLUSH.
-fn is_flush(kind: MsgKind) -> bool
-    ensures { result ≡ is_flush kind }
-{
-    matches!(kind, MsgKind::Flush)
-}
-
-// Which way a message goes on.
-fn onward(kind: MsgKind, way: Way) -> Way
-    ensures { result ≡ onward kind way }
-{
-    match way {
-        Way::Up if is_flush(kind) => Way::Down,
-        Way::Up => Way::Up,
-        Way::Down => Way::Down,
-    }
 }
 
 // Whether a message of a kind stays on the queue.

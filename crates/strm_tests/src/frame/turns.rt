@@ -14,6 +14,7 @@ use strm_queue::Table;
 use strm_types::{Band, MsgKind, Place, QueueName, Side, Spot, Turn, Way};
 
 // What is done to the stream.
+#[derive(Clone, Copy)]
 enum Step {
     // An M_DATA message with the row's bytes is put at a place.
     Data(u8, Way),
@@ -67,36 +68,33 @@ fn put_flush<B: Blocks>(store: &mut B, rig: &mut Rig, to: Spot) -> Result<(), No
     Ok(())
 }
 
-// Does a row's step, and says whether it answers as it is to.
-fn goes<B: Blocks>(store: &mut B, rig: &mut Rig, row: &Row<'_>) -> Result<bool, NoBlocks>
+// Does a row's step, and compares.
+fn play<B: Blocks>(rt: &impl Abort, store: &mut B, rig: &mut Rig, row: &Row<'_>) -> Result<(), Fail>
     requires { AtRest (λ x. x.queue) (B.value store.old) rig.old.modules.modules.items }
     ensures { AtRest (λ x. x.queue) (B.value store.new) rig.new.modules.modules.items }
 {
     match row.step {
-        Step::Data(at, way) if at <= 3 => {
+        Step::Data(at, way) => {
+            assert!(rt; at <= 3);
             put_data(store, rig, spot(at, way), row.bytes)?;
-            Ok(true)
         }
-        Step::Flush(at) if at <= 3 => {
+        Step::Flush(at) => {
+            assert!(rt; at <= 3);
             put_flush(store, rig, spot(at, Way::Up))?;
-            Ok(true)
         }
-        Step::Turn(at, answer) if at == 1 || at == 2 => Ok(rig.turn(store, at) == answer),
-        _ => Ok(false),
+        Step::Turn(at, answer) => {
+            assert!(rt; at == 1 || at == 2);
+            assert!(rt; rig.turn(store, at) == answer);
+        }
     }
+    assert!(rt; rig.sizes(store) == row.queues);
+    assert_eq!(rt; rig.enabled.as_slice(), row.enabled);
+    assert!(rt; (rig.above, rig.below) == row.left);
+    Ok(())
 }
 
-// Whether things stand as behind a row.
-fn stand<B: Blocks>(store: &B, rig: &Rig, row: &Row<'_>) -> bool
-    requires { AtRest (λ x. x.queue) (B.value store.now) rig.now.modules.modules.items }
-{
-    rig.sizes(store) == row.queues
-        && rig.enabled.as_slice() == row.enabled
-        && (rig.above, rig.below) == row.left
-}
-
-// Does several rows' steps, one after the other.
-fn all_go<B: Blocks>(
+// The same for several rows, one after the other.
+fn play_all<B: Blocks>(
     rt: &impl Abort,
     store: &mut B,
     rig: &mut Rig,
@@ -104,11 +102,11 @@ fn all_go<B: Blocks>(
 ) -> Result<(), Fail>
     requires { AtRest (λ x. x.queue) (B.value store.old) rig.old.modules.modules.items }
 {
-    for at in 0..rows.len() {
-        assert!(rt; goes(store, rig, &rows[at])?, "at row {at}");
-        assert!(rt; stand(store, rig, &rows[at]), "behind row {at}");
-    }
-    Ok(())
+    let Some((row, rest)) = rows.split_first() else {
+        return Ok(());
+    };
+    play(rt, store, rig, row)?;
+    play_all(rt, store, rig, rest)
 }
 
 const UPPER: &[QueueName] = &[QueueName {
@@ -221,5 +219,5 @@ const ROWS: [Row<'static>; 13] = [
 fn a_message_stays_on_a_queue_until_its_turn(rt: HostRuntime) -> Result<(), Fail> {
     let mut store = TableStore::new(rt.alloc(), 10, 10)?;
     let mut rig = Rig::new(Table::new(rt.alloc())?, Table::new(rt.alloc())?);
-    all_go(&rt, &mut store, &mut rig, &ROWS)
+    play_all(&rt, &mut store, &mut rig, &ROWS)
 }

@@ -62,7 +62,7 @@ fn new_pair(rt: HostRuntime) -> Result<(), Fail> {
     let alloc = rt.alloc();
     let mut length = Sink::new(&mut []);
     put_new_pair(&mut length);
-    assert!(rt; length.count() == 421);
+    assert_eq!(rt; length.count(), 421);
     let mut text = [7; 421];
     let mut out = Sink::new(&mut text);
     put_new_pair(&mut out);

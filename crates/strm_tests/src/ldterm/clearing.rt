@@ -39,7 +39,7 @@ fn line_goes<B: Blocks>(
     let popped = clear(&mut ldterm, store, side, Rule::ModulePopped, Some(1), told);
     assert!(rt; popped.notes.is_empty());
     assert!(rt; !popped.met);
-    assert!(rt; ldterm.line.len() == 0);
+    assert_eq!(rt; ldterm.line.len(), 0);
     let closed = clear(&mut ldterm, store, side, Rule::EndClosed, None, told);
     assert!(rt; closed.notes.is_empty());
 }
@@ -55,8 +55,8 @@ fn a_line_goes_with_its_module(rt: HostRuntime) -> Result<(), Fail> {
         Tables::new(rt.alloc())?,
         &mut told,
     );
-    assert!(rt; told.from_master[16] == 3);
-    assert!(rt; told.from_master[17] == 0);
-    assert!(rt; told.from_slave == [0; 21]);
+    assert_eq!(rt; told.from_master[16], 3);
+    assert_eq!(rt; told.from_master[17], 0);
+    assert_eq!(rt; told.from_slave, [0; 21]);
     Ok(())
 }

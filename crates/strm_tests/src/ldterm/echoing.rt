@@ -54,8 +54,8 @@ fn echoes<B: Blocks>(
     assert!(rt; chunk_count(len) <= mblks);
     assert!(rt; chunk_count(len) <= dblks);
     let told_of = echo(ldterm, store, HERE, plan, told);
-    assert!(rt; told_of.as_slice() == notes);
-    assert!(rt; sizes(ldterm, store, Way::Down) == (1, size));
+    assert_eq!(rt; told_of.as_slice(), notes);
+    assert_eq!(rt; sizes(ldterm, store, Way::Down), (1, size));
 }
 
 // An echo begins, grows by more than a block, and is lost where the band is full.
@@ -69,8 +69,8 @@ fn stands<B: Blocks>(rt: &impl Abort, store: &mut B, tables: Tables)
     echoes(rt, &mut ldterm, store, 20, &enables, 480, &mut told);
     echoes(rt, &mut ldterm, store, 15, &[], 840, &mut told);
     echoes(rt, &mut ldterm, store, 1, &[], 840, &mut told);
-    assert!(rt; told.made_from_slave == 864);
-    assert!(rt; told.from_slave[Rule::EchoFull.number()] == 24);
+    assert_eq!(rt; told.made_from_slave, 864);
+    assert_eq!(rt; told.from_slave[Rule::EchoFull.number()], 24);
 }
 
 #[test]

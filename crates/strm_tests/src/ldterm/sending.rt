@@ -63,9 +63,9 @@ fn sends<B: Blocks>(rt: &impl Abort, store: &mut B, tables: Tables) -> Result<()
     let sent = stop(&mut ldterm, store, HERE, 19, &mut told);
     assert!(rt; sent.is_empty());
     assert!(rt; ldterm.stopped);
-    assert!(rt; ldterm.line.len() == 0);
-    assert!(rt; told.from_master[5] == 1);
-    assert!(rt; told.from_master[7] == 2);
+    assert_eq!(rt; ldterm.line.len(), 0);
+    assert_eq!(rt; told.from_master[5], 1);
+    assert_eq!(rt; told.from_master[7], 2);
     Ok(())
 }
 

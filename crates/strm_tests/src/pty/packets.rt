@@ -1,5 +1,6 @@
 //! Puts at pckt over a store of tables, with answers worked out by hand.
 
+use std::process::Abort;
 use std::test::Fail;
 use strm_blocks::{Blocks, NoBlocks, TableStore};
 use strm_msg::{data_len, first_bytes, from_bytes};
@@ -20,10 +21,10 @@ struct Row<'a> {
     more: bool,
 }
 
-// Puts a row's message, which is of data or of a kind without parts, and says whether what comes of it is as wanted.
-fn packs<B: Blocks>(store: &mut B, row: &Row<'_>) -> Result<bool, NoBlocks> {
+// Puts a row's message, which is of data or of a kind without parts.
+fn packs<B: Blocks>(rt: &impl Abort, store: &mut B, row: &Row<'_>) -> Result<(), Fail> {
     if row.kind.is_control_kind() {
-        return Err(NoBlocks);
+        return Err(NoBlocks.into());
     }
     let mut told = Fates::none();
     let here = Spot {
@@ -33,28 +34,26 @@ fn packs<B: Blocks>(store: &mut B, row: &Row<'_>) -> Result<bool, NoBlocks> {
     };
     let message = from_bytes(store, row.kind, Band(0), row.bytes)?;
     let (mblks, dblks) = store.free_blocks();
-    if mblks < 2 || dblks < 2 {
-        return Err(NoBlocks);
-    }
+    assert!(rt; mblks >= 2);
+    assert!(rt; dblks >= 2);
     let mut acts = pckt::put(store, here, message, &mut told);
     store.audit();
     let Some(first) = acts.sent.take_first() else {
-        return Err(NoBlocks);
+        return Err(NoBlocks.into());
     };
     let mut bytes = [0; 24];
     let count = first_bytes(store, &first.message, &mut bytes);
-    let sent = store.kind(&first.message, 0);
-    let data = data_len(store, &first.message);
-    Ok(&bytes[..count] == row.all
-        && sent == row.sent
-        && data == row.data
-        && told.made_from_slave == row.made
-        && acts.sent.take_first().is_some() == row.more)
+    assert_eq!(rt; &bytes[..count], row.all);
+    assert_eq!(rt; store.kind(&first.message, 0), row.sent);
+    assert_eq!(rt; data_len(store, &first.message), row.data);
+    assert_eq!(rt; told.made_from_slave, row.made);
+    assert_eq!(rt; acts.sent.take_first().is_some(), row.more);
+    Ok(())
 }
 
 const ASKS: &[u8] = b"\0\0\0\x05\0\0\0\x07\0\0\0\0\0\0\0\0abc";
 
-const ROWS: &[Row<'static>] = &[
+const ROWS: [Row<'static>; 9] = [
     Row {
         way: Way::Up,
         kind: MsgKind::Data,
@@ -149,9 +148,9 @@ const ROWS: &[Row<'static>] = &[
 
 #[test]
 fn pckt_packs_what_comes_up(rt: HostRuntime) -> Result<(), Fail> {
-    for at in 0..ROWS.len() {
+    for row in &ROWS {
         let mut store = TableStore::new(rt.alloc(), 10, 10)?;
-        assert!(rt; packs(&mut store, &ROWS[at])?, "row {at}");
+        packs(&rt, &mut store, row)?;
     }
     Ok(())
 }

@@ -31,6 +31,6 @@ fn answer_and_what_tells_of_it_share_their_payload(rt: HostRuntime) -> Result<()
     let mut store = TableStore::new(rt.alloc(), 32, 32)?;
     let free = left(&rt, &mut store, &[0, 24, 0, 80, 0, 0, 0, 0])?;
     // Two messages of a header and a payload, and SIGWINCH: five message blocks. Both payloads have one data block.
-    assert!(rt; free == (27, 28));
+    assert_eq!(rt; free, (27, 28));
     Ok(())
 }

@@ -14,6 +14,7 @@ use strm_raw::RawStore;
 use strm_types::{Band, Marks, MsgKind};
 
 // What comes to a queue, and what is to be seen of it then.
+#[derive(Clone, Copy)]
 pub(crate) enum Step<'a> {
     // A message of this kind and band is put, which enables the queue.
     Put(MsgKind, u8, &'a [u8]),
@@ -137,11 +138,11 @@ fn marks_all(queue: &mut Queue, high: u32, low: u32) -> bool
 }
 
 // Takes a step, and says whether what is to be seen is seen.
-fn goes<B: Blocks>(queue: &mut Queue, store: &mut B, step: &Step<'_>) -> Result<bool, NoBlocks>
+fn goes<B: Blocks>(queue: &mut Queue, store: &mut B, step: Step<'_>) -> Result<bool, NoBlocks>
     requires { AreCounted queue.old.flows (list_at (B.value store.old) queue.old.list) }
     ensures { AreCounted queue.new.flows (list_at (B.value store.new) queue.new.list) }
 {
-    match *step {
+    match step {
         Step::Put(kind, band, bytes) => puts(queue, store, kind, band, bytes),
         Step::PutBack(bytes) => puts_back(queue, store, bytes),
         Step::Take(bytes) => Ok(next_shows(queue, store, bytes)),
@@ -171,45 +172,34 @@ fn goes<B: Blocks>(queue: &mut Queue, store: &mut B, step: &Step<'_>) -> Result<
 fn all_go<B: Blocks>(
     rt: &impl Abort,
     store: &mut B,
-    mut queue: Queue,
-    name: &str,
+    list: usize,
+    table: Table,
     steps: &[Step<'_>],
 ) -> Result<(), Fail>
-    requires { AreCounted queue.flows (list_at (B.value store.old) queue.list) }
-{
-    for at in 0..steps.len() {
-        assert!(rt;
-            goes(&mut queue, store, &steps[at])?,
-            "{name}: at step {at}"
-        );
-    }
-    assert!(rt; store.free_blocks() == (10, 10), "{name}: at the end");
-    Ok(())
-}
-
-// A new queue of a list of the store with nothing on it.
-fn fresh<B: Blocks>(store: &B, list: usize, table: Table) -> Queue
     requires list { list < 8 }
-    requires empty { list_at (B.value store.now) list ≡ [] }
-    ensures { AreCounted result.flows (list_at (B.value store.now) result.list) }
+    requires empty { list_at (B.value store.old) list ≡ [] }
 {
-    let _ = store;
-    Queue::new(list, 512, 128, table)
+    let mut queue = Queue::new(list, 512, 128, table);
+    for at in 0..steps.len() {
+        assert!(rt; goes(&mut queue, store, steps[at])?, "at step {at}");
+    }
+    Ok(())
 }
 
 // Takes steps in turn over a store of each kind, and leaves nothing in it.
 pub(crate) fn plays(
     rt: &impl Abort,
     alloc: Global,
-    name: &str,
     list: usize,
     steps: &[Step<'_>],
-) -> Result<(), Fail> {
-    assert!(rt; list < 8);
+) -> Result<(), Fail>
+    requires { list < 8 }
+{
     let mut tables = TableStore::new(alloc, 10, 10)?;
-    let queue = fresh(&tables, list, Table::new(alloc)?);
-    all_go(rt, &mut tables, queue, name, steps)?;
+    all_go(rt, &mut tables, list, Table::new(alloc)?, steps)?;
+    assert_eq!(rt; tables.free_blocks(), (10, 10));
     let mut nodes = RawStore::new(alloc, 10, 10)?;
-    let queue = fresh(&nodes, list, Table::new(alloc)?);
-    all_go(rt, &mut nodes, queue, name, steps)
+    all_go(rt, &mut nodes, list, Table::new(alloc)?, steps)?;
+    assert_eq!(rt; nodes.free_blocks(), (10, 10));
+    Ok(())
 }

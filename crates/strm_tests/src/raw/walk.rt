@@ -2,7 +2,6 @@
 ghost use Rattle.std.specs.Prelude.{◌≡◌, ◌<◌, ◌≤◌, length};
 ghost use Rattle.strm_blocks.specs.Blocks.{IsInHand, in_hand, token};
 
-use crate::calls::{Change, To, changes, doubles, frees_last, links, makes, parts};
 use std::test::Fail;
 use strm_blocks::{Blocks, FlushWhat, InHand, TableStore, Visitor};
 use strm_raw::RawStore;
@@ -17,11 +16,11 @@ const ALL: usize = 40;
 static TEXT: &[u8; 64] = b"0123456789abcdefghijklmnopqrstuvwxyzABCDEFGHIJKLMNOPQRSTUVWXYZ+/";
 
 // What is rolled for a move.
-#[derive(Drop)]
+#[derive(Clone, Copy)]
 struct Roll {
     what: usize,
-    from: u8,
-    to: u8,
+    from: usize,
+    to: usize,
     at: usize,
     n: usize,
     kind: MsgKind,
@@ -54,8 +53,8 @@ fn rolled(number: &mut u64) -> Roll {
     ];
     Roll {
         what: side(number, 16),
-        from: side(number, ASIDE) as u8,
-        to: side(number, ASIDE) as u8,
+        from: side(number, ASIDE),
+        to: side(number, ASIDE),
         at: side(number, 8),
         n: side(number, 65),
         kind: kinds[side(number, 4)],
@@ -64,64 +63,155 @@ fn rolled(number: &mut u64) -> Roll {
     }
 }
 
-// Where the message of a move is put.
-fn to(by: &Roll) -> To {
-    To {
-        list: by.to,
-        in_front: by.in_front,
+// Puts a message on a list, at the front or at the back of its rank.
+fn put<B: Blocks>(store: &mut B, by: &Roll, message: InHand)
+    requires { IsInHand (B.value store.old) (token message) }
+{
+    let list = by.to % ASIDE;
+    if by.in_front {
+        store.insert_front(list, message);
+    } else {
+        store.insert_back(list, message);
     }
 }
 
-// So many bytes.
-fn text(n: usize) -> &'static [u8] {
-    &TEXT[..n.min(64)]
+// A new message, with its bytes at once or behind.
+fn makes<B: Blocks>(store: &mut B, by: &Roll) -> usize {
+    let bytes = &TEXT[..by.n.min(64)];
+    let made = if by.at < 4 {
+        store.alloc_with(by.kind, by.band, bytes)
+    } else {
+        store.alloc(by.kind)
+    };
+    let Ok(message) = made else {
+        return 0;
+    };
+    put(store, by, message);
+    1
 }
 
-// A new message, with its bytes at once or without any.
-fn makes_one<B: Blocks>(store: &mut B, by: &Roll) -> usize {
-    let head = if by.at < 4 {
-        Some((by.band, text(by.n)))
-    } else {
-        None
+// A message is met by another one with the same bytes of the same data block.
+fn shares<B: Blocks>(store: &mut B, by: &Roll) -> usize {
+    let (from, to) = (by.from % ASIDE, by.to % ASIDE);
+    let Some(message) = store.pop(from) else {
+        return 0;
     };
-    usize::from(makes(store, to(by), by.kind, head))
+    let at = by.at % store.blocks(&message);
+    let Ok(more) = store.dup(&message, at) else {
+        put(store, by, message);
+        return 1;
+    };
+    store.insert_back(to, more);
+    put(store, by, message);
+    2
+}
+
+// A message is met by another one with a copy of its bytes.
+fn copies<B: Blocks>(store: &mut B, by: &Roll) -> usize {
+    let (from, to) = (by.from % ASIDE, by.to % ASIDE);
+    let Some(message) = store.pop(from) else {
+        return 0;
+    };
+    let at = by.at % store.blocks(&message);
+    let Ok(more) = store.copy(&message, at) else {
+        put(store, by, message);
+        return 1;
+    };
+    store.insert_back(to, more);
+    put(store, by, message);
+    2
+}
+
+// Two messages become one.
+fn links<B: Blocks>(store: &mut B, by: &Roll) -> usize {
+    let from = by.from % ASIDE;
+    let Some(first) = store.pop(from) else {
+        return 0;
+    };
+    let Some(second) = store.pop(from) else {
+        put(store, by, first);
+        return 1;
+    };
+    let message = store.link(first, second);
+    put(store, by, message);
+    2
+}
+
+// A message is parted behind its first block.
+fn parts<B: Blocks>(store: &mut B, by: &Roll) -> usize {
+    let (from, to) = (by.from % ASIDE, by.to % ASIDE);
+    let Some(message) = store.pop(from) else {
+        return 0;
+    };
+    let (first, rest) = store.unlink(message);
+    let Some(rest) = rest else {
+        put(store, by, first);
+        return 1;
+    };
+    store.insert_back(to, first);
+    put(store, by, rest);
+    2
 }
 
 // A block of a message becomes another one; how many bytes the message took.
-fn changes_one<B: Blocks>(store: &mut B, by: &Roll) -> usize {
-    let change = match by.what {
-        7 => Change::TrimHead(by.n),
-        8 => Change::TrimTail(by.n),
-        9 => Change::Kind(by.kind),
-        10 => Change::Band(by.band.0),
-        _ => Change::Append(text(by.n)),
+fn changes<B: Blocks>(store: &mut B, by: &Roll) -> usize {
+    let Some(message) = store.pop(by.from % ASIDE) else {
+        return 0;
     };
-    changes(store, (by.from, by.at), &change, to(by)).unwrap_or(99)
+    let at = by.at % store.blocks(&message);
+    match by.what {
+        7 => {
+            store.trim_head(&message, at, by.n);
+            put(store, by, message);
+        }
+        8 => {
+            store.trim_tail(&message, at, by.n);
+            put(store, by, message);
+        }
+        9 => {
+            store.set_kind(&message, at, by.kind);
+            put(store, by, message);
+        }
+        10 => {
+            store.set_band(&message, by.band);
+            put(store, by, message);
+        }
+        _ => {
+            let count = store.append(&message, &TEXT[..by.n.min(64)]);
+            put(store, by, message);
+            return count;
+        }
+    }
+    1
 }
 
 // A message is freed, or those of a list that a flush takes.
-fn frees_some<B: Blocks>(store: &mut B, by: &Roll) -> usize {
-    if by.n > 0 {
-        return usize::from(frees_last(store, by.from));
+fn frees<B: Blocks>(store: &mut B, by: &Roll) -> usize {
+    if by.n == 0 {
+        let what = FlushWhat {
+            all: by.at < 4,
+            band: if by.in_front { Some(by.band) } else { None },
+        };
+        store.drop_where(by.from % ASIDE, what);
+        return 0;
     }
-    let what = FlushWhat {
-        all: by.at < 4,
-        band: if by.in_front { Some(by.band) } else { None },
+    let Some(message) = store.pop_last(by.from % ASIDE) else {
+        return 0;
     };
-    store.drop_where(usize::from(by.from % 8), what);
-    0
+    store.free(message);
+    1
 }
 
 // Makes a move; how much it did.
 fn moves<B: Blocks>(store: &mut B, by: &Roll) -> usize {
     match by.what {
-        0..=3 => makes_one(store, by),
-        4 => links(store, by.from, by.from, to(by)),
-        5 => parts(store, by.from, by.to, to(by)),
-        6 => doubles(store, (by.from, by.at), true, by.to, to(by)),
-        12 => doubles(store, (by.from, by.at), false, by.to, to(by)),
-        13..=15 => frees_some(store, by),
-        _ => changes_one(store, by),
+        0..=3 => makes(store, by),
+        4 => links(store, by),
+        5 => parts(store, by),
+        6 => shares(store, by),
+        12 => copies(store, by),
+        13..=15 => frees(store, by),
+        _ => changes(store, by),
     }
 }
 
@@ -216,7 +306,7 @@ fn both_stores_are_alike_behind_each_move(rt: HostRuntime) -> Result<(), Fail> {
     for at in 0..4000u32 {
         let by = rolled(&mut number);
         let did = moves(&mut raw, &by);
-        assert!(rt; did == moves(&mut table, &by), "at move {at}");
+        assert_eq!(rt; did, moves(&mut table, &by), "at move {at}");
         assert!(rt; all_alike(&mut raw, &mut table), "at move {at}");
     }
     Ok(())

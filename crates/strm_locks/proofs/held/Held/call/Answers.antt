@@ -19,7 +19,7 @@ invariant_of-self-in-Ok g c =
     let q = g.P.Object.pair_of c.call.new.self in
     subst (λ n. IsKept n c.self.inside.left q) (sym c.saturating_add-self-inside.ensures)
     (call-keeps p q c.args.caller (request c.args.event.now) (reply_in c.in-Ok.answer c.call.new.out.items) c.self.inside.calls c.self.inside.left c.self.inside.left c.in-Ok.ensures.adds
-    (λ all. c.requires (sym (ap (λ (k : Kept). k.book.left) c.self.view_is) ∙ all)) c.self.invariant)
+    (λ all. c.requires.«open» (sym (ap (λ (k : Kept). k.book.left) c.self.view_is) ∙ all)) c.self.invariant)
 
 pub returns-in-Err-clause-refused : goal.returns-in-Err-clause-refused
 returns-in-Err-clause-refused g c =

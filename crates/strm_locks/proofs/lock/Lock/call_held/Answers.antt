@@ -10,7 +10,7 @@ slot_mut-held-requires g c = (search rules, lent _ (c.requires.lock.0, c.require
 pub call_told-requires : goal.call_told-requires
 call_told-requires g c = let k = c.requires.lock.0 in
     let is : c.slot_mut-held.result.now ≡ k = ap (first_of k) (sym c.slot_mut-held.ensures.value ∙ c.requires.lock.1) in
-    subst (λ (x : Kept). x.book.left ≢ ALL_PARTS) (sym is) c.requires.lock.2
+    record { «open» = subst (λ (x : Kept). x.book.left ≢ ALL_PARTS) (sym is) c.requires.lock.2 }
 
 pub returns-clause-did : goal.returns-clause-did
 returns-clause-did g c = became _ _ c.slot_mut-held.result.now c.call_told.new.self c.slot_mut-held.ensures.value

@@ -15,18 +15,18 @@ first_bytes-count-requires g c =
     first-there (g.B.Blocks.value c.from_bytes.new.store) (g.B.Blocks.value c.put-acts.new.store) (token c.in_ok-message.message) _ c.in-Some.first _ _ _
     (made-here _ _ _ _ c.in_ok-message.ensures.made) c.audit.ensures c.put-acts.ensures.swaps c.in-Some.ensures
 
-pub kind-sent-requires-clause-in_hand : goal.kind-sent-requires-clause-in_hand
-kind-sent-requires-clause-in_hand g c =
+pub kind-requires-clause-in_hand : goal.kind-requires-clause-in_hand
+kind-requires-clause-in_hand g c =
     first-there (g.B.Blocks.value c.from_bytes.new.store) (g.B.Blocks.value c.put-acts.new.store) (token c.in_ok-message.message) _ c.in-Some.first _ _ _
     (made-here _ _ _ _ c.in_ok-message.ensures.made) c.audit.ensures c.put-acts.ensures.swaps c.in-Some.ensures
 
-pub kind-sent-requires-clause-within : goal.kind-sent-requires-clause-within
-kind-sent-requires-clause-within g c =
+pub kind-requires-clause-within : goal.kind-requires-clause-within
+kind-requires-clause-within g c =
     chain-some (g.B.Blocks.value c.put-acts.new.store) (token c.in-Some.first.message) c.audit.ensures
     (first-there (g.B.Blocks.value c.from_bytes.new.store) (g.B.Blocks.value c.put-acts.new.store) (token c.in_ok-message.message) _ c.in-Some.first _ _ _
     (made-here _ _ _ _ c.in_ok-message.ensures.made) c.audit.ensures c.put-acts.ensures.swaps c.in-Some.ensures)
 
-pub data_len-data-requires : goal.data_len-data-requires
-data_len-data-requires g c =
+pub data_len-requires : goal.data_len-requires
+data_len-requires g c =
     first-there (g.B.Blocks.value c.from_bytes.new.store) (g.B.Blocks.value c.put-acts.new.store) (token c.in_ok-message.message) _ c.in-Some.first _ _ _
     (made-here _ _ _ _ c.in_ok-message.ensures.made) c.audit.ensures c.put-acts.ensures.swaps c.in-Some.ensures
