@@ -43,10 +43,13 @@ strm_refusal host_sets(strm_host *h, uint32_t when, const strm_termios *t, uint3
 
 strm_refusal host_sizes(strm_host *h, uint32_t side, const strm_winsize *w, uint32_t *pending)
 {
+    strm_refusal e;
     uint8_t b[8];
     strm_put_word(b, (uint32_t)w->rows << 16 | w->columns), strm_put_word(b + 4, (uint32_t)w->width << 16 | w->height);
     h->signalled = true;
-    return host_ioctl(h, side, STRM_TIOCSWINSZ, b, sizeof b, pending);
+    e = host_ioctl(h, side, STRM_TIOCSWINSZ, b, sizeof b, pending);
+    if (!e) h->window = *w;
+    return e;
 }
 
 /* ------------------------------------------------------------------------------------------------------------- who asks */

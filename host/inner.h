@@ -37,6 +37,7 @@ struct strm_host {
     bool bulk, doubt;          /* the kernel isn't told of OPOST; nor is it till ICANON is set, as somebody took its modes over */
     bool eof;                  /* what the kernel was given last is an EOF key */
     strm_termios modes;
+    strm_winsize window; /* that was set here, or by the program */
     uint8_t vmin, vtime;
     host_modes kernel;
     uint64_t read, signal_keys; /* bytes of output, and signal keys of which the signals were handed on */

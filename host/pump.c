@@ -165,7 +165,7 @@ static void signals_group(strm_host *h, uint8_t number)
     strm_winsize w;
     struct winsize k;
     if (number == STRM_SIGWINCH) {
-        if (strm_get_winsize(h->pair, STRM_SLAVE, &w)) return;
+        if (strm_get_winsize(h->pair, STRM_SLAVE, &w)) w = h->window; /* the journal is full */
         k.ws_row = w.rows, k.ws_col = w.columns, k.ws_xpixel = w.width, k.ws_ypixel = w.height;
         ioctl(h->master, TIOCSWINSZ, &k);
         return;

@@ -206,6 +206,35 @@ static void windows(void)
     ends(&s);
 }
 
+/* A journal that is full at any call: what was asked comes to its end when it has begun anew. */
+static void full_journals(void)
+{
+    static session s;
+    static const char *const when[] = { "0", "1", "2" };
+    strm_winsize size = { 30, 100, 0, 0 };
+    char want[50 * 8 + 1] = "";
+    int whole[2] = { 0, 0 }, fulls = 0, k;
+    size_t entries;
+    for (k = 0; k < 50; k++) strcat(want, "a\r\nb\nc\r\n");
+    for (entries = 16; entries < 80; entries++) {
+        int why;
+        begins(&s, program, "window", NULL, 256, entries);
+        shows(&s, "ready", 5);
+        while ((why = strm_host_resize(s.host, &size)) == ENOSPC && !strm_restart(&s.pair)) fulls++;
+        shows(&s, "again", 5);
+        whole[0] += !why && shown(&s, "ready[30 100]again");
+        ends(&s);
+    }
+    for (entries = 16; entries < 80; entries += 3) {
+        begins(&s, program, "turns", when[entries % 3], 256, entries);
+        rests(&s, 10);
+        whole[1] += shown(&s, want);
+        ends(&s);
+    }
+    is("windows, with journals that are full anywhere", whole[0] == 64 && fulls > 0, &s);
+    is("modes, with journals that are full anywhere", whole[1] == 22, &s);
+}
+
 static void counts_and_flushes(void)
 {
     static session s;
@@ -375,6 +404,7 @@ int main(int n, char **words)
     if (fixed) a_secret_has_no_echo(fixed, "a secret of a static program");
     if (fixed) raw_keys(fixed, "raw keys of a static program");
     windows();
+    full_journals();
     counts_and_flushes();
     false_rests();
     interrupts();
