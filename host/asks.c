@@ -212,11 +212,12 @@ strm_refusal host_answers(strm_host *h, bool *moved)
         answered(h, k, strm_host_errno(e), value);
         *moved = true;
     }
-    if (h->told && h->askers < HOST_ASKERS && host_unseen(h, &unseen)) {
+    if (!h->told || h->askers == HOST_ASKERS) return STRM_OK;
+    h->told = false;
+    if (host_unseen(h, &unseen)) {
         joins(h, -1);
         h->asker[h->askers - 1].asked = true, h->asker[h->askers - 1].ask.modes = unseen, h->asker[h->askers - 1].ask.op = HOST_SET;
         *moved = true;
     }
-    h->told = false;
     return STRM_OK;
 }
