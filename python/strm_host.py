@@ -102,6 +102,11 @@ def _done(number):
         raise OSError(number, os.strerror(number))
 
 
+def exit_of(status):
+    """The exit status of a status of waitpid, or minus the number of the signal."""
+    return -os.WTERMSIG(status) if os.WIFSIGNALED(status) else os.WEXITSTATUS(status)
+
+
 class Bridge:
     """A program on the pair's line discipline. `pair` is a terminal of its own, where none is handed in. `environment` is laid over that of this
     process. FileNotFoundError and other OSErrors: the program can't be run.
@@ -180,7 +185,7 @@ class Bridge:
     def _told(self):
         status = ctypes.c_int()
         if self.status is None and self.library.wait(self.at, ctypes.addressof(status)) == 0:
-            self.status = os.waitstatus_to_exitcode(status.value)
+            self.status = exit_of(status.value)
 
     def waits(self):
         """Whether nothing is under way, and a process of the foreground asks for input without a time-out; or the program has ended."""
@@ -251,7 +256,7 @@ class Bridge:
             return
         at, self._at = self._at, None
         status = self.library.close(at)
-        self.status = os.waitstatus_to_exitcode(status) if self.status is None else self.status
+        self.status = exit_of(status) if self.status is None else self.status
         if self.owned:
             self.pair.free()
 

@@ -11,7 +11,7 @@ import termios
 import time
 
 from strm import KEYS, Pair
-from strm_host import LOOK_SECONDS, asks
+from strm_host import LOOK_SECONDS, asks, exit_of
 
 IUCLC, ECHOCTL, ECHOKE = 0x200, 0x200, 0x800  # not in the module termios
 WORDS = {
@@ -86,7 +86,7 @@ class Linux:
         if self.status is None:
             child, status = os.waitpid(self.pid, os.WNOHANG)
             if child:
-                self.status = os.waitstatus_to_exitcode(status)
+                self.status = exit_of(status)
                 os.close(self.slave)
 
     def waits(self):
