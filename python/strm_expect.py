@@ -282,19 +282,25 @@ class spawn(Child):
             return Played(program)
         if hasattr(program, "step"):
             return program
-        pair = pair or Pair.terminal()
+        if isinstance(program, str):
+            from strm_host import Bridge, terminal
+
+            words = [program, *args] if args else shlex.split(program)
+            pair = self._quiet(pair or terminal(), echo)
+            return Bridge(["env", "-C", cwd, *words] if cwd else words, rows, columns, env, pair)
+        pair = self._quiet(pair or Pair.terminal(), echo)
+        pair.set_winsize(rows, columns)
+        pair.signals(SLAVE)
+        return Hosted(program, pair)
+
+    @staticmethod
+    def _quiet(pair, echo):
+        """The pair, without echo where that isn't wanted."""
         if not echo:
             modes = pair.tcgetattr(SLAVE)
             modes["ECHO"] = False
             pair.tcsetattr(modes, SLAVE)
-        if isinstance(program, str):
-            from strm_host import Bridge
-
-            words = [program, *args] if args else shlex.split(program)
-            return Bridge(["env", "-C", cwd, *words] if cwd else words, rows, columns, env, pair)
-        pair.set_winsize(rows, columns)
-        pair.signals(SLAVE)
-        return Hosted(program, pair)
+        return pair
 
     def __enter__(self):
         return self

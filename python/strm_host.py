@@ -107,6 +107,11 @@ def exit_of(status):
     return -os.WTERMSIG(status) if os.WIFSIGNALED(status) else os.WEXITSTATUS(status)
 
 
+def terminal():
+    """A pair for a program: its journal is so large that it begins anew behind some hundred kB of output."""
+    return Pair.terminal(entries=8192, journal_bytes=1 << 20)
+
+
 class Bridge:
     """A program on the pair's line discipline. `pair` is a terminal of its own, where none is handed in. `environment` is laid over that of this
     process. FileNotFoundError and other OSErrors: the program can't be run.
@@ -118,7 +123,7 @@ class Bridge:
     def __init__(self, words, rows=24, columns=80, environment=None, pair=None):
         self.shown, self.status, self._at = b"", None, None
         self.library, self.owned = HostLibrary.get(), pair is None
-        self.pair = pair or Pair.terminal()
+        self.pair = pair or terminal()
         self._what, made = ctypes.c_uint32(), ctypes.c_void_p()
         self._what_at = ctypes.addressof(self._what)
         size = Window(rows, columns, 0, 0)
