@@ -18,6 +18,7 @@
 /* The kernel's buffer has 4096; more than a half of it isn't given to a program that doesn't read. */
 #define HOST_UNREAD 2048u
 #define HOST_ROUNDS 64
+#define HOST_READ 4096u
 #define HOST_PIECE 512u
 #define HOST_BLOCK 256u
 
@@ -283,5 +284,33 @@ strm_refusal strm_host_pump(strm_host *h, uint32_t *what)
     }
     if (!e && *what && h->read == before) e = regroups(h);
     rounds_off(h, what);
+    return e;
+}
+
+/* What stands at the master's head, as far as there is room. */
+static strm_refusal takes(strm_host *h, uint8_t *out, size_t room, size_t *n)
+{
+    strm_reply r = { 0 };
+    strm_refusal e = STRM_OK;
+    do {
+        e = strm_read(h->pair, STRM_MASTER, out + *n, HOST_READ, &r);
+        if (!e) *n += r.bytes;
+    } while (!e && r.bytes && room - *n >= HOST_READ);
+    return e == STRM_EAGAIN ? STRM_OK : e;
+}
+
+strm_refusal strm_host_take(strm_host *h, void *out, size_t room, size_t *n, uint32_t *what)
+{
+    uint32_t seen = STRM_HOST_MOVED;
+    strm_refusal e = room < HOST_READ ? STRM_EINVAL : STRM_OK;
+    *n = 0, *what = 0;
+    while (!e && seen & STRM_HOST_MOVED && room - *n >= HOST_READ) {
+        e = strm_host_pump(h, &seen);
+        if (!e && seen & STRM_HOST_SHOWS) {
+            e = takes(h, out, room, n);
+            if (room - *n >= HOST_READ) seen &= ~(uint32_t)STRM_HOST_SHOWS;
+        }
+        *what = (*what & STRM_HOST_MOVED) | seen;
+    }
     return e;
 }

@@ -23,6 +23,7 @@ from strm import MASTER, SLAVE, Pair, Refused, Termios
 from strm_library import places
 
 SHOWS, MOVED, ENDED = 1, 2, 4
+ROOM = 65536  # how much is shown at most by one pump
 LOOK_SECONDS = (0.0005, 0.001, 0.002, 0.004, 0.008, 0.016)  # how long is waited between two looks whether a program waits
 
 
@@ -40,6 +41,7 @@ def prototypes():
     return (
         ("spawn", number, (pointer, pointer, texts, texts, pointer)),
         ("pump", ctypes.c_uint32, (pointer, pointer)),
+        ("take", ctypes.c_uint32, (pointer, pointer, ctypes.c_size_t, pointer, pointer)),
         ("fd", number, (pointer,)),
         ("waits", ctypes.c_bool, (pointer,)),
         ("asks", ctypes.c_bool, (number,)),
@@ -125,7 +127,8 @@ class Bridge:
         self.library, self.owned = HostLibrary.get(), pair is None
         self.pair = pair or terminal()
         self._what, made = ctypes.c_uint32(), ctypes.c_void_p()
-        self._what_at = ctypes.addressof(self._what)
+        self._room, self._taken = ctypes.create_string_buffer(ROOM), ctypes.c_size_t()
+        self._what_at, self._room_at, self._taken_at = map(ctypes.addressof, (self._what, self._room, self._taken))
         size = Window(rows, columns, 0, 0)
         texts = [f"{name}={value}" for name, value in {**os.environ, **(environment or {})}.items()]
         arguments = (self.pair._at, _texts(list(words)), _texts(texts), ctypes.addressof(size))
@@ -175,17 +178,17 @@ class Bridge:
 
     def pump(self):
         """Carries what is there, both ways. Whether something was shown, or went on."""
-        at, moved = self.at, 0
-        while refused := self.library.pump(at, self._what_at):
-            moved |= self._what.value
-            if not self.pair._mends(refused):
+        at, moved, refused = self.at, False, -1
+        while refused:
+            refused = self.library.take(at, self._room_at, ROOM, self._taken_at, self._what_at)
+            taken = self._taken.value
+            moved = moved or taken > 0 or self._what.value & (SHOWS | MOVED) > 0
+            self.shown += self._room[:taken] if taken else b""
+            if refused and not self.pair._mends(refused):
                 raise Refused(refused, "pump")
-        what = self._what.value | moved
-        if what & SHOWS:
-            self.shown += self.pair.take(MASTER)
-        if what & ENDED:
+        if self._what.value & ENDED:
             self._told()
-        return bool(what & (SHOWS | MOVED))
+        return moved
 
     def _told(self):
         status = ctypes.c_int()

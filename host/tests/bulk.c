@@ -77,18 +77,14 @@ static size_t by_pair(char *words[])
     strm_pair pair = STRM_CLOSED;
     strm_host *h;
     uint32_t what = 0;
-    strm_reply r;
     if (strm_new(&pair, 256, 8192, 1 << 20) || strm_open_terminal(&pair) || strm_host_spawn(&h, &pair, words, NULL, NULL)) stops("spawn");
     while (!(what & STRM_HOST_ENDED)) {
         struct pollfd p = { strm_host_fd(h), POLLIN, 0 };
-        strm_refusal e = strm_host_pump(h, &what);
+        size_t n = 0;
+        strm_refusal e = strm_host_take(h, room, sizeof room, &n, &what);
+        total += n;
         if (e == STRM_JOURNAL_FULL) strm_restart(&pair);
-        else if (!e && !what) poll(&p, 1, -1);
-        while (what & STRM_HOST_SHOWS) {
-            e = strm_read(&pair, STRM_MASTER, room, sizeof room, &r);
-            if (!e) total += r.bytes;
-            else if (e != STRM_JOURNAL_FULL || strm_restart(&pair)) break;
-        }
+        else if (!n && !what) poll(&p, 1, -1);
     }
     strm_host_close(h);
     strm_free(&pair);

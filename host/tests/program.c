@@ -131,15 +131,18 @@ static int window(void)
 {
     struct winsize w;
     char text[64];
+    sigset_t none, held;
+    sigemptyset(&none), sigemptyset(&held), sigaddset(&held, SIGWINCH);
+    sigprocmask(SIG_BLOCK, &held, NULL); /* it comes while the program waits, and not in front of that */
     signal(SIGWINCH, comes);
     says("ready");
-    while (!came) pause();
+    while (!came) sigsuspend(&none);
     ioctl(0, TIOCGWINSZ, &w);
     snprintf(text, sizeof text, "[%d %d]", w.ws_row, w.ws_col);
     says(text);
     came = 0, w.ws_row = 7;
     ioctl(0, TIOCSWINSZ, &w);
-    while (!came) pause();
+    while (!came) sigsuspend(&none);
     says("again");
     return 0;
 }
