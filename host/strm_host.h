@@ -94,8 +94,8 @@ enum { STRM_HOST_SHOWS = 1, STRM_HOST_MOVED = 2, STRM_HOST_ENDED = 4 };
  * has begun anew (strm_restart). ERANGE: a book is full. ENOSR and EAGAIN aren't told: they end where the master is read. */
 strm_refusal strm_host_pump(strm_host *h, uint32_t *what);
 
-/* Pumps and reads the master, again and again, until nothing goes on or less than 4096 of the room are left: *n bytes are what was shown, also where it
- * is refused, as a pump is. SHOWS: more waits. EINVAL: the room is less than 4096. */
+/* Pumps and reads the master, again and again, until nothing goes on or less than 4096 of the room are left: *n bytes are what was shown, also where
+ * it is refused, as a pump is. SHOWS: more waits. EINVAL: the room is less than 4096. */
 strm_refusal strm_host_take(strm_host *h, void *out, size_t room, size_t *n, uint32_t *what);
 
 /* A descriptor for poll(2), POLLIN: it is readable where strm_host_pump has something to do. */
