@@ -200,11 +200,11 @@ class Journals(unittest.TestCase):
                     pair.read(SLAVE)
                 self.assertEqual(told.exception.name, "JournalFull")
 
-    def test_a_large_write_stands_whole_in_the_journal(self):
+    def test_a_large_write_brings_its_first_1024_bytes(self):
         with Pair(512) as pair:
             pair.open_master()
             self.assertEqual(pair.write(MASTER, bytes(60000)), 512)
-            self.assertEqual(list(pair.entries())[-1].bytes, bytes(60000))
+            self.assertEqual(list(pair.entries())[-1].bytes, bytes(1024))
 
     def test_random_sessions_balance(self):
         chance = random.Random(5)
