@@ -3,7 +3,8 @@
  *     cc -O2 -Iinclude bench/hostile.c libstrm.a -o hostile && ./hostile [CALLS [SEED]]
  *
  * What strm.h says that a caller owes is kept: a buffer is as long as its length says, and no bool is anything but 0 or 1. Behind each call it is
- * compared: a refused one changed neither buffer nor reply, another wrote as many bytes as it says, and what lies behind the room stays. */
+ * compared: a refused one changed neither buffer nor reply, another wrote as many bytes as it says, and what lies behind the room stays. Before a
+ * read, a get and a write it is asked what the side is ready for, and the call is EAGAIN where it says so and nowhere else. */
 #include <stdio.h>
 #include <stdlib.h>
 #include <strm.h>
@@ -67,25 +68,45 @@ static void ask_any(strm_pair *p)
     if (ask.op == STRM_OP_CLOSE && chance(20)) ask.op = STRM_OP_READ; /* sides stay open for a while */
     memset(&reply, 0x5a, sizeof reply);
     same = reply;
-    e = strm_call(p, &ask, bytes + chance((uint32_t)(MOST - n)), n, out, room, &reply);
+    if (n == 0 && room == 0) e = strm_call(p, &ask, NULL, 0, NULL, 0, &reply);
+    else e = strm_call(p, &ask, bytes + chance((uint32_t)(MOST - n)), n, out, room, &reply);
     judge(e, room, reply.bytes, memcmp(&reply, &same, sizeof reply) == 0);
+}
+
+/* Whether an answer is EAGAIN just where the side wasn't ready for the call; a full journal comes before, and so do a full pool and a full book. */
+static void agrees(uint32_t ready, uint32_t bit, strm_refusal e)
+{
+    if (e == STRM_JOURNAL_FULL || e == STRM_ENXIO || e == STRM_EINVAL) return;
+    if (!(ready & bit) != (e == STRM_EAGAIN)) fail("a side was ready, or wasn't, for another call");
+}
+
+static void look_and_get(strm_pair *p)
+{
+    strm_reply reply;
+    uint32_t side = chance(2), ready = strm_ready(p, side);
+    agrees(ready, STRM_CAN_GET, strm_get(p, side, STRM_ANY, chance(64), chance(256), out, sizeof out, &reply));
+    memcpy(before, out, sizeof out);
 }
 
 static void write_or_read(strm_pair *p)
 {
     strm_reply reply, same;
     size_t n = length();
-    uint32_t side = number(2);
+    uint32_t side = number(2), ready = strm_ready(p, side);
     strm_refusal e;
     memset(&reply, 0x5a, sizeof reply);
     same = reply;
     if (chance(2)) {
         e = strm_write(p, side, bytes + chance((uint32_t)(MOST - n)), n, &reply);
         judge(e, 0, e ? 0 : reply.bytes, memcmp(&reply, &same, sizeof reply) == 0);
-        if (!e && reply.value > n) fail("more was taken than was brought");
+        if (!e && reply.value > (n < STRM_WRITE_MOST ? n : STRM_WRITE_MOST)) fail("more was taken than was brought");
+        if (!e && n && !reply.value) fail("nothing was taken");
+        if ((ready & STRM_CAN_WRITE) && (e == STRM_EAGAIN || e == STRM_ENOSR || e == STRM_ENXIO)) fail("a side that was ready took no write");
+        if (!(ready & STRM_CAN_WRITE) && !e && n >= 769) fail("a side took a write, and wasn't ready");
     } else {
         e = strm_read(p, side, out, n, &reply);
         judge(e, n, reply.bytes, memcmp(&reply, &same, sizeof reply) == 0);
+        if (n) agrees(ready, STRM_CAN_READ, e);
     }
 }
 
@@ -93,11 +114,18 @@ static void look_or_turn(strm_pair *p)
 {
     strm_went went = { 77, 77 };
     strm_standing standing = { 77, 77 };
+    strm_left left = { 77, 77, 77 };
     strm_books books;
     size_t told = 77;
     uint32_t queue = number(14);
     strm_refusal e;
-    switch (chance(8)) {
+    switch (chance(10)) {
+    case 9: if (strm_ready(p, number(2)) > 63) fail("a bit without a name"); break;
+    case 8:
+        e = strm_room(p, &left);
+        judge(e, 0, 0, left.blocks == 77 && left.entries == 77 && left.bytes == 77);
+        if (!e && left.blocks > 65536) fail("more blocks than a pair has");
+        break;
     case 0: judge(e = strm_turn(p, queue, &went), 0, 0, went.kind == 77 && went.moved == 77); break;
     case 1: judge(e = strm_sizes(p, queue, &standing), 0, 0, standing.messages == 77 && standing.bytes == 77); break;
     case 2: judge(e = strm_first_size(p, queue, &told), 0, 0, told == 77); break;
@@ -151,7 +179,8 @@ int main(int count, char **words)
         if (which < 2) strm_free(&p);
         else if (which < 20 || (!p.is_open && which < 500)) make(&p);
         else if (which < 500) ask_any(&p);
-        else if (which < 700) write_or_read(&p);
+        else if (which < 650) write_or_read(&p);
+        else if (which < 700) look_and_get(&p);
         else if (which < 950) look_or_turn(&p);
         else if (which < 990) take_entry(&p);
         else judge(strm_restart(&p), 0, 0, 1);

@@ -8,7 +8,8 @@
  *
  *   strm_pair p = STRM_CLOSED;
  *   strm_reply r;
- *   strm_terminal(&p);                                 a pair with the sizes of a terminal, both sides open, ptem and ldterm on the slave
+ *   strm_new(&p, STRM_TERMINAL_BLOCKS, 1024, 65536);   blocks of each kind; a journal of 1024 entries and 64 KiB
+ *   strm_open_terminal(&p);                            both sides open, ptem and ldterm on the slave
  *   strm_write(&p, STRM_MASTER, "ls\r", 3, &r);        r.value is 3: so many bytes were taken
  *   strm_run(&p);                                      turns until no queue is enabled
  *   strm_read(&p, STRM_SLAVE, buf, sizeof buf, &r);    r.bytes is 3, buf holds "ls\n"
@@ -23,19 +24,17 @@
  * ERRORS
  *   A function that returns strm_refusal gives 0 (STRM_OK), or the number of its refusal; these are the numbers below, and not those
  *   of errno.h (strm_host_errno). A refused call has changed nothing: neither the pair nor what the caller's pointers lead to; strm_runqueues
- *   has made the turns in front of the refused one, strm_next_entry and strm_image tell how much doesn't fit, and a journal that begins anew by
- *   itself may have begun (strm_make).
+ *   has made the turns in front of the refused one, and strm_next_entry and strm_image tell how much doesn't fit.
  *   STRM_EINVAL comes first, for a closed handle, a number that names nothing, and a buffer that is too small for the greatest answer
- *   of the call, so that no byte is lost at this interface; then EAGAIN by a reserve (strm_make), where the side's stream is open and not hung up;
- *   then what the pair refuses, in the order of the README's section Refusals.
+ *   of the call, so that no byte is lost at this interface; then what the pair refuses, in the order of the README's section Refusals.
  *
  * UNITS
  *   Lengths are bytes. A message block holds up to 256. The wire forms of termios and winsize are strm_termios and strm_winsize.
  *
  * OWNERSHIP
  *   The library keeps no pointer of the caller's behind a call, calls nothing back, and has no state of its own beside the handles.
- *   strm_new, strm_make, strm_restore and strm_remake take all memory that a pair will use, by malloc, and strm_free gives it back; no other
- *   function takes any. Memory that is taken isn't touched before it is used: a pair costs what stands in it, however many blocks it has.
+ *   strm_new and strm_restore take all memory that a pair will use, by malloc, and strm_free gives it back; no other function takes any. Memory
+ *   that is taken isn't touched before it is used: a pair costs what stands in it, however many blocks it has.
  *   A handle is closed when its bytes are all 0 (STRM_CLOSED). An open one isn't copied and then used or freed twice, as with a FILE.
  *
  * THREADS
@@ -50,8 +49,8 @@
  * WHAT STAYS
  *   STRM_VERSION is 65536 times a major number and a minor one. Within a major number names, numbers, layouts and meanings stay; a larger
  *   minor number has more calls. The shared object's soname carries the major number. A program that loads it compares strm_version().
- *   1.1 has strm_restart, strm_runqueues, strm_next_entry, strm_image and strm_restore beside the calls of 1.0; 1.2 has strm_make, strm_remake,
- *   strm_ready and strm_room, and brings at most STRM_WRITE_MOST bytes by one write, where 1.1 entered all in the journal and refused what was longer
+ *   1.1 has strm_restart, strm_runqueues, strm_next_entry, strm_image and strm_restore beside the calls of 1.0; 1.2 has strm_ready and
+ *   strm_room, and brings at most STRM_WRITE_MOST bytes by one write, where 1.1 entered all in the journal and refused what was longer
  *   than its blocks. A program of 1.0 or 1.1 runs with it as it is: what is taken of a write was never more than that.
  *
  * PROVED: each function that libstrm exports, by its contract in crates/strm_ffi. NOT PROVED: the inline functions of this file, and malloc.
@@ -84,7 +83,7 @@ typedef uint32_t strm_refusal;
 enum {
     STRM_OK = 0,
     STRM_EINVAL = 1,       /* an argument is out of range, or the call doesn't fit what is there */
-    STRM_EAGAIN = 2,       /* the call would have to wait: nothing to read, no room to write, or what is free is the other side's reserve */
+    STRM_EAGAIN = 2,       /* the call would have to wait: nothing to read, no room to write */
     STRM_ENXIO = 3,        /* that side isn't open, or was hung up */
     STRM_EBADMSG = 4,      /* the first message isn't one that a read gives: a get takes it */
     STRM_ENOSR = 5,        /* fewer blocks are free than the call may need: make turns, read, or take a larger pair */
@@ -131,36 +130,11 @@ uint32_t strm_version(void);
  * begun 256 bytes, and a journal of so many entries and so many bytes. EINVAL, NO_MEMORY; the handle stays then. */
 strm_refusal strm_new(strm_pair *p, size_t blocks, size_t entries, size_t bytes);
 
-/* How strm_make makes a pair: with so many blocks of each kind, a journal of so many entries and so many bytes, and
- *   begins_anew   whether a call or a turn that finds the journal full begins it anew, as strm_restart does, and is made then. No function answers
- *                 JOURNAL_FULL of such a pair, and what its journal held is gone: a recorder takes the other kind, as a cursor means nothing here.
- *   reserve       of STRM_MASTER and of STRM_SLAVE, how many blocks of each kind the writes, puts and ioctls of that side leave free: one for which
- *                 fewer are free than it asks for and the reserve is EAGAIN. A write asks for 32 and one for each begun 256 bytes, at least one; a
- *                 put for 32 and one for each part; an ioctl for 34. Such calls of a side with a reserve are never ENOSR. 0 is no reserve: ENOSR
- *                 where fewer are free than the call asks for. Messages without bytes (EOF keys, empty writes), those of high priority and ioctls count in
- *                 no mark of a queue, so that blocks alone end them. What frees blocks: reads, gets, flushes, and a close. */
-typedef struct strm_plan {
-    size_t blocks, entries, bytes;
-    size_t reserve[2];
-    bool begins_anew;
-} strm_plan;
-
-enum { STRM_BLOCKS_LEAST = 64, STRM_BLOCKS_MOST = 65536, STRM_JOURNAL_LEAST = 8192 };
-
 /* So many blocks of each kind that bytes typed and written on a terminal are stopped by the marks of its queues, and never by its blocks, whatever
  * is read or isn't. Each byte may be a message, so that a queue holds as many as its high-water mark says: two heads 5120, and the two queues of
  * ldterm and the two of the drivers 512, together 12,288. A turn that found room makes 256 lines of a message of 256 bytes, and their
  * echo, 512 beyond these; a write asks for 36 at most, and a turn for 32. */
 #define STRM_TERMINAL_BLOCKS 12900
-
-/* The plan of a terminal. The master's calls leave 4096 blocks, from which turns make lines and echo of what it typed before, and the slave still
- * writes; those of the slave leave 512. */
-#define STRM_TERMINAL { STRM_TERMINAL_BLOCKS, 64, 16384, { 4096, 512 }, true }
-
-/* Makes a pair that nobody opened in a closed handle, by a plan. EINVAL: the handle is open; blocks is more than BLOCKS_MOST, or less than
- * BLOCKS_LEAST and the greater reserve; or begins_anew is set, and there is no entry or fewer bytes than JOURNAL_LEAST, the most that a call enters.
- * NO_MEMORY. The handle stays then. */
-strm_refusal strm_make(strm_pair *p, const strm_plan *plan);
 
 /* Frees a pair and closes its handle. A closed one stays so. */
 void strm_free(strm_pair *p);
@@ -231,10 +205,7 @@ strm_refusal strm_turn(strm_pair *p, uint32_t queue, strm_went *went);
 
 /* Makes turns, each of the queue that was enabled first, until no queue is enabled (OK) or the next turn is refused: ERANGE, JOURNAL_FULL,
  * ENOSR. *turns is how many were made, also where one was refused; what stopped goes on where it was once there is room. Each turn takes an
- * entry of the journal, so it ends. Where the journal begins anew by itself, RUN_MOST turns end it, and EAGAIN says that a queue is enabled
- * still: another call goes on, for ever where two ldterms echo each other. EINVAL is a closed handle alone, and *turns stays then. */
-enum { STRM_RUN_MOST = 65536 };
-
+ * entry of the journal, so it ends. EINVAL is a closed handle alone, and *turns stays then. */
 strm_refusal strm_runqueues(strm_pair *p, size_t *turns);
 
 /* ------------------------------------------------------------------------------------------------------------- the journal */
@@ -303,8 +274,8 @@ strm_refusal strm_ledger(strm_pair *p, uint32_t side, strm_books *told);
 /* What a side is ready for, as bits, for an event loop: no call is made, and turns come first (strm_run), as only they bring anything.
  *   CAN_READ      a read of a byte or more isn't EAGAIN: it gives bytes, the end of input, or EBADMSG
  *   CAN_GET       a get of any message isn't EAGAIN. Under RPROTDIS it may be set where CAN_READ isn't
- *   CAN_WRITE     a write isn't EAGAIN, however long it is: the side isn't hung up, the first queue below isn't full in band 0, and of each kind 36
- *                 blocks and the side's reserve are free. Where it isn't set, a write of WRITE_MOST bytes is EAGAIN, ENOSR or ENXIO
+ *   CAN_WRITE     a write is taken, however long it is: the side isn't hung up, the first queue below isn't full in band 0, and of each kind 36
+ *                 blocks are free. Where it isn't set, a write of WRITE_MOST bytes is EAGAIN, ENOSR or ENXIO
  *   HAS_SIGNALS   signals wait (strm_signals)
  *   HAS_ANSWER    an ioctl was answered, and its answer not taken: an IOCTL_RESULT of its number isn't EAGAIN
  *   HUNG_UP       the other end is gone
@@ -314,7 +285,8 @@ enum { STRM_CAN_READ = 1, STRM_CAN_GET = 2, STRM_CAN_WRITE = 4, STRM_HAS_SIGNALS
 
 uint32_t strm_ready(strm_pair *p, uint32_t side);
 
-/* What is left of a pair: how many blocks are free, of the kind of which fewer are, and how many entries and bytes its journal takes yet. */
+/* What is left of a pair: how many blocks are free, of the kind of which fewer are, and how many entries and bytes its journal takes yet. A call
+ * enters 8192 bytes at most: who needs no journal begins it anew (strm_restart) where less is left, and no call is JOURNAL_FULL. */
 typedef struct strm_left {
     size_t blocks, entries, bytes;
 } strm_left;
@@ -332,9 +304,6 @@ strm_refusal strm_image(strm_pair *p, void *out, size_t room, size_t *length);
  * image was made, and its journal is empty and begins there. EINVAL: the handle is open, the number of blocks is none of 1 to 65536, or the n
  * bytes are no image; ENOSR: the messages of the image take more blocks; NO_MEMORY. The handle stays then. */
 strm_refusal strm_restore(strm_pair *p, size_t blocks, size_t entries, size_t bytes, const void *image, size_t n);
-
-/* The same by a plan, which is refused as strm_make refuses it. */
-strm_refusal strm_remake(strm_pair *p, const strm_plan *plan, const void *image, size_t n);
 
 /* ------------------------------------------------------------------------------------------------------------- helpers, not proved */
 
@@ -384,14 +353,6 @@ static inline strm_refusal strm_open_terminal(strm_pair *p)
     if (!e) e = strm_push(p, STRM_SLAVE, STRM_PTEM);
     if (!e) e = strm_push(p, STRM_SLAVE, STRM_LDTERM);
     return e;
-}
-
-/* Such a terminal, made by the plan STRM_TERMINAL. */
-static inline strm_refusal strm_terminal(strm_pair *p)
-{
-    strm_plan plan = STRM_TERMINAL;
-    strm_refusal e = strm_make(p, &plan);
-    return e ? e : strm_open_terminal(p);
 }
 
 /* Turns until none is enabled or one is refused: strm_runqueues. */

@@ -46,12 +46,14 @@ told-over reply answer content rest bytes replies filled =
 
 -- a call's answer, with its bytes at the front of the buffer
 pub answered : (caller : Caller) (asked : Request) (reply : Reply) (answer : Answer ℕ) (content before out : List ℕ) (old new : PairState)
-    → reply.bytes ≡ answer_len answer → Replies reply answer → answer_len answer ≡ length content → out ≡ content ++ drop (length content) before
+    → reply.bytes ≡ answer_len answer → Replies reply answer → answer_len answer ≡ length content → length content ≤ length before → out ≡ content ++ drop (length content) before
     → AddsEntry old new (Called caller asked (reply_in answer content)) → Answers caller asked reply before out old new
-answered caller asked reply answer content before out old new bytes replies filled is adds =
+answered caller asked reply answer content before out old new bytes replies filled few is adds =
     let rest : List ℕ = drop (length content) before in
     let told : answer_in reply out ≡ Some (reply_in answer content) = ap (λ b. answer_in reply b) is ∙ told-over reply answer content rest bytes replies filled in
     record {
-      adds = subst (λ o. IsSomeAnd o (λ a. AddsEntry old new (Called caller asked a))) (sym told) adds;
+      adds = subst (λ o. IsSomeAnd o (λ a. AddsEntry old new (Called caller asked a) × (reply.bytes ≡ length (content_of a)))) (sym told)
+          (adds, bytes ∙ filled ∙ sym (content-length caller answer content filled));
+      fits = omega (arith, bytes, filled, few);
       others = ap (λ b. drop reply.bytes b) is ∙ ap (λ n. drop n (content ++ rest)) (bytes ∙ filled) ∙ drop-append_seam content rest ∙ ap (λ n. drop n before) (sym (bytes ∙ filled));
     }

@@ -38,6 +38,10 @@ event_at ask bytes =
     else (if ask.op == 15 then Some (IoctlResult ask.a)
     else (if ask.op == 16 then Some Signals else None))))))))))))))))
 
+-- the bytes that a call brings: of a write the first 1024 at most
+abbrev pub brought : Ask → List ℕ → List ℕ
+brought ask bytes = if ask.op == 8 then take 1024 bytes else bytes
+
 -- the answer of a reply, whose bytes are those of a control part and then those of a data part
 abbrev pub answer_at : Reply → List ℕ → Option events.Reply
 answer_at reply bytes =

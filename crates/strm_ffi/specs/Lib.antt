@@ -4,4 +4,5 @@ pub mod Entries
 pub mod Held
 pub mod Images
 pub mod Outcomes
+pub mod Ready
 pub mod Restored

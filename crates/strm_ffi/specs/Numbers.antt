@@ -75,9 +75,12 @@ flush_at n = if n == 1 then Some flushes.Read else (if n == 2 then Some flushes.
 abbrev pub stop_at : ℕ → Option StopSignal
 stop_at n = if n == 26 then Some Ttin else (if n == 27 then Some Ttou else None)
 
--- what a turn did: nothing on an empty queue, nothing on a blocked one, or so many bytes
+-- what a turn did: nothing on an empty queue, nothing on a blocked one, or so many bytes. A turn that did nothing moved 0.
 abbrev pub turn_at : ℕ → ℕ → Option Turn
-turn_at kind moved = if kind == 0 then Some turns.Idle else (if kind == 1 then Some turns.Blocked else (if kind == 2 then Some (turns.Moved moved) else None))
+turn_at kind moved =
+    if kind == 0 then (if moved == 0 then Some turns.Idle else None)
+    else (if kind == 1 then (if moved == 0 then Some turns.Blocked else None)
+    else (if kind == 2 then Some (turns.Moved moved) else None))
 
 -- the parts of a message
 pub record Parts : Type 0 where

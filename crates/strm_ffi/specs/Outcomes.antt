@@ -1,5 +1,5 @@
 -- What an export does at a pair, and at the handle of one.
-use Rattle.std.specs.Prelude.{ℕ, ◌≡◌, ◌⊎◌, ◌&&◌, Bool, true, false, nat_lt, nat_le, if◌then◌else◌, List, [], drop, Option, None, Some, IsSomeAnd, IfNone}
+use Rattle.std.specs.Prelude.{ℕ, ◌≡◌, ◌≤◌, ◌⊎◌, ◌&&◌, Bool, true, false, nat_lt, nat_le, if◌then◌else◌, List, [], length, drop, Option, None, Some, IsSomeAnd, IfNone}
 use Rattle.strm_types.specs.declared.entries.Entry.TheVariants.{Called, Turned}
 use Rattle.strm_types.specs.declared.events.Caller.{Caller}
 use Rattle.strm_types.specs.declared.ledger.Ledger.{Ledger}
@@ -8,7 +8,7 @@ use Rattle.strm_types.specs.declared.names.QueueName.{QueueName}
 use Rattle.strm_types.specs.declared.names.Side.{Side}
 use Rattle.strm_types.specs.declared.refusals.Refusal.{Refusal}
 use Rattle.strm_types.specs.declared.refusals.Refusal.TheVariants.{Einval}
-use Rattle.strm_types.specs.Events.{Request}
+use Rattle.strm_types.specs.Events.{Request, content_of}
 use Rattle.strm_types.specs.JobControl.{caller_of}
 use Rattle.strm_types.specs.Journal.{content_max}
 use Rattle.strm_types.specs.Numbers.{number_of}
@@ -46,9 +46,11 @@ Stay before out told reply = (out ≡ before) × (reply ≡ told)
 abbrev pub no_bytes : List ℕ
 no_bytes = []
 
--- A call is made: the journal gains it with the answer that the reply and the buffer tell. Behind the answer's bytes the buffer stays.
+-- A call is made: the journal gains it with the answer that the reply and the buffer tell, whose bytes the reply counts, 0 of an answer without
+-- any. They fit the buffer, and behind them it stays.
 pub record Answers (caller : Caller) (asked : Request) (reply : Reply) (before out : List ℕ) (old new : PairState) : Type 0 where
-  pub adds : IsSomeAnd (answer_in reply out) (λ answer. AddsEntry old new (Called caller asked answer))
+  pub adds : IsSomeAnd (answer_in reply out) (λ answer. AddsEntry old new (Called caller asked answer) × (reply.bytes ≡ length (content_of answer)))
+  pub fits : reply.bytes ≤ length before
   pub others : drop reply.bytes out ≡ drop reply.bytes before
 
 -- The call of a C program's numbers.

@@ -1,8 +1,9 @@
 //! Calls of a C program.
 
-ghost use Rattle.std.specs.Prelude.{◌≡◌, length, min};
+ghost use Rattle.std.specs.Prelude.{◌≡◌, length, min, take};
 ghost use Rattle.strm_types.specs.declared.events.Event.TheVariants.{Read, Write};
 ghost use Rattle.strm_types.specs.declared.limits.TheConstants.{READ_MAX};
+ghost use Rattle.strm_ffi.specs.Calls.{brought};
 ghost use Rattle.strm_ffi.specs.Outcomes.{AtHandle, ask_refused, side_refused, AnswersAsk, AnswersSide, Stay, no_bytes};
 
 use crate::asks::Ask;
@@ -12,7 +13,28 @@ use crate::replies::Reply;
 use std::alloc::Global;
 use strm_types::{Event, READ_MAX, Refusal};
 
-/// Makes any call: `ask` says which one, `bytes` are those that it brings, `out` has room for those that it gives.
+/// The most bytes that one write brings.
+const WRITE_MOST: usize = 1024;
+
+// The first bytes, as many as one write brings.
+fn first_bytes<'a>(bytes: &'a [u8]) -> &'a [u8]
+    ensures { result.now ≡ take 1024 bytes.now }
+{
+    &bytes[..WRITE_MOST.min(bytes.len())]
+}
+
+// The bytes that a call brings: of a write no more than one brings.
+fn brought<'a>(ask: &Ask, bytes: &'a [u8]) -> &'a [u8]
+    ensures { result.now ≡ brought ask.now bytes.now }
+{
+    match ask.op {
+        8 => first_bytes(bytes),
+        _ => bytes,
+    }
+}
+
+/// Makes any call: `ask` says which one, `bytes` are those that it brings, of a write the first 1024 at most, `out` has room for those that
+/// it gives.
 #[unsafe(no_mangle)]
 pub extern "C" fn strm_call(
     alloc: Global,
@@ -22,18 +44,19 @@ pub extern "C" fn strm_call(
     out: &mut [u8],
     reply: &mut Reply,
 ) -> u32
-    ensures { AtHandle (ask_refused ask.now bytes.now (length out.old)) (Stay out.old out.new reply.old reply.new)
-        (AnswersAsk ask.now bytes.now reply.new out.old out.new) handle.old.held.kept handle.new.held.kept result }
+    ensures { let bytes = brought ask.now bytes.now in
+        AtHandle (ask_refused ask.now bytes (length out.old)) (Stay out.old out.new reply.old reply.new)
+        (AnswersAsk ask.now bytes reply.new out.old out.new) handle.old.held.kept handle.new.held.kept result }
 {
     let Some(mut kept) = handle.take(alloc) else {
         return refused(Refusal::Einval);
     };
-    let told = kept.as_mut().ask(ask, bytes, out, reply);
+    let told = kept.as_mut().ask(ask, brought(ask, bytes), out, reply);
     handle.put(kept);
     told
 }
 
-/// Writes bytes: write(2) of a side.
+/// Writes the first 1024 bytes at most: write(2) of a side.
 #[unsafe(no_mangle)]
 pub extern "C" fn strm_write(
     alloc: Global,
@@ -42,12 +65,13 @@ pub extern "C" fn strm_write(
     bytes: &[u8],
     reply: &mut Reply,
 ) -> u32
-    ensures { AtHandle (side_refused side (Write bytes.now) 0) (Stay no_bytes no_bytes reply.old reply.new)
-        (AnswersSide side (Write bytes.now) reply.new no_bytes no_bytes) handle.old.held.kept handle.new.held.kept result }
+    ensures { AtHandle (side_refused side (Write (take 1024 bytes.now)) 0) (Stay no_bytes no_bytes reply.old reply.new)
+        (AnswersSide side (Write (take 1024 bytes.now)) reply.new no_bytes no_bytes) handle.old.held.kept handle.new.held.kept result }
 {
     let Some(mut kept) = handle.take(alloc) else {
         return refused(Refusal::Einval);
     };
+    let bytes = first_bytes(bytes);
     let told = kept
         .as_mut()
         .of_side(side, &Event::Write { bytes }, &mut [], reply);

@@ -14,6 +14,7 @@ mod looking;
 mod making;
 mod numbers;
 mod parts;
+mod polling;
 mod recording;
 mod replies;
 mod restoring;

@@ -1,6 +1,6 @@
 //! Looks of a C program: no call is made.
 
-ghost use Rattle.std.specs.Prelude.{◌≡◌, slice_get, option_and_then, length};
+ghost use Rattle.std.specs.Prelude.{◌≡◌, ◌≤◌, slice_get, option_and_then, length};
 ghost use Rattle.strm_types.specs.Queue.{bytes_of};
 ghost use Rattle.strm_laws.specs.Ledgers.{ledger_of};
 ghost use Rattle.strm_pair.specs.Shows.{first_at, messages_at};
@@ -19,6 +19,7 @@ use strm_types::Refusal;
 pub extern "C" fn strm_enabled(alloc: Global, handle: &mut Handle, place: usize) -> u32
     ensures stays { handle.new.held.kept ≡ handle.old.held.kept }
     ensures told { queue_at result ≡ option_and_then (λ p. slice_get p.state.enabled place) handle.old.held.kept }
+    ensures few { result ≤ 12 }
 {
     let Some(kept) = handle.take(alloc) else {
         return NO_QUEUE;

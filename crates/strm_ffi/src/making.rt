@@ -15,12 +15,12 @@ use strm_types::{Config, Content, Refusal};
 pub(crate) const BLOCKS_MAX: usize = 65536;
 
 /// The version of this interface: 65536 times the major number and the minor number.
-const VERSION: u32 = 65537;
+const VERSION: u32 = 65538;
 
 /// The version of this interface.
 #[unsafe(no_mangle)]
 pub extern "C" fn strm_version() -> u32
-    ensures { result ≡ 65537 }
+    ensures { result ≡ 65538 }
 {
     VERSION
 }

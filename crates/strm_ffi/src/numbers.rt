@@ -1,6 +1,6 @@
 //! The numbers of `include/strm.h`, and what they stand for.
 
-ghost use Rattle.std.specs.Prelude.{◌≡◌, Some};
+ghost use Rattle.std.specs.Prelude.{◌≡◌, ◌<◌, Some};
 ghost use Rattle.strm_ffi.specs.Numbers as codes;
 
 use crate::replies::Went;
@@ -87,7 +87,8 @@ pub(crate) fn queue_of(number: u32) -> Option<QueueName>
 
 /// The number of a queue.
 pub(crate) fn queue_number(name: QueueName) -> u32
-    ensures { codes.queue_at result ≡ Some name }
+    ensures name { codes.queue_at result ≡ Some name }
+    ensures few { result < 12 }
 {
     match (name.side, name.place, name.way) {
         (Side::Master, Place::Head, Way::Up) => 0,

@@ -35,6 +35,15 @@ pub struct Sizes {
     pub bytes: usize,
 }
 
+/// What is left of a pair: how many blocks are free, of the kind of which fewer are, and how many entries and bytes its journal takes yet.
+#[repr(C)]
+#[derive(Drop)]
+pub struct Left {
+    pub blocks: usize,
+    pub entries: usize,
+    pub bytes: usize,
+}
+
 /// Where the bytes of a direction are: written and made are queued, inlined and all that are gone.
 #[repr(C)]
 #[derive(Drop)]

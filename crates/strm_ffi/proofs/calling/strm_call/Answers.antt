@@ -1,14 +1,17 @@
-use Rattle.std.proofs.Common.{◌≡◌, length}
+use Rattle.std.proofs.Common.{ℕ, ◌≡◌, List, length, subst}
 use Rattle.std.specs.Prelude.{Some}
-use Rattle.strm_ffi.specs.Outcomes.{ask_refused, AnswersAsk, Stay}
+use Rattle.strm_ffi.specs.Calls.{brought}
+use Rattle.strm_ffi.specs.Outcomes.{ask_refused, AnswersAsk, AtPair, Stay}
 use Rattle.strm_ffi.proofs.AtHandles.{at-handle}
 use Rattle.strm_ffi.proofs.calling.strm_call.Goals as goal
 
--- src/calling.rt:16:1
 pub returns : goal.returns
 returns c =
     let before : c.args.handle.now.held.kept ≡ Some c.as_mut.result.now = cc (c.in-Some.ensures.taken, c.as_mut.ensures.value) in
     let behind : c.put.new.self.held.kept ≡ Some c.ask-told.new.self = (cc) in
-    at-handle (ask_refused c.args.ask.now c.args.bytes.now (length c.args.out.now)) (Stay c.args.out.now c.ask-told.new.out c.args.reply.now c.ask-told.new.reply)
-    (AnswersAsk c.args.ask.now c.args.bytes.now c.ask-told.new.reply c.args.out.now c.ask-told.new.out)
-    c.args.handle.now.held.kept c.put.new.self.held.kept c.as_mut.result.now c.ask-told.new.self c.ask-told.result before behind c.ask-told.ensures
+    let bytes : List ℕ = brought c.args.ask.now c.args.bytes.now in
+    at-handle (ask_refused c.args.ask.now bytes (length c.args.out.now)) (Stay c.args.out.now c.ask-told.new.out c.args.reply.now c.ask-told.new.reply)
+    (AnswersAsk c.args.ask.now bytes c.ask-told.new.reply c.args.out.now c.ask-told.new.out)
+    c.args.handle.now.held.kept c.put.new.self.held.kept c.as_mut.result.now c.ask-told.new.self c.ask-told.result before behind
+    (subst (λ (b : List ℕ). AtPair (ask_refused c.args.ask.now b (length c.args.out.now)) (Stay c.args.out.now c.ask-told.new.out c.args.reply.now c.ask-told.new.reply)
+    (AnswersAsk c.args.ask.now b c.ask-told.new.reply c.args.out.now c.ask-told.new.out) c.as_mut.result.now c.ask-told.new.self c.ask-told.result) c.brought.ensures c.ask-told.ensures)

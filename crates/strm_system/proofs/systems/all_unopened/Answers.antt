@@ -9,7 +9,7 @@ use Rattle.strm_system.proofs.systems.all_unopened.Goals as goal
 pub loop-made-preserved : goal.loop-made-preserved
 loop-made-preserved g c =
     let all = c.loop-made.all.items in
-    let one = c.in_ok-pair.field-0 in
+    let one = c.in_ok-pair.pair in
     let sizes = c.args.sizes in
     let items : c.push.new.self.items ≡ all ++ one ∷ [] = c.push.ensures.items in
     let made = All-append (λ p. p.pair ≡ new_pair sizes) all (one ∷ []) c.loop-made.invariant.1 (All-cons (λ p. p.pair ≡ new_pair sizes) one [] c.in_ok-pair.ensures.1 (All-nil (λ p. p.pair ≡ new_pair sizes))) in

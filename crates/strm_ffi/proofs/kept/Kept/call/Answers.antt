@@ -1,4 +1,4 @@
-use Rattle.std.proofs.Common.{◌≡◌, ◌++◌, length, drop, refl, sym, subst, ap, ◌∙◌, arith}
+use Rattle.std.proofs.Common.{◌≡◌, ◌≤◌, ◌++◌, length, drop, refl, sym, subst, ap, ◌∙◌, arith}
 use Rattle.strm_types.specs.declared.entries.Entry.TheVariants.{Called}
 use Rattle.strm_types.specs.declared.needs.Needs.{Needs}
 use Rattle.strm_types.specs.Events.{request}
@@ -47,6 +47,8 @@ returns c =
     let refused = ap (λ (v : PairState). call_refused v c.args.caller asked) c.self.view_is ∙ within c.args.caller asked (length c.args.out.now) c.args.self.now (omega (arith, gives, c.if-needs-out.false)) in
     let filled = c.give.ensures ∙ ap (λ bytes. bytes ++ drop (length bytes) c.args.out.now) c.as_slice.ensures.value in
     let adds = subst (λ (v : PairState). AddsEntry v c.call.new.self (Called c.args.caller asked (reply_in c.in-Ok.answer c.call.new.out.items))) c.self.view_is c.in-Ok.ensures.adds in
+    let small = content-small c.self.inside.pair c.call.new.self c.args.caller asked c.in-Ok.answer c.call.new.out.items c.self.invariant c.in-Ok.ensures.adds c.in-Ok.ensures.filled in
+    let few : length c.call.new.out.items ≤ length c.args.out.now = omega (arith, gives, small, c.if-needs-out.false) in
     subst (λ o. Decided o ((c.call.new.self ≡ c.args.self.now) × Stay c.args.out.now c.give.new.out c.args.reply.now c.replied.result) (Answers c.args.caller asked c.replied.result c.args.out.now c.give.new.out c.args.self.now c.call.new.self) 0) refused
     (was_done c.call.result 0 ((c.call.new.self ≡ c.self.inside.pair) × (c.call.new.out ≡ c.self.inside.answer)) _ _ (call_refused c.self.inside.pair c.args.caller asked) c.in-Ok.answer c.call.ensures.refused c.in-Ok.is refl
-    (answered c.args.caller asked c.replied.result c.in-Ok.answer c.call.new.out.items c.args.out.now c.give.new.out c.args.self.now c.call.new.self c.replied.ensures.bytes c.replied.ensures.told c.in-Ok.ensures.filled filled adds))
+    (answered c.args.caller asked c.replied.result c.in-Ok.answer c.call.new.out.items c.args.out.now c.give.new.out c.args.self.now c.call.new.self c.replied.ensures.bytes c.replied.ensures.told c.in-Ok.ensures.filled few filled adds))
