@@ -24,8 +24,9 @@ fn all_unopened<B: Reserve>(
     let mut all = Vec::new(alloc);
     for made in 0..pairs {
         let pair = unopened::<B>(alloc, sizes)?;
-        if all.push(pair).is_err() {
-            return Err(Refusal::NoMemory);
+        match all.push(pair) {
+            Ok(()) => {}
+            Err(_) => return Err(Refusal::NoMemory),
         }
     }
     Ok(all)
