@@ -3,7 +3,7 @@ use std::{fmt, ptr};
 
 use crate::call::parts_of;
 use crate::ffi::{self, Ask, Reply};
-use crate::plan::{Plan, Sizes, READ_MOST, WRITE_MOST};
+use crate::sizes::{Sizes, READ_MOST, WRITE_MOST};
 use crate::refused::told;
 use crate::{Answer, Call, Caller, Command, Event, Flush, Message, Mode, Module, Priority, Refusal, Refused, Side, Signal, Wanted};
 
@@ -38,15 +38,6 @@ impl Pair {
         Ok(pair)
     }
 
-    /// A pair that nobody opened, by a plan. EINVAL: fewer blocks than 64 and the greater reserve, or above 65,536; or the journal is to begin anew
-    /// by itself, and has no entry or fewer than 8192 bytes. NoMemory.
-    pub fn make(plan: &Plan) -> Result<Pair, Refused> {
-        let mut pair = Pair::closed();
-        // SAFETY: the handle is closed, and the plan is read alone.
-        told(unsafe { ffi::strm_make(&mut pair.handle, &plan.ffi()) })?;
-        Ok(pair)
-    }
-
     /// The pair of an image (docs/IMAGES.md), which goes on where that was made; its journal is empty. EINVAL: the bytes are no image, or a
     /// number of blocks as in `new`. ENOSR: its messages take more blocks. NoMemory.
     pub fn restore(sizes: Sizes, image: &[u8]) -> Result<Pair, Refused> {
@@ -57,23 +48,15 @@ impl Pair {
         Ok(pair)
     }
 
-    /// The same by a plan, which is refused as `make` refuses it.
-    pub fn remake(plan: &Plan, image: &[u8]) -> Result<Pair, Refused> {
-        let mut pair = Pair::closed();
-        // SAFETY: the handle is closed, the plan is read alone, and the image has so many bytes.
-        told(unsafe { ffi::strm_remake(&mut pair.handle, &plan.ffi(), image.as_ptr(), image.len()) })?;
-        Ok(pair)
-    }
-
     fn closed() -> Pair {
         let (major, minor) = version();
         assert!(major == 1 && minor >= 2, "libstrm 1.2 is needed, and {major}.{minor} is linked");
         Pair { handle: ffi::Handle { at: ptr::null_mut(), is_open: false }, keeps: false, caller: Caller::NOBODY, restarts: 0 }
     }
 
-    /// A terminal as a shell expects it, made by [`Plan::TERMINAL`]: both sides open, `ptem` and `ldterm` on the slave.
+    /// A terminal as a shell expects it, of the default [`Sizes`]: both sides open, `ptem` and `ldterm` on the slave.
     pub fn terminal() -> Result<Pair, Refused> {
-        let mut pair = Pair::make(&Plan::TERMINAL)?;
+        let mut pair = Pair::new(Sizes::default())?;
         pair.open_terminal()?;
         Ok(pair)
     }

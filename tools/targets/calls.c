@@ -281,28 +281,19 @@ static void makes(void)
 }
 
 #if STRM_VERSION >= 65538
-/* A pair by a plan, what it is ready for and what is left of it. */
-static void plans(void)
+/* What the pair is ready for, and what is left of it. */
+static void readiness(void)
 {
-    strm_plan plan = { 64 + number(), 64 + number() % 4000, 8192 + number() % 100000, { number(), number() }, below(2) != 0 };
     strm_left left;
-    strm_pair q = STRM_CLOSED;
-    size_t n = imaged(&p, after);
     starts();
     for (uint32_t side = 0; side < 3; side++) {
         uint32_t ready = strm_ready(&p, side);
         MUST(ready < 64 && (p.is_open || !ready), "a bit without a name");
     }
-    MUST(strm_room(&p, &left) == (p.is_open ? STRM_OK : STRM_EINVAL), "what is left of a pair");
+    strm_refusal e = strm_room(&p, &left);
+    MUST(e == (p.is_open ? STRM_OK : STRM_EINVAL), "what is left of a pair");
     if (p.is_open) MUST(left.blocks <= pair_blocks, "more blocks than the pair has");
-    strm_refusal e = n && below(2) ? strm_remake(&q, &plan, after, n) : strm_make(&q, &plan);
-    MUST(e ? !q.is_open && !q.at : q.is_open && plan.blocks <= 65536, "a plan");
-    ends(STRM_EINVAL);
-    if (e) return;
-    strm_free(&p);
-    p = q, pair_blocks = plan.blocks, is_recorded = !plan.begins_anew;
-    based();
-    if (!below(4)) strm_open_terminal(&p);
+    ends(e);
 }
 #endif
 
@@ -322,7 +313,7 @@ static void one(void)
     else if (kind < 29) makes();
     else if (kind < 30) anew();
 #if STRM_VERSION >= 65538
-    else if (kind < 31) plans();
+    else if (kind < 31) readiness();
 #endif
     else if (!below(8)) strm_free(&p);
 }
