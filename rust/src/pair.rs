@@ -3,8 +3,8 @@ use std::{fmt, ptr};
 
 use crate::call::parts_of;
 use crate::ffi::{self, Ask, Reply};
-use crate::sizes::{Sizes, READ_MOST, WRITE_MOST};
 use crate::refused::told;
+use crate::sizes::{Sizes, READ_MOST, WRITE_MOST};
 use crate::{Answer, Call, Caller, Command, Event, Flush, Message, Mode, Module, Priority, Refusal, Refused, Side, Signal, Wanted};
 
 /// The version of the library that is linked: its major and its minor number.
@@ -63,7 +63,7 @@ impl Pair {
 
     /// The address of the pair's handle (strm_pair), for other libraries of C, as libstrm_host is one: the pair stays where it is while they use it.
     pub fn as_mut_ptr(&mut self) -> *mut std::ffi::c_void {
-        ptr::from_mut(&mut self.handle).cast()
+        ptr::addr_of_mut!(self.handle).cast()
     }
 
     /// Opens both sides, and pushes `ptem` and `ldterm` on the slave.

@@ -1,7 +1,5 @@
 //! Journals and images: entries, those that are made again, full journals, and pairs that go on.
-use strm::{
-    Answer, Call, Caller, Cursor, Entry, Event, Flush, Mode, Module, Pair, Priority, Queue, Refused, Side, Sizes, Wanted, Winsize,
-};
+use strm::{Answer, Call, Caller, Cursor, Entry, Event, Flush, Mode, Module, Pair, Priority, Queue, Refused, Side, Sizes, Wanted, Winsize};
 use Side::{Master, Slave};
 
 fn read(pair: &mut Pair, side: Side) -> Result<Vec<u8>, Refused> {

@@ -1,7 +1,5 @@
 //! Sessions of any calls: the books balance, the journal is made again answer by answer, and the image makes the same pair.
-use strm::{
-    Call, Caller, Command, Event, Flush, Mode, Module, Pair, Priority, Queue, Side, Sizes, Wanted, When, Winsize,
-};
+use strm::{Call, Caller, Command, Event, Flush, Mode, Module, Pair, Priority, Queue, Side, Sizes, Wanted, When, Winsize};
 
 const KEYS: &[u8] = b"ab \r\n\t\x7f\x15\x17\x03\x04\x11\x13\x12\x16\x1a\xc3";
 
