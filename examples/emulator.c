@@ -5,6 +5,16 @@
 #include <string.h>
 #include <strm.h>
 
+/* Makes the turns, and leaves room in the journal for the calls behind them: nobody keeps it, so it begins anew. */
+static bool run(strm_pair *p)
+{
+    strm_left left;
+    strm_refusal e;
+    while ((e = strm_run(p)) == STRM_JOURNAL_FULL) strm_restart(p);
+    if (e || strm_room(p, &left)) return false;
+    return (left.entries >= 32 && left.bytes >= 3 * 8192) || strm_restart(p) == STRM_OK;
+}
+
 /* Writes all of the bytes at a side: a write takes what fits, and turns make room. False where nobody makes any. */
 static bool write_all(strm_pair *p, uint32_t side, const char *bytes, size_t n)
 {
@@ -13,9 +23,9 @@ static bool write_all(strm_pair *p, uint32_t side, const char *bytes, size_t n)
         strm_refusal e = strm_write(p, side, bytes, n, &r);
         if (e && e != STRM_EAGAIN) return false;
         if (!e) bytes += r.value, n -= r.value;
-        if (strm_run(p) || (e && !(strm_ready(p, side) & STRM_CAN_WRITE))) return false;
+        if (!run(p) || (e && !(strm_ready(p, side) & STRM_CAN_WRITE))) return false;
     }
-    return strm_run(p) == STRM_OK;
+    return run(p);
 }
 
 /* The screen: all that the master has to show. */
@@ -30,7 +40,7 @@ static void show(strm_pair *p)
             else if (shown[at] == '\b') printf("\\b");
             else putchar(shown[at]);
         }
-        strm_run(p);
+        if (!run(p)) return;
     }
 }
 
@@ -57,7 +67,7 @@ int main(void)
     static const char *const typed[] = { "helxx\x7f\x7flo\r", "two\rlines\r", "\x15" "gone\x17\r" };
     strm_pair p = STRM_CLOSED;
     strm_winsize size = { 50, 132, 0, 0 };
-    if (strm_terminal(&p)) return 1;
+    if (strm_new(&p, STRM_TERMINAL_BLOCKS, 1024, 65536) || strm_open_terminal(&p)) return 1;
     if (strm_set_winsize(&p, STRM_MASTER, &size)) return 1;
     program(&p);
     show(&p);

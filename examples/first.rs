@@ -3,7 +3,7 @@
 //!     cd rust && STRM_LIB_DIR=PREFIX/lib cargo run --example first
 use std::io;
 
-use strm::{Pair, Plan, Refused, Side, Sizes, Winsize, RULES};
+use strm::{Pair, Refused, Side, Sizes, Winsize, RULES};
 
 fn show(what: &str, read: Result<usize, Refused>, out: &[u8]) {
     match read {
@@ -98,7 +98,7 @@ fn main() -> Result<(), Refused> {
     signals(&mut pair)?;
     books(&mut pair)?;
     let image = pair.image()?;
-    assert_eq!(Pair::remake(&Plan::TERMINAL, &image)?.image()?, image);
+    assert_eq!(Pair::restore(Sizes::default(), &image)?.image()?, image);
     pair.free();
     println!("{:<20}{}", "open", u32::from(pair.is_open()));
     Ok(())

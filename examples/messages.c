@@ -104,8 +104,7 @@ static strm_refusal job_control(strm_pair *p)
 int main(void)
 {
     strm_pair p = STRM_CLOSED;
-    strm_plan plan = STRM_TERMINAL;
-    strm_refusal e = strm_make(&p, &plan);
+    strm_refusal e = strm_new(&p, STRM_TERMINAL_BLOCKS, 1024, 65536);
     if (!e) e = strm_open_master(&p);
     if (!e) e = strm_unlock(&p);
     if (!e) e = strm_open_slave(&p);

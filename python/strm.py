@@ -21,7 +21,7 @@ A pair is used by one thread at a time. `python3 -m strm` is a prompt that shows
 import ctypes
 
 from strm_cursor import Cursor
-from strm_library import Ask, Counts, Entry, Handle, Left, Library, Made, Place, Reply, Stands, Went
+from strm_library import Ask, Counts, Entry, Handle, Left, Library, Place, Reply, Stands, Went
 from strm_words import *
 
 
@@ -31,24 +31,26 @@ def version(library=None):
 
 
 class Pair:
-    """A master and a slave. `blocks` of each kind are its pool, `entries` and `journal_bytes` the room of its journal, `reserve` and `begins_anew`
-    as Plan has them: a pair costs the memory that it touches, so many blocks cost addresses alone. All memory is taken here; `free`, or the
-    end of a `with`, gives it back. With `image` the pair is made of what Pair.image gave: EINVAL where it is none, ENOSR where it wants more blocks.
+    """A master and a slave. `blocks` of each kind are its pool, `entries` and `journal_bytes` the room of its journal: a pair costs the memory that
+    it touches, so many blocks cost addresses alone. All memory is taken here; `free`, or the end of a `with`, gives it back. EINVAL: no block, or
+    above 65536. With `image` the pair is made of what Pair.image gave: EINVAL where it is none, ENOSR where it wants more blocks.
 
-    `plan` is how it was made. `before_restart` has what is called, with the pair, before its journal begins anew: recorders take its
-    entries there. It isn't where the library begins the journal anew by itself."""
+    `limits` are the Sizes it was made by. `before_restart` has what is called, with the pair, before its journal begins anew: recorders take
+    its entries there."""
 
-    def __init__(
-        self, blocks=TERMINAL_BLOCKS, entries=8192, journal_bytes=262144, keeps=False, library=None, image=None, reserve=(0, 0), begins_anew=False
-    ):
+    def __init__(self, blocks=TERMINAL_BLOCKS, entries=8192, journal_bytes=262144, keeps=False, library=None, image=None):
         self.library = Library.at(library)
-        self.plan = Plan(blocks, entries, journal_bytes, tuple(reserve), begins_anew)
+        self.limits = Sizes(blocks, entries, journal_bytes)
         self.keeps, self.before_restart, self.restarts = keeps, [], 0
         self._handle, self._ask, self._reply, self._went = Handle(), Ask(), Reply(), Went()
         self._turns, self._room = ctypes.c_size_t(), ctypes.create_string_buffer(ANSWER_MOST)
         parts = (self._handle, self._ask, self._reply, self._went, self._turns, self._room)
         self._at, self._ask_at, self._reply_at, self._went_at, self._turns_at, self._room_at = map(ctypes.addressof, parts)
-        refused = self._made(image)
+        if image is None:
+            refused = self.library.new(self._at, *self.limits)
+        else:
+            image = bytes(image)
+            refused = self.library.restore(self._at, *self.limits, image, len(image))
         if refused:
             raise Refused(refused, "new" if image is None else "restore")
         # Bound once: each look-up costs as much as the call itself.
@@ -56,44 +58,20 @@ class Pair:
             getattr(self.library, name) for name in ("write", "read", "runqueues", "call")
         )
 
-    def _made(self, image):
-        """Makes the pair by its plan: a refusal's number. One without reserves may have fewer blocks than a plan."""
-        plan, image = self.plan, None if image is None else bytes(image)
-        if not any(plan.reserve) and not plan.begins_anew:
-            sizes = plan[:3]
-            return self.library.new(self._at, *sizes) if image is None else self.library.restore(self._at, *sizes, image, len(image))
-        made = Made(*plan[:3], plan.reserve, plan.begins_anew)
-        at = ctypes.addressof(made)
-        return self.library.make(self._at, at) if image is None else self.library.remake(self._at, at, image, len(image))
-
     @classmethod
     def new(cls, blocks, entries, bytes, **named):
-        """A pair of these sizes without a reserve, which nobody opened. EINVAL: no block, or above 65536."""
+        """A pair of these sizes, which nobody opened."""
         return cls(blocks, entries, bytes, **named)
 
     @classmethod
-    def make(cls, plan, **named):
-        """A pair by a plan, which nobody opened. EINVAL: fewer blocks than 64 and the greater reserve, or above 65536; or the journal is to begin
-        anew by itself, and has no entry or fewer than 8192 bytes."""
-        return cls(*plan[:3], reserve=plan.reserve, begins_anew=plan.begins_anew, **named)
-
-    @classmethod
     def restore(cls, blocks, entries, bytes, image, **named):
-        """The pair of an image, of these sizes and without a reserve. ENOSR: its messages take more blocks."""
+        """The pair of an image, of these sizes."""
         return cls(blocks, entries, bytes, image=image, **named)
 
     @classmethod
-    def remake(cls, plan, image, **named):
-        """The pair of an image, by a plan."""
-        return cls.make(plan, image=image, **named)
-
-    @classmethod
     def terminal(cls, *sizes, **named):
-        """A pair that is a terminal as a shell expects it: both sides open, ptem and ldterm on the slave. Without sizes it is that of the plan
-        TERMINAL, but for `begins_anew`: its journal begins anew by `restart`, so that recorders see it."""
-        plan = TERMINAL._replace(begins_anew=False)
-        is_sized = sizes or named.keys() & {"blocks", "entries", "journal_bytes", "keeps", "reserve", "begins_anew"}
-        pair = cls(*sizes, **named) if is_sized else cls.make(plan, **named)
+        """A pair that is a terminal as a shell expects it: both sides open, ptem and ldterm on the slave."""
+        pair = cls(*sizes, **named)
         pair.open_terminal()
         return pair
 
@@ -346,14 +324,13 @@ class Pair:
         return _turn(queue, self._went)
 
     def runqueues(self, most=1_000_000):
-        """Turns, each of the queue that was enabled first, until none is: how many were made. JournalFull, behind so many and more, or EAGAIN of
-        a pair whose journal begins anew by itself: they may not end, as with an ldterm on each side that echo each other. What was made stays
-        made, and another run goes on."""
+        """Turns, each of the queue that was enabled first, until none is: how many were made. JournalFull behind so many and more: they may not
+        end, as with an ldterm on each side that echo each other. What was made stays made, and another run goes on."""
         refused = self._runqueues(self._at, self._turns_at)
         if not refused:
             return self._turns.value
         made = 0
-        while refused and made + self._turns.value < most and (refused == EAGAIN or self._mends(refused)):
+        while refused and made + self._turns.value < most and self._mends(refused):
             made += self._turns.value
             refused = self._runqueues(self._at, self._turns_at)
         if refused:

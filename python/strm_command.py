@@ -129,7 +129,7 @@ def journal_of_script(path):
     if session.pair is None:
         sys.exit(f"strm page: {path} opens no pair: {answers[-1][2] if answers else 'it is empty'}")
     journal = strm_page.Journal((0, entry) for entry in strm_page.entries_of(session.pair))
-    journal.header = {"blocks": session.pair.plan.blocks, "title": os.path.basename(path)}
+    journal.header = {"blocks": session.pair.limits.blocks, "title": os.path.basename(path)}
     return journal
 
 

@@ -13,13 +13,6 @@ class Handle(ctypes.Structure):
     _fields_ = [("at", ctypes.c_void_p), ("is_open", ctypes.c_bool)]
 
 
-class Made(ctypes.Structure):
-    _fields_ = [(name, ctypes.c_size_t) for name in ("blocks", "entries", "bytes")] + [
-        ("reserve", ctypes.c_size_t * 2),
-        ("begins_anew", ctypes.c_bool),
-    ]
-
-
 class Ask(ctypes.Structure):
     _fields_ = [(name, ctypes.c_uint32) for name in ("op", "side", "a", "b", "c", "group")] + [
         ("ignores", ctypes.c_bool),
@@ -71,7 +64,6 @@ def prototypes():
     return (
         ("strm_version", number, ()),
         ("strm_new", number, (pointer, size, size, size)),
-        ("strm_make", number, (pointer, pointer)),
         ("strm_free", None, (pointer,)),
         ("strm_call", number, (pointer, pointer, lent, size, pointer, size, pointer)),
         ("strm_write", number, (pointer, number, lent, size, pointer)),
@@ -88,7 +80,6 @@ def prototypes():
         ("strm_room", number, (pointer, pointer)),
         ("strm_image", number, (pointer, pointer, size, pointer)),
         ("strm_restore", number, (pointer, size, size, size, lent, size)),
-        ("strm_remake", number, (pointer, pointer, lent, size)),
     )
 
 

@@ -410,7 +410,7 @@ class Prompt(cmd.Cmd):
         """undo                takes the last command back that changed the pair: the pair is made of its image from before"""
         if not self.before:
             raise Wrong("nothing to take back")
-        pair = Pair.remake(self.pair.plan, self.before.pop())
+        pair = Pair.restore(*self.pair.limits, self.before.pop())
         self.do_record("off")
         self.pair.free()
         self.use(pair)

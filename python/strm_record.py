@@ -46,8 +46,6 @@ class Recorder:
     `close()`."""
 
     def __init__(self, pair, writers=None, clock=time.monotonic):
-        if pair.plan.begins_anew:
-            raise ValueError("the library begins this pair's journal anew by itself, and its entries are gone then: Pair(begins_anew=False)")
         self.pair, self.clock, self.began = pair, clock, clock()
         self.entries = []
         self.writers = [self] if writers is None else list(writers)
@@ -330,8 +328,7 @@ class JournalWriter:
         self.header = header
 
     def begins(self, pair):
-        blocks, entries, room = pair.plan[:3]
-        sizes = {"blocks": blocks, "entries": entries, "bytes": room}
+        sizes = pair.limits._asdict()
         self._line({"format": FORMAT, "version": 1, "library": "%d.%d" % VERSION, **sizes, "timestamp": int(time.time()), **self.header})
         self.file.flush()
 

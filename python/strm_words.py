@@ -17,7 +17,6 @@ class Side(IntEnum):
 MASTER, SLAVE = Side.MASTER, Side.SLAVE
 HIGH, ANY = 256, 257  # beside a band from 0 to 255: high priority; any message, or all bands
 READ_MOST, WRITE_MOST, ANSWER_MOST, BLOCK = 4096, 1024, 8192, 256
-BLOCKS_LEAST, BLOCKS_MOST, JOURNAL_LEAST, RUN_MOST = 64, 65536, 8192, 65536
 # So many blocks that bytes typed and written on a terminal are stopped by flow control, and never by its pool, whatever is read or isn't.
 TERMINAL_BLOCKS = 12900
 
@@ -117,18 +116,12 @@ class Caller(NamedTuple):
 NOBODY = Caller()
 
 
-class Plan(NamedTuple):
-    """How Pair.make makes a pair: blocks of each kind, the room of its journal, for master and slave the blocks that their writes, puts and
-    ioctls leave free (`reserve`), and whether the library begins a full journal anew by itself (`begins_anew`)."""
+class Sizes(NamedTuple):
+    """What a pair is made by: blocks of each kind, and the entries and bytes that its journal takes."""
 
     blocks: int
     entries: int
     bytes: int
-    reserve: tuple = (0, 0)
-    begins_anew: bool = False
-
-
-TERMINAL = Plan(TERMINAL_BLOCKS + 4096, 64, 16384, (4096, 512), True)
 
 
 class Ready(IntFlag):
@@ -136,7 +129,7 @@ class Ready(IntFlag):
 
     CAN_READ = 1  # a read of a byte or more isn't EAGAIN
     CAN_GET = 2  # a get of any message isn't EAGAIN
-    CAN_WRITE = 4  # a write isn't EAGAIN, however long it is
+    CAN_WRITE = 4  # a write is taken, however long it is
     HAS_SIGNALS = 8
     HAS_ANSWER = 16  # an ioctl was answered, and its answer not taken
     HUNG_UP = 32  # the other end is gone

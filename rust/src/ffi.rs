@@ -8,15 +8,6 @@ pub struct Handle {
 }
 
 #[repr(C)]
-pub struct Plan {
-    pub blocks: usize,
-    pub entries: usize,
-    pub bytes: usize,
-    pub reserve: [usize; 2],
-    pub begins_anew: bool,
-}
-
-#[repr(C)]
 #[derive(Clone, Copy, Default)]
 pub struct Ask {
     pub op: u32,
@@ -96,7 +87,6 @@ pub struct Entry {
 extern "C" {
     pub fn strm_version() -> u32;
     pub fn strm_new(p: *mut Handle, blocks: usize, entries: usize, bytes: usize) -> u32;
-    pub fn strm_make(p: *mut Handle, plan: *const Plan) -> u32;
     pub fn strm_free(p: *mut Handle);
     pub fn strm_call(p: *mut Handle, ask: *const Ask, bytes: *const u8, n: usize, out: *mut u8, room: usize, reply: *mut Reply) -> u32;
     pub fn strm_write(p: *mut Handle, side: u32, bytes: *const u8, n: usize, reply: *mut Reply) -> u32;
@@ -113,5 +103,4 @@ extern "C" {
     pub fn strm_room(p: *mut Handle, told: *mut Left) -> u32;
     pub fn strm_image(p: *mut Handle, out: *mut u8, room: usize, length: *mut usize) -> u32;
     pub fn strm_restore(p: *mut Handle, blocks: usize, entries: usize, bytes: usize, image: *const u8, n: usize) -> u32;
-    pub fn strm_remake(p: *mut Handle, plan: *const Plan, image: *const u8, n: usize) -> u32;
 }

@@ -15,8 +15,7 @@ pub enum Entry {
 /// A place in a pair's journal, at its beginning first. Behind a restart it stands at the new beginning.
 ///
 /// A recorder takes the entries one by one. It sets [`Pair::keeps`], takes all entries where a call is refused with `JournalFull`, and
-/// restarts the journal itself; else a full journal begins anew, and entries that weren't taken are gone. Of a pair whose plan has
-/// `begins_anew` a cursor means nothing.
+/// restarts the journal itself; else a full journal begins anew, and entries that weren't taken are gone.
 #[derive(Debug, Default)]
 pub struct Cursor {
     place: ffi::Cursor,

@@ -32,8 +32,8 @@ mod journal;
 mod look;
 mod names;
 mod pair;
-mod plan;
 mod refused;
+mod sizes;
 pub mod termios;
 mod turn;
 
@@ -43,7 +43,7 @@ pub use journal::{Cursor, Entry};
 pub use look::{Books, Ready, Room, Standing, RULES};
 pub use names::{Flush, Mode, Module, Priority, Queue, Side, Signal, Wanted};
 pub use pair::{version, Pair};
-pub use plan::{Plan, Sizes, BLOCKS_LEAST, BLOCKS_MOST, JOURNAL_LEAST, READ_MOST, RUN_MOST, TERMINAL_BLOCKS, WRITE_MOST};
 pub use refused::{Refusal, Refused};
+pub use sizes::{Sizes, READ_MOST, TERMINAL_BLOCKS, WRITE_MOST};
 pub use termios::{Command, Termios, When, Winsize};
 pub use turn::Turn;

@@ -3,8 +3,8 @@ use std::{fmt, ptr};
 
 use crate::call::parts_of;
 use crate::ffi::{self, Ask, Reply};
-use crate::plan::{Plan, Sizes, READ_MOST, WRITE_MOST};
 use crate::refused::told;
+use crate::sizes::{Sizes, READ_MOST, WRITE_MOST};
 use crate::{Answer, Call, Caller, Command, Event, Flush, Message, Mode, Module, Priority, Refusal, Refused, Side, Signal, Wanted};
 
 /// The version of the library that is linked: its major and its minor number.
@@ -38,15 +38,6 @@ impl Pair {
         Ok(pair)
     }
 
-    /// A pair that nobody opened, by a plan. EINVAL: fewer blocks than 64 and the greater reserve, or above 65,536; or the journal is to begin anew
-    /// by itself, and has no entry or fewer than 8192 bytes. NoMemory.
-    pub fn make(plan: &Plan) -> Result<Pair, Refused> {
-        let mut pair = Pair::closed();
-        // SAFETY: the handle is closed, and the plan is read alone.
-        told(unsafe { ffi::strm_make(&mut pair.handle, &plan.ffi()) })?;
-        Ok(pair)
-    }
-
     /// The pair of an image (docs/IMAGES.md), which goes on where that was made; its journal is empty. EINVAL: the bytes are no image, or a
     /// number of blocks as in `new`. ENOSR: its messages take more blocks. NoMemory.
     pub fn restore(sizes: Sizes, image: &[u8]) -> Result<Pair, Refused> {
@@ -57,30 +48,22 @@ impl Pair {
         Ok(pair)
     }
 
-    /// The same by a plan, which is refused as `make` refuses it.
-    pub fn remake(plan: &Plan, image: &[u8]) -> Result<Pair, Refused> {
-        let mut pair = Pair::closed();
-        // SAFETY: the handle is closed, the plan is read alone, and the image has so many bytes.
-        told(unsafe { ffi::strm_remake(&mut pair.handle, &plan.ffi(), image.as_ptr(), image.len()) })?;
-        Ok(pair)
-    }
-
     fn closed() -> Pair {
         let (major, minor) = version();
         assert!(major == 1 && minor >= 2, "libstrm 1.2 is needed, and {major}.{minor} is linked");
         Pair { handle: ffi::Handle { at: ptr::null_mut(), is_open: false }, keeps: false, caller: Caller::NOBODY, restarts: 0 }
     }
 
-    /// A terminal as a shell expects it, made by [`Plan::TERMINAL`]: both sides open, `ptem` and `ldterm` on the slave.
+    /// A terminal as a shell expects it, of the default [`Sizes`]: both sides open, `ptem` and `ldterm` on the slave.
     pub fn terminal() -> Result<Pair, Refused> {
-        let mut pair = Pair::make(&Plan::TERMINAL)?;
+        let mut pair = Pair::new(Sizes::default())?;
         pair.open_terminal()?;
         Ok(pair)
     }
 
     /// The address of the pair's handle (strm_pair), for other libraries of C, as libstrm_host is one: the pair stays where it is while they use it.
     pub fn as_mut_ptr(&mut self) -> *mut std::ffi::c_void {
-        ptr::from_mut(&mut self.handle).cast()
+        ptr::addr_of_mut!(self.handle).cast()
     }
 
     /// Opens both sides, and pushes `ptem` and `ldterm` on the slave.

@@ -36,9 +36,8 @@ impl Pair {
         Ok(Turn::of(went))
     }
 
-    /// Turns, each of the queue that was enabled first, until none is: how many were made. JournalFull behind a million, or EAGAIN behind
-    /// [`RUN_MOST`](crate::RUN_MOST) of a pair whose journal begins anew by itself: they may not end, as with an `ldterm` on each side that echo
-    /// each other. What was made stays made, and another run goes on.
+    /// Turns, each of the queue that was enabled first, until none is: how many were made. JournalFull behind a million: they may not end, as with
+    /// an `ldterm` on each side that echo each other. What was made stays made, and another run goes on.
     pub fn runqueues(&mut self) -> Result<usize, Refused> {
         let mut made = 0;
         loop {

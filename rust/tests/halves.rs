@@ -3,7 +3,7 @@ use std::error::Error;
 use std::io::{self, ErrorKind, Read, Write};
 use std::thread;
 
-use strm::{termios, Caller, Module, Pair, Plan, Refused, Side, Sizes, When, Winsize, BLOCKS_LEAST};
+use strm::{termios, Caller, Module, Pair, Refusal, Refused, Side, Sizes, When, Winsize};
 
 type Outcome = Result<(), Box<dyn Error>>;
 
@@ -116,12 +116,12 @@ fn modes_and_windows_of_a_half() -> Outcome {
 
 #[test]
 fn turns_that_do_not_end_are_an_error() -> Outcome {
-    let mut pair = Pair::make(&Plan { blocks: 256, entries: 64, bytes: 8192, reserve: [0, 0], begins_anew: true })?;
+    let mut pair = Pair::new(Sizes { blocks: 256, entries: 64, bytes: 8192 })?;
     pair.open_terminal()?;
     pair.push(Side::Master, Module::Ldterm)?;
     let (mut master, _slave) = pair.split();
     assert_eq!(master.write(b"x")?, 1);
-    assert_eq!(master.flush().unwrap_err().kind(), ErrorKind::WouldBlock);
+    assert_eq!(master.flush().unwrap_err().to_string(), Refused::Call(Refusal::JournalFull).to_string());
     Ok(())
 }
 
@@ -154,7 +154,7 @@ fn reads(mut half: impl Read) -> io::Result<Vec<u8>> {
 #[test]
 fn two_threads_move_a_megabyte() -> Outcome {
     for has_modules in [false, true] {
-        let mut pair = Pair::new(Sizes { blocks: BLOCKS_LEAST, entries: 64, bytes: 8192 })?;
+        let mut pair = Pair::new(Sizes { blocks: 64, entries: 64, bytes: 8192 })?;
         pair.open_master()?;
         pair.unlock()?;
         pair.open_slave()?;

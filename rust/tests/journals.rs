@@ -1,7 +1,5 @@
 //! Journals and images: entries, those that are made again, full journals, and pairs that go on.
-use strm::{
-    Answer, Call, Caller, Cursor, Entry, Event, Flush, Mode, Module, Pair, Plan, Priority, Queue, Refused, Side, Sizes, Wanted, Winsize,
-};
+use strm::{Answer, Call, Caller, Cursor, Entry, Event, Flush, Mode, Module, Pair, Priority, Queue, Refused, Side, Sizes, Wanted, Winsize};
 use Side::{Master, Slave};
 
 fn read(pair: &mut Pair, side: Side) -> Result<Vec<u8>, Refused> {
@@ -86,18 +84,15 @@ fn a_journal_is_made_again_answer_by_answer() -> Result<(), Refused> {
 
 #[test]
 fn a_full_journal_begins_anew() -> Result<(), Refused> {
-    let small = Sizes { blocks: 256, entries: 64, bytes: 8192 };
-    let own = Plan { blocks: 256, entries: 64, bytes: 8192, reserve: [0, 0], begins_anew: true };
-    for mut pair in [Pair::new(small)?, Pair::make(&own)?] {
-        pair.open_terminal()?;
-        for _ in 0..300 {
-            pair.write(Master, b"line\r")?;
-            pair.runqueues()?;
-            assert_eq!(read(&mut pair, Slave)?, b"line\n");
-            assert_eq!(read(&mut pair, Master)?, b"line\r\n");
-        }
-        assert!(pair.room()?.entries < 64);
+    let mut pair = Pair::new(Sizes { blocks: 256, entries: 64, bytes: 8192 })?;
+    pair.open_terminal()?;
+    for _ in 0..300 {
+        pair.write(Master, b"line\r")?;
+        pair.runqueues()?;
+        assert_eq!(read(&mut pair, Slave)?, b"line\n");
+        assert_eq!(read(&mut pair, Master)?, b"line\r\n");
     }
+    assert!(pair.room()?.entries < 64);
     Ok(())
 }
 
@@ -164,15 +159,12 @@ fn a_journal_without_room_refuses_and_nothing_hangs() -> Result<(), Refused> {
 
 #[test]
 fn turns_that_do_not_end_are_told() -> Result<(), Refused> {
-    let kept = Sizes { blocks: 256, entries: 500, bytes: 8192 };
-    let own = Plan { blocks: 256, entries: 500, bytes: 8192, reserve: [0, 0], begins_anew: true };
-    for (mut pair, name) in [(Pair::new(kept)?, "JournalFull"), (Pair::make(&own)?, "EAGAIN")] {
-        pair.open_terminal()?;
-        pair.push(Master, Module::Ldterm)?;
-        pair.write(Master, b"x")?;
-        assert_eq!(pair.runqueues().unwrap_err().name(), name);
-        assert!(pair.ledger(Slave)?.balance() && !pair.at_rest());
-    }
+    let mut pair = Pair::new(Sizes { blocks: 256, entries: 500, bytes: 8192 })?;
+    pair.open_terminal()?;
+    pair.push(Master, Module::Ldterm)?;
+    pair.write(Master, b"x")?;
+    assert_eq!(pair.runqueues().unwrap_err().name(), "JournalFull");
+    assert!(pair.ledger(Slave)?.balance() && !pair.at_rest());
     Ok(())
 }
 
@@ -183,7 +175,7 @@ fn a_pair_goes_on_where_its_image_was_made() -> Result<(), Refused> {
     pair.write(Master, b"half a l")?;
     pair.turn(Queue::MasterDriver)?;
     let (image, books) = (pair.image()?, pair.ledger(Master)?);
-    for mut again in [Pair::remake(&Plan::TERMINAL, &image)?, Pair::restore(Sizes::default(), &image)?] {
+    for mut again in [Pair::restore(Sizes { blocks: 256, entries: 64, bytes: 8192 }, &image)?, Pair::restore(Sizes::default(), &image)?] {
         assert_eq!((again.image()?, again.enabled()), (image.clone(), pair.enabled()));
         assert_eq!((again.ledger(Master)?, again.get_winsize(Slave)?), (books.clone(), Winsize::new(10, 40)));
         again.write(Master, b"ine\r")?;
@@ -200,7 +192,6 @@ fn what_is_no_image_is_refused() -> Result<(), Refused> {
     let longer = [&image[..], b"x"].concat();
     for wrong in [&[][..], &image[1..], &image[..image.len() - 1], &longer] {
         assert_eq!(Pair::restore(Sizes::default(), wrong).map(drop).unwrap_err().name(), "EINVAL");
-        assert_eq!(Pair::remake(&Plan::TERMINAL, wrong).map(drop).unwrap_err().name(), "EINVAL");
     }
     let mut full = Pair::new(Sizes::default())?;
     full.open_master()?;

@@ -1,8 +1,8 @@
 //! Calls of a pair, by name.
 use strm::{termios, Termios};
 use strm::{
-    Answer, Call, Caller, Command, Entry, Event, Flush, Message, Mode, Module, Pair, Plan, Priority, Queue, Refusal, Refused, Side, Signal,
-    Sizes, Standing, Turn, Wanted, When, Winsize, BLOCKS_LEAST, BLOCKS_MOST, WRITE_MOST,
+    Answer, Call, Caller, Command, Entry, Event, Flush, Message, Mode, Module, Pair, Priority, Queue, Refusal, Refused, Side, Signal,
+    Sizes, Standing, Turn, Wanted, When, Winsize, WRITE_MOST,
 };
 use Side::{Master, Slave};
 
@@ -48,31 +48,12 @@ fn refusals_have_names() -> Result<(), Refused> {
     assert_eq!(refused(pair.put(Master, Priority::Band(0), Some(&[0; 65]), None)), "ERANGE");
     pair.close(Slave)?;
     assert_eq!(refused(pair.write(Slave, b"x")), "ENXIO");
-    for blocks in [0, BLOCKS_MOST + 1] {
+    for blocks in [0, 65_537] {
         assert_eq!(refused(Pair::new(Sizes { blocks, ..Sizes::default() }).map(drop)), "EINVAL");
     }
     let mut poor = Pair::new(Sizes { blocks: 32, ..Sizes::default() })?;
     poor.open_master()?;
     assert_eq!(refused(poor.write(Master, b"x")), "ENOSR");
-    Ok(())
-}
-
-#[test]
-fn plans_are_refused_by_their_limits() -> Result<(), Refused> {
-    let least = Plan { blocks: BLOCKS_LEAST, entries: 1, bytes: 8192, reserve: [0, 0], begins_anew: true };
-    assert!(Pair::make(&least).is_ok());
-    let wrong = [
-        Plan { blocks: BLOCKS_LEAST - 1, ..least },
-        Plan { blocks: BLOCKS_MOST + 1, ..least },
-        Plan { reserve: [0, 1], ..least },
-        Plan { reserve: [1, 0], ..least },
-        Plan { entries: 0, ..least },
-        Plan { bytes: 8191, ..least },
-    ];
-    for plan in wrong {
-        assert_eq!(refused(Pair::make(&plan).map(drop)), "EINVAL", "{plan:?}");
-    }
-    assert!(Pair::make(&Plan { entries: 0, bytes: 0, begins_anew: false, ..least }).is_ok());
     Ok(())
 }
 
@@ -296,24 +277,5 @@ fn readiness_is_what_a_call_would_meet() -> Result<(), Refused> {
     pair.close(Master)?;
     assert!(pair.ready(Slave).is_hung_up() && pair.ready(Slave).can_read() && !pair.ready(Slave).can_write());
     assert_eq!(pair.ready(Master), strm::Ready::default());
-    Ok(())
-}
-
-#[test]
-fn a_reserve_is_left_to_the_other_end() -> Result<(), Refused> {
-    let mut pair = Pair::make(&Plan { blocks: 256, entries: 64, bytes: 16_384, reserve: [100, 64], begins_anew: true })?;
-    pair.open_terminal()?;
-    let eof = loop {
-        match pair.write(Master, b"\x04") {
-            Ok(_) => pair.runqueues()?,
-            Err(refused) => break refused,
-        };
-    };
-    assert!(eof.would_wait());
-    assert!(pair.room()?.blocks >= 64);
-    assert_eq!(pair.write(Slave, b"out")?, 3);
-    pair.runqueues()?;
-    assert_eq!(read(&mut pair, Master)?, b"out");
-    assert_eq!(read(&mut pair, Slave)?, b"");
     Ok(())
 }

@@ -1,7 +1,5 @@
 //! Sessions of any calls: the books balance, the journal is made again answer by answer, and the image makes the same pair.
-use strm::{
-    Call, Caller, Command, Event, Flush, Mode, Module, Pair, Plan, Priority, Queue, Side, Sizes, Wanted, When, Winsize, BLOCKS_MOST,
-};
+use strm::{Call, Caller, Command, Event, Flush, Mode, Module, Pair, Priority, Queue, Side, Sizes, Wanted, When, Winsize};
 
 const KEYS: &[u8] = b"ab \r\n\t\x7f\x15\x17\x03\x04\x11\x13\x12\x16\x1a\xc3";
 
@@ -86,8 +84,7 @@ fn any_session_balances_replays_and_goes_on() -> Result<(), strm::Refused> {
         }
         let image = pair.image()?;
         assert_eq!((again.image()?, again.enabled()), (image.clone(), pair.enabled()), "seed {seed}");
-        let ample = Plan { blocks: BLOCKS_MOST, ..Plan::TERMINAL };
-        assert_eq!(Pair::remake(&ample, &image)?.image()?, image, "seed {seed}");
+        assert_eq!(Pair::restore(Sizes::default(), &image)?.image()?, image, "seed {seed}");
     }
     Ok(())
 }

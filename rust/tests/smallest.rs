@@ -1,8 +1,9 @@
-//! 10 MB go through the smallest pair, by a loop of writes, turns and reads that knows one refusal alone: that a call would have to wait.
+//! 10 MB go through a small pair, whose journal has one entry, by a loop of writes, turns and reads that knows one refusal alone: that a call would
+//! have to wait.
 use strm::termios::ECHO;
-use strm::{Pair, Plan, Refused, Side, When, BLOCKS_LEAST, JOURNAL_LEAST};
+use strm::{Pair, Refused, Side, Sizes, When};
 
-const SMALLEST: Plan = Plan { blocks: BLOCKS_LEAST, entries: 1, bytes: JOURNAL_LEAST, reserve: [0, 0], begins_anew: true };
+const SMALL: Sizes = Sizes { blocks: 64, entries: 1, bytes: 8192 };
 const TEN_MEGABYTES: usize = 10_000_000;
 
 /// What a call gave, or 0 where it would have to wait.
@@ -33,8 +34,8 @@ fn moved(pair: &mut Pair, from: Side, to: Side, text: &[u8]) -> Result<Vec<u8>, 
 }
 
 #[test]
-fn ten_megabytes_go_through_the_smallest_pair() -> Result<(), Refused> {
-    let mut pair = Pair::make(&SMALLEST)?;
+fn ten_megabytes_go_through_a_small_pair() -> Result<(), Refused> {
+    let mut pair = Pair::new(SMALL)?;
     pair.open_master()?;
     pair.unlock()?;
     pair.open_slave()?;
@@ -45,8 +46,8 @@ fn ten_megabytes_go_through_the_smallest_pair() -> Result<(), Refused> {
 }
 
 #[test]
-fn ten_megabytes_of_lines_are_shown_on_the_smallest_terminal() -> Result<(), Refused> {
-    let mut pair = Pair::make(&SMALLEST)?;
+fn ten_megabytes_of_lines_are_shown_on_a_small_terminal() -> Result<(), Refused> {
+    let mut pair = Pair::new(SMALL)?;
     pair.open_terminal()?;
     let text: Vec<u8> = (0..TEN_MEGABYTES).map(|number| if number % 80 == 79 { b'\n' } else { b'x' }).collect();
     let got = moved(&mut pair, Side::Slave, Side::Master, &text)?;
@@ -56,8 +57,8 @@ fn ten_megabytes_of_lines_are_shown_on_the_smallest_terminal() -> Result<(), Ref
 }
 
 #[test]
-fn lines_are_typed_on_the_smallest_terminal() -> Result<(), Refused> {
-    let mut pair = Pair::make(&SMALLEST)?;
+fn lines_are_typed_on_a_small_terminal() -> Result<(), Refused> {
+    let mut pair = Pair::new(SMALL)?;
     pair.open_terminal()?;
     let mut modes = pair.tcgetattr(Side::Slave)?;
     modes.lflag &= !ECHO;

@@ -13,7 +13,7 @@ enum { IMAGE = 1 << 20, ROOM = 8192 + 70000, AMPLE = 20000, CALLS = 400 };
 static uint8_t input[1 << 16], base[IMAGE], before[IMAGE], after[IMAGE];
 static size_t input_size, input_at, base_size, before_size, pair_blocks;
 static unsigned passed;
-static int large, is_recorded, base_known; /* whether the journal keeps all since `base` */
+static int large, base_known; /* whether the journal keeps all since `base` */
 static strm_pair p = STRM_CLOSED;
 
 static uint8_t byte(void)
@@ -75,7 +75,7 @@ static void balances(strm_pair *of)
 static void based(void)
 {
     base_size = imaged(&p, base);
-    base_known = is_recorded && base_size;
+    base_known = base_size > 0;
 }
 
 /* Keeps the image before a call. One of many messages costs much more than a call: then it is kept before one call in sixteen alone. */
@@ -262,7 +262,7 @@ static void makes(void)
         int was = p.is_open;
         strm_refusal e = strm_new(&p, blocks, below(8) ? 4000 : number() % 200000, below(8) ? 200000 : number());
         MUST(e ? e == STRM_EINVAL || e == STRM_NO_MEMORY : !was && blocks && blocks <= 65536, "a pair is made of nothing, or refused");
-        if (!e) is_recorded = 1, pair_blocks = blocks, based();
+        if (!e) pair_blocks = blocks, based();
         if (!e && below(8)) strm_open_terminal(&p);
         return;
     }
@@ -275,34 +275,25 @@ static void makes(void)
         MUST(marred || (same == n && !memcmp(before, after, n)), "the image of an image is another one");
         balances(&q);
         strm_free(&p);
-        p = q, pair_blocks = blocks, is_recorded = 1;
+        p = q, pair_blocks = blocks;
         based();
     }
 }
 
 #if STRM_VERSION >= 65538
-/* A pair by a plan, what it is ready for and what is left of it. */
-static void plans(void)
+/* What the pair is ready for, and what is left of it. */
+static void readiness(void)
 {
-    strm_plan plan = { 64 + number(), 64 + number() % 4000, 8192 + number() % 100000, { number(), number() }, below(2) != 0 };
     strm_left left;
-    strm_pair q = STRM_CLOSED;
-    size_t n = imaged(&p, after);
     starts();
     for (uint32_t side = 0; side < 3; side++) {
         uint32_t ready = strm_ready(&p, side);
         MUST(ready < 64 && (p.is_open || !ready), "a bit without a name");
     }
-    MUST(strm_room(&p, &left) == (p.is_open ? STRM_OK : STRM_EINVAL), "what is left of a pair");
+    strm_refusal e = strm_room(&p, &left);
+    MUST(e == (p.is_open ? STRM_OK : STRM_EINVAL), "what is left of a pair");
     if (p.is_open) MUST(left.blocks <= pair_blocks, "more blocks than the pair has");
-    strm_refusal e = n && below(2) ? strm_remake(&q, &plan, after, n) : strm_make(&q, &plan);
-    MUST(e ? !q.is_open && !q.at : q.is_open && plan.blocks <= 65536, "a plan");
     ends(STRM_EINVAL);
-    if (e) return;
-    strm_free(&p);
-    p = q, pair_blocks = plan.blocks, is_recorded = !plan.begins_anew;
-    based();
-    if (!below(4)) strm_open_terminal(&p);
 }
 #endif
 
@@ -322,7 +313,7 @@ static void one(void)
     else if (kind < 29) makes();
     else if (kind < 30) anew();
 #if STRM_VERSION >= 65538
-    else if (kind < 31) plans();
+    else if (kind < 31) readiness();
 #endif
     else if (!below(8)) strm_free(&p);
 }

@@ -1,15 +1,12 @@
-"""Pairs by a plan: reserves, readiness, journals that begin anew by themselves, and 10 MB through the smallest one."""
+"""Pairs by their sizes, readiness, and 10 MB through a small pair whose journal has one entry."""
 import random
 import unittest
 
-from strm import (
-    BLOCKS_LEAST, BLOCKS_MOST, COMMANDS, HIGH, JOURNAL_LEAST, MASTER, SLAVE, TERMINAL, WRITE_MOST, Pair, Plan, Ready,
-    Refused, Winsize,
-)  # fmt: skip
+from strm import COMMANDS, MASTER, SLAVE, TERMINAL_BLOCKS, WRITE_MOST, Pair, Ready, Refused, Sizes, Winsize
 
 from tests.test_pair import any_call
 
-SMALLEST = Plan(BLOCKS_LEAST, 1, JOURNAL_LEAST, begins_anew=True)
+SMALL = Sizes(64, 1, 8192)
 TEN_MEGABYTES = 10_000_000
 
 
@@ -26,85 +23,30 @@ def opened(pair):
     return pair
 
 
-class Plans(unittest.TestCase):
-    def test_limits(self):
-        Pair.make(SMALLEST).free()
-        Pair.make(SMALLEST._replace(entries=0, bytes=0, begins_anew=False)).free()
-        for wrong in (
-            {"blocks": BLOCKS_LEAST - 1}, {"blocks": BLOCKS_MOST + 1}, {"reserve": (1, 0)}, {"reserve": (0, 1)}, {"entries": 0},
-            {"bytes": JOURNAL_LEAST - 1},
-        ):  # fmt: skip
-            self.assertEqual(refusal_of(Pair.make, SMALLEST._replace(**wrong)), "EINVAL", wrong)
+class Limits(unittest.TestCase):
+    def test_a_pair_has_blocks(self):
+        Pair.new(1, 0, 0).free()
+        Pair.new(65536, 0, 0).free()
+        for blocks in (0, 65537):
+            self.assertEqual(refusal_of(Pair.new, blocks, 64, 9000), "EINVAL", blocks)
 
-    def test_pairs_are_as_they_were_planned(self):
+    def test_pairs_are_made_by_sizes(self):
         for pair in (Pair.new(100, 7, 9000), Pair(100, 7, 9000)):
             with pair:
-                self.assertEqual((pair.plan, pair.room()), (Plan(100, 7, 9000), (100, 7, 9000)))
-        with Pair.make(TERMINAL) as pair:
-            self.assertEqual((pair.plan, pair.room()), (TERMINAL, TERMINAL[:3]))
+                self.assertEqual((pair.limits, pair.room()), (Sizes(100, 7, 9000), (100, 7, 9000)))
         with Pair.terminal() as pair:
-            self.assertEqual(pair.plan, TERMINAL._replace(begins_anew=False))
+            self.assertEqual(pair.limits, Sizes(TERMINAL_BLOCKS, 8192, 262144))
 
     def test_pairs_of_images(self):
         with Pair.terminal() as pair:
             pair.write(MASTER, b"half a l")
             image = pair.image()
-        for pair in (Pair.remake(TERMINAL, image), Pair.restore(256, 64, 9000, image), Pair(image=image)):
+        for pair in (Pair.restore(*SMALL, image), Pair.restore(256, 64, 9000, image), Pair(image=image)):
             with pair:
                 self.assertEqual(pair.image(), image)
                 pair.write(MASTER, b"ine\r"), pair.runqueues()
                 self.assertEqual(pair.read(SLAVE), b"half a line\n")
-        self.assertEqual(refusal_of(Pair.remake, TERMINAL, image[1:]), "EINVAL")
-
-    def test_a_journal_that_begins_anew(self):
-        with Pair.make(TERMINAL) as pair:
-            pair.open_terminal()
-            for _ in range(300):
-                pair.write(MASTER, b"line\r"), pair.runqueues()
-                self.assertEqual((pair.read(SLAVE), pair.read(MASTER)), (b"line\n", b"line\r\n"))
-            self.assertEqual(pair.restarts, 0)
-            self.assertLess(pair.room().entries, 64)
-            self.assertLess(len(list(pair.entries())), 64)
-
-    def test_turns_that_do_not_end(self):
-        with Pair.make(SMALLEST._replace(blocks=256)) as pair:
-            pair.open_terminal(), pair.push(MASTER, "ldterm"), pair.write(MASTER, b"x")
-            self.assertEqual(refusal_of(pair.runqueues, 1000), "EAGAIN")
-            self.assertFalse(pair.at_rest)
-            self.assertTrue(pair.ledger(SLAVE).balance)
-
-
-class Reserves(unittest.TestCase):
-    def setUp(self):
-        self.pair = Pair.make(Plan(256, 64, 16384, (100, 64), True))
-        self.addCleanup(self.pair.free)
-        self.pair.open_terminal()
-
-    def ends(self, call, *arguments, turns=lambda: None):
-        """Makes a call till it is refused, at most as often as there are blocks: the refusal."""
-        for _ in range(257):
-            if isinstance(told := refusal_of(call, *arguments), str):
-                return told
-            turns()
-        return None
-
-    def test_keys_that_end_the_input(self):
-        self.assertEqual(self.ends(self.pair.write, MASTER, b"\x04", turns=self.pair.runqueues), "EAGAIN")
-        self.goes_on()
-
-    def test_empty_writes(self):
-        self.assertEqual(self.ends(self.pair.write, MASTER, b""), "EAGAIN")
-        self.goes_on()
-
-    def test_messages_of_high_priority(self):
-        self.assertEqual(self.ends(self.pair.put, MASTER, HIGH, b"x"), "EAGAIN")
-        self.goes_on()
-
-    def goes_on(self):
-        self.assertGreaterEqual(self.pair.room().blocks, 64)
-        self.assertEqual(self.pair.write(SLAVE, b"out"), 3)
-        self.pair.runqueues()
-        self.assertTrue(self.pair.take(MASTER).endswith(b"out"))
+        self.assertEqual(refusal_of(Pair.restore, *SMALL, image[1:]), "EINVAL")
 
 
 class Readiness(unittest.TestCase):
@@ -177,7 +119,7 @@ class ReadinessOfAnySession(unittest.TestCase):
                     self.agrees(pair, SLAVE)
 
 
-class Smallest(unittest.TestCase):
+class Small(unittest.TestCase):
     """10 MB by a loop of writes, turns and reads that knows one refusal alone: that a call would have to wait."""
 
     def moves(self, pair, source, sink, text):
@@ -202,19 +144,19 @@ class Smallest(unittest.TestCase):
 
     def test_ten_megabytes_go_through(self):
         text = bytes(range(251)) * (TEN_MEGABYTES // 251 + 1)
-        with opened(Pair.make(SMALLEST)) as pair:
+        with opened(Pair.new(*SMALL)) as pair:
             self.assertTrue(self.moves(pair, SLAVE, MASTER, text[:TEN_MEGABYTES]) == text[:TEN_MEGABYTES])
             self.assertTrue(pair.ledger(SLAVE).balance)
 
     def test_lines_are_shown_on_a_terminal(self):
         text = (b"x" * 79 + b"\n") * (TEN_MEGABYTES // 80)
-        with Pair.make(SMALLEST) as pair:
+        with Pair.new(*SMALL) as pair:
             pair.open_terminal()
             self.assertTrue(self.moves(pair, SLAVE, MASTER, text) == text.replace(b"\n", b"\r\n"))
 
     def test_lines_are_typed_on_a_terminal(self):
         text = (b"y" * 99 + b"\r") * 10_000
-        with Pair.make(SMALLEST) as pair:
+        with Pair.new(*SMALL) as pair:
             pair.open_terminal()
             modes = pair.tcgetattr()
             modes["ECHO"] = False

@@ -1,0 +1,29 @@
+//! How large a pair is made.
+
+/// So many blocks of each kind that bytes typed and written on a terminal are stopped by flow control, and never by its pool, whatever is read
+/// or isn't. A pair costs the memory that it touches, so this costs addresses alone.
+pub const TERMINAL_BLOCKS: usize = 12_900;
+
+/// The most bytes that one write takes; the rest is written behind them.
+pub const WRITE_MOST: usize = 1024;
+
+/// The most bytes that one read gives, and each part of a get.
+pub const READ_MOST: usize = 4096;
+
+/// The pool of blocks and the room of the journal, of [`Pair::new`](crate::Pair::new) and [`Pair::restore`](crate::Pair::restore). As a default so
+/// many as a terminal wants, with a journal of 8192 entries and 256 KiB.
+#[derive(Clone, Copy, Debug, PartialEq, Eq)]
+pub struct Sizes {
+    /// Blocks of each kind: 1 to 65,536, of which a write wants 32 free and one for each begun 256 bytes.
+    pub blocks: usize,
+    /// Entries of the journal.
+    pub entries: usize,
+    /// Bytes of the journal's calls and answers.
+    pub bytes: usize,
+}
+
+impl Default for Sizes {
+    fn default() -> Sizes {
+        Sizes { blocks: TERMINAL_BLOCKS, entries: 8192, bytes: 262_144 }
+    }
+}
