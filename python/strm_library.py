@@ -89,6 +89,8 @@ def places(path):
     if given:
         yield given
         return
+    # (a wheel has it beside this file)
+    yield os.path.join(os.path.dirname(os.path.abspath(__file__)), "libstrm.so.1")
     yield "libstrm.so.1"
     try:
         told = subprocess.run(["pkg-config", "--variable=libdir", "strm"], capture_output=True, text=True, check=True)

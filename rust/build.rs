@@ -1,5 +1,6 @@
-//! Finds libstrm: in the folder that STRM_LIB_DIR names, else where pkg-config says, else in ~/.local/lib and /usr/local/lib. The archive is
-//! linked where there is one; with STRM_SHARED=1 the shared object is, which the loader has to find when a program runs.
+//! Finds libstrm: in the folder that STRM_LIB_DIR names, else in lib/ beside this file (a release's crate has it), else where pkg-config says, else
+//! in ~/.local/lib and /usr/local/lib. The archive is linked where there is one; with STRM_SHARED=1 the shared object is, which the loader has to
+//! find when a program runs.
 use std::path::{Path, PathBuf};
 use std::process::Command;
 use std::{env, fs};
@@ -11,7 +12,8 @@ fn places() -> Vec<PathBuf> {
     let asked = Command::new("pkg-config").args(["--variable=libdir", "strm"]).output().ok().filter(|told| told.status.success());
     let told = asked.and_then(|told| String::from_utf8(told.stdout).ok()).map(|text| PathBuf::from(text.trim()));
     let home = env::var_os("HOME").map(|home| Path::new(&home).join(".local/lib"));
-    told.into_iter().chain(home).chain(Some("/usr/local/lib".into())).collect()
+    let own = env::var_os("CARGO_MANIFEST_DIR").map(|top| Path::new(&top).join("lib"));
+    own.into_iter().chain(told).chain(home).chain(Some("/usr/local/lib".into())).collect()
 }
 
 fn main() {
