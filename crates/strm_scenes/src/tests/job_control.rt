@@ -116,6 +116,29 @@ run 50
 read m 10
   data 1 "x"
 
+title: TOSTOP holds a write of the background, orphaned it fails, and who ignores SIGTTOU writes on
+setup: terminal
+ioctl s TCSETS "\x00\x00%\x00\x00\x00\x00\x05\x00\x00\x00\x00\x00\x00\x8b;\x03\x1c\x7f\x15\x04\x00\x00\x00\x11\x13\x1a\x00\x12\x00\x17\x16\x00\x00\x00"
+  ok
+ioctl s TIOCSPGRP 5
+  ok
+group s 7 -
+  ok
+write s "x"
+  stop TTOU
+group s 7 o
+  ok
+write s "x"
+  err EIO
+group s 7 i
+  ok
+write s "x"
+  ok 1
+run 50
+  ran 3
+read m 10
+  data 1 "x"
+
 title: Who has no process group, and a terminal without one, know no background
 setup: terminal
 group s 7 -

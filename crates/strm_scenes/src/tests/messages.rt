@@ -135,6 +135,25 @@ get s
 get s
   msg 0 - "d" -
 
+title: Bands are got from the highest down, and 256 is none
+setup: pair
+put m 200 - "a"
+  ok
+put m 7 - "b"
+  ok
+put m 255 - "c"
+  ok
+put m 256 - "d"
+  err EINVAL
+run 10
+  ran 3
+get s
+  msg 255 - "c" -
+get s
+  msg 200 - "a" -
+get s
+  msg 7 - "b" -
+
 title: A band that is full leaves the others open
 setup: pair
 put m 200 - "zzzzzzzzzzzzzzzzzzzzzzzzzzzzzzzzzzzzzzzzzzzzzzzzzzzzzzzzzzzzzzzzzzzzzzzzzzzzzzzzzzzzzzzzzzzzzzzzzzzzzzzzzzzzzzzzzzzzzzzzzzzzzzzzzzzzzzzzzzzzzzzzzzzzzzzzzzzzzzzzzzzzzzzzzzzzzzzzzzzzzzzzzzzzzzzzzzzzzzzzzzzzzzzzzzzzzzzzzzzzzzzzzzzzzzzzzzzzzzzzzzzzzzzzzzzzzzzz"
@@ -219,6 +238,19 @@ title: What is refused is sent nowhere, and neither is what has no part
 setup: pair
 put m hi - "a"
   err EINVAL
+put m 0 - -
+  ok
+get s
+  err EAGAIN
+read s 0
+  data 0 ""
+
+title: A put in a band waits for its turn, and one without parts sends nothing
+setup: pair
+put m hi - "a"
+  err EINVAL
+put m 8 - "a"
+  ok
 put m 0 - -
   ok
 get s

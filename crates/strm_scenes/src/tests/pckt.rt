@@ -21,6 +21,17 @@ get m
 get m
   err EAGAIN
 
+title: No plain read takes a packet, and a get gives its kind and its bytes
+setup: packets
+write s "hi"
+  ok 2
+run 10
+  ran 1
+read m 10
+  err EBADMSG
+get m
+  msg 0 "\x00" "hi" -
+
 title: A flush of the slave's output is told behind what went before it, and flushes nothing above pckt
 setup: packets
 write s "hi"

@@ -97,6 +97,15 @@ run 10
 read s 10
   data 3 "abc"
 
+title: A write, a turn and a read
+setup: pair
+write m "abc"
+  ok 3
+run 10
+  ran 1
+read s 10
+  data 3 "abc"
+
 title: The other direction is the same
 setup: pair
 write s "ls"
