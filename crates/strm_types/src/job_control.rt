@@ -12,7 +12,7 @@ use crate::refusals::Refusal;
 use crate::signals::StopSignal;
 
 /// What becomes of a call.
-#[derive(Clone, Copy, PartialEq)]
+#[derive(Clone, Copy)]
 pub enum Verdict {
     /// It is refused, and nothing changes.
     Refused(Refusal),

@@ -15,7 +15,7 @@ use crate::modes::{Prio, Wanted};
 use crate::refusals::{Refusal, unless};
 
 /// Which stream has to be there for a call.
-#[derive(Clone, Copy, PartialEq)]
+#[derive(Clone, Copy)]
 pub enum Reach {
     /// None: the call opens the master.
     Nothing,
@@ -28,7 +28,7 @@ pub enum Reach {
 }
 
 /// What a call does at a terminal, for which job control may hold a caller in the background.
-#[derive(Clone, Copy, PartialEq)]
+#[derive(Clone, Copy)]
 pub enum Access {
     /// It takes what waits there: `read(2)`, `getmsg(2)`.
     Reads,
@@ -37,7 +37,7 @@ pub enum Access {
 }
 
 /// What a call asks for, told by its arguments alone. It is refused for the first of these that it doesn't find, in this order.
-#[derive(Clone, Copy, PartialEq)]
+#[derive(Clone, Copy)]
 pub struct Needs {
     /// Which stream has to be there, else ENXIO.
     pub reach: Reach,

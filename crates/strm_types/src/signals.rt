@@ -8,7 +8,7 @@ use crate::limits::SIGNAL_LAST;
 
 /// The signal that stops a caller in the background (POSIX, General Terminal Interface: Terminal Access Control), by its number in
 /// System V.
-#[derive(Clone, Copy, Debug, PartialEq)]
+#[derive(Clone, Copy, PartialEq)]
 pub enum StopSignal {
     /// It reads: SIGTTIN.
     Ttin = 26,
