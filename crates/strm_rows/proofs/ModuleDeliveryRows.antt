@@ -17,7 +17,7 @@ use Rattle.strm_laws.specs.Puts.{delivered}
 use Rattle.strm_types.specs.Slots.{PlainSlot}
 use Rattle.strm_laws.specs.State.{State, Stream}
 use Rattle.strm_laws.specs.Turns.{driver_serves}
-use Rattle.strm_laws.proofs.PutAmongRows.{bare, end, ldterm, one, pair, spot, with_these}
+use Rattle.strm_rows.proofs.PutAmongRows.{bare, end, ldterm, one, pair, spot, with_these}
 use Rattle.strm_laws.proofs.Samples.{header, ordinary, without_parts}
 
 -- M_DATA that goes down from the head waits at the first module, whose write queue is enabled

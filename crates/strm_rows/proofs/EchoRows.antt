@@ -6,7 +6,7 @@ use Rattle.strm_types.specs.declared.keys.Key.TheVariants.{Stop, Start, Intr, Qu
 use Rattle.strm_types.specs.declared.termios.Termios.{Termios}
 use Rattle.strm_types.specs.Echo.{columns, echo_byte, echo_of, width_at}
 use Rattle.strm_types.specs.Termios.{first_termios}
-use Rattle.strm_laws.proofs.KeyRows.{with_input, with_local}
+use Rattle.strm_rows.proofs.KeyRows.{with_input, with_local}
 
 -- local modes: ECHO is 8, ICANON 2, ECHOE 0x10, ECHOK 0x20, ECHONL 0x40, ECHOCTL 0x200, ECHOKE 0x800
 abbrev local : ℕ → Termios

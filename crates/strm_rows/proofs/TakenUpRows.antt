@@ -17,7 +17,7 @@ use Rattle.strm_types.specs.Ldterms.{Ldterm}
 use Rattle.strm_types.specs.Message.{Message, band_of, cells_of, data_message, is_high_priority, rank_of, size_of}
 use Rattle.strm_types.specs.TakenUp.{read_mode_of}
 use Rattle.strm_types.specs.Termios.{first_termios}
-use Rattle.strm_laws.proofs.LdtermRows.{at, busy, down, parcel, protocol, queue_with, to_write, up, waiting}
+use Rattle.strm_rows.proofs.LdtermRows.{at, busy, down, parcel, protocol, queue_with, to_write, up, waiting}
 use Rattle.strm_laws.proofs.Samples.{header, ordinary, without_parts}
 
 -- The 35 bytes of a termios as the first one, but with other control bytes and the lowest byte of its local modes: 0x3b with ICANON, and 0x39

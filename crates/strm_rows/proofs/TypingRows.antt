@@ -12,9 +12,9 @@ use Rattle.strm_types.specs.Deliver.{Acted, Fate, Goes, Comes, Parcel}
 use Rattle.strm_types.specs.Ldterms.{Ldterm, Begun, Answered, new_ldterm}
 use Rattle.strm_types.specs.Message.{Message, data_message, cells_of, band_of, size_of, rank_of, is_high_priority}
 use Rattle.strm_types.specs.Typing.{begins, struck, echoed}
-use Rattle.strm_laws.proofs.EchoRows.{rubbed}
-use Rattle.strm_laws.proofs.KeyRows.{with_input, with_local}
-use Rattle.strm_laws.proofs.LdtermRows.{at, down, parcel, protocol, queue_with, up, waiting}
+use Rattle.strm_rows.proofs.EchoRows.{rubbed}
+use Rattle.strm_rows.proofs.KeyRows.{with_input, with_local}
+use Rattle.strm_rows.proofs.LdtermRows.{at, down, parcel, protocol, queue_with, up, waiting}
 use Rattle.strm_laws.proofs.Samples.{flow, ordinary, without_parts}
 
 abbrev here : Spot

@@ -18,10 +18,10 @@ use Rattle.strm_types.specs.Ldterms.{Ldterm, Stage, Between, Begun, Answered, ne
 use Rattle.strm_types.specs.Message.{Message, data_message, cells_of, band_of, size_of, rank_of, is_high_priority}
 use Rattle.strm_types.specs.Queue.{Queue, Flow}
 use Rattle.strm_types.specs.Service.{Serving}
-use Rattle.strm_laws.proofs.EchoRows.{rubbed}
-use Rattle.strm_laws.proofs.LdtermRows.{at, down, flushing, protocol, queue_with, to_write, up, waiting}
+use Rattle.strm_rows.proofs.EchoRows.{rubbed}
+use Rattle.strm_rows.proofs.LdtermRows.{at, down, flushing, protocol, queue_with, to_write, up, waiting}
 use Rattle.strm_laws.proofs.Samples.{flow, ordinary, without_parts}
-use Rattle.strm_laws.proofs.TypingRows.{lined, with_modes}
+use Rattle.strm_rows.proofs.TypingRows.{lined, with_modes}
 
 abbrev here : Spot
 here = at Slave Up

@@ -20,9 +20,9 @@ use Rattle.strm_types.specs.Output.{Output, made_for, post, posts, raised}
 use Rattle.strm_types.specs.OutputTurns.{output_serves}
 use Rattle.strm_types.specs.Service.{Serving}
 use Rattle.strm_types.specs.Termios.{first_termios}
-use Rattle.strm_laws.proofs.LdtermRows.{at, down, protocol, queue_with, to_write, waiting}
+use Rattle.strm_rows.proofs.LdtermRows.{at, down, protocol, queue_with, to_write, waiting}
 use Rattle.strm_laws.proofs.Samples.{ordinary, without_parts}
-use Rattle.strm_laws.proofs.TypingRows.{lined}
+use Rattle.strm_rows.proofs.TypingRows.{lined}
 
 -- output modes: OPOST is 1, OLCUC 2, ONLCR 4, OCRNL 8, ONOCR 0x10, ONLRET 0x20, XTABS 0x1800
 abbrev with_output : ℕ → Termios → Termios

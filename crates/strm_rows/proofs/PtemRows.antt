@@ -14,9 +14,9 @@ use Rattle.strm_types.specs.Deliver.{Acted, Parcel}
 use Rattle.strm_types.specs.Message.{Message}
 use Rattle.strm_types.specs.Ptems.{Ptem, new_ptem, ptem_puts}
 use Rattle.strm_types.specs.Termios.{first_termios, termios_bytes}
-use Rattle.strm_laws.proofs.LdtermRows.{protocol}
+use Rattle.strm_rows.proofs.LdtermRows.{protocol}
 use Rattle.strm_laws.proofs.Samples.{header, ordinary, without_parts}
-use Rattle.strm_laws.proofs.WinsizeRows.{window}
+use Rattle.strm_rows.proofs.WinsizeRows.{window}
 
 -- what answers and tells
 
