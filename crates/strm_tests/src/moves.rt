@@ -163,7 +163,7 @@ pub fn links<B: Blocks>(store: &mut B, front: usize, behind: usize) -> bool {
 
 // Parts a message, and says whether there is a rest.
 fn parts<B: Blocks>(store: &mut B, list: usize, to: usize) -> bool {
-    let Some(message) = take(store, list) else {
+    let Some(message) = store.pop(list_of(list)) else {
         return false;
     };
     let (first, rest) = store.unlink(message);
@@ -171,8 +171,8 @@ fn parts<B: Blocks>(store: &mut B, list: usize, to: usize) -> bool {
         lay(store, list, first);
         return false;
     };
-    store.insert_back(list_of(to), rest);
-    lay(store, list, first);
+    store.insert_back(list_of(list), first);
+    lay(store, to, rest);
     true
 }
 

@@ -4,9 +4,10 @@ mod walk;
 
 use crate::blocks::{DATA, PCPROTO, PROTO};
 use crate::moves::{Edit, Game, Look, Move, follow, new_store, play_all};
+use std::alloc::{AllocError, Global};
 use std::process::Abort;
 use std::test::Fail;
-use strm_blocks::{Blocks, FlushWhat, TableStore};
+use strm_blocks::{Blocks, FlushWhat, Reserve, TableStore};
 use strm_raw::RawStore;
 use strm_types::Band;
 
@@ -275,10 +276,14 @@ fn are_apart<B: Blocks>(rt: &impl Abort, one: &mut B, other: &mut B) {
     follow(rt, other, &mut names, title, &THE_OTHER_IS_FREED);
 }
 
+fn two_are_apart<B: Reserve>(rt: &impl Abort, alloc: Global) -> Result<(), AllocError> {
+    let mut one: B = new_store(alloc, 2, 2)?;
+    let mut other: B = new_store(alloc, 3, 3)?;
+    are_apart(rt, &mut one, &mut other);
+    Ok(())
+}
+
 #[test]
 fn two_stores_give_out_equal_numbers(rt: HostRuntime) -> Result<(), Fail> {
-    let mut one: RawStore = new_store(rt.alloc(), 2, 2)?;
-    let mut other: RawStore = new_store(rt.alloc(), 3, 3)?;
-    are_apart(&rt, &mut one, &mut other);
-    Ok(())
+    Ok(two_are_apart::<RawStore>(&rt, rt.alloc())?)
 }

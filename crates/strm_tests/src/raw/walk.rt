@@ -3,9 +3,10 @@ ghost use Rattle.std.specs.Prelude.{◌≡◌, ◌<◌, ◌≤◌, length};
 ghost use Rattle.strm_blocks.specs.Blocks.{IsInHand, in_hand, token};
 
 use crate::moves::{Edit, Move, goes, new_store};
+use std::alloc::{AllocError, Global};
 use std::process::Abort;
 use std::test::Fail;
-use strm_blocks::{Blocks, FlushWhat, InHand, TableStore, Visitor};
+use strm_blocks::{Blocks, FlushWhat, InHand, Reserve, TableStore, Visitor};
 use strm_raw::RawStore;
 use strm_types::{Band, MsgKind};
 
@@ -168,10 +169,14 @@ fn walk<A: Blocks, B: Blocks>(rt: &impl Abort, one: &mut A, other: &mut B) {
     }
 }
 
+fn walks<A: Reserve, B: Reserve>(rt: &impl Abort, alloc: Global) -> Result<(), AllocError> {
+    let mut one: A = new_store(alloc, 24, 20)?;
+    let mut other: B = new_store(alloc, 24, 20)?;
+    walk(rt, &mut one, &mut other);
+    Ok(())
+}
+
 #[test]
 fn both_stores_are_alike_behind_each_move(rt: HostRuntime) -> Result<(), Fail> {
-    let mut raw: RawStore = new_store(rt.alloc(), 24, 20)?;
-    let mut table: TableStore = new_store(rt.alloc(), 24, 20)?;
-    walk(&rt, &mut raw, &mut table);
-    Ok(())
+    Ok(walks::<RawStore, TableStore>(&rt, rt.alloc())?)
 }
