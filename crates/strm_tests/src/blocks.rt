@@ -30,7 +30,7 @@ const OF_BAND_3: FlushWhat = FlushWhat {
 };
 
 // A message is as wanted behind each call, and so are the free blocks. The rest of it is in hand when all is freed.
-const EACH_CALL: [Move<'static>; 30] = [
+const EACH_CALL: [Move<'static>; 31] = [
     Move::Alloc(0, PROTO, true),
     Move::Edit(0, Edit::Append(b"ab", 2)),
     Move::Alloc(1, DATA, true),
@@ -48,6 +48,7 @@ const EACH_CALL: [Move<'static>; 30] = [
     Move::Pass(0, 2),
     Move::Peek(2, Some((PROTO, 3))),
     Move::Pass(2, 0),
+    Move::Look(0, Look::Told(0, (true, PROTO, 3, 2))),
     Move::Look(0, Look::Told(1, (false, DATA, 0, 2))),
     Move::Look(0, Look::Blocks(2)),
     Move::Look(0, Look::Band(3)),
