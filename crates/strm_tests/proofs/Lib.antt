@@ -1,3 +1,4 @@
 pub mod ToySteps
 pub mod RigSteps
+pub mod Fresh
 pub mod PtyPuts

@@ -3,7 +3,6 @@
 mod counter;
 mod rig;
 mod stock;
-mod turner;
 mod turns;
 
 use counter::Counter;
@@ -14,7 +13,6 @@ use strm_frame::{Enabled, Stream, deliver};
 use strm_msg::from_bytes;
 use strm_queue::{Queue, Table};
 use strm_types::{Band, Fates, ModuleName, MsgKind, Place, QueueName, Side, Spot, Way};
-use turner::Turner;
 
 #[test]
 fn a_message_is_handed_on_until_an_end_takes_it(rt: HostRuntime) -> Result<(), Fail> {
@@ -44,17 +42,17 @@ fn a_stack_holds_three_modules_each_name_once(rt: HostRuntime) -> Result<(), Fai
         assert!(rt; look(&stack) == Some(name));
     }
     for name in [ModuleName::Pckt, ModuleName::Ldterm, ModuleName::Ptem] {
-        assert!(rt; stack.pop().map(|turner| turner.name) == Some(name));
+        assert!(rt; stack.pop().map(|stock| stock.name) == Some(name));
     }
     assert!(rt; push(&mut stack, ModuleName::Ptem));
     Ok(())
 }
 
-fn push(stack: &mut Stream<Turner>, name: ModuleName) -> bool {
-    stack.push(Turner { name }).is_ok()
+fn push(stack: &mut Stream<Stock>, name: ModuleName) -> bool {
+    stack.push(Stock { name, queue: None }).is_ok()
 }
 
-fn look(stack: &Stream<Turner>) -> Option<ModuleName> {
+fn look(stack: &Stream<Stock>) -> Option<ModuleName> {
     stack.look()
 }
 

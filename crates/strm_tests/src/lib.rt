@@ -13,6 +13,8 @@ mod image;
 #[cfg(test)]
 mod ldterm;
 #[cfg(test)]
+mod moves;
+#[cfg(test)]
 mod msg;
 #[cfg(test)]
 mod pty;

@@ -2,11 +2,9 @@
 
 mod rows;
 
-use rows::{Call, Case, Seen, Wanted, plays, plays_on_a_copy};
+use rows::{Call, Case, Seen, Wanted, plays};
 use std::test::Fail;
-use strm_blocks::{Blocks, TableStore};
-use strm_msg::{control_len, data_len, from_bytes, message_size, set_kinds};
-use strm_types::{Band, MsgKind, Refusal};
+use strm_types::{MsgKind, Refusal};
 
 // Bytes that are all alike.
 const LETTERS: &[u8] = &[b'x'; 600];
@@ -19,11 +17,16 @@ const X256: &[u8] = &[b'x'; 256];
 
 const X88: &[u8] = &[b'x'; 88];
 
+const X44: &[u8] = &[b'x'; 44];
+
 const X20: &[u8] = &[b'x'; 20];
 
 const IN_AND_OUT: Case<'static> = Case {
+    title: "bytes go in and come out",
+    size: (10, 10),
     first: (MsgKind::Data, X300),
     second: None,
+    of_copy: &[],
     rows: &[
         (Call::Adjust(0, true), (300, (None, Some(300)), (8, 8))),
         (Call::Take(280, X280), (20, (None, Some(20)), (8, 8))),
@@ -31,22 +34,21 @@ const IN_AND_OUT: Case<'static> = Case {
     ],
 };
 
-#[test]
-fn bytes_go_in_and_come_out(rt: HostRuntime) -> Result<(), Fail> {
-    plays(&rt, rt.alloc(), 10, 10, &IN_AND_OUT)
-}
-
-#[test]
-fn a_message_has_the_bytes_of_all_its_blocks(rt: HostRuntime) -> Result<(), Fail> {
-    let mut store = TableStore::new(rt.alloc(), 4, 4)?;
-    let message = from_bytes(&mut store, MsgKind::Sig, Band(0), X300)?;
-    assert!(rt; message_size(&store, &message) == 300);
-    Ok(())
-}
+const OF_ALL_BLOCKS: Case<'static> = Case {
+    title: "a message has the bytes of all its blocks",
+    size: (4, 4),
+    first: (MsgKind::Sig, X300),
+    second: None,
+    of_copy: &[],
+    rows: &[(Call::Size(300), (0, (None, None), (2, 2)))],
+};
 
 const COPIED: Case<'static> = Case {
+    title: "copies have the parts of what was copied",
+    size: (4, 3),
     first: (MsgKind::Proto, b"head"),
     second: Some((MsgKind::Data, b"body..")),
+    of_copy: &[],
     rows: &[
         (
             Call::Dup(Some((6, (Some(4), Some(6)), (0, 1)))),
@@ -61,16 +63,14 @@ const COPIED: Case<'static> = Case {
     ],
 };
 
-#[test]
-fn copies_have_the_parts_of_what_was_copied(rt: HostRuntime) -> Result<(), Fail> {
-    plays(&rt, rt.alloc(), 4, 3, &COPIED)
-}
-
 const WHOLE: Seen = (300, (Some(4), Some(300)), (1, 1));
 
 const TRIMMED: Case<'static> = Case {
+    title: "bytes are trimmed within a run",
+    size: (4, 4),
     first: (MsgKind::Proto, b"head"),
     second: Some((MsgKind::Data, X300)),
+    of_copy: &[],
     rows: &[
         (Call::Adjust(5, false), WHOLE),
         (Call::Adjust(-301, false), WHOLE),
@@ -85,38 +85,28 @@ const TRIMMED: Case<'static> = Case {
     ],
 };
 
-#[test]
-fn bytes_are_trimmed_within_a_run(rt: HostRuntime) -> Result<(), Fail> {
-    plays(&rt, rt.alloc(), 4, 4, &TRIMMED)
-}
-
-const OF_A_COPY: Case<'static> = Case {
+const COPY_TRIMMED: Case<'static> = Case {
+    title: "a copy is trimmed and the message stays",
+    size: (10, 10),
     first: (MsgKind::Data, LETTERS),
     second: None,
-    rows: &[
+    of_copy: &[
         (Call::Dup(None), (600, (None, Some(600)), (1, 4))),
         (Call::Adjust(300, true), (300, (None, Some(300)), (1, 4))),
         (Call::Adjust(-301, false), (300, (None, Some(300)), (1, 4))),
     ],
-};
-
-const OF_THE_COPIED: Case<'static> = Case {
-    first: (MsgKind::Data, LETTERS),
-    second: None,
     rows: &[(
         Call::Dup(Some((600, (None, Some(600)), (4, 7)))),
         (600, (None, Some(600)), (7, 7)),
     )],
 };
 
-#[test]
-fn a_copy_is_trimmed_and_the_message_stays(rt: HostRuntime) -> Result<(), Fail> {
-    plays_on_a_copy(&rt, rt.alloc(), &OF_A_COPY, &OF_THE_COPIED)
-}
-
 const JOINED: Case<'static> = Case {
+    title: "bytes of a run are joined",
+    size: (3, 3),
     first: (MsgKind::Data, b"abc"),
     second: Some((MsgKind::Data, b"de")),
+    of_copy: &[],
     rows: &[
         (
             Call::Pull(6, Some(Refusal::Einval)),
@@ -148,14 +138,12 @@ const JOINED: Case<'static> = Case {
     ],
 };
 
-#[test]
-fn bytes_of_a_run_are_joined(rt: HostRuntime) -> Result<(), Fail> {
-    plays(&rt, rt.alloc(), 3, 3, &JOINED)
-}
-
 const FRONT: Case<'static> = Case {
+    title: "only the front run is joined",
+    size: (3, 3),
     first: (MsgKind::Proto, b"head"),
     second: Some((MsgKind::Data, b"body")),
+    of_copy: &[],
     rows: &[
         (
             Call::Pull(5, Some(Refusal::Einval)),
@@ -186,16 +174,14 @@ const FRONT: Case<'static> = Case {
     ],
 };
 
-#[test]
-fn only_the_front_run_is_joined(rt: HostRuntime) -> Result<(), Fail> {
-    plays(&rt, rt.alloc(), 3, 3, &FRONT)
-}
-
 const LARGE: Wanted<'static> = (MsgKind::Data, X256);
 
 const AT_MOST_A_BLOCK: Case<'static> = Case {
+    title: "at most a data block is joined",
+    size: (4, 4),
     first: (MsgKind::Data, LETTERS),
     second: None,
+    of_copy: &[],
     rows: &[
         (
             Call::Pull(-1, Some(Refusal::Erange)),
@@ -217,19 +203,34 @@ const AT_MOST_A_BLOCK: Case<'static> = Case {
     ],
 };
 
-#[test]
-fn at_most_a_data_block_is_joined(rt: HostRuntime) -> Result<(), Fail> {
-    plays(&rt, rt.alloc(), 4, 4, &AT_MOST_A_BLOCK)
-}
+const TURNED: Case<'static> = Case {
+    title: "blocks of control become data",
+    size: (4, 4),
+    first: (MsgKind::Proto, X300),
+    second: None,
+    of_copy: &[],
+    rows: &[
+        (Call::Turn(MsgKind::Data), (300, (None, Some(300)), (2, 2))),
+        (
+            Call::Show(&[LARGE, (MsgKind::Data, X44)]),
+            (300, (None, Some(300)), (2, 2)),
+        ),
+    ],
+};
+
+const CASES: [Case<'static>; 9] = [
+    IN_AND_OUT,
+    OF_ALL_BLOCKS,
+    COPIED,
+    TRIMMED,
+    COPY_TRIMMED,
+    JOINED,
+    FRONT,
+    AT_MOST_A_BLOCK,
+    TURNED,
+];
 
 #[test]
-fn blocks_of_control_become_data(rt: HostRuntime) -> Result<(), Fail> {
-    let mut store = TableStore::new(rt.alloc(), 4, 4)?;
-    let message = from_bytes(&mut store, MsgKind::Proto, Band(3), X300)?;
-    let count = store.blocks(&message);
-    set_kinds(&mut store, &message, count, MsgKind::Data);
-    assert!(rt; control_len(&store, &message) == None);
-    assert!(rt; data_len(&store, &message) == Some(300));
-    assert!(rt; store.band(&message) == Band(3));
-    Ok(())
+fn messages_are_as_wanted_behind_each_call(rt: HostRuntime) -> Result<(), Fail> {
+    Ok(plays(&rt, rt.alloc(), &CASES)?)
 }

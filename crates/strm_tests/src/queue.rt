@@ -3,7 +3,7 @@
 mod steps;
 
 use std::test::Fail;
-use steps::{Step, plays};
+use steps::{Run, Step, plays};
 use strm_types::MsgKind;
 
 const PUT_BACK: [Step<'static>; 7] = [
@@ -15,11 +15,6 @@ const PUT_BACK: [Step<'static>; 7] = [
     Step::Take(b"b"),
     Step::TakeNone,
 ];
-
-#[test]
-fn what_is_put_back_is_taken_next(rt: HostRuntime) -> Result<(), Fail> {
-    plays(&rt, rt.alloc(), 3, &PUT_BACK)
-}
 
 const OF_ALL_RANKS: [Step<'static>; 10] = [
     Step::Put(MsgKind::Data, 0, b"a"),
@@ -34,11 +29,6 @@ const OF_ALL_RANKS: [Step<'static>; 10] = [
     Step::Take(b"a"),
 ];
 
-#[test]
-fn ranks_come_in_order(rt: HostRuntime) -> Result<(), Fail> {
-    plays(&rt, rt.alloc(), 0, &OF_ALL_RANKS)
-}
-
 const HUNDRED_AND_FIFTY: &[u8] = &[b'x'; 150];
 
 const AT_THE_MARK: [Step<'static>; 7] = [
@@ -50,11 +40,6 @@ const AT_THE_MARK: [Step<'static>; 7] = [
     Step::Flush,
     Step::Counts(0, 0),
 ];
-
-#[test]
-fn a_band_is_full_from_its_mark_on(rt: HostRuntime) -> Result<(), Fail> {
-    plays(&rt, rt.alloc(), 0, &AT_THE_MARK)
-}
 
 const OF_BANDS: [Step<'static>; 11] = [
     Step::Put(MsgKind::Data, 0, b"a"),
@@ -69,11 +54,6 @@ const OF_BANDS: [Step<'static>; 11] = [
     Step::Take(b"a"),
     Step::TakeNone,
 ];
-
-#[test]
-fn bands_come_from_255_down(rt: HostRuntime) -> Result<(), Fail> {
-    plays(&rt, rt.alloc(), 5, &OF_BANDS)
-}
 
 const FULL_IN_ONE_BAND: [Step<'static>; 14] = [
     Step::Put(MsgKind::Data, 7, HUNDRED_AND_FIFTY),
@@ -91,11 +71,6 @@ const FULL_IN_ONE_BAND: [Step<'static>; 14] = [
     Step::Full(0, false),
     Step::Flush,
 ];
-
-#[test]
-fn marks_of_a_band_leave_the_others(rt: HostRuntime) -> Result<(), Fail> {
-    plays(&rt, rt.alloc(), 7, &FULL_IN_ONE_BAND)
-}
 
 const COMING_DOWN: [Step<'static>; 21] = [
     Step::Put(MsgKind::Data, 200, b"a"),
@@ -122,11 +97,6 @@ const COMING_DOWN: [Step<'static>; 21] = [
     Step::Flush,
 ];
 
-#[test]
-fn writers_go_at_the_low_mark_of_their_band(rt: HostRuntime) -> Result<(), Fail> {
-    plays(&rt, rt.alloc(), 0, &COMING_DOWN)
-}
-
 const FLUSHED_IN_ONE_BAND: [Step<'static>; 12] = [
     Step::Put(MsgKind::Data, 0, b"a"),
     Step::Put(MsgKind::Data, 200, b"bc"),
@@ -141,11 +111,6 @@ const FLUSHED_IN_ONE_BAND: [Step<'static>; 12] = [
     Step::Take(b"a"),
     Step::TakeNone,
 ];
-
-#[test]
-fn a_flush_of_a_band_leaves_the_others(rt: HostRuntime) -> Result<(), Fail> {
-    plays(&rt, rt.alloc(), 0, &FLUSHED_IN_ONE_BAND)
-}
 
 const MARKED_IN_ALL_BANDS: [Step<'static>; 17] = [
     Step::Put(MsgKind::Data, 0, HUNDRED_AND_FIFTY),
@@ -167,7 +132,50 @@ const MARKED_IN_ALL_BANDS: [Step<'static>; 17] = [
     Step::Flush,
 ];
 
+const RUNS: [Run<'static>; 8] = [
+    Run {
+        title: "what is put back is taken next",
+        list: 3,
+        steps: &PUT_BACK,
+    },
+    Run {
+        title: "ranks come in order",
+        list: 0,
+        steps: &OF_ALL_RANKS,
+    },
+    Run {
+        title: "a band is full from its mark on",
+        list: 0,
+        steps: &AT_THE_MARK,
+    },
+    Run {
+        title: "bands come from 255 down",
+        list: 5,
+        steps: &OF_BANDS,
+    },
+    Run {
+        title: "marks of a band leave the others",
+        list: 7,
+        steps: &FULL_IN_ONE_BAND,
+    },
+    Run {
+        title: "writers go at the low mark of their band",
+        list: 0,
+        steps: &COMING_DOWN,
+    },
+    Run {
+        title: "a flush of a band leaves the others",
+        list: 0,
+        steps: &FLUSHED_IN_ONE_BAND,
+    },
+    Run {
+        title: "all bands get the marks",
+        list: 0,
+        steps: &MARKED_IN_ALL_BANDS,
+    },
+];
+
 #[test]
-fn all_bands_get_the_marks(rt: HostRuntime) -> Result<(), Fail> {
-    plays(&rt, rt.alloc(), 0, &MARKED_IN_ALL_BANDS)
+fn queues_keep_to_ranks_and_marks(rt: HostRuntime) -> Result<(), Fail> {
+    Ok(plays(&rt, rt.alloc(), &RUNS)?)
 }

@@ -3,9 +3,8 @@
 
 ghost use Rattle.std.specs.Prelude.{◌≡◌};
 ghost use Rattle.std.specs.Prelude.{if◌then◌else◌, [], ◌∷◌};
-ghost use Rattle.strm_tests.specs.Toys.{stays};
+ghost use Rattle.strm_tests.specs.Toys.{is_flush, onward, stays};
 
-use super::turner::onward;
 use arrayvec::ArrayVec;
 use strm_blocks::{Blocks, InHand};
 use strm_frame::{Acts, LetGo, Module, Outbox, Sent, Served, TurnEnd, clear_queue, end_queue_turn};
@@ -28,6 +27,24 @@ impl Default for Stock {
             name: ModuleName::Ptem,
             queue: None,
         }
+    }
+}
+
+// Whether a kind is M_FLUSH.
+fn is_flush(kind: MsgKind) -> bool
+    ensures { result ≡ is_flush kind }
+{
+    matches!(kind, MsgKind::Flush)
+}
+
+// Which way a message goes on.
+fn onward(kind: MsgKind, way: Way) -> Way
+    ensures { result ≡ onward kind way }
+{
+    match way {
+        Way::Up if is_flush(kind) => Way::Down,
+        Way::Up => Way::Up,
+        Way::Down => Way::Down,
     }
 }
 

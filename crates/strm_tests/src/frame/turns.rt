@@ -8,13 +8,12 @@ ghost use Rattle.strm_tests.specs.Rigs.{AtRest};
 use super::rig::Rig;
 use std::process::Abort;
 use std::test::Fail;
-use strm_blocks::{Blocks, NoBlocks, TableStore};
+use strm_blocks::{Blocks, TableStore};
 use strm_msg::from_bytes;
 use strm_queue::Table;
 use strm_types::{Band, MsgKind, Place, QueueName, Side, Spot, Turn, Way};
 
 // What is done to the stream.
-#[derive(Clone, Copy)]
 enum Step {
     // An M_DATA message with the row's bytes is put at a place.
     Data(u8, Way),
@@ -46,67 +45,61 @@ fn spot(at: u8, way: Way) -> Spot
     }
 }
 
-// Puts an M_DATA message.
-fn put_data<B: Blocks>(store: &mut B, rig: &mut Rig, to: Spot, bytes: &[u8]) -> Result<(), NoBlocks>
+// Puts an M_DATA message, where a block is free.
+fn put_data<B: Blocks>(store: &mut B, rig: &mut Rig, to: Spot, bytes: &[u8]) -> bool
     requires rest { AtRest (λ x. x.queue) (B.value store.old) rig.old.modules.modules.items }
     requires near { to.at ≤ 3 }
     ensures { AtRest (λ x. x.queue) (B.value store.new) rig.new.modules.modules.items }
 {
-    let message = from_bytes(store, MsgKind::Data, Band(0), bytes)?;
-    rig.put(store, to, message);
-    Ok(())
-}
-
-// Puts an M_FLUSH for both queues, FLUSHRW.
-fn put_flush<B: Blocks>(store: &mut B, rig: &mut Rig, to: Spot) -> Result<(), NoBlocks>
-    requires rest { AtRest (λ x. x.queue) (B.value store.old) rig.old.modules.modules.items }
-    requires near { to.at ≤ 3 }
-    ensures { AtRest (λ x. x.queue) (B.value store.new) rig.new.modules.modules.items }
-{
-    let message = from_bytes(store, MsgKind::Flush, Band(0), b"\x03")?;
-    rig.put(store, to, message);
-    Ok(())
-}
-
-// Does a row's step, and compares.
-fn play<B: Blocks>(rt: &impl Abort, store: &mut B, rig: &mut Rig, row: &Row<'_>) -> Result<(), Fail>
-    requires { AtRest (λ x. x.queue) (B.value store.old) rig.old.modules.modules.items }
-    ensures { AtRest (λ x. x.queue) (B.value store.new) rig.new.modules.modules.items }
-{
-    match row.step {
-        Step::Data(at, way) => {
-            assert!(rt; at <= 3);
-            put_data(store, rig, spot(at, way), row.bytes)?;
-        }
-        Step::Flush(at) => {
-            assert!(rt; at <= 3);
-            put_flush(store, rig, spot(at, Way::Up))?;
-        }
-        Step::Turn(at, answer) => {
-            assert!(rt; at == 1 || at == 2);
-            assert!(rt; rig.turn(store, at) == answer);
-        }
-    }
-    assert!(rt; rig.sizes(store) == row.queues);
-    assert_eq!(rt; rig.enabled.as_slice(), row.enabled);
-    assert!(rt; (rig.above, rig.below) == row.left);
-    Ok(())
-}
-
-// The same for several rows, one after the other.
-fn play_all<B: Blocks>(
-    rt: &impl Abort,
-    store: &mut B,
-    rig: &mut Rig,
-    rows: &[Row<'_>],
-) -> Result<(), Fail>
-    requires { AtRest (λ x. x.queue) (B.value store.old) rig.old.modules.modules.items }
-{
-    let Some((row, rest)) = rows.split_first() else {
-        return Ok(());
+    let Ok(message) = from_bytes(store, MsgKind::Data, Band(0), bytes) else {
+        return false;
     };
-    play(rt, store, rig, row)?;
-    play_all(rt, store, rig, rest)
+    rig.put(store, to, message);
+    true
+}
+
+// Puts an M_FLUSH for both queues, FLUSHRW, where a block is free.
+fn put_flush<B: Blocks>(store: &mut B, rig: &mut Rig, to: Spot) -> bool
+    requires rest { AtRest (λ x. x.queue) (B.value store.old) rig.old.modules.modules.items }
+    requires near { to.at ≤ 3 }
+    ensures { AtRest (λ x. x.queue) (B.value store.new) rig.new.modules.modules.items }
+{
+    let Ok(message) = from_bytes(store, MsgKind::Flush, Band(0), b"\x03") else {
+        return false;
+    };
+    rig.put(store, to, message);
+    true
+}
+
+// Does a row's step, and says whether it can be done, and a turn's answer is as wanted.
+fn goes<B: Blocks>(store: &mut B, rig: &mut Rig, row: &Row<'_>) -> bool
+    requires { AtRest (λ x. x.queue) (B.value store.old) rig.old.modules.modules.items }
+    ensures { AtRest (λ x. x.queue) (B.value store.new) rig.new.modules.modules.items }
+{
+    match &row.step {
+        Step::Data(at, way) => *at <= 3 && put_data(store, rig, spot(*at, *way), row.bytes),
+        Step::Flush(at) => *at <= 3 && put_flush(store, rig, spot(*at, Way::Up)),
+        Step::Turn(at, answer) => 0 < *at && *at <= 2 && rig.turn(store, *at) == *answer,
+    }
+}
+
+// Whether all stands as a row says.
+fn stands<B: Blocks>(store: &B, rig: &Rig, row: &Row<'_>) -> bool
+    requires { AtRest (λ x. x.queue) (B.value store.now) rig.now.modules.modules.items }
+{
+    rig.sizes(store) == row.queues
+        && rig.enabled.as_slice() == row.enabled
+        && (rig.above, rig.below) == row.left
+}
+
+// Does the steps of rows, one after the other, and compares.
+fn play_all<B: Blocks>(rt: &impl Abort, store: &mut B, rig: &mut Rig, rows: &[Row<'_>])
+    requires { AtRest (λ x. x.queue) (B.value store.old) rig.old.modules.modules.items }
+{
+    for at in 0..rows.len() {
+        assert!(rt; goes(store, rig, &rows[at]), "row {at}");
+        assert!(rt; stands(store, rig, &rows[at]), "behind row {at}");
+    }
 }
 
 const UPPER: &[QueueName] = &[QueueName {
@@ -219,5 +212,6 @@ const ROWS: [Row<'static>; 13] = [
 fn a_message_stays_on_a_queue_until_its_turn(rt: HostRuntime) -> Result<(), Fail> {
     let mut store = TableStore::new(rt.alloc(), 10, 10)?;
     let mut rig = Rig::new(Table::new(rt.alloc())?, Table::new(rt.alloc())?);
-    play_all(&rt, &mut store, &mut rig, &ROWS)
+    play_all(&rt, &mut store, &mut rig, &ROWS);
+    Ok(())
 }

@@ -1,108 +1,89 @@
 //! Blocks that a read or a get frees of a message of which it leaves a part, with answers worked out by hand from read(2) and getmsg(2).
 
-ghost use Rattle.std.specs.Prelude.{◌≤◌};
-
-use super::fresh;
-use super::gets::{AB, BOTH, EMPTY, HIGH, ORDINARY, Sent, stands};
-use std::alloc::Global;
-use std::process::Abort;
+use super::gets::{AB, BOTH, EMPTY, HIGH, ORDINARY};
+use super::made::Sent;
+use super::steps::{Run, Step, plays};
 use std::test::Fail;
-use strm_blocks::{Blocks, TableStore};
-use strm_head::getmsg;
-use strm_queue::Table;
-use strm_types::{Content, ControlMode, Dir, Fates, Wanted};
-
-// Gets from a head at which a message stands, and looks at how many blocks of ten are free then.
-fn get_leaves(
-    rt: &impl Abort,
-    alloc: Global,
-    sent: Sent<'_>,
-    cmax: usize,
-    dmax: usize,
-    free: usize,
-) -> Result<(), Fail>
-    requires control { cmax ≤ 4096 }
-    requires body { dmax ≤ 4096 }
-{
-    let mut store = TableStore::new(alloc, 10, 10)?;
-    let mut head = fresh(&store, Table::new(alloc)?);
-    stands(&mut store, &mut head, sent);
-    getmsg(
-        &mut store,
-        &mut head.queue,
-        Wanted::Any,
-        cmax,
-        dmax,
-        &mut Content::new(),
-        Dir::MasterToSlave,
-        &mut Fates::none(),
-    );
-    assert_eq!(rt; store.free_blocks(), (free, free));
-    Ok(())
-}
-
-// The same by a read in a control mode.
-fn read_leaves(
-    rt: &impl Abort,
-    alloc: Global,
-    sent: Sent<'_>,
-    control: ControlMode,
-    n: usize,
-    free: usize,
-) -> Result<(), Fail>
-    requires { n ≤ 4096 }
-{
-    let mut store = TableStore::new(alloc, 10, 10)?;
-    let mut head = fresh(&store, Table::new(alloc)?);
-    stands(&mut store, &mut head, sent);
-    head.set_control_mode(control);
-    let mut fates = Fates::none();
-    head.read(
-        &mut store,
-        n,
-        &mut Content::new(),
-        Dir::MasterToSlave,
-        &mut fates,
-    );
-    assert_eq!(rt; store.free_blocks(), (free, free));
-    Ok(())
-}
+use strm_types::{ControlMode, ReadMode};
 
 const EMPTY_DATA: Sent<'static> = (ORDINARY, Some(AB), Some(EMPTY));
 
-#[test]
-fn gets_free_the_blocks_that_they_empty(rt: HostRuntime) -> Result<(), Fail> {
-    let rows: [(Sent<'_>, u8, u8, u8); 8] = [
-        (BOTH, 0, 0, 8),
-        (BOTH, 1, 1, 8),
-        (BOTH, 1, 9, 9),
-        (BOTH, 9, 1, 9),
-        (BOTH, 9, 9, 10),
-        (HIGH, 9, 0, 9),
-        (HIGH, 1, 3, 9),
-        (EMPTY_DATA, 1, 0, 9),
-    ];
-    for (sent, cmax, dmax, free) in rows {
-        let (cmax, dmax) = (usize::from(cmax), usize::from(dmax));
-        get_leaves(&rt, rt.alloc(), sent, cmax, dmax, usize::from(free))?;
-    }
-    Ok(())
-}
+// A message, a get with room for so many bytes of each part, and how many blocks of ten are free behind it.
+const GETS: [&[Step<'static>]; 8] = [
+    &[Step::Sent(BOTH), Step::Draw(0, 0), Step::Free(8)],
+    &[Step::Sent(BOTH), Step::Draw(1, 1), Step::Free(8)],
+    &[Step::Sent(BOTH), Step::Draw(1, 9), Step::Free(9)],
+    &[Step::Sent(BOTH), Step::Draw(9, 1), Step::Free(9)],
+    &[Step::Sent(BOTH), Step::Draw(9, 9), Step::Free(10)],
+    &[Step::Sent(HIGH), Step::Draw(9, 0), Step::Free(9)],
+    &[Step::Sent(HIGH), Step::Draw(1, 3), Step::Free(9)],
+    &[Step::Sent(EMPTY_DATA), Step::Draw(1, 0), Step::Free(9)],
+];
+
+const AS_DATA: Step<'static> = Step::SetModes(ReadMode::ByteStream, ControlMode::Data);
+
+const WITHOUT: Step<'static> = Step::SetModes(ReadMode::ByteStream, ControlMode::Discard);
+
+// The same of reads.
+const READS: [&[Step<'static>]; 7] = [
+    &[
+        Step::Sent(BOTH),
+        AS_DATA,
+        Step::Read(1, b"a", 0, 0),
+        Step::Free(8),
+    ],
+    &[
+        Step::Sent(BOTH),
+        AS_DATA,
+        Step::Read(2, b"ab", 0, 0),
+        Step::Free(9),
+    ],
+    &[
+        Step::Sent(BOTH),
+        AS_DATA,
+        Step::Read(4, b"abcd", 0, 0),
+        Step::Free(9),
+    ],
+    &[
+        Step::Sent(BOTH),
+        AS_DATA,
+        Step::Read(5, b"abcde", 0, 0),
+        Step::Free(10),
+    ],
+    &[
+        Step::Sent(BOTH),
+        WITHOUT,
+        Step::Read(1, b"c", 0, 2),
+        Step::Free(9),
+    ],
+    &[
+        Step::Sent(HIGH),
+        AS_DATA,
+        Step::Read(3, b"abc", 0, 0),
+        Step::Free(9),
+    ],
+    &[
+        Step::Sent(EMPTY_DATA),
+        AS_DATA,
+        Step::Read(1, b"a", 0, 0),
+        Step::Free(9),
+    ],
+];
+
+const RUNS: [Run<'static>; 2] = [
+    Run {
+        title: "gets free the blocks that they empty",
+        first: &[],
+        thens: &GETS,
+    },
+    Run {
+        title: "reads free the blocks that they empty",
+        first: &[],
+        thens: &READS,
+    },
+];
 
 #[test]
-fn reads_free_the_blocks_that_they_empty(rt: HostRuntime) -> Result<(), Fail> {
-    let rows: [(Sent<'_>, ControlMode, u8, u8); 7] = [
-        (BOTH, ControlMode::Data, 1, 8),
-        (BOTH, ControlMode::Data, 2, 9),
-        (BOTH, ControlMode::Data, 4, 9),
-        (BOTH, ControlMode::Data, 5, 10),
-        (BOTH, ControlMode::Discard, 1, 9),
-        (HIGH, ControlMode::Data, 3, 9),
-        (EMPTY_DATA, ControlMode::Data, 1, 9),
-    ];
-    for (sent, control, n, free) in rows {
-        let (n, free) = (usize::from(n), usize::from(free));
-        read_leaves(&rt, rt.alloc(), sent, control, n, free)?;
-    }
-    Ok(())
+fn blocks_that_are_emptied_are_freed(rt: HostRuntime) -> Result<(), Fail> {
+    Ok(plays(&rt, rt.alloc(), &RUNS)?)
 }

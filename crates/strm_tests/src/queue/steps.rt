@@ -1,20 +1,19 @@
 //! Steps that are taken on a queue over a store of each kind, and what is to be seen after each.
 
-ghost use Rattle.std.specs.Prelude.{◌≡◌, ◌<◌, List, [], IfOk};
-ghost use Rattle.strm_blocks.specs.Blocks.{Block, IsInHand, in_hand, list_at, token};
-ghost use Rattle.strm_queue.specs.Kept.{AreCounted, band_of};
+ghost use Rattle.std.specs.Prelude.{◌≡◌, ◌<◌, List, []};
+ghost use Rattle.strm_blocks.specs.Blocks.{Block, list_at};
+ghost use Rattle.strm_queue.specs.Kept.{AreCounted};
 
-use std::alloc::Global;
+use crate::moves::{list_of, made};
+use std::alloc::{AllocError, Global};
 use std::process::Abort;
-use std::test::Fail;
-use strm_blocks::{Blocks, InHand, NoBlocks, TableStore};
+use strm_blocks::{Blocks, Reserve, TableStore};
 use strm_queue::standing::mark_all;
 use strm_queue::{Flush, Queue, Table, are_marks};
 use strm_raw::RawStore;
 use strm_types::{Band, Marks, MsgKind};
 
 // What comes to a queue, and what is to be seen of it then.
-#[derive(Clone, Copy)]
 pub(crate) enum Step<'a> {
     // A message of this kind and band is put, which enables the queue.
     Put(MsgKind, u8, &'a [u8]),
@@ -44,45 +43,34 @@ pub(crate) enum Step<'a> {
     BackEnable(bool),
 }
 
-// A message of one block with these bytes.
-fn message<B: Blocks>(
-    store: &mut B,
-    kind: MsgKind,
-    band: u8,
-    bytes: &[u8],
-) -> Result<InHand, NoBlocks>
-    ensures in_hand { IfOk result (λ m. IsInHand (B.value store.new) (token m)) }
-    ensures lists { (B.value store.new).lists ≡ (B.value store.old).lists }
-{
-    let message = store.alloc(kind)?;
-    store.set_band(&message, Band(band));
-    store.append(&message, bytes);
-    Ok(message)
+// What steps on a queue for a list show, and the steps.
+pub(crate) struct Run<'a> {
+    pub(crate) title: &'a str,
+    pub(crate) list: usize,
+    pub(crate) steps: &'a [Step<'a>],
 }
 
 // Puts a message, and says whether that enables the queue.
-fn puts<B: Blocks>(
-    queue: &mut Queue,
-    store: &mut B,
-    kind: MsgKind,
-    band: u8,
-    bytes: &[u8],
-) -> Result<bool, NoBlocks>
+fn puts<B: Blocks>(queue: &mut Queue, store: &mut B, kind: MsgKind, band: u8, bytes: &[u8]) -> bool
     requires { AreCounted queue.old.flows (list_at (B.value store.old) queue.old.list) }
     ensures { AreCounted queue.new.flows (list_at (B.value store.new) queue.new.list) }
 {
-    let message = message(store, kind, band, bytes)?;
-    Ok(queue.putq(store, message))
+    let Ok(message) = made(store, kind, band, bytes) else {
+        return false;
+    };
+    queue.putq(store, message)
 }
 
 // Puts a message of data back.
-fn puts_back<B: Blocks>(queue: &mut Queue, store: &mut B, bytes: &[u8]) -> Result<bool, NoBlocks>
+fn puts_back<B: Blocks>(queue: &mut Queue, store: &mut B, bytes: &[u8]) -> bool
     requires { AreCounted queue.old.flows (list_at (B.value store.old) queue.old.list) }
     ensures { AreCounted queue.new.flows (list_at (B.value store.new) queue.new.list) }
 {
-    let message = message(store, MsgKind::Data, 0, bytes)?;
+    let Ok(message) = made(store, MsgKind::Data, 0, bytes) else {
+        return false;
+    };
     queue.putbq(store, message);
-    Ok(true)
+    true
 }
 
 // Takes the first message of a queue, and says whether its first block shows these bytes.
@@ -137,69 +125,85 @@ fn marks_all(queue: &mut Queue, high: u32, low: u32) -> bool
     true
 }
 
+fn flushes<B: Blocks>(queue: &mut Queue, store: &mut B) -> bool
+    requires { AreCounted queue.old.flows (list_at (B.value store.old) queue.old.list) }
+    ensures { AreCounted queue.new.flows (list_at (B.value store.new) queue.new.list) }
+{
+    queue.flushq(store, Flush::Data);
+    true
+}
+
+fn flushes_band<B: Blocks>(queue: &mut Queue, store: &mut B, band: u8) -> bool
+    requires { AreCounted queue.old.flows (list_at (B.value store.old) queue.old.list) }
+    ensures { AreCounted queue.new.flows (list_at (B.value store.new) queue.new.list) }
+{
+    queue.flushband(store, Band(band));
+    true
+}
+
+fn lets_wait(queue: &mut Queue, band: u8) -> bool
+    ensures counted { (q : List (List Block)) → AreCounted queue.old.flows q → AreCounted queue.new.flows q }
+    ensures list { queue.new.list ≡ queue.old.list }
+{
+    queue.let_wait(Band(band));
+    true
+}
+
+fn waits(queue: &Queue, band: u8) -> bool {
+    queue.flows.at(Band(band)).want_write
+}
+
 // Takes a step, and says whether what is to be seen is seen.
-fn goes<B: Blocks>(queue: &mut Queue, store: &mut B, step: Step<'_>) -> Result<bool, NoBlocks>
+fn goes<B: Blocks>(queue: &mut Queue, store: &mut B, step: &Step<'_>) -> bool
     requires { AreCounted queue.old.flows (list_at (B.value store.old) queue.old.list) }
     ensures { AreCounted queue.new.flows (list_at (B.value store.new) queue.new.list) }
 {
     match step {
-        Step::Put(kind, band, bytes) => puts(queue, store, kind, band, bytes),
+        Step::Put(kind, band, bytes) => puts(queue, store, *kind, *band, bytes),
         Step::PutBack(bytes) => puts_back(queue, store, bytes),
-        Step::Take(bytes) => Ok(next_shows(queue, store, bytes)),
-        Step::TakeNone => Ok(has_none(queue, store)),
-        Step::Counts(band, bytes) => Ok(queue.count(Band(band)) == bytes),
-        Step::Marks(band, high, low, full) => Ok(is_full_at(queue, band, high, low) == full),
-        Step::MarkAll(high, low) => Ok(marks_all(queue, high, low)),
-        Step::Full(band, full) => Ok(queue.is_full(Band(band)) == full),
-        Step::Flush => {
-            queue.flushq(store, Flush::Data);
-            Ok(true)
-        }
-        Step::FlushBand(band) => {
-            queue.flushband(store, Band(band));
-            Ok(true)
-        }
-        Step::LetWait(band) => {
-            queue.let_wait(Band(band));
-            Ok(true)
-        }
-        Step::Waits(band, waits) => Ok(queue.flows.at(Band(band)).want_write == waits),
-        Step::BackEnable(went) => Ok(queue.back_enable() == went),
+        Step::Take(bytes) => next_shows(queue, store, bytes),
+        Step::TakeNone => has_none(queue, store),
+        Step::Counts(band, bytes) => queue.count(Band(*band)) == *bytes,
+        Step::Marks(band, high, low, full) => is_full_at(queue, *band, *high, *low) == *full,
+        Step::MarkAll(high, low) => marks_all(queue, *high, *low),
+        Step::Full(band, full) => queue.is_full(Band(*band)) == *full,
+        Step::Flush => flushes(queue, store),
+        Step::FlushBand(band) => flushes_band(queue, store, *band),
+        Step::LetWait(band) => lets_wait(queue, *band),
+        Step::Waits(band, wanted) => waits(queue, *band) == *wanted,
+        Step::BackEnable(went) => queue.back_enable() == *went,
     }
 }
 
-// Takes steps in turn on a queue for a list of the store with nothing on it.
-fn all_go<B: Blocks>(
-    rt: &impl Abort,
-    store: &mut B,
-    list: usize,
-    table: Table,
-    steps: &[Step<'_>],
-) -> Result<(), Fail>
+// Takes the steps of a run in turn on a queue for a list of the store with nothing on it.
+fn all_go<B: Blocks>(rt: &impl Abort, store: &mut B, list: usize, table: Table, run: &Run<'_>)
     requires list { list < 8 }
     requires empty { list_at (B.value store.old) list ≡ [] }
 {
     let mut queue = Queue::new(list, 512, 128, table);
-    for at in 0..steps.len() {
-        assert!(rt; goes(&mut queue, store, steps[at])?, "at step {at}");
+    for at in 0..run.steps.len() {
+        assert!(rt;
+            goes(&mut queue, store, &run.steps[at]),
+            "{}: step {at}",
+            run.title
+        );
     }
+}
+
+// Takes the steps of a run over a store, and leaves nothing in it.
+fn play<B: Reserve>(rt: &impl Abort, alloc: Global, run: &Run<'_>) -> Result<(), AllocError> {
+    let list = list_of(run.list);
+    let mut store = B::reserve(alloc, 10, 10)?;
+    all_go(rt, &mut store, list, Table::new(alloc)?, run);
+    assert!(rt; store.free_blocks() == (10, 10), "{}", run.title);
     Ok(())
 }
 
-// Takes steps in turn over a store of each kind, and leaves nothing in it.
-pub(crate) fn plays(
-    rt: &impl Abort,
-    alloc: Global,
-    list: usize,
-    steps: &[Step<'_>],
-) -> Result<(), Fail>
-    requires { list < 8 }
-{
-    let mut tables = TableStore::new(alloc, 10, 10)?;
-    all_go(rt, &mut tables, list, Table::new(alloc)?, steps)?;
-    assert_eq!(rt; tables.free_blocks(), (10, 10));
-    let mut nodes = RawStore::new(alloc, 10, 10)?;
-    all_go(rt, &mut nodes, list, Table::new(alloc)?, steps)?;
-    assert_eq!(rt; nodes.free_blocks(), (10, 10));
+// Takes the steps of runs, each over a store of each kind.
+pub(crate) fn plays(rt: &impl Abort, alloc: Global, runs: &[Run<'_>]) -> Result<(), AllocError> {
+    for run in runs {
+        play::<TableStore>(rt, alloc, run)?;
+        play::<RawStore>(rt, alloc, run)?;
+    }
     Ok(())
 }

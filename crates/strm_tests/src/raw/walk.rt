@@ -2,8 +2,11 @@
 ghost use Rattle.std.specs.Prelude.{◌≡◌, ◌<◌, ◌≤◌, length};
 ghost use Rattle.strm_blocks.specs.Blocks.{IsInHand, in_hand, token};
 
+use crate::moves::{Edit, Move, goes, new_store};
+use std::alloc::{AllocError, Global};
+use std::process::Abort;
 use std::test::Fail;
-use strm_blocks::{Blocks, FlushWhat, InHand, TableStore, Visitor};
+use strm_blocks::{Blocks, FlushWhat, InHand, Reserve, TableStore, Visitor};
 use strm_raw::RawStore;
 use strm_types::{Band, MsgKind};
 
@@ -14,19 +17,6 @@ const ASIDE: usize = 7;
 const ALL: usize = 40;
 
 static TEXT: &[u8; 64] = b"0123456789abcdefghijklmnopqrstuvwxyzABCDEFGHIJKLMNOPQRSTUVWXYZ+/";
-
-// What is rolled for a move.
-#[derive(Clone, Copy)]
-struct Roll {
-    what: usize,
-    from: usize,
-    to: usize,
-    at: usize,
-    n: usize,
-    kind: MsgKind,
-    band: Band,
-    in_front: bool,
-}
 
 // The number behind another one, which looks like chance.
 fn number_behind(number: u64) -> u64 {
@@ -44,174 +34,44 @@ fn side(number: &mut u64, sides: usize) -> usize
     ((*number / 4294967296) as usize) % sides
 }
 
-fn rolled(number: &mut u64) -> Roll {
+// A move, of which lists are rolled, a block, a number of bytes, a kind and a band. Whether it can be made is for the stores to say.
+fn rolled(number: &mut u64) -> Move<'static> {
     let kinds = [
         MsgKind::Data,
         MsgKind::Data,
         MsgKind::Proto,
         MsgKind::Pcproto,
     ];
-    Roll {
-        what: side(number, 16),
-        from: side(number, ASIDE),
-        to: side(number, ASIDE),
-        at: side(number, 8),
-        n: side(number, 65),
-        kind: kinds[side(number, 4)],
-        band: Band(side(number, 3) as u8),
-        in_front: side(number, 2) == 0,
+    let (from, to) = (side(number, ASIDE), side(number, ASIDE));
+    let many = 1 + side(number, 4);
+    let (block, n) = (side(number, many), side(number, 65));
+    let (kind, band) = (kinds[side(number, 4)], side(number, 3) as u8);
+    let bytes = &TEXT[..n.min(64)];
+    match side(number, 17) {
+        0 => Move::Make(to, kind, band, bytes),
+        1 => Move::MakeInFront(to, kind, band, bytes),
+        2 | 3 => Move::Alloc(to, kind, true),
+        4 => Move::Link(from, to),
+        5 => Move::Part(from, to, true),
+        6 => Move::Dup(from, block, to, true),
+        7 => Move::Edit(from, Edit::TrimHead(block, n)),
+        8 => Move::Edit(from, Edit::TrimTail(block, n)),
+        9 => Move::Edit(from, Edit::Kind(block, kind)),
+        10 => Move::Edit(from, Edit::Band(band)),
+        11 => Move::Edit(from, Edit::Append(bytes, n.min(64))),
+        12 => Move::Copy(from, block, to, true),
+        13 => Move::Pass(from, to),
+        14 => Move::Last(from, to, true),
+        _ if n < 4 => Move::Flush(from, flush(n, band)),
+        _ => Move::Free(from),
     }
 }
 
-// Puts a message on a list, at the front or at the back of its rank.
-fn put<B: Blocks>(store: &mut B, by: &Roll, message: InHand)
-    requires { IsInHand (B.value store.old) (token message) }
-{
-    let list = by.to % ASIDE;
-    if by.in_front {
-        store.insert_front(list, message);
-    } else {
-        store.insert_back(list, message);
-    }
-}
-
-// A new message, with its bytes at once or behind.
-fn makes<B: Blocks>(store: &mut B, by: &Roll) -> usize {
-    let bytes = &TEXT[..by.n.min(64)];
-    let made = if by.at < 4 {
-        store.alloc_with(by.kind, by.band, bytes)
-    } else {
-        store.alloc(by.kind)
-    };
-    let Ok(message) = made else {
-        return 0;
-    };
-    put(store, by, message);
-    1
-}
-
-// A message is met by another one with the same bytes of the same data block.
-fn shares<B: Blocks>(store: &mut B, by: &Roll) -> usize {
-    let (from, to) = (by.from % ASIDE, by.to % ASIDE);
-    let Some(message) = store.pop(from) else {
-        return 0;
-    };
-    let at = by.at % store.blocks(&message);
-    let Ok(more) = store.dup(&message, at) else {
-        put(store, by, message);
-        return 1;
-    };
-    store.insert_back(to, more);
-    put(store, by, message);
-    2
-}
-
-// A message is met by another one with a copy of its bytes.
-fn copies<B: Blocks>(store: &mut B, by: &Roll) -> usize {
-    let (from, to) = (by.from % ASIDE, by.to % ASIDE);
-    let Some(message) = store.pop(from) else {
-        return 0;
-    };
-    let at = by.at % store.blocks(&message);
-    let Ok(more) = store.copy(&message, at) else {
-        put(store, by, message);
-        return 1;
-    };
-    store.insert_back(to, more);
-    put(store, by, message);
-    2
-}
-
-// Two messages become one.
-fn links<B: Blocks>(store: &mut B, by: &Roll) -> usize {
-    let from = by.from % ASIDE;
-    let Some(first) = store.pop(from) else {
-        return 0;
-    };
-    let Some(second) = store.pop(from) else {
-        put(store, by, first);
-        return 1;
-    };
-    let message = store.link(first, second);
-    put(store, by, message);
-    2
-}
-
-// A message is parted behind its first block.
-fn parts<B: Blocks>(store: &mut B, by: &Roll) -> usize {
-    let (from, to) = (by.from % ASIDE, by.to % ASIDE);
-    let Some(message) = store.pop(from) else {
-        return 0;
-    };
-    let (first, rest) = store.unlink(message);
-    let Some(rest) = rest else {
-        put(store, by, first);
-        return 1;
-    };
-    store.insert_back(to, first);
-    put(store, by, rest);
-    2
-}
-
-// A block of a message becomes another one; how many bytes the message took.
-fn changes<B: Blocks>(store: &mut B, by: &Roll) -> usize {
-    let Some(message) = store.pop(by.from % ASIDE) else {
-        return 0;
-    };
-    let at = by.at % store.blocks(&message);
-    match by.what {
-        7 => {
-            store.trim_head(&message, at, by.n);
-            put(store, by, message);
-        }
-        8 => {
-            store.trim_tail(&message, at, by.n);
-            put(store, by, message);
-        }
-        9 => {
-            store.set_kind(&message, at, by.kind);
-            put(store, by, message);
-        }
-        10 => {
-            store.set_band(&message, by.band);
-            put(store, by, message);
-        }
-        _ => {
-            let count = store.append(&message, &TEXT[..by.n.min(64)]);
-            put(store, by, message);
-            return count;
-        }
-    }
-    1
-}
-
-// A message is freed, or those of a list that a flush takes.
-fn frees<B: Blocks>(store: &mut B, by: &Roll) -> usize {
-    if by.n == 0 {
-        let what = FlushWhat {
-            all: by.at < 4,
-            band: if by.in_front { Some(by.band) } else { None },
-        };
-        store.drop_where(by.from % ASIDE, what);
-        return 0;
-    }
-    let Some(message) = store.pop_last(by.from % ASIDE) else {
-        return 0;
-    };
-    store.free(message);
-    1
-}
-
-// Makes a move; how much it did.
-fn moves<B: Blocks>(store: &mut B, by: &Roll) -> usize {
-    match by.what {
-        0..=3 => makes(store, by),
-        4 => links(store, by),
-        5 => parts(store, by),
-        6 => shares(store, by),
-        12 => copies(store, by),
-        13..=15 => frees(store, by),
-        _ => changes(store, by),
+// A flush of one of four kinds.
+fn flush(n: usize, band: u8) -> FlushWhat {
+    FlushWhat {
+        all: n < 2,
+        band: if n % 2 == 0 { Some(Band(band)) } else { None },
     }
 }
 
@@ -298,16 +158,25 @@ fn all_alike<A: Blocks, B: Blocks>(one: &mut A, other: &mut B) -> bool {
     alike
 }
 
-#[test]
-fn both_stores_are_alike_behind_each_move(rt: HostRuntime) -> Result<(), Fail> {
-    let mut raw = RawStore::new(rt.alloc(), 24, 20)?;
-    let mut table = TableStore::new(rt.alloc(), 24, 20)?;
+fn walk<A: Blocks, B: Blocks>(rt: &impl Abort, one: &mut A, other: &mut B) {
     let mut number = 1u64;
+    let mut names = [0; 2];
     for at in 0..4000u32 {
         let by = rolled(&mut number);
-        let did = moves(&mut raw, &by);
-        assert_eq!(rt; did, moves(&mut table, &by), "at move {at}");
-        assert!(rt; all_alike(&mut raw, &mut table), "at move {at}");
+        let did = goes(one, &mut names, &by);
+        assert!(rt; goes(other, &mut names, &by) == did, "at move {at}");
+        assert!(rt; all_alike(one, other), "behind move {at}");
     }
+}
+
+fn walks<A: Reserve, B: Reserve>(rt: &impl Abort, alloc: Global) -> Result<(), AllocError> {
+    let mut one: A = new_store(alloc, 24, 20)?;
+    let mut other: B = new_store(alloc, 24, 20)?;
+    walk(rt, &mut one, &mut other);
     Ok(())
+}
+
+#[test]
+fn both_stores_are_alike_behind_each_move(rt: HostRuntime) -> Result<(), Fail> {
+    Ok(walks::<RawStore, TableStore>(&rt, rt.alloc())?)
 }

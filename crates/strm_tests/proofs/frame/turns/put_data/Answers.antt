@@ -5,4 +5,4 @@ use Rattle.strm_blocks.specs.Blocks.{token}
 
 pub put-requires-clause-chain : goal.put-requires-clause-chain
 put-requires-clause-chain g c =
-    (made-data (g.B.Blocks.value c.args.store.now) (g.B.Blocks.value c.from_bytes.new.store) (token c.in_ok-message.message) _ c.in_ok-message.ensures).one
+    (made-data (g.B.Blocks.value c.args.store.now) (g.B.Blocks.value c.from_bytes.new.store) (token c.in-Ok.message) _ c.in-Ok.ensures).one

@@ -9,4 +9,4 @@ use Rattle.strm_blocks.specs.Blocks.{token}
 pub put-requires-clause-chain : goal.put-requires-clause-chain
 unfolding is_data_kind
 put-requires-clause-chain g c =
-    (made-plain Flush (g.B.Blocks.value c.args.store.now) (g.B.Blocks.value c.from_bytes.new.store) (token c.in_ok-message.message) _ refl c.in_ok-message.ensures).one
+    (made-plain Flush (g.B.Blocks.value c.args.store.now) (g.B.Blocks.value c.from_bytes.new.store) (token c.in-Ok.message) _ refl c.in-Ok.ensures).one
