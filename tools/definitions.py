@@ -90,19 +90,20 @@ class Changes:
         return rounds
 
 
-def hook(home, room, names):
-    """Has a function's proof import the files of the lemmas, and gives the functions to check."""
+def hook(changes, home, room, names):
+    """Has the proof of the function that reaches least import the files of the lemmas, and gives the functions to check."""
     files = sorted({"::".join(name.split("::")[2:-1]) for name in names if is_lemma(name)})
     functions = [name for name in names if not is_lemma(name)]
     if files:
-        proofs = sorted(f"{at}/{it}" for at, _, found in os.walk(f"{room}/proofs") for it in found if it in ("Answers.antt", "Proof.antt"))
+        proofs = [f"{at}/{it}" for at, _, found in os.walk(f"{room}/proofs") for it in found if it in ("Answers.antt", "Proof.antt")]
         if not proofs:
             raise LookupError(f"no function of {home.name} has a proof file that could import its lemmas")
-        with open(proofs[0], encoding="utf-8") as file:
-            text = file.read()
-        with open(proofs[0], "w", encoding="utf-8") as file:
+        named = {"::".join([home.name, *os.path.relpath(os.path.dirname(it), f"{room}/proofs").split("/")]): it for it in sorted(proofs)}
+        least = min(named, key=lambda it: len(changes.reaches(home, it)) or len(named) ** 9)
+        text = reach.text_of(named[least])
+        with open(named[least], "w", encoding="utf-8") as file:
             file.write("".join(HOOK.format(crate=home.name, file=it.replace("::", "."), number=at) for at, it in enumerate(files)) + text)
-        functions.append("::".join([home.name, *os.path.relpath(os.path.dirname(proofs[0]), f"{room}/proofs").split("/")]))
+        functions.append(least)
     return functions
 
 
@@ -125,8 +126,9 @@ def refused_of(said, names, shows_nothing):
     return unproved
 
 
-def check(rt, crate, home, edits, shows_nothing, copy_with):
-    """Tries these edits of a crate in one copy: (those that were laid into it, why others weren't, the run, the names that aren't proved)"""
+def check(rt, it, edits, shows_nothing, copy_with):
+    """Tries edits of a round in one copy: (those that were laid into it, why others weren't, the run, the names that aren't proved)"""
+    crate, home = it.crate, it.home
     with tempfile.TemporaryDirectory(prefix=f"wrong-{crate.name}-") as room:
         os.mkdir(f"{room}/{crate.name}")
         here, told = copy_with(rt, crate, edits, f"{room}/{crate.name}")
@@ -135,7 +137,7 @@ def check(rt, crate, home, edits, shows_nothing, copy_with):
                 if os.path.isdir(f"{home.folder}/{part}"):
                     shutil.copytree(f"{home.folder}/{part}", f"{room}/{home.name}/{part}")
         names = [name for edit in here for name in edit.refused]
-        words = words_of(rt, crate, home, room, hook(home, f"{room}/{home.name}", names))
+        words = words_of(rt, crate, home, room, hook(it.changes, home, f"{room}/{home.name}", names))
         how = {"cwd": f"{room}/{home.name}", "stdin": subprocess.DEVNULL, "stdout": subprocess.PIPE, "stderr": subprocess.STDOUT, "errors": "replace"}
         ran = subprocess.run([*rt.rtlib.guarded(), *words], **how) if here else None
     return here, told, ran, refused_of(ran.stdout, names, shows_nothing) if ran else set()

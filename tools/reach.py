@@ -55,7 +55,7 @@ class Texts:
     """The declarations of some crates, each known as (crate, path, name)."""
 
     def __init__(self, folders):
-        self.text, self.uses, self.named, self.reach = {}, {}, {}, {}
+        self.text, self.uses, self.inside, self.named, self.brings, self.stepped = {}, {}, {}, {}, {}, {}
         for crate, folder in folders.items():
             for part in ("src", "specs", "proofs"):
                 for path in glob.glob(f"{folder}/{part}/**/*.*", recursive=True):
@@ -66,8 +66,10 @@ class Texts:
         for name, words in told.items():
             self.text[crate, path, name] = words
             if path.endswith(".rt"):
-                self.named.setdefault((crate, name), set()).add((crate, path, name))
+                for known in (name, (crate, name)):
+                    self.named.setdefault(known, set()).add((crate, path, name))
         self.uses[crate, path] = USE.findall(text)
+        self.inside[crate, path] = [(crate, path, name) for name in told]
 
     def imports(self, crate, path):
         """{word: declarations} of what a file's lines `use` bring in, and of its own declarations."""
@@ -80,39 +82,41 @@ class Texts:
                 for word in WORD.findall(own or given):
                     found.setdefault(word, set()).update(self.called(file, given))
             if alias:
-                found.setdefault(alias, set()).update(it for it in self.text if it[:2] == file)
-        for it in self.text:
-            if it[:2] == (crate, path):
-                for word in WORD.findall(it[2]):
-                    found.setdefault(word, set()).add(it)
+                found.setdefault(alias, set()).update(self.inside.get(file, ()))
+        for it in self.inside[crate, path]:
+            for word in WORD.findall(it[2]):
+                found.setdefault(word, set()).add(it)
         return found
 
     def called(self, file, name):
         """What a name of a module is: a declaration of that file, or, of a function's own modules, the function."""
         it = (*file, name)
-        if it in self.text or file in self.uses:
-            return {it} & {*self.text}
+        if file in self.uses:
+            return {it} if it in self.text else set()
         of, path = file
         words = path[:-len(".antt")].split("/")
         return self.named.get((of, words[-2]), set()) if words[0] == "proofs" and len(words) > 2 else set()
 
     def steps(self, it):
         """The declarations that the text of one names. A function names those of its crate and of the crates below by their last words."""
-        crate, path, _ = it
-        if (crate, path) not in self.reach:
-            self.reach[crate, path] = self.imports(crate, path)
-        words, found = {*WORD.findall(self.text[it])}, set()
-        for word in words:
-            found |= self.reach[crate, path].get(word, set())
-            if path.endswith(".rt"):
-                found |= {more for (_, name), all_so in self.named.items() if name == word for more in all_so}
-        return found
+        if it not in self.stepped:
+            crate, path, _ = it
+            if (crate, path) not in self.brings:
+                self.brings[crate, path] = self.imports(crate, path)
+            brings, found = self.brings[crate, path], set()
+            for word in {*WORD.findall(self.text[it])}:
+                found |= brings.get(word, set())
+                if path.endswith(".rt"):
+                    found |= self.named.get(word, set())
+            self.stepped[it] = found
+        return self.stepped[it]
 
     def of(self, witness):
         """The declarations that a witness is: a lemma's, CRATE::proofs::FILE::NAME, or a function's and those of the files of its proof."""
         crate, *inside, name = witness.split("::")
         if inside[:1] == ["proofs"]:
-            return {(crate, f"proofs/{'/'.join(inside[1:])}.antt", name)} & {*self.text}
+            file = (crate, f"proofs/{'/'.join(inside[1:])}.antt")
+            return {it for it in self.inside.get(file, ()) if it[2] == name}
         folder = f"proofs/{'/'.join([*inside, name])}/"
         own = self.named.get((crate, name), set())
         return own | {it for it in self.text if it[0] == crate and it[1].startswith(folder)} if own else own
