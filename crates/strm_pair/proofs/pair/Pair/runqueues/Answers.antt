@@ -2,7 +2,7 @@
 use Rattle.std.proofs.Common.{ap, sym, ◌∙◌, subst}
 use Rattle.strm_laws.specs.Pair.{PairState, RanTurns, next_refused, queue_refused}
 use Rattle.strm_laws.proofs.Replay.{refused-by}
-use Rattle.strm_pair.proofs.Runs.{next-is, none-first, one-more}
+use Rattle.strm_pair.proofs.Runs.{next-allowed, next-is, none-first, one-more}
 use Rattle.strm_pair.proofs.pair.Pair.runqueues.Goals as goal
 
 pub returns-in_default-clause-rest : goal.returns-in_default-clause-rest
@@ -34,3 +34,15 @@ loop-turns-preserved g c =
 
 pub returns-in-None-clause-rest : goal.returns-in-None-clause-rest
 returns-in-None-clause-rest g c = none-first _ (sym c.first_enabled-2.ensures ∙ c.in-None.is)
+
+-- where turns come to rest, no queue is enabled in the end
+pub returns-in_default-clause-rests : goal.returns-in_default-clause-rests
+returns-in_default-clause-rests g c = λ once events bytes range blocks. none-first _ (sym c.first_enabled.ensures ∙ c.in_default.is)
+
+pub returns-in-Err-clause-rests : goal.returns-in-Err-clause-rests
+returns-in-Err-clause-rests g c = λ once events bytes range blocks.
+    let going = next-allowed c.loop-turns.turns c.args.self.now c.turn.new.self (returns-in-Err-clause-ran g c) c.audit.ensures.restorable once events bytes range blocks in
+    absurd (cc (returns-in-Err-clause-stopped g c ∙ going))
+
+pub returns-in-None-clause-rests : goal.returns-in-None-clause-rests
+returns-in-None-clause-rests g c = λ once events bytes range blocks. none-first _ (sym c.first_enabled-2.ensures ∙ c.in-None.is)
