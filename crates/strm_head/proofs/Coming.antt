@@ -5,6 +5,7 @@ use Rattle.std.specs.List.{list_any}
 use Rattle.strm_types.specs.declared.flushing.FlushAsked.{FlushAsked}
 use Rattle.strm_types.specs.declared.kinds.MsgKind.{MsgKind}
 use Rattle.strm_types.specs.declared.kinds.MsgKind.TheVariants.{Flush}
+use Rattle.strm_types.specs.declared.kinds.MsgKind.TheVariants as kinds
 use Rattle.strm_types.specs.declared.names.Way.TheVariants.{Up, Down}
 use Rattle.strm_types.specs.declared.rules.Rule.TheVariants.{Doubled}
 use Rattle.strm_types.specs.declared.spots.Spot.{Spot}
@@ -12,7 +13,7 @@ use Rattle.strm_types.specs.Deliver.{Acted, Parcel, toward, Goes}
 use Rattle.strm_types.specs.Flush.{is_data_kind}
 use Rattle.strm_types.specs.Flushing.{is_flush, asked_by, flush_bytes, flush_message}
 use Rattle.strm_types.specs.Heads.{is_pcproto, passed_by, is_doubled, waits_for_readers, turned_round, flush_up, obeyed, head_put, Head}
-use Rattle.strm_types.specs.Message.{Message, cells_of}
+use Rattle.strm_types.specs.Message.{Message, cells_of, is_held}
 use Rattle.strm_types.specs.Names.{direction_at}
 use Rattle.strm_types.specs.Queue.{put_on}
 use Rattle.strm_blocks.specs.Blocks.{Block, StoreValue, IsInHand, IsStore, block_at, dropped, list_at, names_of}
@@ -51,6 +52,19 @@ frees-both s t u first second = record {
   mblks = omega (arith, first.mblks, second.mblks);
   dblks = omega (arith, first.dblks, second.dblks);
 }
+
+-- M_DATA and M_PROTO have parts, and neither is M_PCPROTO
+pub held-data : (kind : MsgKind) → is_held kind ≡ true → is_data_kind kind ≡ true
+unfolding is_held is_data_kind
+held-data kinds.Data is = refl
+held-data kinds.Proto is = refl
+held-data _ is = absurd (cc)
+
+pub held-other : (kind : MsgKind) → is_held kind ≡ true → is_pcproto kind ≡ false
+unfolding is_held
+held-other kinds.Data is = refl
+held-other kinds.Proto is = refl
+held-other _ is = absurd (cc)
 
 module _ (here : Spot) (chain : List Block) (h : Head ℕ) where
   abbrev m : Message ℕ

@@ -8,6 +8,7 @@ ghost use Rattle.strm_types.specs.Heads.{is_pcproto, waits_for_readers, head_flu
 ghost use Rattle.strm_types.specs.Ioctls.{read_ioc};
 ghost use Rattle.strm_types.specs.Options.{are_marks, options_in};
 ghost use Rattle.strm_types.specs.Flush.{is_data_kind};
+ghost use Rattle.strm_types.specs.Message.{is_held};
 ghost use Rattle.strm_types.specs.Signals.{signal_in, with_signal};
 ghost use Rattle.strm_types.specs.Slots.{slot_answered};
 ghost use Rattle.strm_types.specs.Heads as state;
@@ -16,7 +17,7 @@ ghost use Rattle.strm_msg.specs.Bytes.{bytes_of};
 ghost use Rattle.strm_msg.specs.Messages.{message_of, IsChain};
 ghost use Rattle.strm_queue.specs.Kept.{AreCounted};
 ghost use Rattle.strm_queue.specs.Queues.{OnlyCounts};
-ghost use Rattle.strm_queue.specs.Stored.{messages_on, queue_in, IsReady, IsHeadQueue, HoldsReadable, Changes, FreesBlocks};
+ghost use Rattle.strm_queue.specs.Stored.{messages_on, queue_in, IsReady, IsHeadQueue, HoldsReadable, Changes, FreesBlocks, FreesNone};
 ghost use Rattle.strm_head.specs.Heads.{head_in, notes_of, plain_slot, sent_down};
 
 use crate::head::Head;
@@ -134,6 +135,8 @@ impl Head {
         ensures changes { Changes (dropped (B.value store.old) (token message)) (B.value store.new) self.old.queue self.new.queue }
         ensures readable { HoldsReadable (list_at (B.value store.new) self.new.queue.list) }
         ensures frees { FreesBlocks (B.value store.old) (B.value store.new) }
+        ensures blocks { is_pcproto (block_at 0 (in_hand (B.value store.old) (token message))).kind ≡ false →
+            FreesNone (B.value store.old) (B.value store.new) }
     {
         store.audit();
         if is_pcproto(store.kind(&message, 0)) && has_pcproto(store, &self.queue) {
@@ -297,7 +300,7 @@ impl Head {
     /// for a second M_PCPROTO, which goes. An M_FLUSH with FLUSHR flushes the queue, and one with FLUSHW goes down again
     /// without FLUSHR. An M_HANGUP says that the other end is gone. M_SIG and M_PCSIG leave a signal. An M_SETOPTS sets the
     /// read mode and the marks. M_IOCACK and M_IOCNAK answer the ioctl under way. An M_IOCTL that wants an answer is answered
-    /// with M_IOCNAK. All others are freed. No block is taken.
+    /// with M_IOCNAK. All others are freed. No block is taken, and none is freed by an M_DATA or an M_PROTO.
     pub fn put<B: Blocks>(
         &mut self,
         store: &mut B,
@@ -320,6 +323,8 @@ impl Head {
         ensures changes { Changes (dropped (B.value store.old) (token message)) (B.value store.new) self.old.queue self.new.queue }
         ensures readable { HoldsReadable (list_at (B.value store.new) self.new.queue.list) }
         ensures frees { FreesBlocks (B.value store.old) (B.value store.new) }
+        ensures blocks { is_held (block_at 0 (in_hand (B.value store.old) (token message))).kind ≡ true →
+            FreesNone (B.value store.old) (B.value store.new) }
     {
         store.audit();
         let kind = store.kind(&message, 0);

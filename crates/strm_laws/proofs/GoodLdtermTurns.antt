@@ -223,7 +223,7 @@ module _ {C : Type 0} (cells : Cells C) (here : Spot) where
         sent = tt;
       }))
 
-  next-good : (made : ℕ) (l : Ldterm C) → GoodLdterm l → GoodAtLdterm (next_stage cells here made l)
+  pub next-good : (made : ℕ) (l : Ldterm C) → GoodLdterm l → GoodAtLdterm (next_stage cells here made l)
   next-good made l good = at l.stage
     where
       next : (xs : List C) → GoodAtLdterm (begins_next cells here xs l)

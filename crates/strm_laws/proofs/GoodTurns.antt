@@ -100,17 +100,25 @@ module _ {C : Type 0} (cells : Cells C) where
     serves-acted again made stop (OfPtem p) good = record { state = good; sent = tt }
     serves-acted again made stop (OfPckt p) good = record { state = tt; sent = tt }
 
+    -- a call, and the delivery of what it sent
+    pub call-good : (again : Bool) (left : ℕ) (s : State C) → AreStreams s → let t = module_called cells here again left s in AreStreams (in_turn (carried (put_in cells) HOPS) t.sent t.state).state
+    call-good again left s all =
+        let ps = (stream here.side s).modules in
+        let made = made_below here.side s in
+        let i = here.at - 1 in
+        let t = module_called cells here again left s in
+        let acted = call_at cells here made again left ps in
+        let took = acted-good cells here acted s (serve-names cells here made again (Some left) i ps) (acts-good (λ p. (module_serves cells here made again (Some left) p).acted) (serves-acted again made (Some left)) i ps (all.0 here.side).modules.each) all in
+        sent-good GoodMessage AreStreams cells (stream-parts cells) t.sent t.state took.sent took.state
+
     calls-good : (n : ℕ) (again : Bool) (left : ℕ) (s : State C) → AreStreams s → AreStreams (calls cells here n again left s).state
     calls-good zero again left s all = all
     calls-good (suc more) again left s all =
         let ps = (stream here.side s).modules in
         let made = made_below here.side s in
-        let i = here.at - 1 in
         let t = module_called cells here again left s in
         let u = in_turn (carried (put_in cells) HOPS) t.sent t.state in
-        let acted = call_at cells here made again left ps in
-        let took = acted-good cells here acted s (serve-names cells here made again (Some left) i ps) (acts-good (λ p. (module_serves cells here made again (Some left) p).acted) (serves-acted again made (Some left)) i ps (all.0 here.side).modules.each) all in
-        let sent = sent-good GoodMessage AreStreams cells (stream-parts cells) t.sent t.state took.sent took.state in
+        let sent = call-good again left s all in
         calls-either AreStreams (again_at cells here made again left ps) _ _ (calls-good more true (left - bytes_at cells here made again left ps) u.state sent) sent
 
     moved-good : (name : QueueName) (bytes : ℕ) (s : State C) → AreStreams s → AreStreams (moved_on cells here name bytes s).state

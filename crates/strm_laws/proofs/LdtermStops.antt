@@ -1,6 +1,6 @@
 -- Over plain bytes a call of ldterm's service procedure says nothing of how many were made before. One that asks for another call is the
 -- same wherever the stages that it did are among those that it may do, and each that it did counts.
-use Rattle.std.proofs.Common.{ℕ, zero, suc, ◌≡◌, ◌≤◌, ◌+◌, ◌-◌, ◌*◌, Bool, true, false, cond, List, [], ◌∷◌, ◌++◌, length, refl, sym, ap, ◌∙◌, arith}
+use Rattle.std.proofs.Common.{ℕ, zero, suc, ◌≡◌, ◌≤◌, ◌+◌, ◌-◌, ◌*◌, Bool, true, false, cond, List, [], ◌∷◌, ◌++◌, length, refl, sym, ap, subst, ◌∙◌, arith}
 use Rattle.std.specs.Prelude.{Option, None, Some, is_some}
 use Rattle.std.proofs.lemmas.Bool.{false≢true}
 use Rattle.strm_types.specs.declared.names.Way.{Way}
@@ -58,10 +58,16 @@ module _ (here : Spot) where
       (w.same (3 * left - stages_done l.stage) other (omega (arith, bytes, steps, within)))
       ∙ ap (λ n. record { acted = t.acted; bytes = n; again = t.again }) (ap (λ again. cond again (to_treat l - to_treat t.acted.state) left) works ∙ sym bytes)
 
+-- of M_DATA that stands first on a read queue each byte is a cell, as it is of a store's messages
+abbrev pub FullFirst : List (Message ℕ) → Type 0
+FullFirst [] = Unit {0}
+FullFirst (m ∷ rest) = is_data m.kind ≡ true → length (cells_of m) ≡ size_of m
+
 -- A call that asks for another one: how far it went, and what is left.
 pub record GoesOn (way : Way) (again : Bool) (l : Ldterm ℕ) (bytes : ℕ) (q : Ldterm ℕ) : Type 0 where
   pub up : way ≡ Up
   pub treat : to_treat q + bytes ≤ bytes_left way again l
+  pub all : (again ≡ false → FullFirst l.read_queue.messages) → bytes_left way again l ≤ to_treat q + bytes
   pub done : suc (stages_done l.stage) ≤ stages_done q.stage + 3 * bytes
   pub work : is_some q.in_work ≡ true
 
@@ -96,12 +102,12 @@ module _ (here : Spot) where
       of (m ∷ rest) works = absurd (false≢true works)
   goes-at Up true l begins works =
       let g = treats-goes (record here { way = Up }) (to_treat l) 0 l works in
-      record { treat = let e = g.treat in omega arith; done = g.done; work = g.work; up = refl }
+      record { treat = let e = g.treat in omega arith; all = λ full. (let e = g.treat in omega arith); done = g.done; work = g.work; up = refl }
   goes-at Up false l begins works = of l.read_queue.messages refl works
     where
       of : (ms : List (Message ℕ)) → l.read_queue.messages ≡ ms → let t = input_begins plain (record here { way = Up }) None 0 ms l in t.again ≡ true → GoesOn Up false l t.bytes t.acted.state
       of [] is works = absurd (false≢true works)
-      of (m ∷ rest) is works = at (is_data m.kind) works
+      of (m ∷ rest) is works = at (is_data m.kind) refl works
         where
           up : Spot
           up = record here { way = Up }
@@ -109,13 +115,20 @@ module _ (here : Spot) where
           begun : Ldterm ℕ
           begun = record l { read_queue = left_with rest l.read_queue; in_work = Some m }
 
-          at : (treated : Bool) → let t = cond treated (treats plain up (length (cells_of m)) 0 begun) (passes plain up Up m rest l) in t.again ≡ true → GoesOn Up false l t.bytes t.acted.state
-          at true works =
+          at : (treated : Bool) → is_data m.kind ≡ treated → let t = cond treated (treats plain up (length (cells_of m)) 0 begun) (passes plain up Up m rest l) in t.again ≡ true → GoesOn Up false l t.bytes t.acted.state
+          at true kind works =
               let g = treats-goes up (length (cells_of m)) 0 begun works in
               let size = ap first_size is in
               let none = ap (λ stage. to_treat (record begun { stage = stage })) begins.3 in
-              record { treat = let e = g.treat in omega (arith, size, none); done = g.done; work = g.work; up = refl }
-          at false works = absurd (false≢true works)
+              let whole : (false ≡ false → FullFirst l.read_queue.messages) → length (cells_of m) ≡ size_of m = λ full. subst FullFirst is (full refl) kind in
+              record {
+                treat = let e = g.treat in omega (arith, size, none);
+                all = λ full. (let e = g.treat in omega (arith, size, none, whole full));
+                done = g.done;
+                work = g.work;
+                up = refl;
+              }
+          at false kind works = absurd (false≢true works)
 
   -- It is the same wherever what it did is among the bytes that it may treat.
   alike-at : (way : Way) (again : Bool) (l : Ldterm ℕ) → let t = ldterm_serves plain (record here { way = way }) 0 again None l in t.again ≡ true

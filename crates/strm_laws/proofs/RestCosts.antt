@@ -1,5 +1,5 @@
 -- What a message that is put at a spot comes to, in moves of messages, and that a delivery adds no more than it.
-use Rattle.std.proofs.Common.{ℕ, zero, suc, ◌≡◌, ◌≤◌, ◌+◌, ◌-◌, Bool, true, false, cond, List, [], ◌∷◌, length, refl, arith}
+use Rattle.std.proofs.Common.{ℕ, zero, suc, ◌≡◌, ◌≤◌, ◌+◌, ◌-◌, ◌*◌, Bool, true, false, cond, List, [], ◌∷◌, length, refl, arith}
 use Rattle.std.specs.Prelude.{◌&&◌, nat_le}
 use Rattle.std.proofs.lemmas.Bool.Decides.{nat_tests}
 use Rattle.strm_types.specs.declared.kinds.MsgKind.{MsgKind}
@@ -40,12 +40,12 @@ module _ {C S : Type 0} (Holds : S → Type 0) (weigh : S → ℕ) (cost : Spot 
       let t = put q.to q.message s in
       omega (arith, pays q.to q.message s holds, in_turn-pays (carried put hops) (carried-holds Holds put keeps hops) (carried-pays put keeps pays hops) t.sent t.state (keeps q.to q.message s holds))
 
--- what waits on a write queue on the way down, one move before the driver's
-abbrev pub sinks_by : MsgKind → Bool → ℕ
-sinks_by Data true = 1
-sinks_by Proto true = 1
-sinks_by Ioctl true = 1
-sinks_by kind ahead = 0
+-- what waits on a write queue on the way down, before the driver's
+abbrev pub sinks_by : MsgKind → Bool → ℕ → ℕ
+sinks_by Data true n = 1 + 2 * n
+sinks_by Proto true n = 1 + 2 * n
+sinks_by Ioctl true n = 1 + 2 * n
+sinks_by kind ahead n = 0
 
 -- more is ahead from below
 pub above-more : (kind : MsgKind) (n : ℕ) (a b : Bool) → (a ≡ true → b ≡ true) → moves_above kind a n ≤ moves_above kind b n
@@ -58,17 +58,17 @@ above-more Proto n true false less = absurd (cc (less refl))
 above-more Ioctl n a b less = omega arith
 above-more kind n a b less = omega arith
 
-pub sinks-more : (kind : MsgKind) (a b : Bool) → (a ≡ true → b ≡ true) → sinks_by kind a ≤ sinks_by kind b
-sinks-more Data false b less = omega arith
-sinks-more Data true true less = omega arith
-sinks-more Data true false less = absurd (cc (less refl))
-sinks-more Proto false b less = omega arith
-sinks-more Proto true true less = omega arith
-sinks-more Proto true false less = absurd (cc (less refl))
-sinks-more Ioctl false b less = omega arith
-sinks-more Ioctl true true less = omega arith
-sinks-more Ioctl true false less = absurd (cc (less refl))
-sinks-more kind a b less = omega arith
+pub sinks-more : (kind : MsgKind) (n : ℕ) (a b : Bool) → (a ≡ true → b ≡ true) → sinks_by kind a n ≤ sinks_by kind b n
+sinks-more Data n false b less = omega arith
+sinks-more Data n true true less = omega arith
+sinks-more Data n true false less = absurd (cc (less refl))
+sinks-more Proto n false b less = omega arith
+sinks-more Proto n true true less = omega arith
+sinks-more Proto n true false less = absurd (cc (less refl))
+sinks-more Ioctl n false b less = omega arith
+sinks-more Ioctl n true true less = omega arith
+sinks-more Ioctl n true false less = absurd (cc (less refl))
+sinks-more kind n a b less = omega arith
 
 -- the place of the ldterm that is ahead on a stream where one is
 abbrev pub at_or_above : Bool → ℕ → ℕ → Bool
@@ -97,7 +97,7 @@ module _ {C : Type 0} (all : Stands) (posts : Side → ℕ) where
   -- on the way up, and on the way down, where a bare M_FLUSH waits nowhere
   abbrev pub toll_at : Way → Side → ℕ → Message C → ℕ
   toll_at Up side at m = moves_above m.kind (at_or_above (echoes all side) (posts side) at) (length (cells_of m))
-  toll_at Down side at m = cond (is_bare_flush m) 0 (sinks_by m.kind (at_or_below (echoes all side) (posts side) at) + moves_across (echoes all (other side)) m)
+  toll_at Down side at m = cond (is_bare_flush m) 0 (sinks_by m.kind (at_or_below (echoes all side) (posts side) at) (length (cells_of m)) + moves_across (echoes all (other side)) m)
 
   abbrev pub toll : Spot → Message C → ℕ
   toll to m = toll_at to.way to.side to.at m
@@ -108,7 +108,7 @@ module _ {C : Type 0} (all : Stands) (posts : Side → ℕ) where
 
   pub down-falls : (side : Side) (a b : ℕ) (m : Message C) → b ≤ a → toll_at Down side a m ≤ toll_at Down side b m
   down-falls side a b m less =
-      let sinks = sinks-more m.kind _ _ (below-wider (echoes all side) (posts side) a b less) in
+      let sinks = sinks-more m.kind (length (cells_of m)) _ _ (below-wider (echoes all side) (posts side) a b less) in
       either-more (is_bare_flush m) _ _ (omega (arith, sinks))
 
   pub onward-falls : (way : Way) (here : Spot) (m : Message C) → toll (toward way here) m ≤ toll_at way here.side here.at m

@@ -1,5 +1,5 @@
 -- A put at ldterm adds no more moves than its message costs, where it is the one ldterm of a pair.
-use Rattle.std.proofs.Common.{ℕ, suc, ◌≡◌, ◌≤◌, ◌<◌, ◌+◌, ◌-◌, Bool, true, false, cond, List, [], ◌∷◌, ◌++◌, length, refl, ap, ◌∙◌, arith}
+use Rattle.std.proofs.Common.{ℕ, suc, ◌≡◌, ◌≤◌, ◌<◌, ◌+◌, ◌-◌, ◌*◌, Bool, true, false, cond, List, [], ◌∷◌, ◌++◌, length, refl, ap, ◌∙◌, arith}
 use Rattle.std.specs.Prelude.{◌&&◌, ◌||◌, ◌==◌, not, nat_le, None}
 use Rattle.std.proofs.lemmas.Bool.Decides.{nat_tests}
 use Rattle.strm_types.specs.declared.flushing.FlushAsked.{FlushAsked}
@@ -40,7 +40,7 @@ in-paid Proto n is = omega arith
 in-paid kind n is = absurd (cc)
 
 out-paid : (kind : MsgKind) (parts behind : Bool) (n : ℕ) → (waits_there kind || (is_ioctl kind && not parts) && behind) ≡ true
-    → suc (suc (moves_above kind false n)) ≤ cond (is_flush kind && not parts) 0 (sinks_by kind true + suc (moves_above kind false n))
+    → suc (suc (moves_above kind false n)) + 2 * n ≤ cond (is_flush kind && not parts) 0 (sinks_by kind true n + suc (moves_above kind false n))
 out-paid Data parts behind n is = omega arith
 out-paid Proto parts behind n is = omega arith
 out-paid Ioctl parts behind n is = omega arith
@@ -68,12 +68,12 @@ module _ {C : Type 0} (all : Stands) (posts : Side → ℕ) (here : Spot) (some 
       let second = ap (λ (n : ℕ). moves_above m.kind (nat_le n here.at) (length (cells_of m))) post in
       first ∙ second ∙ ap (λ (b : Bool). moves_above m.kind b (length (cells_of m))) (le-itself here.at)
 
-  down-it : (m : Message C) → toll_at all posts Down here.side here.at m ≡ cond (is_flush m.kind && not (has_parts m)) 0 (sinks_by m.kind true + suc (moves_above m.kind false (length (cells_of m))))
+  down-it : (m : Message C) → toll_at all posts Down here.side here.at m ≡ cond (is_flush m.kind && not (has_parts m)) 0 (sinks_by m.kind true (length (cells_of m)) + suc (moves_above m.kind false (length (cells_of m))))
   down-it m =
-      ap (λ (b : Bool). cond (is_flush m.kind && not (has_parts m)) 0 (sinks_by m.kind (at_or_below b (posts here.side) here.at) + suc (moves_above m.kind (echoes all (other here.side)) (length (cells_of m))))) echoed
-      ∙ ap (λ (b : Bool). cond (is_flush m.kind && not (has_parts m)) 0 (sinks_by m.kind (nat_le here.at (posts here.side)) + suc (moves_above m.kind b (length (cells_of m))))) alone
-      ∙ ap (λ (n : ℕ). cond (is_flush m.kind && not (has_parts m)) 0 (sinks_by m.kind (nat_le here.at n) + suc (moves_above m.kind false (length (cells_of m))))) post
-      ∙ ap (λ (b : Bool). cond (is_flush m.kind && not (has_parts m)) 0 (sinks_by m.kind b + suc (moves_above m.kind false (length (cells_of m))))) (le-itself here.at)
+      ap (λ (b : Bool). cond (is_flush m.kind && not (has_parts m)) 0 (sinks_by m.kind (at_or_below b (posts here.side) here.at) (length (cells_of m)) + suc (moves_above m.kind (echoes all (other here.side)) (length (cells_of m))))) echoed
+      ∙ ap (λ (b : Bool). cond (is_flush m.kind && not (has_parts m)) 0 (sinks_by m.kind (nat_le here.at (posts here.side)) (length (cells_of m)) + suc (moves_above m.kind b (length (cells_of m))))) alone
+      ∙ ap (λ (n : ℕ). cond (is_flush m.kind && not (has_parts m)) 0 (sinks_by m.kind (nat_le here.at n) (length (cells_of m)) + suc (moves_above m.kind false (length (cells_of m))))) post
+      ∙ ap (λ (b : Bool). cond (is_flush m.kind && not (has_parts m)) 0 (sinks_by m.kind b (length (cells_of m)) + suc (moves_above m.kind false (length (cells_of m))))) (le-itself here.at)
 
   -- data that goes up from it moves no more
   pub data-past : (xs : List C) → toll_at all posts Up here.side (here.at - 1) (data_message xs) ≡ 0

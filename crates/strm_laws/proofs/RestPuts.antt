@@ -184,14 +184,26 @@ module _ {C : Type 0} (all : Stands) (posts : Side → ℕ) where
     asks-up way is = ap (λ (way : Way). toll_at all posts way here.side here.at m) way ∙ ap (λ (kind : MsgKind). moves_above kind (at_or_above (echoes all here.side) (posts here.side) here.at) (length (cells_of m))) is
 
     down_by : MsgKind → ℕ
-    down_by kind = cond (is_flush kind && not (has_parts m)) 0 (sinks_by kind (at_or_below (echoes all here.side) (posts here.side) here.at) + suc (moves_above kind (echoes all (other here.side)) (length (cells_of m))))
+    down_by kind = cond (is_flush kind && not (has_parts m)) 0 (sinks_by kind (at_or_below (echoes all here.side) (posts here.side) here.at) (length (cells_of m)) + suc (moves_above kind (echoes all (other here.side)) (length (cells_of m))))
 
-    asks-down : here.way ≡ Down → m.kind ≡ Ioctl → toll all posts here m ≡ toll_at all posts Down here.side here.at (telling_message {C = C} (record { command = 0; number = 0; error = 0; result = 0 }) [])
+    asks-down : here.way ≡ Down → m.kind ≡ Ioctl → toll all posts here m ≡ down_by Ioctl
     unfolding down_by
     asks-down way is = ap (λ (way : Way). toll_at all posts way here.side here.at m) way ∙ ap (λ (kind : MsgKind). down_by kind) is
 
+    telling-none : (ioc : Ioc) (given : List ℕ) → length (cells_of (telling_message {C = C} ioc given)) ≡ 0
+    unfolding cells_of
+    telling-none ioc given = refl
+
+    telling-least : (ioc : Ioc) (given : List ℕ) → toll_at all posts Down here.side here.at (telling_message {C = C} ioc given) ≤ down_by Ioctl
+    unfolding down_by
+    telling-least ioc given = at (at_or_below (echoes all here.side) (posts here.side) here.at) (length (cells_of (telling_message {C = C} ioc given))) (telling-none ioc given)
+      where
+        at : (b : Bool) (n : ℕ) → n ≡ 0 → sinks_by Ioctl b n + 2 ≤ sinks_by Ioctl b (length (cells_of m)) + 2
+        at true n none = omega (arith, none)
+        at false n none = omega arith
+
     tells-less : here.way ≡ Down → m.kind ≡ Ioctl → (ioc : Ioc) (given : List ℕ) → toll all posts (toward Down here) (telling_message {C = C} ioc given) ≤ toll all posts here m
-    tells-less way is ioc given = omega (arith, asks-down way is, down-falls all posts here.side (here.at + 1) here.at (telling_message {C = C} (record { command = 0; number = 0; error = 0; result = 0 }) []) (omega arith))
+    tells-less way is ioc given = omega (arith, asks-down way is, telling-least ioc given, down-falls all posts here.side (here.at + 1) here.at (telling_message {C = C} ioc given) (omega arith))
 
     pub ptem-few : Few (ptem_puts here m l).sent
     ptem-few = ptem-each here m l (λ t. Few t.sent) (omega (arith, onward-falls all posts here.way here m)) (λ is. (let asks = asked-ioctl m is in record {

@@ -103,7 +103,7 @@ module _ {C : Type 0} (all : Stands) where
     at-driver : (side : Side) (at : ℕ) (m : Message C) → cond (is_bare_flush m) 0 (moves_across (echoes all (other side)) m) ≤ toll_at all posts Down side at m
     at-driver side at m = more (is_bare_flush m)
       where
-        more : (bare : Bool) → cond bare 0 (moves_across (echoes all (other side)) m) ≤ cond bare 0 (sinks_by m.kind (at_or_below (echoes all side) (posts side) at) + moves_across (echoes all (other side)) m)
+        more : (bare : Bool) → cond bare 0 (moves_across (echoes all (other side)) m) ≤ cond bare 0 (sinks_by m.kind (at_or_below (echoes all side) (posts side) at) (length (cells_of m)) + moves_across (echoes all (other side)) m)
         more true = omega arith
         more false = omega arith
 

@@ -2,6 +2,7 @@
 use Rattle.std.proofs.Common.{ℕ, zero, suc, ◌≡◌, ◌≤◌, ◌<◌, ◌+◌, ◌-◌, ◌*◌, ◌⊎◌, inl, inr, Bool, true, false, cond, List, [], ◌∷◌, ◌++◌, map, refl, ap, subst, ◌∙◌, arith}
 use Rattle.std.specs.Prelude.{◌&&◌, ◌==◌, not, max, min, sum_by, slice_index_or, Option, None, Some, is_some}
 use Rattle.std.proofs.lemmas.List.Sums.{sum_by-cons}
+use Rattle.std.specs.List.{AllByRecursion}
 use Rattle.strm_types.specs.declared.answers.Turn.{Turn}
 use Rattle.strm_types.specs.declared.answers.Turn.TheVariants.{Moved, Blocked, Idle}
 use Rattle.strm_types.specs.declared.limits.TheConstants.{HOPS}
@@ -29,6 +30,7 @@ use Rattle.strm_laws.specs.ModuleTurns.{Calls, again_at, asked_turn, bytes_at, c
 use Rattle.strm_laws.specs.Past.{has_room_past, waits_on, writer_waits}
 use Rattle.strm_laws.specs.Puts.{delivered, put_in}
 use Rattle.strm_laws.specs.Rest.{echoes, module_moves, moves, moves_across, moves_in, moves_out, stream_moves}
+use Rattle.strm_laws.specs.Restorable.{GoodModule}
 use Rattle.strm_laws.specs.StackCosts.{Stands, stands_of}
 use Rattle.strm_laws.specs.Stacked.{Module, OfLdterm, OfPtem, OfPckt, module_asks, module_name, module_queue, module_rests, module_serves, with_module_queue}
 use Rattle.strm_laws.specs.State.{State, Stream, stream, with_driver_queue, with_stream}
@@ -36,6 +38,8 @@ use Rattle.strm_laws.specs.TurnOutcomes.{TurnOutcome, stayed_put}
 use Rattle.strm_laws.specs.Turns.{driver_serves, held_back, is_stopped_across, moved_across, turned_queue, up_across, with_driver}
 use Rattle.strm_types.proofs.DeliveryHolds.{carried-holds, in_turn-holds}
 use Rattle.strm_types.proofs.LdtermPuts.{either}
+use Rattle.strm_laws.proofs.GoodStreams.{AreStreams}
+use Rattle.strm_laws.proofs.GoodTurns.{call-good}
 use Rattle.strm_laws.proofs.PutParts.{acted-holds}
 use Rattle.strm_laws.proofs.RestCosts.{up-most}
 use Rattle.strm_laws.proofs.RestPuts.{tolls}
@@ -186,7 +190,7 @@ module _ {C : Type 0} (all : Stands) where
 
       -- a module whose turn may begin, and treats so many bytes of its first message
       abbrev pub Ready : ℕ → Module C → Type 0
-      Ready left q = (module_rests q ≡ true) × (is_waiting (module_asks here.way q) ≡ true) × Goes here.way left (first_size (messages_at module_queue here.way q))
+      Ready left q = (module_rests q ≡ true) × (is_waiting (module_asks here.way q) ≡ true) × Goes left (first_size (messages_at module_queue here.way q))
 
       waits-some : (way : Way) (l : TheLdterm C) → is_waiting (module_asks way (OfLdterm l)) ≡ true → is_none_left (queue_at way l).messages ≡ false
       waits-some way l is = at (queue_at way l).messages is
@@ -195,40 +199,40 @@ module _ {C : Type 0} (all : Stands) where
           at [] is = absurd (cc)
           at (m ∷ ms) is = refl
 
-      module-first : (made left : ℕ) (q : Module C) → FitsName (echoes all here.side) (echoes all (other here.side)) (posts here.side) here.at (module_name q) → Ready left q
+      module-first : (made left : ℕ) (q : Module C) → FitsName (echoes all here.side) (echoes all (other here.side)) (posts here.side) here.at (module_name q) → GoodModule q → Ready left q
           → let t = acts false made left q in suc (module_moves t.state + tolls all posts t.sent) ≤ module_moves q
-      module-first made left (OfLdterm l) fits ready = first-fewer cells all posts here some fits.0 fits.1 fits.2 here.way made left l (rests-between l ready.0) (waits-some here.way l ready.1) ready.2
-      module-first made left (OfPtem q) fits ready = absurd (cc (ready.1))
-      module-first made left (OfPckt q) fits ready = absurd (cc (ready.1))
+      module-first made left (OfLdterm l) fits good ready = first-fewer cells all posts here some fits.0 fits.1 fits.2 here.way made left l (rests-between l ready.0) (waits-some here.way l ready.1) ready.2 good
+      module-first made left (OfPtem q) fits good ready = absurd (cc (ready.1))
+      module-first made left (OfPckt q) fits good ready = absurd (cc (ready.1))
 
-      module-later : (made left : ℕ) (q : Module C) → FitsName (echoes all here.side) (echoes all (other here.side)) (posts here.side) here.at (module_name q) → here.way ≡ Up
+      module-later : (made left : ℕ) (q : Module C) → FitsName (echoes all here.side) (echoes all (other here.side)) (posts here.side) here.at (module_name q) → GoodModule q → here.way ≡ Up
           → let t = acts true made left q in module_moves t.state + tolls all posts t.sent ≤ module_moves q
-      module-later made left (OfLdterm l) fits up = later-less cells all posts here some fits.0 fits.1 fits.2 here.way made left l up
-      module-later made left (OfPtem q) fits up = omega arith
-      module-later made left (OfPckt q) fits up = omega arith
+      module-later made left (OfLdterm l) fits good up = later-less cells all posts here some fits.0 fits.1 fits.2 here.way made left l up good
+      module-later made left (OfPtem q) fits good up = omega arith
+      module-later made left (OfPckt q) fits good up = omega arith
 
       fits-at : (at : ℕ) (q : Module C) → at ≡ here.at → FitsName (echoes all here.side) (echoes all (other here.side)) (posts here.side) at (module_name q) → FitsName (echoes all here.side) (echoes all (other here.side)) (posts here.side) here.at (module_name q)
       fits-at at q same fits = subst (λ n. FitsName (echoes all here.side) (echoes all (other here.side)) (posts here.side) n (module_name q)) same fits
 
-      among-first : (made left i at : ℕ) (ps : List (Module C)) → at + i ≡ here.at → FitsHere at ps → At (Ready left) i ps
+      among-first : (made left i at : ℕ) (ps : List (Module C)) → at + i ≡ here.at → FitsHere at ps → AllByRecursion GoodModule ps → At (Ready left) i ps
           → let t = act_among (acts false made left) i ps in suc (sum_by module_moves t.state + tolls all posts t.sent) ≤ sum_by module_moves ps
-      among-first made left i at [] is fits ready = absurd (cc (ready))
-      among-first made left zero at (q ∷ qs) is fits ready =
+      among-first made left i at [] is fits good ready = absurd (cc (ready))
+      among-first made left zero at (q ∷ qs) is fits good ready =
           let t = acts false made left q in
-          omega (arith, module-first made left q (fits-at at q (omega (arith, is)) fits.0) ready, sum_by-cons module_moves q qs, sum_by-cons module_moves t.state qs)
-      among-first made left (suc i) at (q ∷ qs) is fits ready =
+          omega (arith, module-first made left q (fits-at at q (omega (arith, is)) fits.0) good.0 ready, sum_by-cons module_moves q qs, sum_by-cons module_moves t.state qs)
+      among-first made left (suc i) at (q ∷ qs) is fits good ready =
           let t = act_among (acts false made left) i qs in
-          omega (arith, among-first made left i (suc at) qs (omega (arith, is)) fits.1 ready, sum_by-cons module_moves q qs, sum_by-cons module_moves q t.state)
+          omega (arith, among-first made left i (suc at) qs (omega (arith, is)) fits.1 good.1 ready, sum_by-cons module_moves q qs, sum_by-cons module_moves q t.state)
 
-      among-later : (made left i at : ℕ) (ps : List (Module C)) → at + i ≡ here.at → FitsHere at ps → here.way ≡ Up
+      among-later : (made left i at : ℕ) (ps : List (Module C)) → at + i ≡ here.at → FitsHere at ps → AllByRecursion GoodModule ps → here.way ≡ Up
           → let t = act_among (acts true made left) i ps in sum_by module_moves t.state + tolls all posts t.sent ≤ sum_by module_moves ps
-      among-later made left i at [] is fits up = omega arith
-      among-later made left zero at (q ∷ qs) is fits up =
+      among-later made left i at [] is fits good up = omega arith
+      among-later made left zero at (q ∷ qs) is fits good up =
           let t = acts true made left q in
-          omega (arith, module-later made left q (fits-at at q (omega (arith, is)) fits.0) up, sum_by-cons module_moves q qs, sum_by-cons module_moves t.state qs)
-      among-later made left (suc i) at (q ∷ qs) is fits up =
+          omega (arith, module-later made left q (fits-at at q (omega (arith, is)) fits.0) good.0 up, sum_by-cons module_moves q qs, sum_by-cons module_moves t.state qs)
+      among-later made left (suc i) at (q ∷ qs) is fits good up =
           let t = act_among (acts true made left) i qs in
-          omega (arith, among-later made left i (suc at) qs (omega (arith, is)) fits.1 up, sum_by-cons module_moves q qs, sum_by-cons module_moves q t.state)
+          omega (arith, among-later made left i (suc at) qs (omega (arith, is)) fits.1 good.1 up, sum_by-cons module_moves q qs, sum_by-cons module_moves q t.state)
 
       -- a call, with what it sent
       called-stands : (again : Bool) (left : ℕ) (s : State C) → stands_of s ≡ all → stands_of (module_called cells here again left s).state ≡ all
@@ -246,26 +250,26 @@ module _ {C : Type 0} (all : Stands) where
           let t = module_called cells here again left s in
           in_turn-holds (Stand all) (carried (put_in cells) HOPS) (carried-holds (Stand all) (put_in cells) (puts-stand all cells) HOPS) t.sent t.state (called-stands again left s is)
 
-      on-first : (left : ℕ) (s : State C) → stands_of s ≡ all → At (Ready left) (here.at - 1) (stream here.side s).modules → suc (moves all (sent_on false left s)) ≤ moves all s
-      on-first left s is ready =
+      on-first : (left : ℕ) (s : State C) → stands_of s ≡ all → AreStreams s → At (Ready left) (here.at - 1) (stream here.side s).modules → suc (moves all (sent_on false left s)) ≤ moves all s
+      on-first left s is good ready =
           let ps = (stream here.side s).modules in
           let made = made_below here.side s in
           let t = module_called cells here false left s in
           omega (
             arith,
-            among-first made left (here.at - 1) 1 ps (omega (arith, some)) (fits-on all posts fit here.side s is) ready,
+            among-first made left (here.at - 1) 1 ps (omega (arith, some)) (fits-on all posts fit here.side s is) (good.0 here.side).modules.each ready,
             acted-moves all here (call_at cells here made false left ps) s,
             sent-pays all posts fit cells t.sent t.state (called-stands false left s is),
           )
 
-      on-later : (left : ℕ) (s : State C) → stands_of s ≡ all → here.way ≡ Up → moves all (sent_on true left s) ≤ moves all s
-      on-later left s is up =
+      on-later : (left : ℕ) (s : State C) → stands_of s ≡ all → AreStreams s → here.way ≡ Up → moves all (sent_on true left s) ≤ moves all s
+      on-later left s is good up =
           let ps = (stream here.side s).modules in
           let made = made_below here.side s in
           let t = module_called cells here true left s in
           omega (
             arith,
-            among-later made left (here.at - 1) 1 ps (omega (arith, some)) (fits-on all posts fit here.side s is) up,
+            among-later made left (here.at - 1) 1 ps (omega (arith, some)) (fits-on all posts fit here.side s is) (good.0 here.side).modules.each up,
             acted-moves all here (call_at cells here made true left ps) s,
             sent-pays all posts fit cells t.sent t.state (called-stands true left s is),
           )
@@ -286,21 +290,21 @@ module _ {C : Type 0} (all : Stands) where
           one way (OfPckt q) down = refl
       down-once made left (suc i) again (q ∷ qs) down = down-once made left i again qs down
 
-      calls-later : (n left : ℕ) (s : State C) → stands_of s ≡ all → here.way ≡ Up → let v = calls cells here n true left s in (stands_of v.state ≡ all) × (moves all v.state ≤ moves all s)
-      calls-later zero left s is up = (is, omega arith)
-      calls-later (suc more) left s is up =
+      calls-later : (n left : ℕ) (s : State C) → stands_of s ≡ all → AreStreams s → here.way ≡ Up → let v = calls cells here n true left s in (stands_of v.state ≡ all) × (moves all v.state ≤ moves all s)
+      calls-later zero left s is good up = (is, omega arith)
+      calls-later (suc more) left s is good up =
           let ps = (stream here.side s).modules in
           let u = sent_on true left s in
           let less = left - bytes_at cells here (made_below here.side s) true left ps in
-          let behind = calls-later more less u (on-stands true left s is) up in
-          let this = on-later left s is up in
+          let behind = calls-later more less u (on-stands true left s is) (call-good cells here true left s good) up in
+          let this = on-later left s is good up in
           either (λ (v : Calls C). (stands_of v.state ≡ all) × (moves all v.state ≤ moves all s)) (again_at cells here (made_below here.side s) true left ps) _ _
           (behind.0, omega (arith, behind.1, this)) (on-stands true left s is, this)
 
-      calls-fewer : (n left : ℕ) (s : State C) → 0 < n → stands_of s ≡ all → At (Ready left) (here.at - 1) (stream here.side s).modules
+      calls-fewer : (n left : ℕ) (s : State C) → 0 < n → stands_of s ≡ all → AreStreams s → At (Ready left) (here.at - 1) (stream here.side s).modules
           → let v = calls cells here n false left s in (stands_of v.state ≡ all) × (suc (moves all v.state) ≤ moves all s)
-      calls-fewer zero left s goes is ready = absurd (omega (arith, goes))
-      calls-fewer (suc more) left s goes is ready = at (again_at cells here (made_below here.side s) false left ps) refl here.way refl (on-first left s is ready)
+      calls-fewer zero left s goes is good ready = absurd (omega (arith, goes))
+      calls-fewer (suc more) left s goes is good ready = at (again_at cells here (made_below here.side s) false left ps) refl here.way refl (on-first left s is good ready)
         where
           ps : List (Module C)
           ps = (stream here.side s).modules
@@ -318,14 +322,14 @@ module _ {C : Type 0} (all : Stands) where
           at false is-it way is-way this = (on-stands false left s is, this)
           at true is-it Down is-way this = absurd (cc (is-it, down-once (made_below here.side s) left (here.at - 1) false ps is-way))
           at true is-it Up is-way this =
-              let behind = calls-later more less_left (sent_on false left s) (on-stands false left s is) is-way in
+              let behind = calls-later more less_left (sent_on false left s) (on-stands false left s is) (call-good cells here false left s good) is-way in
               (behind.0, omega (arith, behind.1, this))
 
       -- a turn that treats so many bytes of the first message
-      pub moved-leaves-here : (name : QueueName) (bytes : ℕ) (s : State C) → stands_of s ≡ all → At (Ready bytes) (here.at - 1) (stream here.side s).modules → Leaves (moves all s) s.enabled (moved_on cells here name bytes s).state
-      moved-leaves-here name bytes s is ready =
+      pub moved-leaves-here : (name : QueueName) (bytes : ℕ) (s : State C) → stands_of s ≡ all → AreStreams s → At (Ready bytes) (here.at - 1) (stream here.side s).modules → Leaves (moves all s) s.enabled (moved_on cells here name bytes s).state
+      moved-leaves-here name bytes s is good ready =
           let t = calls cells here (3 * bytes + 1) false bytes s in
-          let behind = calls-fewer (3 * bytes + 1) bytes s (omega arith) is ready in
+          let behind = calls-fewer (3 * bytes + 1) bytes s (omega arith) is good ready in
           let took = not (t.bytes == 0) in
           either-leaves (moves all s) s.enabled t.ended _ (stayed_put Blocked s)
           (ended-stands here took t.state behind.0, inl (omega (arith, behind.1, ended-same here took t.state)))
@@ -341,41 +345,33 @@ module _ {C : Type 0} (all : Stands) where
           (ended-stands here false waiting (waits-stand here.side here.way here.at band s is), inr (omega (arith, waits-same here.side here.way here.at band s, ended-same here false waiting), refl))
 
       one-ready : (left i : ℕ) (ps : List (Module C)) → slice_index_or (map module_rests ps) i false ≡ true → is_waiting (slice_index_or (map (module_asks here.way) ps) i asked.Empty) ≡ true
-          → Goes here.way left (slice_index_or (map (λ p. first_size (messages_at module_queue here.way p)) ps) i 0) → At (Ready left) i ps
+          → Goes left (slice_index_or (map (λ p. first_size (messages_at module_queue here.way p)) ps) i 0) → At (Ready left) i ps
       one-ready left i [] rests waits size = absurd (cc (rests))
       one-ready left zero (q ∷ qs) rests waits size = (rests, waits, size)
       one-ready left (suc i) (q ∷ qs) rests waits size = one-ready left i qs rests waits size
 
       -- how far a turn goes that moved so many bytes
-      goes-far : (way : Way) (bytes size : ℕ) → (way ≡ Down → bytes ≡ size) → Goes way (min (max 1 bytes) size) size
-      goes-far Up bytes size whole = none bytes size
-        where
-          none : (bytes size : ℕ) → min (max 1 bytes) size ≡ 0 → size ≡ 0
-          none bytes zero is = refl
-          none zero (suc size) is = absurd (omega (arith, is))
-          none (suc bytes) (suc size) is = absurd (omega (arith, is))
-      goes-far Down bytes size whole = to-end bytes size (whole refl)
-        where
-          to-end : (bytes size : ℕ) → bytes ≡ size → min (max 1 bytes) size ≡ size
-          to-end zero size is = omega (arith, is)
-          to-end (suc bytes) size is = omega (arith, is)
+      goes-far : (bytes size : ℕ) → Goes (min (max 1 bytes) size) size
+      goes-far bytes zero is = refl
+      goes-far zero (suc size) is = absurd (omega (arith, is))
+      goes-far (suc bytes) (suc size) is = absurd (omega (arith, is))
 
       -- how many bytes the first message of the queue there has
       abbrev first_there : State C → ℕ
       first_there s = at_place (λ p. first_size (messages_at module_queue here.way p)) 0 here.at (stream here.side s).modules
 
-      -- A turn that is answered so, and where it moved bytes of a write queue, as many as its first message has.
-      abbrev pub Answers : Turn → State C → TurnOutcome C → Type 0
-      Answers (Moved bytes) s t = here.way ≡ Down → bytes ≡ first_there s
-      Answers Blocked s t = t.turn ≡ Blocked
-      Answers Idle s t = t.turn ≡ Idle
+      -- a turn that is answered so
+      abbrev pub Answers : Turn → TurnOutcome C → Type 0
+      Answers (Moved bytes) t = Unit {0}
+      Answers Blocked t = t.turn ≡ Blocked
+      Answers Idle t = t.turn ≡ Idle
 
-      within-leaves : (name : QueueName) (turn : Turn) (s : State C) → stands_of s ≡ all → at_place module_rests false here.at (stream here.side s).modules ≡ true
-          → is_waiting (at_place (module_asks here.way) asked.Empty here.at (stream here.side s).modules) ≡ true → Answers turn s (moved_within cells here name turn s) → Leaves (moves all s) s.enabled (moved_within cells here name turn s).state
-      within-leaves name (Moved bytes) s is rests waits answers =
+      within-leaves : (name : QueueName) (turn : Turn) (s : State C) → stands_of s ≡ all → AreStreams s → at_place module_rests false here.at (stream here.side s).modules ≡ true
+          → is_waiting (at_place (module_asks here.way) asked.Empty here.at (stream here.side s).modules) ≡ true → Answers turn (moved_within cells here name turn s) → Leaves (moves all s) s.enabled (moved_within cells here name turn s).state
+      within-leaves name (Moved bytes) s is good rests waits answers =
           let most = min (max 1 bytes) (first_there s) in
-          moved-leaves-here name most s is (one-ready most (here.at - 1) (stream here.side s).modules rests waits (goes-far here.way bytes (first_there s) answers))
-      within-leaves name Blocked s is rests waits answers = blocked (calls cells here (3 * min 0 (first_there s) + 1) false (min 0 (first_there s)) s) answers
+          moved-leaves-here name most s is good (one-ready most (here.at - 1) (stream here.side s).modules rests waits (goes-far bytes (first_there s)))
+      within-leaves name Blocked s is good rests waits answers = blocked (calls cells here (3 * min 0 (first_there s) + 1) false (min 0 (first_there s)) s) answers
         where
           blocked : (t : Calls C) → let u : TurnOutcome C = cond t.ended (record { turn = Moved t.bytes; state = module_turn_ended name here (not (t.bytes == 0)) t.state; gone = t.gone }) (stayed_put Blocked s) in u.turn ≡ Blocked → Leaves (moves all s) s.enabled u.state
           blocked t answers = at t.ended answers
@@ -383,7 +379,7 @@ module _ {C : Type 0} (all : Stands) where
               at : (ended : Bool) → let u : TurnOutcome C = cond ended (record { turn = Moved t.bytes; state = module_turn_ended name here (not (t.bytes == 0)) t.state; gone = t.gone }) (stayed_put Blocked s) in u.turn ≡ Blocked → Leaves (moves all s) s.enabled u.state
               at true answers = absurd (cc)
               at false answers = (is, inr (omega arith, refl))
-      within-leaves name Idle s is rests waits answers = never (calls cells here (3 * min 0 (first_there s) + 1) false (min 0 (first_there s)) s) answers
+      within-leaves name Idle s is good rests waits answers = never (calls cells here (3 * min 0 (first_there s) + 1) false (min 0 (first_there s)) s) answers
         where
           never : (t : Calls C) → let u : TurnOutcome C = cond t.ended (record { turn = Moved t.bytes; state = module_turn_ended name here (not (t.bytes == 0)) t.state; gone = t.gone }) (stayed_put Blocked s) in u.turn ≡ Idle → Leaves (moves all s) s.enabled u.state
           never t answers = at t.ended answers
@@ -392,19 +388,19 @@ module _ {C : Type 0} (all : Stands) where
               at true answers = absurd (cc)
               at false answers = (is, inr (omega arith, refl))
 
-      asked-leaves : (asks : Asks) (name : QueueName) (turn : Turn) (s : State C) → stands_of s ≡ all → at_place module_rests false here.at (stream here.side s).modules ≡ true
-          → at_place (module_asks here.way) asked.Empty here.at (stream here.side s).modules ≡ asks → Answers turn s (asked_turn cells here asks name turn s) → Leaves (moves all s) s.enabled (asked_turn cells here asks name turn s).state
-      asked-leaves asked.Empty name turn s is rests asks answers = stayed-leaves Idle s is
-      asked-leaves asked.Held name turn s is rests asks answers = stayed-leaves Blocked s is
-      asked-leaves asked.Free name turn s is rests asks answers = within-leaves name turn s is rests (ap is_waiting asks) answers
-      asked-leaves (asked.Room band) name turn s is rests asks answers = at (has_room_past here.side here.way here.at band.0 s) answers
+      asked-leaves : (asks : Asks) (name : QueueName) (turn : Turn) (s : State C) → stands_of s ≡ all → AreStreams s → at_place module_rests false here.at (stream here.side s).modules ≡ true
+          → at_place (module_asks here.way) asked.Empty here.at (stream here.side s).modules ≡ asks → Answers turn (asked_turn cells here asks name turn s) → Leaves (moves all s) s.enabled (asked_turn cells here asks name turn s).state
+      asked-leaves asked.Empty name turn s is good rests asks answers = stayed-leaves Idle s is
+      asked-leaves asked.Held name turn s is good rests asks answers = stayed-leaves Blocked s is
+      asked-leaves asked.Free name turn s is good rests asks answers = within-leaves name turn s is good rests (ap is_waiting asks) answers
+      asked-leaves (asked.Room band) name turn s is good rests asks answers = at (has_room_past here.side here.way here.at band.0 s) answers
         where
-          at : (room : Bool) → Answers turn s (cond room (moved_within cells here name turn s) (waits_there band.0 here s)) → Leaves (moves all s) s.enabled (cond room (moved_within cells here name turn s) (waits_there band.0 here s)).state
-          at true answers = within-leaves name turn s is rests (ap is_waiting asks) answers
+          at : (room : Bool) → Answers turn (cond room (moved_within cells here name turn s) (waits_there band.0 here s)) → Leaves (moves all s) s.enabled (cond room (moved_within cells here name turn s) (waits_there band.0 here s)).state
+          at true answers = within-leaves name turn s is good rests (ap is_waiting asks) answers
           at false answers = waits-leaves band.0 s is
 
-      pub there-leaves : (name : QueueName) (turn : Turn) (s : State C) → stands_of s ≡ all → Answers turn s (turned_there cells here name turn s) → Leaves (moves all s) s.enabled (turned_there cells here name turn s).state
-      there-leaves name turn s is answers = at (at_place module_rests false here.at ps) refl answers
+      pub there-leaves : (name : QueueName) (turn : Turn) (s : State C) → stands_of s ≡ all → AreStreams s → Answers turn (turned_there cells here name turn s) → Leaves (moves all s) s.enabled (turned_there cells here name turn s).state
+      there-leaves name turn s is good answers = at (at_place module_rests false here.at ps) refl answers
         where
           ps : List (Module C)
           ps = (stream here.side s).modules
@@ -412,7 +408,7 @@ module _ {C : Type 0} (all : Stands) where
           asks : Asks
           asks = at_place (module_asks here.way) asked.Empty here.at ps
 
-          at : (rests : Bool) → at_place module_rests false here.at ps ≡ rests → Answers turn s (cond rests (asked_turn cells here asks name turn s) (stayed_put Blocked s))
+          at : (rests : Bool) → at_place module_rests false here.at ps ≡ rests → Answers turn (cond rests (asked_turn cells here asks name turn s) (stayed_put Blocked s))
               → Leaves (moves all s) s.enabled (cond rests (asked_turn cells here asks name turn s) (stayed_put Blocked s)).state
-          at true rests answers = asked-leaves asks name turn s is rests refl answers
+          at true rests answers = asked-leaves asks name turn s is good rests refl answers
           at false rests answers = (is, inr (omega arith, refl))

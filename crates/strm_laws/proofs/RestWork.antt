@@ -18,19 +18,18 @@ use Rattle.strm_types.specs.declared.names.Way.{Way}
 use Rattle.strm_types.specs.declared.names.Way.TheVariants.{Up, Down}
 use Rattle.strm_types.specs.declared.spots.Spot.{Spot}
 use Rattle.strm_types.specs.Cells.{Cells}
-use Rattle.strm_types.specs.ModuleQueues.{at_place, messages_at}
 use Rattle.strm_types.specs.Names.{is_enabled, other, same_place, same_queue, without}
-use Rattle.strm_types.specs.Queue.{first_size}
 use Rattle.strm_laws.specs.Earlier.{places_of}
-use Rattle.strm_laws.specs.ModuleTurns.{module_turned, named_from, place_named, turned_named, turned_there, whole_module}
-use Rattle.strm_laws.specs.Rest.{EchoesOnce, IsWholeOutput, NoLdterm, count_enabled, echoes, is_pckt, moves, packs_below, queue_names, work}
+use Rattle.strm_laws.specs.ModuleTurns.{module_turned, named_from, place_named, turned_named, turned_there}
+use Rattle.strm_laws.specs.Rest.{EchoesOnce, NoLdterm, count_enabled, echoes, is_pckt, moves, packs_below, queue_names, work}
 use Rattle.strm_laws.specs.Restorable.{is_ldterm}
 use Rattle.strm_laws.specs.StackCosts.{Stands, stands_of, stands_on}
-use Rattle.strm_laws.specs.Stacked.{Module, OfLdterm, OfPtem, OfPckt, module_name, module_queue}
+use Rattle.strm_laws.specs.Stacked.{Module, OfLdterm, OfPtem, OfPckt, module_name}
 use Rattle.strm_laws.specs.State.{State, Stream, stream}
 use Rattle.strm_laws.specs.Step.{IsTurn}
 use Rattle.strm_laws.specs.Turns.{turned, turned_at}
 use Rattle.strm_types.proofs.EnabledNames.{same_queue-sound}
+use Rattle.strm_laws.proofs.GoodStreams.{AreStreams}
 use Rattle.strm_laws.proofs.RestStates.{Fit, FitNames, names-on}
 use Rattle.strm_laws.proofs.RestTurns.{Answers, Leaves, driver-leaves, there-leaves}
 
@@ -189,14 +188,11 @@ module _ {C : Type 0} where
   named-none place (suc n) from (OfPtem q ∷ ps) none = named-none place n (suc from) ps none
   named-none place (suc n) from (OfPckt q ∷ ps) none = named-none place n (suc from) ps none
 
-  whole-at : (place : Place) (way : Way) (on : Stream C) (at : ℕ) → place_named place on.modules ≡ Some at → whole_module place way on ≡ Moved (at_place (λ p. first_size (messages_at module_queue way p)) 0 at on.modules)
-  whole-at place way on at is = rw is refl
-
   module _ (cells : Cells C) (name : QueueName) (turn : Turn) where
     -- a turn of a module's queue
-    module-leaves : (all : Stands) (s : State C) → EchoesOnce all → stands_of s ≡ all → IsWholeOutput (record name { place = Ldterm }) turn s → (module_turned cells (record name { place = Ldterm }) turn s).turn ≡ turn
+    module-leaves : (all : Stands) (s : State C) → EchoesOnce all → stands_of s ≡ all → AreStreams s → (module_turned cells (record name { place = Ldterm }) turn s).turn ≡ turn
         → Leaves all (moves all s) s.enabled (module_turned cells (record name { place = Ldterm }) turn s).state
-    module-leaves all s once is whole answered = named (place_named Ldterm (stream name.side s).modules) refl answered
+    module-leaves all s once is good answered = named (place_named Ldterm (stream name.side s).modules) refl answered
       where
         called : QueueName
         called = record name { place = Ldterm }
@@ -205,19 +201,19 @@ module _ {C : Type 0} where
         named None none answered = (is, inr (omega arith, refl))
         named (Some at) there answered =
             let here : Spot = record { side = name.side; at = at; way = name.way } in
-            there-leaves all cells (posts_of all) (fits-once all once) here (named-least Ldterm 1 (places_of (take MODULES (stream name.side s).modules)) at there) called turn s is (answers turn whole answered)
+            there-leaves all cells (posts_of all) (fits-once all once) here (named-least Ldterm 1 (places_of (take MODULES (stream name.side s).modules)) at there) called turn s is good (answers turn answered)
           where
-            answers : (turn : Turn) → IsWholeOutput called turn s → (turned_there cells (record { side = name.side; at = at; way = name.way }) called turn s).turn ≡ turn
-                → Answers all cells (posts_of all) (fits-once all once) (record { side = name.side; at = at; way = name.way }) (named-least Ldterm 1 (places_of (take MODULES (stream name.side s).modules)) at there) turn s (turned_there cells (record { side = name.side; at = at; way = name.way }) called turn s)
-            answers (Moved bytes) whole answered = λ down. (let e = whole down ∙ whole-at Ldterm name.way (stream name.side s) at there in cc)
-            answers Blocked whole answered = answered
-            answers Idle whole answered = answered
+            answers : (turn : Turn) → (turned_there cells (record { side = name.side; at = at; way = name.way }) called turn s).turn ≡ turn
+                → Answers all cells (posts_of all) (fits-once all once) (record { side = name.side; at = at; way = name.way }) (named-least Ldterm 1 (places_of (take MODULES (stream name.side s).modules)) at there) turn (turned_there cells (record { side = name.side; at = at; way = name.way }) called turn s)
+            answers (Moved bytes) answered = tt
+            answers Blocked answered = answered
+            answers Idle answered = answered
 
-    turned-leaves : (all : Stands) (place : Place) (s : State C) → EchoesOnce all → stands_of s ≡ all → let called = record name { place = place } in
-        IsWholeOutput called turn s → (turned_at cells place called turn s).turn ≡ turn → Leaves all (moves all s) s.enabled (turned_at cells place called turn s).state
-    turned-leaves all Head s once is whole answered = (is, inr (omega arith, refl))
-    turned-leaves all Driver s once is whole answered = driver-leaves all cells (posts_of all) (fits-once all once) name.side (stream name.side s).driver.queue.messages s is refl
-    turned-leaves all Ldterm s once is whole answered = module-leaves all s once is whole answered
+    turned-leaves : (all : Stands) (place : Place) (s : State C) → EchoesOnce all → stands_of s ≡ all → AreStreams s → let called = record name { place = place } in
+        (turned_at cells place called turn s).turn ≡ turn → Leaves all (moves all s) s.enabled (turned_at cells place called turn s).state
+    turned-leaves all Head s once is good answered = (is, inr (omega arith, refl))
+    turned-leaves all Driver s once is good answered = driver-leaves all cells (posts_of all) (fits-once all once) name.side (stream name.side s).driver.queue.messages s is refl
+    turned-leaves all Ldterm s once is good answered = module-leaves all s once is good answered
 
     -- where no ldterm stands each turn is a driver's, or does nothing
     plain-leaves : (all : Stands) (place : Place) (s : State C) → EchoesOnce all → NoLdterm all → stands_of s ≡ all → let called = record name { place = place } in
@@ -252,17 +248,12 @@ module _ {C : Type 0} where
       let behind = plain-behind cells name turn s none in
       (behind.0, work-less name s (turned cells name turn s).state enabled behind)
 
-  whole-behind : (cells : Cells C) (name : QueueName) (turn : Turn) (s : State C) → EchoesOnce (stands_of s) → IsWholeOutput name turn s → (turned cells name turn s).turn ≡ turn
+  echoed-behind : (cells : Cells C) (name : QueueName) (turn : Turn) (s : State C) → EchoesOnce (stands_of s) → AreStreams s → (turned cells name turn s).turn ≡ turn
       → Leaves (stands_of s) (moves (stands_of s) s) (without name s.enabled) (turned cells name turn s).state
-  whole-behind cells name turn s once whole answered = turned-leaves cells name turn (stands_of s) name.place (record s { enabled = without name s.enabled }) once refl (stays turn whole) answered
-    where
-      stays : (turn : Turn) → IsWholeOutput name turn s → IsWholeOutput name turn (record s { enabled = without name s.enabled })
-      stays (Moved bytes) whole = whole
-      stays Blocked whole = whole
-      stays Idle whole = whole
+  echoed-behind cells name turn s once good answered = turned-leaves cells name turn (stands_of s) name.place (record s { enabled = without name s.enabled }) once refl good answered
 
-  pub whole-turn : (cells : Cells C) (old new : State C) (name : QueueName) (turn : Turn) → EchoesOnce (stands_of old) → IsTurn cells old name turn new → IsWholeOutput name turn old
+  pub echoed-turn : (cells : Cells C) (old new : State C) (name : QueueName) (turn : Turn) → EchoesOnce (stands_of old) → AreStreams old → IsTurn cells old name turn new
       → (stands_of new ≡ stands_of old) × (work new < work old)
-  whole-turn cells old new name turn once step whole =
-      let behind = whole-behind cells name turn old once whole step.answered in
+  echoed-turn cells old new name turn once good step =
+      let behind = echoed-behind cells name turn old once good step.answered in
       subst (λ (t : State C). (stands_of t ≡ stands_of old) × (work t < work old)) step.leads (behind.0, work-less name old (turned cells name turn old).state step.enabled behind)

@@ -1,19 +1,23 @@
 -- A pair as its callers see it, and what a call or a turn adds to it.
-use Rattle.std.specs.Prelude.{◌≡◌, ◌<◌, ◌⊎◌, ℕ, zero, suc, List, [], ◌∷◌, ◌++◌, Option, None, Some, slice_get}
+use Rattle.std.specs.Prelude.{◌≡◌, ◌<◌, ◌⊎◌, ℕ, true, false, zero, suc, List, [], ◌∷◌, ◌++◌, Option, None, Some, slice_get}
 use Rattle.strm_types.specs.declared.limits.Config.{Config}
 use Rattle.strm_types.specs.declared.answers.Turn.{Turn}
 use Rattle.strm_types.specs.declared.answers.Turn.TheVariants.{Moved, Blocked, Idle}
+use Rattle.strm_types.specs.declared.limits.TheConstants.{STOP_BLOCKS}
 use Rattle.strm_types.specs.declared.names.Place.TheVariants.{Ldterm}
+use Rattle.strm_types.specs.declared.names.Way.TheVariants.{Up}
 use Rattle.strm_types.specs.declared.entries.Entry.TheVariants.{Turned}
 use Rattle.strm_types.specs.declared.events.Caller.{Caller}
 use Rattle.strm_types.specs.declared.job_control.Verdict.{Verdict}
 use Rattle.strm_types.specs.declared.names.QueueName.{QueueName}
 use Rattle.strm_types.specs.declared.refusals.Refusal.{Refusal}
-use Rattle.strm_laws.specs.State.{State, opening}
+use Rattle.strm_laws.specs.ModuleTurns.{place_named}
+use Rattle.strm_laws.specs.State.{State, opening, stream}
 use Rattle.strm_laws.specs.Turns.{whole_turn}
 use Rattle.strm_types.specs.Events.{Request}
 use Rattle.strm_types.specs.JobControl.{judged}
 use Rattle.strm_types.specs.Journal.{PlainEntry}
+use Rattle.strm_types.specs.Names.{is_open}
 use Rattle.strm_laws.specs.Refusals.{Free, enough, blocks_asked, refused, stop_of, turn_refused}
 use Rattle.strm_types.specs.Refused.{turn_blocks}
 use Rattle.strm_types.specs.Cells.{plain}
@@ -83,19 +87,27 @@ refused_of p (Some name) = queue_refused p name
 abbrev pub next_refused : PairState → Option Refusal
 next_refused p = refused_of p (slice_get p.state.enabled 0)
 
--- A turn that moved so many bytes stopped within its message: that is one of ldterm's, and treated a byte at least.
-pub record StopsWithin (name : QueueName) (bytes : ℕ) : Type 0 where
+-- the read queue of the module on top of a stream whose side is open
+pub record IsOnTop (s : State ℕ) (name : QueueName) : Type 0 where
+  pub up : name.way ≡ Up
+  pub top : place_named name.place (stream name.side s).modules ≡ Some 1
+  pub opened : is_open (stream name.side s).opened ≡ true
+
+-- A turn that moved so many bytes, of a pair in this state, stopped within its message, and so many blocks are free behind it: that is one of
+-- ldterm's, which treated a byte at least, and where it is of such a read queue fewer than `STOP_BLOCKS` blocks of some kind are free.
+pub record StopsWithin (s : State ℕ) (free : Free) (name : QueueName) (bytes : ℕ) : Type 0 where
   pub place : name.place ≡ Ldterm
   pub some : 0 < bytes
+  pub few : IsOnTop s name → enough STOP_BLOCKS free ≡ false
 
--- A turn that moved something, of a pair in this state, treated the first message of its queue whole, or stopped within it.
-abbrev pub MovesOn : State ℕ → QueueName → Turn → Type 0
-MovesOn s name (Moved bytes) = (Moved bytes ≡ whole_turn name s) ⊎ StopsWithin name bytes
-MovesOn s name Blocked = Unit {0}
-MovesOn s name Idle = Unit {0}
+-- A turn that moved something treated the first message of its queue whole, or stopped within it.
+abbrev pub MovesOn : State ℕ → Free → QueueName → Turn → Type 0
+MovesOn s free name (Moved bytes) = (Moved bytes ≡ whole_turn name s) ⊎ StopsWithin s free name bytes
+MovesOn s free name Blocked = Unit {0}
+MovesOn s free name Idle = Unit {0}
 
 abbrev pub Stops : (old new : PairState) → QueueName → Turn → Type 0
-Stops old new name turn = MovesOn old.state name turn
+Stops old new name turn = MovesOn old.state new.free name turn
 
 -- So many turns were made, each of the queue that was enabled first, and nothing else (STREAMS Programming Guide, "Service Procedures": the
 -- scheduler calls those of enabled queues in the order in which they were enabled).

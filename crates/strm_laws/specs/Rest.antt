@@ -1,9 +1,7 @@
 -- How much work a pair has before it: how many turns of its queues there are at most, before none of them is enabled and the pair rests
 -- (STREAMS Programming Guide, "Service Procedures"; srv(9E)).
-use Rattle.std.specs.Prelude.{ℕ, zero, suc, ◌≡◌, ◌≤◌, ◌+◌, ◌*◌, Bool, true, false, List, [], ◌∷◌, length, sum_by, count_by, Option, None, Some}
+use Rattle.std.specs.Prelude.{ℕ, suc, ◌≡◌, ◌≤◌, ◌+◌, ◌*◌, Bool, true, false, List, [], ◌∷◌, length, sum_by, count_by, Option, None, Some}
 use Rattle.std.specs.List.{list_any}
-use Rattle.strm_types.specs.declared.answers.Turn.{Turn}
-use Rattle.strm_types.specs.declared.answers.Turn.TheVariants.{Moved, Blocked, Idle}
 use Rattle.strm_types.specs.declared.kinds.MsgKind.{MsgKind}
 use Rattle.strm_types.specs.declared.kinds.MsgKind.TheVariants.{Data, Proto, Ioctl}
 use Rattle.strm_types.specs.declared.names.ModuleName.{ModuleName}
@@ -13,47 +11,52 @@ use Rattle.strm_types.specs.declared.names.QueueName.{QueueName}
 use Rattle.strm_types.specs.declared.names.Side.{Side}
 use Rattle.strm_types.specs.declared.names.Side.TheVariants.{Master, Slave}
 use Rattle.strm_types.specs.declared.names.Way.TheVariants.{Up, Down}
+use Rattle.strm_types.specs.LdtermCalls.{echo_most}
 use Rattle.strm_types.specs.Ldterms.{Ldterm as TheLdterm, Stage, Between, Begun, Answered}
 use Rattle.strm_types.specs.Message.{Message, cells_of}
 use Rattle.strm_types.specs.Names.{is_enabled, other}
-use Rattle.strm_laws.specs.Pair.{PairState, RanTurns}
 use Rattle.strm_laws.specs.Restorable.{is_ldterm}
 use Rattle.strm_laws.specs.StackCosts.{Stands, stands_of, stands_on}
 use Rattle.strm_laws.specs.Stacked.{Module, OfLdterm, OfPtem, OfPckt}
 use Rattle.strm_laws.specs.State.{State, Stream, stream}
-use Rattle.strm_laws.specs.Turns.{whole_turn}
 
 -- whether an ldterm is among the modules of a side's stream
 abbrev pub echoes : Stands → Side → Bool
 echoes all side = list_any is_ldterm (stands_on side all)
 
+-- How many moves a byte makes that is typed at an ldterm: it may start output or stop it, and is echoed by as many bytes as an echo has at most,
+-- each of which may go out in a turn of its own and moves on in a message of its own then.
+abbrev pub byte_moves : ℕ
+byte_moves = 5 + 2 * echo_most
+
 -- How often messages move at most that come of one on its way up a stream, of its kind and its bytes. Where an ldterm is ahead, M_DATA waits there
--- and each of its bytes is echoed, stops or starts output, and M_PROTO waits there too. An M_IOCTL is answered, and its answer crosses.
+-- and each of its bytes is typed, and M_PROTO waits there too. An M_IOCTL is answered, and its answer crosses.
 abbrev pub moves_above : MsgKind → Bool → ℕ → ℕ
 moves_above Ioctl ahead bytes = 1
-moves_above Data true bytes = 1 + 5 * bytes
+moves_above Data true bytes = 1 + byte_moves * bytes
 moves_above Proto true bytes = 1
 moves_above kind ahead bytes = 0
 
 -- and of one that stands on ldterm's read queue, with its own move
 abbrev pub moves_within : MsgKind → ℕ → ℕ
-moves_within Data bytes = 1 + 5 * bytes
+moves_within Data bytes = 1 + byte_moves * bytes
 moves_within kind bytes = suc (moves_above kind false bytes)
 
--- how far what ldterm has in its turn still has to go: each byte of the message in work, and the one that has begun
+-- how far what ldterm has in its turn still has to go: each byte of the message in work, and the one that has begun, with its echo
 abbrev pub moves_begun : {C : Type 0} → Stage C → ℕ
 moves_begun Between = 0
-moves_begun (Begun started c) = 3
-moves_begun (Answered echo) = 2
+moves_begun (Begun started c) = 3 + 2 * echo_most
+moves_begun (Answered echo) = 2 + 2 * length echo
 
 module _ {C : Type 0} where
   -- how often messages move that come of one on a driver's queue, with its own move: an ldterm is on the other side (true) or isn't
   abbrev pub moves_across : Bool → Message C → ℕ
   moves_across echoed m = suc (moves_above m.kind echoed (length (cells_of m)))
 
-  -- of one on ldterm's write queue, which moves on to the driver's queue
+  -- Of one on ldterm's write queue, which moves on to the driver's queue. A turn may stop behind each of its bytes, and what these give moves on by
+  -- itself.
   abbrev pub moves_out : Message C → ℕ
-  moves_out m = suc (moves_across false m)
+  moves_out m = suc (moves_across false m) + 2 * length (cells_of m)
 
   -- and of one on its read queue
   abbrev pub moves_in : Message C → ℕ
@@ -61,7 +64,7 @@ module _ {C : Type 0} where
 
   abbrev pub moves_in_work : Option (Message C) → ℕ
   moves_in_work None = 0
-  moves_in_work (Some m) = 1 + 5 * length (cells_of m)
+  moves_in_work (Some m) = 1 + byte_moves * length (cells_of m)
 
   -- of all that stands at a module
   abbrev pub ldterm_moves : TheLdterm C → ℕ
@@ -117,15 +120,3 @@ pub record EchoesOnce (all : Stands) : Type 0 where
   pub one_side : (side : Side) → echoes all side ≡ true → echoes all (other side) ≡ false
   pub one_there : (side : Side) → count_by is_ldterm (stands_on side all) ≤ 1
   pub no_packets : (side : Side) → packs_below (stands_on side all) ≡ false
-
--- A turn of a write queue that moves something treats the first message there whole, as each does that isn't short of blocks. What a part of it
--- gives goes down as a message of its own.
-abbrev pub IsWholeOutput : {C : Type 0} → QueueName → Turn → State C → Type 0
-IsWholeOutput name (Moved bytes) s = name.way ≡ Down → Moved bytes ≡ whole_turn name s
-IsWholeOutput name Blocked s = Unit {0}
-IsWholeOutput name Idle s = Unit {0}
-
--- each of so many turns is
-abbrev pub AreWholeOutputs : (n : ℕ) (old new : PairState) → RanTurns n old new → Type 0
-AreWholeOutputs zero old new ran = Unit {0}
-AreWholeOutputs (suc n) old new ran = AreWholeOutputs n old ran.0 ran.1.0 × IsWholeOutput ran.1.1.name ran.1.1.turn ran.0.state

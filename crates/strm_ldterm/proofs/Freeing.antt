@@ -1,12 +1,12 @@
--- A message in hand that is put on a queue, or back on it, frees no block.
+-- A message in hand that is put back on a queue frees no block.
 use Rattle.std.proofs.Common.{ℕ, ◌≡◌, ◌≤◌, ◌<◌, ◌+◌, List, length, refl, sym, subst, arith}
 use Rattle.std.proofs.Math.Nat.{le-min, min-le_left, min-le_right}
 use Rattle.std.specs.Prelude.{sum_by}
-use Rattle.strm_types.proofs.Ranked.{sum-put, sum-put_back}
-use Rattle.strm_blocks.specs.Blocks.{Block, StoreValue, IsInHand, list_at, in_hand, placed, dropped, put, put_back, rank_of, names_of, total, free_m, free_d}
+use Rattle.strm_types.proofs.Ranked.{sum-put_back}
+use Rattle.strm_blocks.specs.Blocks.{Block, StoreValue, IsInHand, list_at, in_hand, placed, dropped, put_back, rank_of, names_of, total, free_m, free_d}
 use Rattle.strm_blocks.proofs.Laws.{total-placed, total-dropped, used-is, references-is, free_m-is, free_d-more}
 use Rattle.strm_frame.specs.Serves.{least_free}
-use Rattle.strm_ldterm.specs.Freeing.{FreesNone}
+use Rattle.strm_queue.specs.Stored.{FreesNone}
 
 pub none-freed : (s : StoreValue) → FreesNone s s
 none-freed s = (omega arith, omega arith)
@@ -30,9 +30,6 @@ module _ (s : StoreValue) (k i : ℕ) (within : k < length s.lists) (is_in : IsI
       where
         after : StoreValue
         after = placed (dropped s i) k list
-
-  pub put-none : (new : StoreValue) → new ≡ placed (dropped s i) k (put (in_hand s i) (list_at s k)) → FreesNone s new
-  put-none new is = subst (FreesNone s) (sym is) (gained (put (in_hand s i) (list_at s k)) (λ f. sum-put rank_of f (in_hand s i) (list_at s k)))
 
   pub back-none : (new : StoreValue) → new ≡ placed (dropped s i) k (put_back (in_hand s i) (list_at s k)) → FreesNone s new
   back-none new is = subst (FreesNone s) (sym is) (gained (put_back (in_hand s i) (list_at s k)) (λ f. sum-put_back rank_of f (in_hand s i) (list_at s k)))

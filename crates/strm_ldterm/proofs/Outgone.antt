@@ -33,7 +33,7 @@ use Rattle.strm_ldterm.specs.declared.ldterm.Ldterm.{Ldterm}
 use Rattle.strm_ldterm.specs.Bounds.{goes_out, passes_whole}
 use Rattle.strm_ldterm.specs.Called.{ServesAs, at_work, bytes_of_way}
 use Rattle.strm_ldterm.specs.Does.{Proceeds}
-use Rattle.strm_ldterm.specs.Freeing.{FreesNone}
+use Rattle.strm_queue.specs.Stored.{FreesNone}
 use Rattle.strm_ldterm.specs.Outgone.{BeganOutput, data_of, let_go}
 use Rattle.strm_ldterm.specs.Posting.{PoursAs, poured}
 use Rattle.strm_ldterm.specs.FreeBefore.{IsFreeBefore, all_free}

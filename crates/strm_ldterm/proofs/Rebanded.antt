@@ -27,7 +27,7 @@ use Rattle.strm_ldterm.specs.declared.ldterm.Ldterm.{Ldterm}
 use Rattle.strm_ldterm.specs.Becoming.{Becomes}
 use Rattle.strm_ldterm.specs.Does.{Proceeds}
 use Rattle.strm_ldterm.specs.Frames.{ldterm-frame}
-use Rattle.strm_ldterm.specs.Freeing.{FreesNone}
+use Rattle.strm_queue.specs.Stored.{FreesNone}
 use Rattle.strm_ldterm.specs.Outgone.{data_of}
 use Rattle.strm_ldterm.specs.Stands.{IsData, IsHeld, cells_kept, kept_in, keeps, ldterm_in, owns}
 use Rattle.strm_ldterm.proofs.Finished.{gathered-held, gathered-splits, work-held, work-splits}

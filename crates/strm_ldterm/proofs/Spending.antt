@@ -62,7 +62,7 @@ module _ (here : Spot) where
       at false = omega arith
 
   -- the message in work stays one
-  next-works : (made : ℕ) (p : Ldterm ℕ) → is_some (next_stage plain here made p).state.in_work ≡ is_some p.in_work
+  pub next-works : (made : ℕ) (p : Ldterm ℕ) → is_some (next_stage plain here made p).state.in_work ≡ is_some p.in_work
   next-works made p = at p.stage
     where
       less : (rest : List ℕ) (work : Option (Message ℕ)) → is_some (option_map (left_of rest) work) ≡ is_some work

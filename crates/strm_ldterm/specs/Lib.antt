@@ -17,7 +17,6 @@ pub mod Popped
 pub mod Called
 pub mod Served
 pub mod ServedLaws
-pub mod Freeing
 pub mod Bounds
 pub mod PlainRuns
 pub mod Posting

@@ -12,12 +12,11 @@ ghost use Rattle.strm_types.specs.Queue.{put_back};
 ghost use Rattle.strm_types.specs.Typing.{gathered_up};
 ghost use Rattle.strm_blocks.specs.Blocks.{IsInHand, in_hand, dropped, token};
 ghost use Rattle.strm_msg.specs.Messages.{message_of, IsChain};
-ghost use Rattle.strm_queue.specs.Stored.{queue_in, IsReady, Changes, FreesBlocks};
+ghost use Rattle.strm_queue.specs.Stored.{queue_in, IsReady, Changes, FreesBlocks, FreesNone};
 ghost use Rattle.strm_frame.specs.Hands.{AreIn};
 ghost use Rattle.strm_frame.specs.Outboxes.{message_in, sent_of};
 ghost use Rattle.strm_ldterm.specs.Stands.{ldterm_in, keeps, IsHeld};
 ghost use Rattle.strm_ldterm.specs.Does.{Alters, Proceeds};
-ghost use Rattle.strm_ldterm.specs.Freeing.{FreesNone};
 
 use crate::ldterm::{Ldterm, Stage};
 use crate::putting::settle_echo;

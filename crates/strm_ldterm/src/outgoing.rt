@@ -15,7 +15,7 @@ ghost use Rattle.strm_frame.specs.Outboxes.{message_in, sent_of};
 ghost use Rattle.strm_ldterm.specs.Becoming.{Becomes};
 ghost use Rattle.strm_ldterm.specs.Called.{ServesAs};
 ghost use Rattle.strm_ldterm.specs.Does.{Alters, Proceeds};
-ghost use Rattle.strm_ldterm.specs.Freeing.{FreesNone};
+ghost use Rattle.strm_queue.specs.Stored.{FreesNone};
 ghost use Rattle.strm_ldterm.specs.Outgone.{data_of, let_go};
 ghost use Rattle.strm_ldterm.specs.Stands.{IsData, IsHeld, keeps, ldterm_in, stage_in};
 ghost use Rattle.strm_ldterm.specs.Turns.{stages_left};

@@ -11,15 +11,13 @@ ghost use Rattle.strm_types.specs.Flushing.{is_flush};
 ghost use Rattle.strm_types.specs.declared.spots.Note.TheVariants.{Room};
 ghost use Rattle.strm_types.specs.Message.{Message, is_high_priority};
 ghost use Rattle.strm_types.specs.Ldterms.{waits_there};
-ghost use Rattle.strm_types.specs.Queue.{put_on};
-ghost use Rattle.strm_blocks.specs.Blocks.{IsInHand, in_hand, dropped, block_at, token};
-ghost use Rattle.strm_msg.specs.Messages.{message_of, IsChain};
-ghost use Rattle.strm_queue.specs.Stored.{queue_in, IsReady, Changes, FreesBlocks};
+ghost use Rattle.strm_blocks.specs.Blocks.{IsInHand, in_hand, block_at, token};
+ghost use Rattle.strm_msg.specs.Messages.{IsChain};
+ghost use Rattle.strm_queue.specs.Stored.{FreesNone};
 ghost use Rattle.strm_frame.specs.Hands.{AreIn, CanPut, HasRoom};
 ghost use Rattle.strm_frame.specs.Outboxes.{message_in};
 ghost use Rattle.strm_ldterm.specs.Stands.{ldterm_in, keeps, IsHeld};
 ghost use Rattle.strm_ldterm.specs.Does.{Alters, Does, Puts};
-ghost use Rattle.strm_ldterm.specs.Freeing.{FreesNone};
 ghost use Rattle.std.specs.Prelude.{true};
 
 use crate::behind::goes_behind;
@@ -30,7 +28,6 @@ use crate::taking_up::pass;
 use arrayvec::ArrayVec;
 use strm_blocks::{Blocks, InHand};
 use strm_frame::{Acts, Outbox, Sent};
-use strm_queue::Queue;
 use strm_queue::standing::enqueue;
 use strm_types::{Fates, MsgKind, Note, Spot, Way};
 
@@ -43,21 +40,6 @@ pub(crate) fn note_if(holds: bool, note: Note) -> ArrayVec<Note, 4>
         notes.push(note);
     }
     notes
-}
-
-// Puts a message in hand on a queue, behind all of its rank or a higher one: putq(9F). No block is taken or freed.
-fn stand<B: Blocks>(store: &mut B, queue: &mut Queue, message: InHand)
-    requires ready { IsReady (B.value store.old) queue.old }
-    requires in_hand { IsInHand (B.value store.old) (token message) }
-    requires chain { IsChain (in_hand (B.value store.old) (token message)) }
-    ensures queue { queue_in (B.value store.new) queue.new
-        ≡ put_on (message_of (in_hand (B.value store.old) (token message))) (queue_in (B.value store.old) queue.old) }
-    ensures changes { Changes (dropped (B.value store.old) (token message)) (B.value store.new) queue.old queue.new }
-    ensures frees { FreesBlocks (B.value store.old) (B.value store.new) }
-    ensures blocks { FreesNone (B.value store.old) (B.value store.new) }
-{
-    store.audit();
-    let _ = queue.putq(store, message);
 }
 
 /// Puts the turn's echo on the write queue, where it stays last. From then on it stands there as any other message, and a new
@@ -74,7 +56,7 @@ pub(crate) fn settle_echo<B: Blocks>(ldterm: &mut Ldterm, store: &mut B)
         return;
     };
     store.audit();
-    stand(store, &mut ldterm.write_queue, echo);
+    let _ = enqueue(store, &mut ldterm.write_queue, echo);
 }
 
 // A message waits to go up.

@@ -5,7 +5,9 @@ use Rattle.std.specs.Bool.{OnTrue}
 use Rattle.std.specs.List.{AllByRecursion}
 use Rattle.std.proofs.lemmas.Bool.{false≢true}
 use Rattle.std.proofs.lemmas.Bool.Decides.{nat_tests}
+use Rattle.std.proofs.lemmas.List.{length-take}
 use Rattle.strm_types.specs.declared.answers.Turn.TheVariants.{Moved}
+use Rattle.strm_types.specs.declared.limits.TheConstants.{STOP_BLOCKS}
 use Rattle.strm_types.specs.declared.names.Place.TheVariants.{Driver}
 use Rattle.strm_types.specs.declared.names.QueueName.{QueueName}
 use Rattle.strm_types.specs.declared.names.Way.{Way}
@@ -16,6 +18,7 @@ use Rattle.strm_types.specs.Cells.{plain}
 use Rattle.strm_types.specs.Deliver.{Fate, tallied}
 use Rattle.strm_types.specs.Input.{input_begins, is_data, passes, stages, stages_done, to_treat, treats}
 use Rattle.strm_types.specs.Message.{Message, cells_of, size_of}
+use Rattle.strm_types.specs.Names.{is_open}
 use Rattle.strm_types.specs.OutputTurns.{Outgoing, output_serves, posted, unchanged}
 use Rattle.strm_types.specs.Queue.{first_size, left_with}
 use Rattle.strm_types.specs.Service.{Serving}
@@ -30,14 +33,17 @@ use Rattle.strm_laws.specs.State.{State, stream}
 use Rattle.strm_types.specs.LdtermCalls.{Begins, Ends, bytes_left}
 use Rattle.strm_laws.specs.TurnCalls.{Stopped, asks_on, ldterm_of, led, module_at, treated}
 use Rattle.strm_laws.specs.TurnOutcomes.{TurnOutcome}
+use Rattle.strm_laws.proofs.LdtermStops.{FullFirst}
 use Rattle.strm_laws.proofs.ModuleTurnCalls.{Reached, UnderWay, index-map, led-at, led-length, module-ends, moves-within, none_there, reached-last, reached-next, under_way}
 use Rattle.strm_laws.proofs.StackSpares.{range-spare}
-use Rattle.strm_frame.specs.Serves.{stop_at}
+use Rattle.strm_blocks.specs.Blocks.{StoreValue}
+use Rattle.strm_frame.specs.Serves.{least_free, stop_at}
 use Rattle.strm_pair.specs.AnyModules.{turn_cost}
 use Rattle.strm_pair.specs.declared.calling.Call.{Call}
-use Rattle.strm_pair.specs.ModuleServed.{MayBook, TellsAs, TreatsAs, call_cost, call_units, stop_in}
+use Rattle.strm_pair.specs.ModuleServed.{IsClear, LeavesFew, MayBook, StopsFew, TellsAs, TreatsAs, call_cost, call_units, stop_in}
 use Rattle.strm_pair.specs.ModuleTurned.{MayMove}
 use Rattle.strm_pair.proofs.ServeSteps.{module-goes}
+use Rattle.strm_pair.proofs.StopsFew.{led-same}
 use Rattle.strm_ldterm.proofs.Flushed.{tallied-append}
 
 -- What calls that go on have led to so far: so many bytes were treated, by so many calls, each of which came a stage further.
@@ -49,6 +55,8 @@ pub record GoOn (here : Spot) (bytes : ℕ) (s0 st : State ℕ) (f f' : Fates) :
   pub few : count ≤ 3 * bytes + stages_done (ldterm_of (module_at here st)).stage
   pub some : 0 < count
   pub left : spare s0 ≤ spare st + (3 * bytes + 33 * count)
+  pub all : bytes_left here.way false (ldterm_of (module_at here s0)) ≤ bytes + bytes_left here.way true (ldterm_of (module_at here st))
+  pub opened : (stream here.side st).opened ≡ (stream here.side s0).opened
 
 -- They go on, or the turn is at its end.
 abbrev pub Along : Bool → Spot → ℕ → State ℕ → State ℕ → Fates → Fates → Type 0
@@ -70,6 +78,16 @@ begun-few Between l = omega arith
 begun-few (Begun started c) l = omega arith
 begun-few (Answered echo) l = omega arith
 
+-- of M_DATA that stands first on a module's queues each byte is a cell
+abbrev pub Full : Module ℕ → Type 0
+Full p = FullFirst (ldterm_of p).read_queue.messages × FullFirst (ldterm_of p).write_queue.messages
+
+-- What holds of the calls so far: what they treated and what is left are the message, as it was, and no side was opened or closed.
+pub record Since (here : Spot) (again : Bool) (bytes : ℕ) (s0 s : State ℕ) : Type 0 where
+  pub all : bytes_left here.way false (ldterm_of (module_at here s0)) ≤ bytes + bytes_left here.way again (ldterm_of (module_at here s))
+  pub full : again ≡ false → Full (module_at here s)
+  pub opened : (stream here.side s).opened ≡ (stream here.side s0).opened
+
 module _ (here : Spot) where
   none-in : (call : Call) → call.stopped ≡ false → stop_in call ≡ None
   none-in call goes = ap (λ b. stop_at b call.bytes) goes
@@ -84,6 +102,7 @@ module _ (here : Spot) where
     pub treat : bytes_left here.way true (ldterm_of (module_at here st)) + call.bytes ≤ bytes_left here.way again (ldterm_of (module_at here s))
     pub done : suc (stages_done (ldterm_of (module_at here s)).stage) ≤ stages_done (ldterm_of (module_at here st)).stage + 3 * call.bytes
     pub begun : stages_done (ldterm_of (module_at here st)).stage ≤ 3 * bytes_left here.way true (ldterm_of (module_at here st))
+    pub all : (again ≡ false → Full (module_at here s)) → bytes_left here.way again (ldterm_of (module_at here s)) ≤ bytes_left here.way true (ldterm_of (module_at here st)) + call.bytes
 
   further : (again : Bool) (call : Call) (s st : State ℕ) → TellsAs here again call s → st ≡ (led here again (stop_in call) s).state → here.at - 1 < length (stream here.side s).modules
       → Begins here.way again (ldterm_of (module_at here s)) → call.again ≡ true → Further again call s st
@@ -100,7 +119,7 @@ module _ (here : Spot) where
       let at = ap (λ v. under_way (module_at here v)) (state ∙ ap (λ o. (led here again o s).state) none) ∙ led-at here again None s low in
       let stage = ap (λ (x : UnderWay). stages_done x.stage) at in
       let left = ap (λ w. bytes_left w true (ldterm_of (module_at here st))) g.up ∙ ap (λ (x : UnderWay). bytes_left Up true (record (ldterm_of (module_at here st)) { stage = x.stage; in_work = x.in_work })) at in
-      record { stop = none; treat = omega (arith, g.treat, bytes, left); done = omega (arith, g.done, bytes, stage); begun = subst (λ w. stages_done (ldterm_of (module_at here st)).stage ≤ 3 * bytes_left w true (ldterm_of (module_at here st))) (sym g.up) (begun-few (ldterm_of (module_at here st)).stage (ldterm_of (module_at here st))) }
+      record { stop = none; treat = omega (arith, g.treat, bytes, left); all = λ full. omega (arith, g.all (λ first. (full first).0), bytes, left); done = omega (arith, g.done, bytes, stage); begun = subst (λ w. stages_done (ldterm_of (module_at here st)).stage ≤ 3 * bytes_left w true (ldterm_of (module_at here st))) (sym g.up) (begun-few (ldterm_of (module_at here st)).stage (ldterm_of (module_at here st))) }
 
   -- where a call stopped
   stopped-at : (stopped : Bool) (again : Bool) (bytes : ℕ) (s : State ℕ) → bytes ≡ treated here again (stop_at stopped bytes) (stream here.side s).modules → OnTrue stopped (Ends here.way again (ldterm_of (module_at here s)) bytes)
@@ -117,9 +136,9 @@ module _ (here : Spot) where
     told-on = told ∙ ap (tallied (led here again (stop_in call) s).gone) was ∙ sym (tallied-append gone (led here again (stop_in call) s).gone f)
 
     -- the turn goes on
-    goes-on : (count : ℕ) → count ≤ 3 * bytes + stages_done (ldterm_of (module_at here s)).stage → spare s0 ≤ spare s + (3 * bytes + 33 * count)
+    goes-on : (count : ℕ) → count ≤ 3 * bytes + stages_done (ldterm_of (module_at here s)).stage → spare s0 ≤ spare s + (3 * bytes + 33 * count) → Since here again bytes s0 s
         → call.again ≡ true → GoOn here (bytes + call.bytes) s0 st f f''
-    goes-on count few held works =
+    goes-on count few held since works =
         let on = further again call s st tells state r.inside r.begins works in
         let ps = (stream here.side s).modules in
         let asks = ap (λ o. asks_on here again o ps) (sym on.stop) ∙ sym tells.asks ∙ works in
@@ -137,6 +156,8 @@ module _ (here : Spot) where
           few = omega (arith, few, on.done);
           some = omega arith;
           left = omega (arith, held, falls);
+          all = omega (arith, since.all, on.all since.full);
+          opened = ap (λ v. (stream here.side v).opened) state ∙ (led-same here again (stop_in call) s).opened here.side ∙ since.opened;
         }
 
     -- or it is at its end
@@ -159,11 +180,11 @@ module _ (here : Spot) where
           left = omega (arith, held, falls, few, done-few (ldterm_of (module_at here s)).stage);
         }
 
-    pub along : (count : ℕ) → count ≤ 3 * bytes + stages_done (ldterm_of (module_at here s)).stage → spare s0 ≤ spare s + (3 * bytes + 33 * count)
+    pub along : (count : ℕ) → count ≤ 3 * bytes + stages_done (ldterm_of (module_at here s)).stage → spare s0 ≤ spare s + (3 * bytes + 33 * count) → Since here again bytes s0 s
         → (call.again ≡ false → bytes + call.bytes ≡ 0 → bytes_left here.way false (ldterm_of (module_at here s0)) ≡ 0)
         → (more : Bool) → call.again ≡ more → Along more here (bytes + call.bytes) s0 st f f''
-    along count few held went true is = goes-on count few held is
-    along count few held went false is = ends-there count few held (went is) is
+    along count few held since went true is = goes-on count few held since is
+    along count few held since went false is = ends-there count few held (went is) is
 
     pub comes-closer : (more : Bool) → call.again ≡ more → still_to_come more here st < suc (3 * bytes_left here.way again (ldterm_of (module_at here s)) - stages_done (ldterm_of (module_at here s)).stage)
     comes-closer true works =
@@ -173,19 +194,9 @@ module _ (here : Spot) where
 
 -- a turn treats a byte where its message has one
 module _ (here : Spot) where
-  -- of M_DATA on a read queue each byte is a cell, as it is of a store's messages
-  abbrev pub FullFirst : List (Message ℕ) → Type 0
-  FullFirst [] = Unit {0}
-  FullFirst (m ∷ rest) = is_data m.kind ≡ true → length (cells_of m) ≡ size_of m
-
-  abbrev pub Full : Module ℕ → Type 0
-  Full (OfLdterm l) = FullFirst l.read_queue.messages
-  Full (OfPtem p) = Unit {0}
-  Full (OfPckt p) = Unit {0}
-
-  input-whole : (ms : List (Message ℕ)) (l : Ldterm ℕ) → FullFirst ms → let t = input_begins plain (record here { way = Up }) None 0 ms l in t.again ≡ false → t.bytes ≡ 0 → first_size ms ≡ 0
-  input-whole [] l full over none = refl
-  input-whole (m ∷ rest) l full over none = at (is_data m.kind) refl over none
+  input-whole : (ms : List (Message ℕ)) (l : Ldterm ℕ) → FullFirst ms → let t = input_begins plain (record here { way = Up }) None 0 ms l in t.again ≡ false → first_size ms ≤ t.bytes
+  input-whole [] l full over = omega arith
+  input-whole (m ∷ rest) l full over = at (is_data m.kind) refl over
     where
       up : Spot
       up = record here { way = Up }
@@ -194,43 +205,69 @@ module _ (here : Spot) where
       begun = record l { read_queue = left_with rest l.read_queue; in_work = Some m }
 
       at : (typed : Bool) → is_data m.kind ≡ typed → (cond {A = Serving ℕ (Ldterm ℕ)} typed (treats plain up (length (cells_of m)) 0 begun) (passes plain up Up m rest l)).again ≡ false
-          → (cond {A = Serving ℕ (Ldterm ℕ)} typed (treats plain up (length (cells_of m)) 0 begun) (passes plain up Up m rest l)).bytes ≡ 0 → size_of m ≡ 0
-      at true is over none =
+          → size_of m ≤ (cond {A = Serving ℕ (Ldterm ℕ)} typed (treats plain up (length (cells_of m)) 0 begun) (passes plain up Up m rest l)).bytes
+      at true is over =
           let t = stages plain up (3 * length (cells_of m) - stages_done l.stage) 0 begun in
           let bytes = ap (λ again. cond {A = ℕ} again (to_treat begun - to_treat t.state) (length (cells_of m))) over in
           let whole = full is in
-          omega (arith, bytes, whole, none)
-      at false is over none = none
+          omega (arith, bytes, whole)
+      at false is over = omega arith
 
-  output-whole : (ms : List (Message ℕ)) (l : Ldterm ℕ) → (output_serves plain (record here { way = Down }) None 0 ms l).bytes ≡ 0 → first_size ms ≡ 0
-  output-whole [] l none = refl
-  output-whole (m ∷ rest) l none = at (is_data m.kind && opost l.termios) (cells_of m) none
+  both-first : (a b : Bool) → (a && b) ≡ true → a ≡ true
+  both-first true b is = refl
+  both-first false b is = absurd (false≢true is)
+
+  output-whole : (ms : List (Message ℕ)) (l : Ldterm ℕ) → FullFirst ms → first_size ms ≤ (output_serves plain (record here { way = Down }) None 0 ms l).bytes
+  output-whole [] l full = omega arith
+  output-whole (m ∷ rest) l full = at (is_data m.kind && opost l.termios) refl (cells_of m) refl
     where
-      at : (treated : Bool) (xs : List ℕ) → (cond {A = Outgoing ℕ} treated (posted plain (record here { way = Down }) None 0 xs m l) (unchanged m l)).bytes ≡ 0 → size_of m ≡ 0
-      at false xs none = none
-      at true [] none = none
-      at true (x ∷ xs) none = absurd (omega (arith, none))
+      at : (treated : Bool) → (is_data m.kind && opost l.termios) ≡ treated → (xs : List ℕ) → cells_of m ≡ xs
+          → size_of m ≤ (cond {A = Outgoing ℕ} treated (posted plain (record here { way = Down }) None 0 xs m l) (unchanged m l)).bytes
+      at false is xs long = omega arith
+      at true is [] long = omega arith
+      at true is (x ∷ xs) long = let whole = full (both-first (is_data m.kind) (opost l.termios) is) in let size = ap length long in omega (arith, whole, size, length-take (length xs) xs)
 
-  whole-at : (way : Way) (p : Module ℕ) → Full p → let t = module_serves plain (record here { way = way }) 0 false None p in t.again ≡ false → t.bytes ≡ 0 → bytes_left way false (ldterm_of p) ≡ 0
-  whole-at Up (OfLdterm l) full over none = input-whole l.read_queue.messages l full over none
-  whole-at Down (OfLdterm l) full over none = output-whole l.write_queue.messages l none
-  whole-at Up (OfPtem p) full over none = refl
-  whole-at Down (OfPtem p) full over none = refl
-  whole-at Up (OfPckt p) full over none = refl
-  whole-at Down (OfPckt p) full over none = refl
+  whole-at : (way : Way) (again : Bool) (p : Module ℕ) → Full p → let t = module_serves plain (record here { way = way }) 0 again None p in t.again ≡ false → bytes_left way again (ldterm_of p) ≤ t.bytes
+  whole-at Up false (OfLdterm l) full over = input-whole l.read_queue.messages l full.0 over
+  whole-at Up true (OfLdterm l) full over =
+      let t = stages plain (record here { way = Up }) (3 * to_treat l - stages_done l.stage) 0 l in
+      let bytes = ap (λ again. cond {A = ℕ} again (to_treat l - to_treat t.state) (to_treat l)) over in
+      omega (arith, bytes)
+  whole-at Down false (OfLdterm l) full over = output-whole l.write_queue.messages l full.1
+  whole-at Down true (OfLdterm l) full over = output-whole l.write_queue.messages l full.1
+  whole-at Up false (OfPtem p) full over = omega arith
+  whole-at Up true (OfPtem p) full over = omega arith
+  whole-at Down false (OfPtem p) full over = omega arith
+  whole-at Down true (OfPtem p) full over = omega arith
+  whole-at Up false (OfPckt p) full over = omega arith
+  whole-at Up true (OfPckt p) full over = omega arith
+  whole-at Down false (OfPckt p) full over = omega arith
+  whole-at Down true (OfPckt p) full over = omega arith
+
+  -- a last call that didn't stop treats all that was left
+  module _ (again : Bool) (call : Call) (s : State ℕ) (tells : TellsAs here again call s) (low : here.at - 1 < length (stream here.side s).modules) (full : Full (module_at here s)) (over : call.again ≡ false) where
+    went-all : call.stopped ≡ false → bytes_left here.way again (ldterm_of (module_at here s)) ≤ call.bytes
+    went-all goes =
+        let on = none-in here call goes in
+        let i = here.at - 1 in
+        let ps = (stream here.side s).modules in
+        let ended = sym (index-map none_there (λ p. (module_serves plain here 0 again None p).again) false i ps low) ∙ ap (λ o. asks_on here again o ps) (sym on) ∙ sym tells.asks ∙ over in
+        let bytes = sym (index-map none_there (λ p. (module_serves plain here 0 again None p).bytes) 0 i ps low) ∙ ap (λ o. treated here again o ps) (sym on) ∙ sym tells.bytes in
+        omega (arith, whole-at here.way again (module_at here s) full ended, bytes)
+
+    -- so one that left some stopped, and few blocks are free behind it
+    leaves-few : (bytes : ℕ) (s0 : State ℕ) (t : StoreValue) → Since here again bytes s0 s → LeavesFew here again call s t → StopsFew here (bytes + call.bytes) s0 t
+    leaves-few bytes s0 t since few = at call.stopped refl few
+      where
+        at : (stopped : Bool) → call.stopped ≡ stopped → OnTrue stopped (call.bytes < bytes_left here.way again (ldterm_of (module_at here s)) → IsClear here s → least_free t < STOP_BLOCKS)
+            → StopsFew here (bytes + call.bytes) s0 t
+        at true is few = λ less clear. few (omega (arith, since.all, less)) (record { up = clear.up; top = clear.top; opened = ap is_open since.opened ∙ clear.opened })
+        at false is few = λ less clear. absurd (let all = went-all is in omega (arith, all, since.all, less))
 
   -- a first call that is the last one
   module _ (call : Call) (s : State ℕ) (tells : TellsAs here false call s) (low : here.at - 1 < length (stream here.side s).modules) (full : Full (module_at here s)) (over : call.again ≡ false) (none : call.bytes ≡ 0) where
-    abbrev ps : List (Module ℕ)
-    ps = (stream here.side s).modules
-
     went-whole : call.stopped ≡ false → bytes_left here.way false (ldterm_of (module_at here s)) ≡ 0
-    went-whole goes =
-        let on = none-in here call goes in
-        let i = here.at - 1 in
-        let again = sym (index-map none_there (λ p. (module_serves plain here 0 false None p).again) false i ps low) ∙ ap (λ o. asks_on here false o ps) (sym on) ∙ sym tells.asks ∙ over in
-        let bytes = sym (index-map none_there (λ p. (module_serves plain here 0 false None p).bytes) 0 i ps low) ∙ ap (λ o. treated here false o ps) (sym on) ∙ sym tells.bytes ∙ none in
-        whole-at here.way (module_at here s) full again bytes
+    went-whole goes = let all = went-all false call s tells low full over goes in omega (arith, all, none)
 
     stopped-some : (stopped : Bool) (M : Type 0) → M → OnTrue stopped (M → 0 < call.bytes) → stopped ≡ true → 0 < call.bytes
     stopped-some true M many some is = some many
@@ -265,6 +302,16 @@ module _ (here : Spot) where
   later-went bytes s0 s f f' call on tells over none =
       let done = last-done true call s tells on.reached.inside on.reached.begins over in
       absurd (let few = on.few in let some = on.some in omega (arith, few, some, done, none))
+
+-- few blocks are free where the turn is at its end
+abbrev pub FewAt : Bool → Spot → ℕ → State ℕ → StoreValue → Type 0
+FewAt true here bytes s0 t = Unit {0}
+FewAt false here bytes s0 t = StopsFew here bytes s0 t
+
+pub few-along : (here : Spot) (again : Bool) (call : Call) (s : State ℕ) → TellsAs here again call s → here.at - 1 < length (stream here.side s).modules → Full (module_at here s)
+    → (bytes : ℕ) (s0 : State ℕ) (t : StoreValue) → Since here again bytes s0 s → LeavesFew here again call s t → (more : Bool) → call.again ≡ more → FewAt more here (bytes + call.bytes) s0 t
+few-along here again call s tells low full bytes s0 t since few true is = tt
+few-along here again call s tells low full bytes s0 t since few false is = leaves-few here again call s tells low full is bytes s0 t since few
 
 -- what a first call begins with
 module _ (here : Spot) where

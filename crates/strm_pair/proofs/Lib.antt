@@ -17,6 +17,8 @@ pub mod PlaceCosts
 pub mod PutSteps
 pub mod ModuleSteps
 pub mod NearestStays
+pub mod StopsFew
+pub mod HeadTakes
 pub mod ServeSteps
 pub mod CallsOn
 pub mod MovingOn

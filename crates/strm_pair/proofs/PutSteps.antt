@@ -15,7 +15,7 @@ use Rattle.strm_blocks.specs.Blocks.{IsStore, dropped, list_at, token}
 use Rattle.strm_head.specs.declared.head.Head as heads
 use Rattle.strm_head.specs.Heads.{head_in}
 use Rattle.strm_queue.specs.declared.queue.Queue.{Queue}
-use Rattle.strm_queue.specs.Stored.{queue_in, HoldsReadable, Changes, FreesBlocks}
+use Rattle.strm_queue.specs.Stored.{queue_in, HoldsReadable, Changes, FreesBlocks, FreesNone}
 use Rattle.strm_frame.specs.declared.modules.Acts.{Acts}
 use Rattle.strm_frame.specs.Hands.{CanPut, Handles, Hands, SamePool, Spends}
 use Rattle.strm_frame.specs.Outboxes.{sent_of}
@@ -34,7 +34,7 @@ use Rattle.strm_types.specs.Deliver.{Acted, Parcel, Took, tallied, toward, Goes}
 use Rattle.strm_types.specs.Flush.{is_data_kind}
 use Rattle.strm_types.specs.Flushing.{asked_by, flush_bytes, flush_message}
 use Rattle.strm_types.specs.Heads.{head_put, is_doubled, obeyed, turned_round, waits_for_readers, Head}
-use Rattle.strm_types.specs.Message.{Message, cells_of, has_parts}
+use Rattle.strm_types.specs.Message.{Message, cells_of, has_parts, is_held}
 use Rattle.strm_types.specs.Names.{direction_at, enable_some, is_open}
 use Rattle.strm_laws.specs.Puts.{across_of, earlier_at, noted, passed_up, put_at_driver, put_at_head, put_at_module, put_behind, put_below, put_in}
 use Rattle.strm_types.specs.Far.{is_turned, turns_round}
@@ -84,7 +84,7 @@ not-turned here m h is = at (has_parts m)
     at true = sent-nothing (Head ℕ) (is_doubled m h.queue.messages) _ _ refl refl
     at false = obeys-none here m.kind m.plain h is
 
-reached-sent : (side : Side) (here : Spot) (m : Message ℕ) (s : State ℕ) → is_turned m ≡ false → (put_at_head side here m s).sent ≡ []
+pub reached-sent : (side : Side) (here : Spot) (m : Message ℕ) (s : State ℕ) → is_turned m ≡ false → (put_at_head side here m s).sent ≡ []
 reached-sent side here m s is = either (is_open (stream side s).opened) _ _ (not-turned here m (stream side s).head is) refl
   where
     either : (b : Bool) (one another : Took ℕ (State ℕ)) → one.sent ≡ [] → another.sent ≡ [] → (cond b one another).sent ≡ []
@@ -188,8 +188,8 @@ module _ (side : Side) (s t : StoreValue) (p : Streams) (h : heads.Head) (i : �
   behind = record (with_end side (record (end_at side p) { head = h }) p) { enabled = enable_some lets_go (before_head side (state_in s p)) p.enabled }
 
   came-at : IsStore s → CanPut s i (kept_by p) → AreBeside s p → head_in t h ≡ Did.state → notes_of lets_go ≡ Did.notes → sent_down to down ≡ Did.sent → f' ≡ tallied Did.gone f
-      → Changes (dropped s i) t (end_at side p).head.queue h.queue → HoldsReadable (list_at t h.queue.list) → FreesBlocks s t → CameBy s t p behind i (sent_down to down) f f' (at_head side (state_in s p) Did)
-  came-at store can beside state notes sent told changes readable frees =
+      → Changes (dropped s i) t (end_at side p).head.queue h.queue → HoldsReadable (list_at t h.queue.list) → FreesBlocks s t → (is_held (message_in s i).kind ≡ true → FreesNone s t) → CameBy s t p behind i (sent_down to down) f f' (at_head side (state_in s p) Did)
+  came-at store can beside state notes sent told changes readable frees none =
       let only : OnlyQueue s t (end_at side p).head.queue h.queue = record { ready = changes.ready; list = changes.list; others = changes.others } in
       let hands = shifts-joined s t i (end_at side p).head.queue h.queue store (can-alone s i (kept_by p) can) changes frees in
       let stays = put-stays s t i 0 (λ _. 0) (kept_by p) store can hands in
@@ -204,19 +204,20 @@ module _ (side : Side) (s t : StoreValue) (p : Streams) (h : heads.Head) (i : �
         beside = head-changed s t p beside stays side h only readable;
         keeps = kept-head p side h;
         hands = hands;
+        blocks = none;
       }
 
   pub came-by : (q : Streams) → to.side ≡ side → IsStore s → CanPut s i (kept_by p) → AreBeside s p → is_open (stream to.side (state_in s p)).opened ≡ true
       → head_in t h ≡ Did.state → notes_of lets_go ≡ Did.notes → sent_down to down ≡ Did.sent → f' ≡ tallied Did.gone f
-      → Changes (dropped s i) t (end_at side p).head.queue h.queue → HoldsReadable (list_at t h.queue.list) → FreesBlocks s t
+      → Changes (dropped s i) t (end_at side p).head.queue h.queue → HoldsReadable (list_at t h.queue.list) → FreesBlocks s t → (is_held (message_in s i).kind ≡ true → FreesNone s t)
       → q ≡ behind
       → CameBy s t p q i (sent_down to down) f f' (put_at_head to.side to m (state_in s p))
-  came-by q is store can beside opened state notes sent told changes readable frees q_is =
+  came-by q is store can beside opened state notes sent told changes readable frees none q_is =
       let st = state_in s p in
       let here : put_at_head to.side to m st ≡ at_head side st Did =
       open-is to.side to m st opened ∙ ap (λ sd. at_head sd st (head_put to m (stream sd st).head)) is ∙ ap (λ x. at_head side st (head_put to m x)) (head-is s p side) in
       subst (λ w. CameBy s t p q i (sent_down to down) f f' w) (sym here)
-      (subst (λ x. CameBy s t p x i (sent_down to down) f f' (at_head side st Did)) (sym q_is) (came-at store can beside state notes sent told changes readable frees))
+      (subst (λ x. CameBy s t p x i (sent_down to down) f f' (at_head side st Did)) (sym q_is) (came-at store can beside state notes sent told changes readable frees none))
 
 -- a put at a driver, by what the driver does at its place
 abbrev at_driver : Side → ℕ → State ℕ → Acted ℕ (plain.Queue ℕ) → Took ℕ (State ℕ)

@@ -1,16 +1,21 @@
 -- Turns one after the other.
-use Rattle.std.proofs.Common.{ℕ, suc, ◌≡◌, ◌≤◌, ◌+◌, List, [], ◌∷◌, length, length-append, refl, ap, ◌∙◌, subst, arith}
+use Rattle.std.proofs.Common.{ℕ, suc, ◌≡◌, ◌≤◌, ◌+◌, true, List, [], ◌∷◌, length, length-append, refl, ap, ◌∙◌, subst, arith}
 use Rattle.std.specs.Prelude.{None, Some, nat_lt, nat_le, slice_get}
 use Rattle.std.proofs.lemmas.Bool.Decides.{nat_tests}
 use Rattle.strm_types.specs.declared.answers.Turn.{Turn}
 use Rattle.strm_types.specs.declared.entries.Entry.TheVariants.{Turned}
+use Rattle.strm_types.specs.declared.limits.TheConstants.{STOP_BLOCKS}
 use Rattle.strm_types.specs.declared.names.QueueName.{QueueName}
 use Rattle.strm_types.specs.Journal.{PlainEntry, room_used}
 use Rattle.strm_types.specs.Refused.{turn_blocks}
 use Rattle.strm_laws.specs.Pair.{PairState, AddsEntry, RanTurns, Stops, next_refused, queue_refused, refused_of}
-use Rattle.strm_laws.specs.Refusals.{enough}
+use Rattle.strm_laws.specs.Refusals.{enough, in_range}
+use Rattle.strm_laws.specs.Rest.{EchoesOnce, work}
+use Rattle.strm_laws.specs.Restorable.{Restorable}
+use Rattle.strm_laws.specs.StackCosts.{stands_of}
 use Rattle.strm_laws.proofs.Balances.{both-true}
 use Rattle.strm_laws.proofs.Replay.{turn-allowed}
+use Rattle.strm_laws.proofs.RestRuns.{echoed-runs, next-goes}
 use Rattle.strm_pair.specs.Running.{IsRunning}
 
 pub none-first : {A : Type 0} (xs : List A) → slice_get xs 0 ≡ None → xs ≡ []
@@ -35,3 +40,8 @@ one-more turns left old mid new name turn run first adds stops = record {
   limits = adds.limits ∙ run.limits;
   room = run.room;
 }
+
+-- Where turns come to rest, and blocks and books last, the next one isn't refused.
+pub next-allowed : (turns : ℕ) (old new : PairState) → RanTurns turns old new → Restorable old.state → EchoesOnce (stands_of old.state) → length old.journal + work old.state ≤ old.limits.journal_events
+    → room_used old.journal ≤ old.limits.journal_bytes → in_range new.state ≡ true → enough STOP_BLOCKS new.free ≡ true → next_refused new ≡ None
+next-allowed turns old new ran good once events bytes range blocks = next-goes turns old new ran (echoed-runs turns old new ran once good).0.1 events bytes range blocks

@@ -10,7 +10,7 @@ use Rattle.strm_types.specs.declared.names.QueueName.{QueueName}
 use Rattle.strm_types.specs.declared.names.Side.{Side}
 use Rattle.strm_types.specs.declared.names.Way.{Way}
 use Rattle.strm_types.specs.declared.names.Way.TheVariants.{Up, Down}
-use Rattle.strm_types.specs.declared.limits.TheConstants.{HOPS}
+use Rattle.strm_types.specs.declared.limits.TheConstants.{HOPS, STOP_BLOCKS}
 use Rattle.strm_types.specs.declared.rules.Fates.{Fates}
 use Rattle.strm_types.specs.declared.spots.Spot.{Spot}
 use Rattle.strm_types.specs.Cells.{plain}
@@ -39,18 +39,21 @@ use Rattle.strm_frame.specs.declared.service.Served.{Served}
 use Rattle.strm_frame.specs.declared.parcels.Sent.{Sent}
 use Rattle.strm_frame.specs.Hands.{AreIn, Handles, HasRoom, MayTake, SamePool, Spends, Takes}
 use Rattle.strm_frame.specs.Outboxes.{sent_of, times_sent, parcels_in}
-use Rattle.strm_frame.specs.Serves.{later_cost, stop_at}
+use Rattle.strm_frame.specs.Serves.{later_cost, least_free, stop_at}
 use Rattle.strm_ldterm.specs.Turns.{needs}
 use Rattle.strm_pair.specs.AnyModules.{MayServe, turn_cost}
 use Rattle.strm_pair.specs.declared.calling.Call.{Call}
 use Rattle.strm_pair.specs.declared.streams.Streams.{Streams}
-use Rattle.strm_pair.specs.ModuleServed.{ActsAs, CallsAs, IsKeptAll, MayBook, StackServes, TellsAs, acts_in, between, call_of, call_units, next_cost, stop_in, with_more}
+use Rattle.strm_pair.specs.ModuleServed.{ActsAs, CallsAs, IsClear, IsKeptAll, LeavesFew, MayBook, StackServes, TellsAs, acts_in, between, call_of, call_units, next_cost, stop_in, waits_above, with_more}
 use Rattle.strm_pair.specs.Pairs.{state_in, end_at, with_end, AreBeside, kept_by}
+use Rattle.strm_queue.specs.Stored.{FreesNone}
 use Rattle.strm_ldterm.proofs.Flushed.{tallied-append}
+use Rattle.strm_ldterm.proofs.Freeing.{stays-few}
 use Rattle.strm_ldterm.proofs.Spared.{call-few}
 use Rattle.strm_pair.specs.Framing.{kept-parts}
 use Rattle.strm_pair.proofs.ModuleSteps.{stack-acts, stack-modules}
 use Rattle.strm_pair.proofs.Sides.{modules-are}
+use Rattle.strm_pair.proofs.StopsFew.{stopped-waits}
 use Rattle.strm_pair.proofs.PlaceCosts.{once-stands, sent-most}
 use Rattle.strm_pair.specs.Stacks.{stack_keeps, Stack}
 use Rattle.strm_pair.specs.ModuleStacks.{stack-long}
@@ -200,6 +203,7 @@ module _ (s t : StoreValue) (p q : Streams) (x : Stack) (here : Spot) (again : B
         sent = e.sent ∙ ap (λ ls. (called here again stop ls).sent) same;
         tells = e.tells ∙ ap (λ ls. tallied (called here again stop ls).gone f) same;
         itself = tells-by e;
+        few = e.few;
         some = e.some;
         beside = r.beside;
         chains = e.chains;
@@ -273,12 +277,24 @@ module _ (r s : StoreValue) (o p : Streams) (here : Spot) (again : Bool) (call :
     spare = omega (arith, may, call-within here again call (state_in r o) a.itself begins low, acted-spare, takes-few);
   }
 
-  pub calls-by : (t : StoreValue) (q : Streams) (f'' : Fates) → IsKeptAll r o
+  -- a call that stopped leaves few blocks free, where what it sent frees none
+  few-by : (t : StoreValue) → (waits_above (state_in s p) (parcels_in s sent_on) ≡ true → FreesNone s t) → LeavesFew here again call (state_in r o) t
+  few-by t blocks = at call.stopped refl a.few
+    where
+      at : (stopped : Bool) → call.stopped ≡ stopped → OnTrue stopped (least_free s < STOP_BLOCKS)
+          → OnTrue stopped (call.bytes < bytes_left here.way again (ldterm_of (module_at here (state_in r o))) → IsClear here (state_in r o) → least_free t < STOP_BLOCKS)
+      at true is few = λ less clear.
+          let w = acts_in here again call (state_in r o) in
+          let waits = stopped-waits here again call (state_in r o) a.itself low begins is less clear in
+          stays-few s t STOP_BLOCKS (blocks (subst (λ v. waits_above v (parcels_in s sent_on) ≡ true) (sym a.state) (subst (λ ps. waits_above w.state ps ≡ true) (sym a.sent) waits))) few
+      at false is few = tt
+
+  pub calls-by : (t : StoreValue) (q : Streams) (f'' : Fates) → IsKeptAll r o → (waits_above (state_in s p) (parcels_in s sent_on) ≡ true → FreesNone s t)
       → (let u = in_turn (carried (put_in plain) HOPS) (parcels_in s sent_on) (state_in s p) in f'' ≡ tallied u.gone f')
       → (let u = in_turn (carried (put_in plain) HOPS) (parcels_in s sent_on) (state_in s p) in state_in t q ≡ u.state)
       → AreBeside t q → Handles s t (λ i. times_sent i sent_on) (kept_by p) (kept_by q) (λ _. 0)
       → Takes s t (spare (state_in s p)) (spare (state_in t q)) takes 0 → SamePool s t → CallsAs r t o q here again call f f''
-  calls-by t q f'' all told state beside hands spends pool =
+  calls-by t q f'' all blocks told state beside hands spends pool =
       let st = state_in r o in
       let w = acts_in here again call st in
       let on : List (Parcel ℕ) → State ℕ → Carried ℕ (State ℕ) = λ ps v. in_turn (carried (put_in plain) HOPS) ps v in
@@ -288,6 +304,7 @@ module _ (r s : StoreValue) (o p : Streams) (here : Spot) (again : Bool) (call :
         state = led_state;
         tells = told ∙ ap (λ (u : Carried ℕ (State ℕ)). tallied u.gone f') is ∙ ap (tallied (on w.sent w.state).gone) a.tells ∙ sym (tallied-append w.gone (on w.sent w.state).gone f);
         itself = a.itself;
+        few = few-by t blocks;
         some = a.some;
         beside = beside;
         hand = λ i. omega (arith, all i, a.hands.counts i, hands.counts i);

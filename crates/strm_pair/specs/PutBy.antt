@@ -1,17 +1,18 @@
 -- What a put at a spot of a pair did to the store and the streams.
-use Rattle.std.specs.Prelude.{ℕ, ◌≡◌, ◌-◌, List}
+use Rattle.std.specs.Prelude.{ℕ, ◌≡◌, ◌-◌, true, List}
 use Rattle.strm_types.specs.declared.rules.Fates.{Fates}
 use Rattle.strm_types.specs.declared.spots.Spot.{Spot}
 use Rattle.strm_types.specs.Cells.{plain}
 use Rattle.strm_types.specs.Deliver.{Acted, Parcel, Took, tallied}
 use Rattle.strm_types.specs.Far.{far}
-use Rattle.strm_types.specs.Message.{Message}
+use Rattle.strm_types.specs.Message.{Message, is_held}
 use Rattle.strm_types.specs.ModuleQueues.{at_place}
 use Rattle.strm_types.specs.Modules.{put_among}
 use Rattle.strm_laws.specs.StackCosts.{module_leaves, module_takes}
 use Rattle.strm_laws.specs.Stacked.{Module, module_puts}
 use Rattle.strm_laws.specs.State.{State}
 use Rattle.strm_blocks.specs.Blocks.{StoreValue}
+use Rattle.strm_queue.specs.Stored.{FreesNone}
 use Rattle.strm_frame.specs.declared.parcels.Sent.{Sent}
 use Rattle.strm_frame.specs.declared.modules.Acts.{Acts}
 use Rattle.strm_frame.specs.Does.{Puts}
@@ -39,8 +40,8 @@ pub record PutAs (old new : StoreValue) (p q : Streams) (message most later : �
 abbrev pub PutBy : (old new : StoreValue) → (p q : Streams) → (message takes : ℕ) → List Sent → (told told' : Fates) → Took ℕ (State ℕ) → Type 0
 PutBy old new p q message takes sent_on told told' is = PutAs old new p q message takes 0 sent_on told told' is
 
--- A put at an open head did what a definition says: the message has gone, and this is to be sent down. No block was taken, and the
--- stacks keep what they did.
+-- A put at an open head did what a definition says: the message has gone, and this is to be sent down. No block was taken, the stacks keep what
+-- they did, and an M_DATA or M_PROTO frees none.
 pub record CameBy (old new : StoreValue) (p q : Streams) (message : ℕ) (down : List (Parcel ℕ)) (told told' : Fates) (is : Took ℕ (State ℕ)) : Type 0 where
   pub state : state_in new q ≡ is.state
   pub down_is : down ≡ is.sent
@@ -48,6 +49,7 @@ pub record CameBy (old new : StoreValue) (p q : Streams) (message : ℕ) (down :
   pub beside : AreBeside new q
   pub keeps : (i : ℕ) → kept_by q i ≡ kept_by p i
   pub hands : Shifts old new (once message) (λ _. 0) 0
+  pub blocks : is_held (message_in old message).kind ≡ true → FreesNone old new
 
 -- what the modules of a stack do with a message that is put at one of them
 abbrev pub taken_at : Spot → Message ℕ → List (Module ℕ) → Acted ℕ (List (Module ℕ))

@@ -7,13 +7,13 @@ ghost use Rattle.strm_laws.specs.State.{stream};
 ghost use Rattle.strm_types.specs.LdtermCalls.{bytes_left};
 ghost use Rattle.strm_laws.specs.TurnCalls.{ldterm_of, module_at};
 ghost use Rattle.strm_frame.specs.Outboxes.{sent_of};
-ghost use Rattle.strm_pair.specs.ModuleServed.{ActsAs, BookTakes, CallsAs, IsKeptAll, MayBook, MayCall, StackServes, TreatsAs, between, call_of, with_more};
+ghost use Rattle.strm_pair.specs.ModuleServed.{ActsAs, BookTakes, CallsAs, IsKeptAll, MayBook, MayCall, StackServes, StopsFew, TreatsAs, between, call_of, with_more};
 
 use crate::stacks::place_at;
 use crate::streams::Streams;
 use strm_blocks::Blocks;
-use strm_frame::{Served, deliver_all};
-use strm_types::{Fates, HOPS, Side, Spot};
+use strm_frame::Served;
+use strm_types::{Fates, Side, Spot};
 
 // How many bytes were made in each direction, modulo 2^64.
 #[derive(Clone, Copy)]
@@ -143,11 +143,12 @@ impl Streams {
             stopped: served.stopped,
             again: served.again,
         };
-        deliver_all(store, self, HOPS, served.acts.sent, told);
+        self.deliver_sent(store, served.acts.sent, told);
         call
     }
 
-    /// The calls of a turn, until one asks for no other: how many bytes they treated, one at least where the message has any.
+    /// The calls of a turn, until one asks for no other: how many bytes they treated, one at least where the message has any. On top of an open
+    /// stream they leave some of it only where few blocks are free behind them.
     pub(crate) fn call_on<B: Blocks>(
         &mut self,
         store: &mut B,
@@ -161,6 +162,7 @@ impl Streams {
         requires few { bytes_left here.way false (ldterm_of (module_at here (state_in (B.value store.old) self.old))) ≤ 16777216 }
         ensures treats { TreatsAs here result (state_in (B.value store.old) self.old)
             (state_in (B.value store.new) self.new) told.old told.new }
+        ensures few { StopsFew here result (state_in (B.value store.old) self.old) (B.value store.new) }
         ensures beside { AreBeside (B.value store.new) self.new }
         ensures hand { IsKeptAll (B.value store.new) self.new }
         ensures pool { SamePool (B.value store.old) (B.value store.new) }

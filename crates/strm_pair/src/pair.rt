@@ -16,6 +16,7 @@ ghost use Rattle.strm_laws.specs.Ledgers.{Balanced, is_booked, ledger_of, own_pl
 ghost use Rattle.strm_types.specs.declared.names.Dir.{Dir};
 ghost use Rattle.strm_types.specs.Queue.{bytes_of};
 ghost use Rattle.strm_laws.specs.ModuleTurns.{place_named};
+ghost use Rattle.strm_laws.specs.Restorable.{Restorable};
 ghost use Rattle.strm_laws.specs.State.{AreOrdered, book, messages_in, stream};
 ghost use Rattle.strm_pair.specs.Shows.{Shows, count_at, first_at, full_at, messages_at};
 ghost use Rattle.strm_pair.specs.Parts.{longest_part};
@@ -170,9 +171,9 @@ impl<B: Blocks + Drop> Pair<B> {
     /// chains ([`Pair::store`]): it is the one to which its journal leads from its base (`replayed`), each entry a legal step with the answer
     /// that it stores (`legal`). Each queue is in order of rank, and first come within a rank (`ordered`). Each message has a message block at
     /// least, and all blocks are free where there is no message (`blocks`). What has gone is what the entries say (`told`). In each direction
-    /// what was written and made is what stands on queues and in lines, and what has gone by each rule (`balanced`); and every byte that stood
-    /// there where the journal begins, or was booked since, has exactly one place, in its own direction, and no other byte has any (`once`,
-    /// `own`). What [`Pair::count`] and [`Pair::is_full`] tell of a queue are the sums of its messages. It does nothing.
+    /// what was written and made is what stands on queues and in lines, and what has gone by each rule (`balanced`); an image may hold it
+    /// (`restorable`); and every byte that stood there where the journal begins, or was booked since, has exactly one place, in its own direction,
+    /// and no other byte has any (`once`, `own`). What [`Pair::count`] and [`Pair::is_full`] tell of a queue are the sums of its messages. It does nothing.
     pub fn audit(&self)
         ensures replayed { self.now.state ≡ replay plain self.now.base self.now.journal }
         ensures legal { IsLegal plain self.now.base self.now.journal }
@@ -180,6 +181,7 @@ impl<B: Blocks + Drop> Pair<B> {
         ensures blocks { IsPoolOf (messages_in self.now.state) self.now.limits self.now.free }
         ensures told { self.now.fates ≡ told_by plain self.now.base self.now.journal self.now.base_fates }
         ensures balanced { (dir : Dir) → Balanced dir self.now.state self.now.fates }
+        ensures restorable { Restorable self.now.state }
         ensures once { (o : Origin) → places_of o self.now.base self.now.journal
             ≡ (if is_booked o self.now.base (replay tagged (based self.now.base) self.now.journal) then 1 else 0) }
         ensures own { (o : Origin) → own_places_of o self.now.base self.now.journal

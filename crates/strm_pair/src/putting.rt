@@ -105,8 +105,8 @@ impl Streams {
         Outbox::none()
     }
 
-    // A message that comes to the head of an open side. What is to go down comes back.
-    fn come<B: Blocks>(
+    /// A message that comes to the head of an open side. What is to go down comes back.
+    pub(crate) fn come<B: Blocks>(
         &mut self,
         store: &mut B,
         to: Spot,

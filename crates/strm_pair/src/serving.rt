@@ -31,7 +31,7 @@ pub(crate) enum Begun {
 
 impl Streams {
     ghost use Rattle.strm_pair.specs.Effects.{AreAtRest, Leads, MayDeliver};
-    ghost use Rattle.strm_pair.specs.Pairs.{state_in, AreBeside, AreHeld, kept_by};
+    ghost use Rattle.strm_pair.specs.Pairs.{free_in, state_in, AreBeside, AreHeld, kept_by};
 
     /// The place of the module on a side's stream whose queues have a name.
     pub(crate) fn module_named(&self, side: Side, name: Place) -> Option<usize>
@@ -136,7 +136,8 @@ impl Streams {
         ensures leads { let s = B.value store.old in let is = module_turned plain name result (state_in s self.old) in
             Leads s (B.value store.new) self.new told.old told.new is.state is.gone }
         ensures few { FewBooked (state_in (B.value store.new) self.new) }
-        ensures stops { name.place ≡ Ldterm → MovesOn (state_in (B.value store.old) self.old) name result }
+        ensures stops { name.place ≡ Ldterm →
+            MovesOn (state_in (B.value store.old) self.old) (free_in (B.value store.new)) name result }
     {
         match self.begin_module_turn(store, name) {
             Begun::Over(turn) => turn,

@@ -90,7 +90,7 @@ fn new_end(first: usize, tables: SideTables) -> StreamEnd
 impl Streams {
     ghost use Rattle.strm_types.specs.declared.names.Side.TheVariants.{Master};
     ghost use Rattle.strm_pair.specs.Effects.{AreAtRest, Becomes, Leads, MayDeliver};
-    ghost use Rattle.strm_pair.specs.Pairs.{state_in, end_at, with_end, AreBeside, AreHeld};
+    ghost use Rattle.strm_pair.specs.Pairs.{free_in, state_in, end_at, with_end, AreBeside, AreHeld};
 
     /// The streams of a new pair.
     pub fn new(tables: Both<SideTables>) -> Streams
@@ -260,7 +260,7 @@ impl Streams {
         ensures leads { let s = B.value store.old in let is = turned plain name result (state_in s self.old) in
             Leads s (B.value store.new) self.new told.old told.new is.state is.gone }
         ensures few { FewBooked (state_in (B.value store.new) self.new) }
-        ensures stops { MovesOn (state_in (B.value store.old) self.old) name result }
+        ensures stops { MovesOn (state_in (B.value store.old) self.old) (free_in (B.value store.new)) name result }
     {
         self.enabled.remove(name);
         match name.place {

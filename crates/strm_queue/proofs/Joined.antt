@@ -10,7 +10,7 @@ use Rattle.strm_queue.specs.declared.queue.Queue.{Queue}
 use Rattle.strm_queue.specs.Flows.{plain_flows}
 use Rattle.strm_queue.specs.Kept.{AreCounted}
 use Rattle.strm_queue.specs.Queues.{OnlyCounts}
-use Rattle.strm_queue.specs.Stored.{queue_in, Holds, IsReady, Changes, FreesBlocks}
+use Rattle.strm_queue.specs.Stored.{queue_in, Holds, IsReady, Changes, FreesBlocks, FreesNone}
 use Rattle.strm_queue.proofs.Holding.{put-messages, put-holds}
 use Rattle.strm_queue.proofs.Placed.{Landed, landed}
 use Rattle.strm_queue.proofs.Queued.{put-queue}
@@ -48,11 +48,17 @@ module _ (s new : StoreValue) (q q' : Queue) (i : ℕ) (within : q.list < length
         sum-put rank_of f (in_hand s i) (list_at s q.list),
       )
 
+  abbrev after : StoreValue
+  after = placed (dropped s i) q.list (put (in_hand s i) (list_at s q.list))
+
   pub joined-frees : FreesBlocks s new
   joined-frees = subst (λ v. FreesBlocks s v) (sym is) (record {
     mblks = omega (arith, free_m-is s, free_m-is after, used-is s, used-is after, same length);
     dblks = free_d-more s after refl (λ d. omega (arith, references-is s d, references-is after d, same (names_of d)));
   })
-    where
-      after : StoreValue
-      after = placed (dropped s i) q.list (put (in_hand s i) (list_at s q.list))
+
+  pub joined-none : FreesNone s new
+  joined-none = subst (λ v. FreesNone s v) (sym is) (
+    omega (arith, free_m-is s, free_m-is after, used-is s, used-is after, same length),
+    free_d-more after s refl (λ d. omega (arith, references-is s d, references-is after d, same (names_of d))),
+  )

@@ -69,6 +69,10 @@ pub record FreesBlocks (old new : StoreValue) : Type 0 where
   pub mblks : free_m old ≤ free_m new
   pub dblks : free_d old ≤ free_d new
 
+-- no block has become free
+abbrev pub FreesNone : StoreValue → StoreValue → Type 0
+FreesNone old new = (free_m new ≤ free_m old) × (free_d new ≤ free_d old)
+
 -- the marks and the flags stay, but want-read may be cleared
 pub record SameFlags (old new : Queue) : Type 0 where
   pub flows : plain_flows new.flows ≡ plain_flows old.flows

@@ -11,7 +11,7 @@ ghost use Rattle.strm_blocks.specs.Blocks.{Block, StoreValue, IsInHand, block_at
 ghost use Rattle.strm_msg.specs.Messages.{message_of, IsChain};
 ghost use Rattle.strm_queue.specs.Kept.{AreCounted};
 ghost use Rattle.strm_queue.specs.Queues.{OnlyCounts};
-ghost use Rattle.strm_queue.specs.Stored.{queue_in, messages_on, Holds, IsReady, Changes, FreesBlocks, Dequeued};
+ghost use Rattle.strm_queue.specs.Stored.{queue_in, messages_on, Holds, IsReady, Changes, FreesBlocks, FreesNone, Dequeued};
 
 use crate::queue::Queue;
 use strm_blocks::{Blocks, InHand, Visitor};
@@ -124,7 +124,7 @@ pub fn mark_all(queue: &mut Queue, marks: Marks)
     queue.mark_bands(marks);
 }
 
-/// Puts a message in hand on a queue, and says whether that enables a queue with a service procedure: `putq(9F)`.
+/// Puts a message in hand on a queue, and says whether that enables a queue with a service procedure: `putq(9F)`. No block is taken or freed.
 pub fn enqueue<B: Blocks>(store: &mut B, queue: &mut Queue, message: InHand) -> bool
     requires ready { IsReady (B.value store.old) queue.old }
     requires in_hand { IsInHand (B.value store.old) (token message) }
@@ -137,6 +137,7 @@ pub fn enqueue<B: Blocks>(store: &mut B, queue: &mut Queue, message: InHand) -> 
         Holds test (list_at (B.value store.old) queue.old.list) → Holds test (list_at (B.value store.new) queue.new.list) }
     ensures changes { Changes (dropped (B.value store.old) (token message)) (B.value store.new) queue.old queue.new }
     ensures frees { FreesBlocks (B.value store.old) (B.value store.new) }
+    ensures blocks { FreesNone (B.value store.old) (B.value store.new) }
 {
     store.audit();
     queue.putq(store, message)

@@ -3,7 +3,7 @@ use Rattle.std.proofs.Common.{◌<◌, length, ◌∙◌, arith}
 use Rattle.strm_blocks.specs.Blocks.{in_hand, token}
 use Rattle.strm_queue.specs.Stored.{queue_in}
 use Rattle.strm_queue.proofs.Chains.{enables-same}
-use Rattle.strm_queue.proofs.Joined.{joined-queue, joined-holds, joined-changes, joined-frees}
+use Rattle.strm_queue.proofs.Joined.{joined-queue, joined-holds, joined-changes, joined-frees, joined-none}
 use Rattle.strm_queue.proofs.standing.enqueue.Goals as goal
 
 pub returns-clause-queue : goal.returns-clause-queue
@@ -38,3 +38,10 @@ returns-clause-frees g c =
     let q = c.args.queue.now in
     let within : q.list < length s.lists = let low = q.on_list in omega (arith, low, c.audit.ensures.eight) in
     joined-frees s (g.B.Blocks.value c.putq.new.store) q c.putq.new.self (token c.args.message) within c.requires.in_hand c.putq.ensures.placed
+
+pub returns-clause-blocks : goal.returns-clause-blocks
+returns-clause-blocks g c =
+    let s = g.B.Blocks.value c.args.store.now in
+    let q = c.args.queue.now in
+    let within : q.list < length s.lists = let low = q.on_list in omega (arith, low, c.audit.ensures.eight) in
+    joined-none s (g.B.Blocks.value c.putq.new.store) q c.putq.new.self (token c.args.message) within c.requires.in_hand c.putq.ensures.placed

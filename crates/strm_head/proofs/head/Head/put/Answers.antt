@@ -1,17 +1,19 @@
 -- What a message does at a head, by its kind.
-use Rattle.std.proofs.Common.{ℕ, ◌≡◌, false, List, sym, ap, ◌∙◌}
+use Rattle.std.proofs.Common.{ℕ, ◌≡◌, false, true, List, sym, ap, ◌∙◌}
+use Rattle.std.proofs.lemmas.Bool.{false≢true}
 use Rattle.strm_types.specs.declared.flushing.FlushAsked.{FlushAsked}
 use Rattle.strm_types.specs.declared.kinds.MsgKind.{MsgKind}
 use Rattle.strm_types.specs.Deliver.{Acted, Fate, tallied}
 use Rattle.strm_types.specs.Flush.{is_data_kind}
 use Rattle.strm_types.specs.Flushing.{is_flush}
+use Rattle.strm_types.specs.Message.{is_held}
 use Rattle.strm_types.specs.Heads.{waits_for_readers, flush_up, obeyed, head_put}
 use Rattle.strm_types.specs.Heads as state
 use Rattle.strm_blocks.specs.Blocks.{StoreValue, in_hand, token}
 use Rattle.strm_msg.specs.Bytes.{bytes_of}
 use Rattle.strm_msg.specs.Messages.{message_of}
 use Rattle.strm_head.specs.Heads.{head_in}
-use Rattle.strm_head.proofs.Coming.{data-comes, flush-comes, other-comes, heeds-notes, heeds-gone, counts-changed, readable-still, waits-notes, waits-sent, freed-frees, frees-both}
+use Rattle.strm_head.proofs.Coming.{data-comes, flush-comes, other-comes, heeds-notes, heeds-gone, counts-changed, readable-still, held-data, held-other, waits-notes, waits-sent, freed-frees, frees-both}
 use Rattle.strm_head.proofs.head.Head.put.Given as given
 use Rattle.strm_head.proofs.head.Head.put.Goals as goal
 
@@ -148,3 +150,16 @@ returns-clause-readable g c =
 pub returns-clause-frees : goal.returns-clause-frees
 returns-clause-frees g c =
     freed-frees (g.B.Blocks.value c.args.store.now) (g.B.Blocks.value c.free-2.new.self) (token c.args.message) c.requires.in_hand c.free-2.ensures
+
+-- M_DATA and M_PROTO free none
+pub returns-then-is_data_kind-clause-blocks : goal.returns-then-is_data_kind-clause-blocks
+returns-then-is_data_kind-clause-blocks g c = λ held. c.take_in.ensures.blocks (held-other _ held)
+
+other-kind : (kind : MsgKind) → is_held kind ≡ true → is_data_kind kind ≡ false → ⊥
+other-kind kind held none = false≢true (sym none ∙ held-data kind held)
+
+pub returns-then-is_flush-clause-blocks : goal.returns-then-is_flush-clause-blocks
+returns-then-is_flush-clause-blocks g c = λ held. absurd (other-kind _ held (sym (ap is_data_kind c.kind-kind.ensures) ∙ sym c.is_data_kind.ensures ∙ c.if-is_data_kind.false))
+
+pub returns-clause-blocks : goal.returns-clause-blocks
+returns-clause-blocks g c = λ held. absurd (other-kind _ held (sym (ap is_data_kind c.kind-kind.ensures) ∙ sym c.is_data_kind.ensures ∙ c.if-is_data_kind.false))

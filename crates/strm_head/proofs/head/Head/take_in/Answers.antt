@@ -1,5 +1,6 @@
 -- A message waits, but for a second M_PCPROTO.
 use Rattle.std.proofs.Common.{ℕ, ◌≡◌, true, false, sym, ap, ◌∙◌}
+use Rattle.std.proofs.lemmas.Bool.{false≢true}
 use Rattle.strm_types.specs.declared.names.Way.TheVariants.{Up}
 use Rattle.strm_types.specs.declared.rules.Rule.TheVariants.{Doubled}
 use Rattle.strm_types.specs.declared.names.QueueName.{QueueName}
@@ -82,3 +83,10 @@ returns-clause-told g c =
 
 pub returns-clause-readable : goal.returns-clause-readable
 returns-clause-readable g c = c.enqueue.ensures.holds is_data_kind c.requires.data c.requires.ready.readable
+
+-- none is freed but of a second M_PCPROTO
+pub returns-then-has_pcproto-clause-blocks : goal.returns-then-has_pcproto-clause-blocks
+returns-then-has_pcproto-clause-blocks g c = λ other. absurd (false≢true (sym other ∙ (sym (ap is_pcproto c.kind.ensures) ∙ sym c.is_pcproto.ensures ∙ c.if-is_pcproto.true)))
+
+pub returns-clause-blocks : goal.returns-clause-blocks
+returns-clause-blocks g c = λ other. c.enqueue.ensures.blocks

@@ -5,6 +5,7 @@ use Rattle.strm_laws.specs.Based.{based}
 use Rattle.strm_laws.specs.Kept.{told_by}
 use Rattle.strm_laws.specs.Ledgers.{Balanced, is_booked, own_places_of, places_of}
 use Rattle.strm_laws.specs.Pair.{PairState}
+use Rattle.strm_laws.specs.Restorable.{Restorable}
 use Rattle.strm_laws.specs.State.{AreOrdered, messages_in}
 use Rattle.strm_laws.specs.Step.{replay, IsLegal}
 use Rattle.strm_laws.proofs.BaseSteps.{restorable-unread}
@@ -22,6 +23,12 @@ returns-clause-ordered g c =
     let p = c.self.inside in
     let s = g.B.Blocks.value p.store in
     subst (λ (v : PairState). AreOrdered v.state) c.self.view_is (kept-base s p.streams p.journal (start_in p.base) p.limits p.fates c.self.invariant.kept).ordered
+
+pub returns-clause-restorable : goal.returns-clause-restorable
+returns-clause-restorable g c =
+    let p = c.self.inside in
+    let s = g.B.Blocks.value p.store in
+    subst (λ (v : PairState). Restorable v.state) c.self.view_is (kept-base s p.streams p.journal (start_in p.base) p.limits p.fates c.self.invariant.kept).restorable
 
 pub returns-clause-blocks : goal.returns-clause-blocks
 returns-clause-blocks g c =

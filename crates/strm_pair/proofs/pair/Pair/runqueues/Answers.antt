@@ -1,8 +1,10 @@
 -- Turn by turn.
-use Rattle.std.proofs.Common.{ap, sym, ◌∙◌, subst}
+use Rattle.std.proofs.Common.{◌≡◌, ◌≤◌, length, ap, sym, ◌∙◌, subst, arith}
+use Rattle.std.specs.Prelude.{None, Some, slice_get}
+use Rattle.strm_types.specs.declared.limits.Config.{Config}
 use Rattle.strm_laws.specs.Pair.{PairState, RanTurns, next_refused, queue_refused}
 use Rattle.strm_laws.proofs.Replay.{refused-by}
-use Rattle.strm_pair.proofs.Runs.{next-is, none-first, one-more}
+use Rattle.strm_pair.proofs.Runs.{full-refuses, next-allowed, next-is, none-first, one-more}
 use Rattle.strm_pair.proofs.pair.Pair.runqueues.Goals as goal
 
 pub returns-in_default-clause-rest : goal.returns-in_default-clause-rest
@@ -34,3 +36,25 @@ loop-turns-preserved g c =
 
 pub returns-in-None-clause-rest : goal.returns-in-None-clause-rest
 returns-in-None-clause-rest g c = none-first _ (sym c.first_enabled-2.ensures ∙ c.in-None.is)
+
+-- where turns come to rest, no queue is enabled in the end
+pub returns-in_default-clause-rests : goal.returns-in_default-clause-rests
+returns-in_default-clause-rests g c = λ once events bytes range blocks. none-first _ (sym c.first_enabled.ensures ∙ c.in_default.is)
+
+pub returns-in-Err-clause-rests : goal.returns-in-Err-clause-rests
+returns-in-Err-clause-rests g c = λ once events bytes range blocks.
+    let going = next-allowed c.loop-turns.turns c.args.self.now c.turn.new.self (returns-in-Err-clause-ran g c) c.audit.ensures.restorable once events bytes range blocks in
+    absurd (cc (returns-in-Err-clause-stopped g c ∙ going))
+
+pub returns-in-None-clause-rests : goal.returns-in-None-clause-rests
+returns-in-None-clause-rests g c = λ once events bytes range blocks. none-first _ (sym c.first_enabled-2.ensures ∙ c.in-None.is)
+
+pub returns-in-Some-first_enabled-clause-rests : goal.returns-in-Some-first_enabled-clause-rests
+returns-in-Some-first_enabled-clause-rests g c = λ once events bytes range blocks.
+    let l = c.loop-turns in
+    let going = next-allowed l.turns c.args.self.now l.self l.invariant.ran c.audit.ensures.restorable once events bytes range blocks in
+    let name = c.in-Some-first_enabled.queue in
+    let first : slice_get l.self.state.enabled 0 ≡ Some name = sym c.first_enabled-2.ensures ∙ c.in-Some-first_enabled.is in
+    let full : l.self.limits.journal_events ≤ length l.self.journal =
+    omega (arith, l.invariant.entries, l.invariant.room, ap (λ (limits : Config). limits.journal_events) l.invariant.limits, c.loop-turns-test.false) in
+    absurd (full-refuses l.self name full (sym (next-is l.self name first) ∙ going))

@@ -96,7 +96,7 @@ turn-turn-requires g c =
     }
 
 pub returns-clause-stops : goal.returns-clause-stops
-returns-clause-stops g c = subst (λ (v : PairState). MovesOn v.state c.args.name c.turn-turn.result) c.self.view_is c.turn-turn.ensures.stops
+returns-clause-stops g c = subst (λ (v : PairState). MovesOn v.state (free_in (g.B.Blocks.value c.turn-turn.new.store)) c.args.name c.turn-turn.result) c.self.view_is c.turn-turn.ensures.stops
 
 pub returns-in-Some-clause-stops : goal.returns-in-Some-clause-stops
 returns-in-Some-clause-stops g c = search rules

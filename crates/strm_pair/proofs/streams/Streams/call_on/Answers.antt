@@ -1,5 +1,6 @@
 -- Each call goes on from what those before it led to.
 use Rattle.std.proofs.Common.{◌≡◌, ◌<◌, ◌+◌, ◌-◌, false, true, [], length, refl, sym, ap, subst, ◌∙◌, arith}
+use Rattle.std.proofs.lemmas.Bool.{false≢true}
 use Rattle.strm_types.specs.declared.limits.TheConstants.{STOP_BLOCKS}
 use Rattle.strm_laws.specs.State.{stream}
 use Rattle.strm_laws.proofs.ModuleTurnCalls.{reached-first}
@@ -7,7 +8,7 @@ use Rattle.strm_blocks.specs.Blocks.{times_in}
 use Rattle.strm_frame.specs.Hands.{HasRoom}
 use Rattle.strm_pair.specs.Framing.{rests}
 use Rattle.strm_pair.specs.Pairs.{state_in}
-use Rattle.strm_pair.proofs.CallsOn.{Along, GoOn, along, comes-closer, first-begins, first-books, first-cost, first-went, later-went, next-books, still_to_come}
+use Rattle.strm_pair.proofs.CallsOn.{Along, FewAt, GoOn, Since, along, comes-closer, few-along, first-begins, first-books, first-cost, first-went, later-went, next-books, still_to_come}
 use Rattle.strm_pair.proofs.MovingOn.{full-at}
 use Rattle.strm_pair.proofs.ServeSteps.{call-within}
 use Rattle.strm_pair.proofs.streams.Streams.call_on.Goals as goal
@@ -22,10 +23,14 @@ loop-call-init g c =
     let f = c.args.told.now in
     let low : here.at - 1 < length (stream here.side st0).modules = let inside = c.requires.inside in let within = c.requires.within in omega arith in
     let begins = first-begins here st0 c.requires.may.rests.idle low in
-    let first = along here st0 false 0 [] st0 st (reached-first here st0 low begins) m.result e.itself e.state f f m.new.told refl e.tells e.left 0 (omega arith) (omega arith)
-    (λ over none. first-went here m.result st0 e.itself low (full-at here (g.B.Blocks.value c.args.store.now) c.args.self.now) over (omega (arith, none)) (HasRoom (g.B.Blocks.value c.args.store.now) STOP_BLOCKS) c.requires.may.room e.some) m.result.again refl in
+    let full = full-at here (g.B.Blocks.value c.args.store.now) c.args.self.now in
+    let since : Since here false 0 st0 st0 = record { all = omega arith; full = λ first. full; opened = refl } in
+    let first = along here st0 false 0 [] st0 st (reached-first here st0 low begins) m.result e.itself e.state f f m.new.told refl e.tells e.left 0 (omega arith) (omega arith) since
+    (λ over none. first-went here m.result st0 e.itself low full over (omega (arith, none)) (HasRoom (g.B.Blocks.value c.args.store.now) STOP_BLOCKS) c.requires.may.room e.some) m.result.again refl in
     record {
       along = subst (λ n. Along m.result.again here n st0 st f m.new.told) (let none : 0 + m.result.bytes ≡ m.result.bytes = omega arith in none) first;
+      few = subst (λ n. FewAt m.result.again here n st0 (g.B.Blocks.value m.new.store)) (let none : 0 + m.result.bytes ≡ m.result.bytes = omega arith in none)
+          (few-along here false m.result st0 e.itself low full 0 st0 (g.B.Blocks.value m.new.store) since e.few m.result.again refl);
       room = e.room;
       beside = e.beside;
       hand = e.hand;
@@ -82,8 +87,10 @@ loop-call-preserved g c =
     let behind = state_in (g.B.Blocks.value m.new.store) m.new.self in
     let f = c.args.told.now in
     let on : GoOn here l.bytes st0 st f l.told = subst (λ more. Along more here l.bytes st0 st f l.told) c.loop-call-test.true l.invariant.along in
+    let since : Since here true l.bytes st0 st = record { all = on.all; full = λ first. absurd (false≢true (sym first)); opened = on.opened } in
     record {
-      along = along here st0 true l.bytes on.gone st behind on.reached m.result e.itself e.state f l.told m.new.told on.tells e.tells e.left on.count on.few on.left
+      few = few-along here true m.result st e.itself on.reached.inside (full-at here (g.B.Blocks.value l.store) l.self) l.bytes st0 (g.B.Blocks.value m.new.store) since e.few m.result.again refl;
+      along = along here st0 true l.bytes on.gone st behind on.reached m.result e.itself e.state f l.told m.new.told on.tells e.tells e.left on.count on.few on.left since
           (λ over none. later-went here l.bytes st0 st f l.told m.result on e.itself over none) m.result.again refl;
       room = e.room;
       beside = e.beside;

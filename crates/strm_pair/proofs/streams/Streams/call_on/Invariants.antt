@@ -2,7 +2,7 @@ use Rattle.std.specs.Bool.{OnTrue}
 use Rattle.strm_frame.specs.Hands.{HasRoom}
 use Rattle.strm_pair.specs.ModuleServed.{IsKeptAll, next_cost}
 use Rattle.strm_pair.specs.Pairs.{state_in, AreBeside, SamePool}
-use Rattle.strm_pair.proofs.CallsOn.{Along, still_to_come}
+use Rattle.strm_pair.proofs.CallsOn.{Along, FewAt, still_to_come}
 use Rattle.strm_pair.proofs.streams.Streams.call_on.Given as goal
 
 abbrev pub invariant-loop-call : goal.invariant-loop-call
@@ -11,6 +11,7 @@ invariant-loop-call g l =
     let st = state_in (value l.store) l.self in
     record {
       along : Along l.call.again l.here l.bytes (state_in (value l.fn.store) l.fn.self) st l.fn.told l.told;
+      few : FewAt l.call.again l.here l.bytes (state_in (value l.fn.store) l.fn.self) (value l.store);
       room : OnTrue l.call.again (HasRoom (value l.store) (next_cost l.here st));
       beside : AreBeside (value l.store) l.self;
       hand : IsKeptAll (value l.store) l.self;

@@ -1,15 +1,17 @@
 -- The head takes the message, and a waiting writer is let go.
-use Rattle.std.proofs.Common.{ap, ◌∙◌, refl}
+use Rattle.std.proofs.Common.{sym, ap, ◌∙◌, refl}
 use Rattle.strm_types.specs.declared.names.Way.TheVariants.{Up}
 use Rattle.strm_types.specs.Names.{enable_some}
+use Rattle.strm_types.specs.Message.{is_held}
 use Rattle.strm_laws.specs.Earlier.{before_among}
+use Rattle.strm_msg.proofs.Chains.{kind-is}
 use Rattle.strm_frame.specs.Outboxes.{message_in}
 use Rattle.strm_frame.proofs.Handing.{can-in_hand}
 use Rattle.strm_pair.specs.Pairs.{end_at, kept_by, with_end}
 use Rattle.strm_pair.proofs.PutSteps.{came-by}
 use Rattle.strm_pair.proofs.Sides.{modules-behind}
 use Rattle.strm_pair.proofs.streams.Streams.come.Goals as goal
-use Rattle.strm_blocks.specs.Blocks.{token}
+use Rattle.strm_blocks.specs.Blocks.{in_hand, token}
 
 pub put-came-requires-clause-in_hand : goal.put-came-requires-clause-in_hand
 put-came-requires-clause-in_hand g c = can-in_hand (g.B.Blocks.value c.args.store.now) (token c.args.message) (kept_by c.args.self.now) c.audit.ensures c.requires.may.can_put
@@ -25,5 +27,6 @@ returns g c =
     let end = record (end_at side p) { head = c.put-came.new.self } in
     came-by side s (g.B.Blocks.value c.put-came.new.store) p c.put-came.new.self i c.args.to (message_in s i) r.lets_go r.down c.args.told.now c.put-came.new.told c.let_go.new.self
     refl c.audit.ensures c.requires.may.can_put c.requires.may.beside c.requires.opened e.state e.notes e.sent e.told e.changes e.readable e.frees
+    (λ held. e.blocks (sym (ap is_held (kind-is (in_hand s i))) ∙ held))
     (rw c.get_mut.ensures.value at (c.let_go.ensures s)
     ∙ ap (λ ms. record (with_end side end p) { enabled = enable_some r.lets_go (before_among side Up 0 ms) p.enabled }) (modules-behind s p side end refl))

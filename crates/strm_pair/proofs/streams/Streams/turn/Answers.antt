@@ -8,8 +8,8 @@ use Rattle.strm_laws.specs.Turns.{driver_turned}
 use Rattle.strm_laws.proofs.Balances.{turn-few}
 use Rattle.strm_laws.proofs.StackSpares.{range-spare, spare-low}
 use Rattle.strm_laws.proofs.StepBooks.{serves-books}
-use Rattle.strm_pair.specs.Pairs.{state_in}
-use Rattle.strm_pair.proofs.MovingOn.{driver-moves}
+use Rattle.strm_pair.specs.Pairs.{free_in, state_in}
+use Rattle.strm_pair.proofs.MovingOn.{driver-moves, moves-taken}
 use Rattle.strm_pair.proofs.streams.Streams.turn.Goals as goal
 
 pub returns-in-Driver-clause-few : goal.returns-in-Driver-clause-few
@@ -26,7 +26,11 @@ returns-in-Driver-clause-few g c =
 pub returns-in-Driver-clause-stops : goal.returns-in-Driver-clause-stops
 returns-in-Driver-clause-stops g c =
     let from = state_in (g.B.Blocks.value c.args.store.now) (record c.args.self.now { enabled = c.remove.new.self }) in
-    driver-moves c.args.name c.turn_driver.result from c.in-Driver.is c.turn_driver.ensures.turn
+    let free = free_in (g.B.Blocks.value c.turn_driver.new.store) in
+    moves-taken c.remove.new.self (state_in (g.B.Blocks.value c.args.store.now) c.args.self.now) free c.args.name c.turn_driver.result
+    (driver-moves c.args.name c.turn_driver.result from free c.in-Driver.is c.turn_driver.ensures.turn)
 
 pub returns-in-Ldterm-clause-stops : goal.returns-in-Ldterm-clause-stops
-returns-in-Ldterm-clause-stops g c = c.turn_module.ensures.stops c.in-Ldterm.is
+returns-in-Ldterm-clause-stops g c =
+    moves-taken c.remove.new.self (state_in (g.B.Blocks.value c.args.store.now) c.args.self.now) (free_in (g.B.Blocks.value c.turn_module.new.store)) c.args.name c.turn_module.result
+    (c.turn_module.ensures.stops c.in-Ldterm.is)

@@ -18,7 +18,7 @@ use Rattle.strm_laws.proofs.StepBooks.{ended-books, module-books}
 use Rattle.strm_laws.proofs.ModuleTurnKeeps.{module_turned-rests}
 use Rattle.strm_frame.proofs.Handing.{no-hand}
 use Rattle.strm_pair.specs.Framing.{rests}
-use Rattle.strm_pair.specs.Pairs.{state_in}
+use Rattle.strm_pair.specs.Pairs.{free_in, state_in}
 use Rattle.strm_pair.proofs.CallsOn.{some-taken, turned-by}
 use Rattle.strm_pair.proofs.MovingOn.{serves-moves, stays-moves}
 use Rattle.strm_pair.proofs.streams.Streams.turn_module.Goals as goal
@@ -109,9 +109,10 @@ returns-in-Serves-clause-few g c =
 
 -- a byte went, where the message has one
 pub returns-in-Over-clause-stops : goal.returns-in-Over-clause-stops
-returns-in-Over-clause-stops g c = λ place. stays-moves c.args.name (state_in (g.B.Blocks.value c.args.store.now) c.args.self.now) c.in-Over.turn c.in-Over.ensures.begins.0
+returns-in-Over-clause-stops g c = λ place. stays-moves c.args.name (state_in (g.B.Blocks.value c.args.store.now) c.args.self.now) (free_in (g.B.Blocks.value c.args.store.now)) c.in-Over.turn c.in-Over.ensures.begins.0
 
 pub returns-in-Serves-clause-stops : goal.returns-in-Serves-clause-stops
 returns-in-Serves-clause-stops g c = λ place.
     let s = g.B.Blocks.value c.args.store.now in
-    serves-moves c.args.name c.in-Serves.here (state_in s c.args.self.now) (state_in s c.begin_module_turn.new.self) c.call_on-bytes.result c.in-Serves.ensures.begins c.call_on-bytes.ensures.treats.some place
+    serves-moves c.args.name c.in-Serves.here (state_in s c.args.self.now) (state_in s c.begin_module_turn.new.self) (g.B.Blocks.value c.call_on-bytes.new.store) c.call_on-bytes.result c.in-Serves.ensures.begins
+    c.call_on-bytes.ensures.treats.within c.call_on-bytes.ensures.treats.some c.call_on-bytes.ensures.few place
