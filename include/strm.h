@@ -37,6 +37,14 @@
  *   that is taken isn't touched before it is used: a pair costs what stands in it, however many blocks it has.
  *   A handle is closed when its bytes are all 0 (STRM_CLOSED). An open one isn't copied and then used or freed twice, as with a FILE.
  *
+ * SECRETS
+ *   What was typed stands in the blocks of its messages, in ldterm's unfinished line, and in the journal: in the bytes of its entries, and in the
+ *   image at which it begins. Zeros are written over a block when the last message that has it goes (read, flushed, closed upon, popped), over what
+ *   an erase or a kill takes from a line and over a line that is handed up, over the journal's bytes when it begins anew (strm_restart), whose
+ *   entries are written over too, and over all of them when the pair is freed (strm_free): a password that was read is gone at the next
+ *   strm_restart. What stood there at the time is in the caller's buffers, images and recordings, which are the caller's to clear, and may be on
+ *   the stack of a thread that called.
+ *
  * THREADS
  *   A handle is used by one thread at a time, and may be handed from one to another behind a lock, a thread's start or its join. Two
  *   handles are independent. No function is called from a signal handler, nor in the forked child of a process with threads.

@@ -4,13 +4,14 @@ ghost use Rattle.std.specs.Prelude.{◌≡◌, ◌≤◌, ◌++◌, length, drop
 ghost use Rattle.strm_types.specs.Events.{request};
 ghost use Rattle.strm_types.specs.Numbers.{number_of};
 ghost use Rattle.strm_ffi.specs.Outcomes.{AtPair, refused_within, ask_refused, side_refused, turn_refused, Answers, AnswersAsk, AnswersSide, RunsQueues, Stay, Turns};
-ghost use Rattle.strm_laws.specs.Pair.{restarted};
+ghost use Rattle.strm_laws.specs.Pair.{new_pair, restarted};
 
 use crate::answering::replied;
 use crate::asking::{caller_of, event_of};
 use crate::asks::Ask;
 use crate::numbers::{queue_of, side_of, went};
 use crate::replies::{Reply, Went};
+use std::alloc::Global;
 use std::marker::Model;
 use strm_pair::Pair;
 use strm_raw::RawStore;
@@ -71,6 +72,8 @@ impl Kept {
             Err(refusal) => return refused(refusal),
         };
         give(self.answer.as_slice(), out);
+        // What was read stands in the caller's buffer alone.
+        self.answer.clear();
         *reply = replied(&answer);
         0
     }
@@ -141,4 +144,19 @@ impl Kept {
     {
         self.pair.restart();
     }
+
+    /// Makes the pair as new, so that no byte of a message, a line or the journal is left in its memory.
+    pub(crate) fn wipe(&mut self)
+        ensures { self.new ≡ new_pair self.old.limits }
+    {
+        self.answer.clear();
+        self.pair.reset();
+    }
+}
+
+/// Gives the memory of a pair back, which is as new.
+pub(crate) fn give_back(kept: Box<Kept, Global>)
+    requires { kept.value ≡ new_pair kept.value.limits }
+{
+    drop(kept);
 }

@@ -5,7 +5,7 @@ ghost use Rattle.strm_laws.specs.Pair.{new_pair};
 ghost use Rattle.strm_ffi.specs.Outcomes.{Makes};
 
 use crate::handle::Handle;
-use crate::kept::{Kept, refused};
+use crate::kept::{Kept, give_back, refused};
 use std::alloc::Global;
 use strm_pair::Pair;
 use strm_raw::RawStore;
@@ -71,10 +71,14 @@ pub extern "C" fn strm_new(
     }
 }
 
-/// Frees a pair, and closes its handle. A closed one stays so.
+/// Frees a pair, in whose memory no byte of a message, a line or the journal is left, and closes its handle. A closed one stays so.
 #[unsafe(no_mangle)]
 pub extern "C" fn strm_free(alloc: Global, handle: &mut Handle)
     ensures { handle.new.held.kept ≡ None }
 {
-    drop(handle.take(alloc));
+    let Some(mut kept) = handle.take(alloc) else {
+        return;
+    };
+    kept.as_mut().wipe();
+    give_back(kept);
 }

@@ -1,13 +1,14 @@
 //! The unfinished line of input, and what is typed into it (termio(7I): "Canonical Mode Input Processing", ERASE, WERASE, KILL).
 
-ghost use Rattle.std.specs.Prelude.{◌≡◌, ◌+◌, ◌-◌, ◌≤◌, ◌++◌, [], true, length, not, take, if◌then◌else◌};
+ghost use Rattle.std.specs.Prelude.{◌≡◌, ◌+◌, ◌-◌, ◌≤◌, ◌++◌, [], true, length, not, drop, replicate, take, if◌then◌else◌};
 ghost use Rattle.strm_types.specs.Lines.{edited, has_room, is_blank, without_end, without_word, Types, ErasesByte, ErasesWord, ErasesAll};
 
 use arrayvec::ArrayVec;
 use std::marker::Model;
 use strm_types::LINE_MAX;
 
-/// The unfinished line: at most 255 bytes, in the order in which they were typed. Contracts see it as a list.
+/// The unfinished line: at most 255 bytes, in the order in which they were typed. Zeros are written over those that go. Contracts see it as a
+/// list.
 #[derive(Drop)]
 pub struct Line {
     bytes: ArrayVec<u8, LINE_MAX>,
@@ -59,6 +60,23 @@ pub(crate) fn left_without_word(line: &[u8]) -> usize
 {
     let left = left_without(line, true);
     left_without(&line[..left], false)
+}
+
+// Takes bytes off the end, where zeros stand alone.
+fn take_off(bytes: &mut ArrayVec<u8, LINE_MAX>, left: usize)
+    requires { drop left bytes.old.items ≡ replicate (length bytes.old.items - left) 0 }
+    ensures { bytes.new.items ≡ take left bytes.old.items }
+{
+    bytes.truncate(left);
+}
+
+// Shortens a line. Zeros stand where the bytes were that go.
+fn shorten(bytes: &mut ArrayVec<u8, LINE_MAX>, left: usize)
+    requires { left ≤ length bytes.old.items }
+    ensures { bytes.new.items ≡ take left bytes.old.items }
+{
+    bytes.as_mut_slice()[left..].fill(0);
+    take_off(bytes, left);
 }
 
 impl Line {
@@ -117,10 +135,12 @@ impl Line {
         ensures line { self.new ≡ edited is_blank ErasesByte self.old }
         ensures gone { result ≡ length self.old - length self.new }
     {
-        match self.bytes.pop() {
-            Some(_) => 1,
-            None => 0,
+        let len = self.bytes.len();
+        if len == 0 {
+            return 0;
         }
+        shorten(&mut self.bytes, len - 1);
+        1
     }
 
     /// WERASE: takes the blanks at the end and the word before them. Tells how many bytes went, and takes so much work.
@@ -130,7 +150,7 @@ impl Line {
     {
         let left = left_without_word(self.bytes.as_slice());
         let gone = self.bytes.len() - left;
-        self.bytes.truncate(left);
+        shorten(&mut self.bytes, left);
         gone
     }
 
@@ -140,7 +160,7 @@ impl Line {
         ensures gone { result ≡ length self.old - length self.new }
     {
         let gone = self.bytes.len();
-        self.bytes.clear();
+        shorten(&mut self.bytes, 0);
         gone
     }
 }

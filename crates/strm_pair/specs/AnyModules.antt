@@ -30,6 +30,12 @@ owns (kinds.Ldterm x) k = stands.owns x k
 owns (kinds.Ptem x) k = 0
 owns (kinds.Pckt x) k = 0
 
+-- no line is unfinished
+abbrev pub IsBare : AnyModule → Type 0
+IsBare (kinds.Ldterm x) = x.line ≡ []
+IsBare (kinds.Ptem x) = Unit {0}
+IsBare (kinds.Pckt x) = Unit {0}
+
 -- whether its service procedure may be called: ptem and pckt have none, and a call does nothing
 abbrev pub MayServe : Way → Bool → Module ℕ → Type 0
 MayServe way again (OfLdterm l) = IsServed way again l

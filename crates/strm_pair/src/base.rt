@@ -10,18 +10,29 @@ ghost use Rattle.strm_pair.specs.Pairs.{AreHeld, state_in};
 use crate::images::whole::image_into;
 use crate::past::Past;
 use crate::streams::Streams;
+use crate::wiping::{give_back, shorten};
 use std::mem;
 use strm_blocks::Blocks;
 use strm_types::{Both, Fates};
 
 /// The base of a journal: the image, in version 2, of the state and of what had gone by each rule where it begins, in memory that was
 /// reserved for it; how many bytes had been made on the way in each direction, which an image doesn't tell; and the entries before,
-/// as proofs know them.
-#[derive(Drop)]
+/// as proofs know them. Zeros are written over what stood behind the image, and over the image before it goes.
 pub(crate) struct Base {
     pub text: Vec<u8>,
     pub made: Both<u64>,
     pub past: Past,
+}
+
+impl Drop for Base {
+    fn drop(self) {
+        let Base {
+            text,
+            made: _,
+            past: _,
+        } = self;
+        give_back(text);
+    }
 }
 
 // The image of streams over their store, in memory that takes it. It is written again only where it is longer than what stood there.
@@ -37,7 +48,7 @@ fn text_of<B: Blocks>(store: &B, streams: &Streams, fates: &Fates, memory: Vec<u
         text.resize(wanted, 0).unwrap();
         image_into(store, streams, fates, text.as_mut_slice());
     }
-    text.truncate(wanted);
+    shorten(&mut text, wanted);
     text
 }
 

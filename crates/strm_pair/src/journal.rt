@@ -8,12 +8,12 @@ ghost use Rattle.strm_laws.specs.Restorable.{IsWithinCall};
 ghost use Rattle.strm_types.specs.declared.limits.TheConstants.{BANDS};
 ghost use Rattle.strm_pair.specs.Journals.{IsStored, has_room_for};
 
+use crate::wiping::{forget_all, give_back, shorten};
 use std::alloc::{AllocError, Global};
 use strm_types::{Answer, Caller, Entry, Event, Prio, QueueName, Turn};
 
 /// All that was carried out on a pair, in order: the entries, and their bytes in a buffer. Both have their room from
-/// the beginning.
-#[derive(Drop)]
+/// the beginning. What it lets go is written over first.
 pub(crate) struct Journal {
     pub entries: Vec<Entry<u32>>,
     pub bytes: Vec<u8>,
@@ -21,6 +21,19 @@ pub(crate) struct Journal {
     pub most_bytes: usize,
     pub ghost stored: { IsStored entries.items bytes.items (vec_capacity entries) (vec_capacity bytes)
         most_entries most_bytes },
+}
+
+impl Drop for Journal {
+    fn drop(self) {
+        let Journal {
+            mut entries,
+            bytes,
+            most_entries: _,
+            most_bytes: _,
+        } = self;
+        forget_all(&mut entries);
+        give_back(bytes);
+    }
 }
 
 // Adds bytes to a buffer that has room for them. Inlined, so that where there are none nothing is called.
@@ -83,14 +96,14 @@ impl Journal {
         })
     }
 
-    /// Forgets all entries, and keeps its room.
+    /// Forgets all entries, and keeps its room. The cost is that of what was entered.
     pub fn clear(&mut self)
         ensures empty { journal_of self.new ≡ [] }
         ensures most_entries { self.new.most_entries ≡ self.old.most_entries }
         ensures most_bytes { self.new.most_bytes ≡ self.old.most_bytes }
     {
-        self.entries.clear();
-        self.bytes.clear();
+        forget_all(&mut self.entries);
+        shorten(&mut self.bytes, 0);
     }
 
     /// Whether one more entry with so many bytes fits.

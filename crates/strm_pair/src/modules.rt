@@ -5,7 +5,7 @@ ghost use Rattle.strm_types.specs.Ptems.{new_ptem};
 ghost use Rattle.strm_laws.specs.Stacked.{OfPtem};
 ghost use Rattle.strm_blocks.specs.Blocks.{StoreValue};
 ghost use Rattle.strm_types.specs.declared.names.ModuleName.TheVariants as names;
-ghost use Rattle.strm_pair.specs.AnyModules.{IsMade, module_in, owns};
+ghost use Rattle.strm_pair.specs.AnyModules.{IsBare, IsMade, module_in, owns};
 
 use strm_blocks::{Blocks, InHand};
 use strm_frame::{Acts, LetGo, Module, Served, TurnEnd};
@@ -50,8 +50,19 @@ impl AnyModule {
         }
     }
 
-    /// Gives the tables of its queues back, where it has queues.
+    /// Lets the unfinished line go, before the module is taken off.
+    pub(crate) fn wipe(&mut self)
+        ensures owns { (k : ℕ) → owns self.new k ≡ owns self.old k }
+        ensures bare { IsBare self.new }
+    {
+        if let AnyModule::Ldterm(ldterm) = self {
+            let _ = ldterm.line.clear();
+        }
+    }
+
+    /// Gives the tables of its queues back, where it has queues. Its line was let go.
     pub(crate) fn into_tables(self) -> Option<Tables>
+        requires { IsBare self }
         ensures { (k : ℕ) → 0 < owns self k → is_some result ≡ true }
     {
         match self {

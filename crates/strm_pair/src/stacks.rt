@@ -48,11 +48,15 @@ pub(crate) fn place_at(stack: &Stack, at: usize) -> Option<Place>
     }
 }
 
-/// Takes the module on top off its stack, if there is one, and puts the tables of its queues onto the shelf.
+/// Takes the module on top off its stack, if there is one, and puts the tables of its queues onto the shelf. Its unfinished line is let go where
+/// it stands.
 pub(crate) fn pop_top(stack: &mut Stack, shelf: &mut Option<Tables>)
     ensures rest { (x : AnyModule) (xs : List AnyModule) → stack.old.modules.items ≡ x ∷ xs → stack.new.modules.items ≡ xs }
     ensures shelf { (k : ℕ) → (stack_owns stack.old k ≡ 0 → is_some shelf.old ≡ true) → stack_owns stack.new k ≡ 0 → is_some shelf.new ≡ true }
 {
+    if let Some(top) = stack.modules.as_mut_slice().first_mut() {
+        top.wipe();
+    }
     let Some(module) = stack.pop() else {
         return;
     };

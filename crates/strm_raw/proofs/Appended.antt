@@ -1,5 +1,5 @@
 -- Bytes that are written behind a block, where it alone names its data block.
-use Rattle.std.proofs.Common.{ℕ, ◌≡◌, ◌≢◌, ◌≤◌, ◌<◌, ◌+◌, ◌-◌, Bool, true, false, cond, eqb, ltb, min, List, ◌++◌, length, get_or, take, drop, refl, sym, ap, ◌∙◌, arith}
+use Rattle.std.proofs.Common.{ℕ, ◌≡◌, ◌≢◌, ◌≤◌, ◌<◌, ◌+◌, ◌-◌, Bool, true, false, cond, eqb, ltb, min, List, ◌++◌, length, get_or, take, drop, refl, sym, ap, ◌∙◌, subst, arith}
 use Rattle.std.specs.Prelude.{Option, slice_range}
 use Rattle.std.proofs.lemmas.Bool.Decides.{nat_tests}
 use Rattle.std.proofs.lemmas.List.{get_or-set_same, get_or-set_other}
@@ -12,7 +12,7 @@ use Rattle.strm_raw.specs.Lists.{AreListed}
 use Rattle.strm_raw.specs.declared.neighbours.Ends.{Ends}
 use Rattle.strm_raw.specs.declared.msg_nodes.MsgLink.{MsgLink}
 use Rattle.strm_raw.specs.declared.data_nodes.DataLink.{DataLink}
-use Rattle.strm_raw.proofs.Finding.{found}
+use Rattle.strm_raw.proofs.Finding.{found, found-named}
 use Rattle.strm_raw.proofs.Standing.{stored}
 use Rattle.strm_raw.proofs.Edited.{row-raw, block, block-there, one-changed, inside, link-is, block-is}
 use Rattle.strm_raw.proofs.Becoming.{Becomes, row-becomes}
@@ -36,6 +36,10 @@ module _ {v : Nodes} {b : Roster} {first_m : Option MsgLink} {first_d : Option D
 
   counted : references s (block_at at (in_hand s n)).number ≡ (data_at d v.datas).references
   counted = (λ j. references (sym view j) (shows j).number) ∙ stored v b is d
+
+  -- a message block names it
+  pub named : 0 < (data_at d v.datas).references
+  named = subst (λ k. 0 < (data_at k v.datas).references) (sym (ap (λ (y : Row). y.number) row-is)) (found-named is l here at (inside is view l here name at within link number))
 
   -- how many bytes the block takes
   pub taken-none : 1 < (data_at d v.datas).references → (m : ℕ) → 0 ≡ cond (ltb 1 (references s (block_at at (in_hand s n)).number)) 0 (min m (block_at at (in_hand s n)).room)

@@ -14,6 +14,7 @@ use Rattle.strm_raw.specs.Numbered.{Nodes, Row, row_at, msg_number, IsMsgOrNone}
 use Rattle.strm_raw.specs.Roster.{Msg, Roster}
 use Rattle.strm_raw.specs.Raw.{chain_of, value_of, IsRaw}
 use Rattle.strm_raw.specs.Lists.{AreListed, IsList, Unseats, begin_of, ends_at, queue_at}
+use Rattle.strm_raw.specs.Wiped.{AreWiped}
 use Rattle.strm_raw.specs.Flushing.{Gathers}
 use Rattle.strm_raw.specs.Tails.{Hangs}
 use Rattle.strm_raw.specs.declared.neighbours.Ends.{Ends}
@@ -38,6 +39,7 @@ module _ (s0 : StoreValue) (k : ℕ) (what : FlushWhat) where
   -- the walk stands before the rear of a list
   pub record Walk (v : Nodes) (ends : List Ends) (b : Roster) (first_m : Option MsgLink) (first_d : Option DataLink) (spare_m spare_d : ℕ) (at : Option MsgLink) (left : ℕ) : Type 0 where
     pub raw : IsRaw v first_m first_d spare_m spare_d b
+    pub wiped : AreWiped v.datas
     pub listed : AreListed v ends b
     pub there : IsMsgOrNone v.mat (length v.rows) at
     pub front : List Msg
@@ -70,11 +72,12 @@ module _ (s0 : StoreValue) (k : ℕ) (what : FlushWhat) where
     after = whole ∙ ap (λ (s : StoreValue). placed s k q) t.after ∙ ap (λ (s : StoreValue). held s (token m) t.chain) again;
   }
 
-  pub sift-begins : {v : Nodes} {ends : List Ends} {b : Roster} {first_m : Option MsgLink} {first_d : Option DataLink} {spare_m spare_d : ℕ} → IsRaw v first_m first_d spare_m spare_d b → AreListed v ends b → value_of v b ≡ s0
+  pub sift-begins : {v : Nodes} {ends : List Ends} {b : Roster} {first_m : Option MsgLink} {first_d : Option DataLink} {spare_m spare_d : ℕ} → IsRaw v first_m first_d spare_m spare_d b → AreWiped v.datas → AreListed v ends b → value_of v b ≡ s0
       → (e : Ends) → e ≡ ends_at k ends → (n : ℕ) → n ≡ length v.rows → Sifting v ends b first_m first_d spare_m spare_d e.first n None
-  sift-begins {v = v} {ends = ends} {b = b} is listed view e e_is n all = record {
+  sift-begins {v = v} {ends = ends} {b = b} is wiped listed view e e_is n all = record {
     walk = record {
       raw = is;
+      wiped = wiped;
       listed = listed;
       there = subst (λ (e : Ends). IsMsgOrNone v.mat (length v.rows) e.first) (sym e_is) (listed.first k);
       front = [];
@@ -120,6 +123,7 @@ module _ (s0 : StoreValue) (k : ℕ) (what : FlushWhat) where
       pub walk-passes : takes_row what (row_at (msg_number v.mat l) v.rows) ≡ false → Walk v ends b first_m first_d spare_m spare_d next (left - 1)
       walk-passes stays = record {
         raw = w.raw;
+        wiped = w.wiped;
         listed = w.listed;
         there = next_there;
         front = w.front ++ m ∷ [];
@@ -144,6 +148,7 @@ module _ (s0 : StoreValue) (k : ℕ) (what : FlushWhat) where
           record {
             walk = record {
               raw = done.becomes.raw;
+              wiped = subst AreWiped (sym (ap (λ (w : Nodes). w.datas) u.nodes)) w.wiped;
               listed = done.becomes.listed;
               there = subst (λ (x : Ptr × ℕ). IsMsgOrNone x.0 x.1 next) (λ q. (sym mat q, sym u.tied.len q)) next_there;
               front = w.front;
@@ -218,6 +223,7 @@ module _ (s0 : StoreValue) (k : ℕ) (what : FlushWhat) where
           record {
             walk = record {
               raw = done.becomes.raw;
+              wiped = subst AreWiped (sym done.datas) w.wiped;
               listed = done.becomes.listed;
               there = subst (λ (x : Ptr × ℕ). IsMsgOrNone x.0 x.1 at) (λ q. (sym done.mat q, sym done.len q)) w.there;
               front = w.front;

@@ -4,9 +4,11 @@ use Rattle.std.proofs.Math.ListN.{set, length-set}
 use Rattle.std.specs.Prelude.{◌⊎◌, sum_by, Option, Some, option_map}
 use Rattle.std.proofs.lemmas.Bool.Decides.{nat_tests}
 use Rattle.std.proofs.lemmas.Bool.{cases_eq}
+use Rattle.std.proofs.lemmas.List.{get_or-set_same, set-set}
 use Rattle.std.proofs.lemmas.List.Sums.{sum_by-cons}
 use Rattle.strm_blocks.specs.Blocks.{in_hand, dropped}
-use Rattle.strm_raw.specs.Numbered.{Nodes, Row, DataRow, row_at, data_at, msg_number, data_number, IsData}
+use Rattle.strm_raw.specs.Numbered.{Nodes, Row, DataRow, row_at, data_at, no_data, no_bytes, msg_number, data_number, IsData}
+use Rattle.strm_raw.specs.Wiped.{AreWiped}
 use Rattle.strm_raw.specs.Roster.{Msg, Roster}
 use Rattle.strm_raw.specs.Raw.{ids, times, chain_of, held_of, value_of, naming, breaks, broken, IsRaw, next_of, free_after, is_there, askew, IsHere, without_in, GivesLast, GivesOne}
 use Rattle.strm_raw.specs.declared.msg_nodes.MsgLink.{MsgLink}
@@ -18,6 +20,7 @@ use Rattle.strm_raw.proofs.Finding.{found, found-head, found-len, without-value}
 use Rattle.strm_raw.proofs.Parting.{split, out-free, out-others}
 use Rattle.strm_raw.proofs.Relinking.{row-keeps}
 use Rattle.strm_raw.proofs.Relinking as relinking
+use Rattle.strm_raw.proofs.Wiping.{Wipes, wiped-set, wiped-named}
 
 -- the data blocks of a store, where one reference to one of them is given up
 pub record Drops (v : Nodes) (number : ℕ) (datas : List DataRow) (first_d : Option DataLink) (spare_d : ℕ) (free_d : List ℕ) : Type 0 where
@@ -142,28 +145,53 @@ module _ {v : Nodes} {b : Roster} {first_m : Option MsgLink} {first_d : Option D
     dblks = v.dblks;
   }
 
--- what giving up a reference leaves
+-- what giving up a reference leaves: data blocks with the bytes that they had, and with zeros where one is free
 pub record Released (v v1 : Nodes) (b b1 : Roster) (number : ℕ) (first_d : Option DataLink) (spare_d : ℕ) : Type 0 where
   pub datas : List DataRow
+  pub left : List DataRow
   pub free_d : List ℕ
   pub drops : Drops v number datas first_d spare_d free_d
-  pub memory : v1 ≡ record v { datas = datas }
+  pub wipes : Wipes number datas left
+  pub wiped : AreWiped v.datas → AreWiped left
+  pub memory : v1 ≡ record v { datas = left }
   pub roster : b1 ≡ record b { free_d = free_d }
 
-pub released : {v : Nodes} {b : Roster} {first_m : Option MsgLink} {first_d : Option DataLink} {spare_m spare_d : ℕ} (is : IsRaw v first_m first_d spare_m spare_d b)
-    (k : DataLink) (there : IsData v.dat (length v.datas) k) (some : 0 < (data_at (data_number v.dat k) v.datas).references) (v1 : Nodes) (b1 : Roster) (first' : Option DataLink) (spare' : ℕ)
-    → GivesLast v v1 b b1 k first_d first' spare_d spare' ⊎ GivesOne v v1 b b1 k first_d first' spare_d spare' → Released v v1 b b1 (data_number v.dat k) first' spare'
-released {v = v} {b = b} {first_d = first_d} {spare_d = spare_d} is k there some v1 b1 first' spare' (inl g) = record {
-  datas = set v.datas (data_number v.dat k) (record { next = option_map (data_number v.dat) first_d; references = 0; bytes = (data_at (data_number v.dat k) v.datas).bytes });
-  free_d = data_number v.dat k ∷ b.free_d;
-  drops = subst (λ (x : Option DataLink × ℕ). Drops v (data_number v.dat k) (set v.datas (data_number v.dat k) (record { next = option_map (data_number v.dat) first_d; references = 0; bytes = (data_at (data_number v.dat k) v.datas).bytes })) x.0 x.1 (data_number v.dat k ∷ b.free_d)) (λ j. (sym g.first_is j, sym g.spare_is j)) (drops-last is k there (record { next = option_map (data_number v.dat) first_d; references = 0; bytes = (data_at (data_number v.dat k) v.datas).bytes }) refl (sym g.last) refl refl);
-  memory = g.memory;
-  roster = g.roster ∙ ap (λ dat. record b { free_d = data_number dat k ∷ b.free_d }) is.same_d;
-}
-released {v = v} {b = b} {first_d = first_d} {spare_d = spare_d} is k there some v1 b1 first' spare' (inr g) = record {
-  datas = set v.datas (data_number v.dat k) (record { next = (data_at (data_number v.dat k) v.datas).next; references = (data_at (data_number v.dat k) v.datas).references - 1; bytes = (data_at (data_number v.dat k) v.datas).bytes });
-  free_d = b.free_d;
-  drops = subst (λ (x : Option DataLink × ℕ). Drops v (data_number v.dat k) (set v.datas (data_number v.dat k) (record { next = (data_at (data_number v.dat k) v.datas).next; references = (data_at (data_number v.dat k) v.datas).references - 1; bytes = (data_at (data_number v.dat k) v.datas).bytes })) x.0 x.1 b.free_d) (λ j. (sym g.first_is j, sym g.spare_is j)) (let m = g.more in drops-one is k there (record { next = (data_at (data_number v.dat k) v.datas).next; references = (data_at (data_number v.dat k) v.datas).references - 1; bytes = (data_at (data_number v.dat k) v.datas).bytes }) refl (omega arith) (omega arith));
-  memory = g.memory;
-  roster = g.roster;
-}
+module _ {v : Nodes} {b : Roster} {first_m : Option MsgLink} {first_d : Option DataLink} {spare_m spare_d : ℕ} (is : IsRaw v first_m first_d spare_m spare_d b)
+    (k : DataLink) (there : IsData v.dat (length v.datas) k) (some : 0 < (data_at (data_number v.dat k) v.datas).references) (v1 : Nodes) (b1 : Roster) (first' : Option DataLink) (spare' : ℕ) where
+  abbrev n : ℕ
+  n = data_number v.dat k
+
+  -- the block as it is freed, with its bytes and with zeros, and with one reference less
+  abbrev kept : DataRow
+  kept = record { next = option_map (data_number v.dat) first_d; references = 0; bytes = (data_at n v.datas).bytes }
+
+  abbrev gone : DataRow
+  gone = record kept { bytes = no_bytes }
+
+  abbrev fewer-one : DataRow
+  fewer-one = record (data_at n v.datas) { references = (data_at n v.datas).references - 1 }
+
+  there-now : data_at n (set v.datas n kept) ≡ kept
+  there-now = get_or-set_same v.datas n kept no_data there.0
+
+  pub released : GivesLast v v1 b b1 k first_d first' spare_d spare' ⊎ GivesOne v v1 b b1 k first_d first' spare_d spare' → Released v v1 b b1 n first' spare'
+  released (inl g) = record {
+    datas = set v.datas n kept;
+    left = set v.datas n gone;
+    free_d = n ∷ b.free_d;
+    drops = subst (λ (x : Option DataLink × ℕ). Drops v n (set v.datas n kept) x.0 x.1 (n ∷ b.free_d)) (λ j. (sym g.first_is j, sym g.spare_is j)) (drops-last is k there kept refl (sym g.last) refl refl);
+    wipes = inr (ap (λ (r : DataRow). r.references) there-now, sym (ap (λ (r : DataRow). set (set v.datas n kept) n (record r { bytes = no_bytes })) there-now ∙ set-set v.datas n kept gone));
+    wiped = λ was. wiped-set v.datas n gone was (λ none. refl);
+    memory = g.memory;
+    roster = g.roster ∙ ap (λ dat. record b { free_d = data_number dat k ∷ b.free_d }) is.same_d;
+  }
+  released (inr g) = record {
+    datas = set v.datas n fewer-one;
+    left = set v.datas n fewer-one;
+    free_d = b.free_d;
+    drops = subst (λ (x : Option DataLink × ℕ). Drops v n (set v.datas n fewer-one) x.0 x.1 b.free_d) (λ j. (sym g.first_is j, sym g.spare_is j)) (let m = g.more in drops-one is k there fewer-one refl (omega arith) (omega arith));
+    wipes = inl refl;
+    wiped = λ was. wiped-named v.datas n fewer-one was (let m = g.more in omega arith);
+    memory = g.memory;
+    roster = g.roster;
+  }

@@ -20,6 +20,7 @@ pub record Hung (v v' : Nodes) (b b' : Roster) (ends : List Ends) (first_m : Opt
   pub lists : b'.lists ≡ b.lists
   pub mat : v'.mat ≡ v.mat
   pub len : length v'.rows ≡ length v.rows
+  pub datas : v'.datas ≡ v.datas
   pub chains : chain_of v' ≡ chain_of v
 
 module _ {v v' : Nodes} {b b' : Roster} {ends : List Ends} {first_m : Option MsgLink} {first_d : Option DataLink} {spare_m spare_d : ℕ} (is : IsRaw v first_m first_d spare_m spare_d b) (listed : AreListed v ends b)
@@ -56,5 +57,6 @@ module _ {v v' : Nodes} {b b' : Roster} {ends : List Ends} {first_m : Option Msg
     lists = ap (λ (x : Roster). x.lists) roster;
     mat = ap (λ (w : Nodes). w.mat) nodes;
     len = ap (λ (w : Nodes). length w.rows) nodes ∙ length-set v.rows _ _;
+    datas = ap (λ (w : Nodes). w.datas) nodes;
     chains = chains;
   }

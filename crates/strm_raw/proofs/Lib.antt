@@ -28,6 +28,7 @@ pub mod Freeing
 pub mod Joining
 pub mod Hanging
 pub mod Writing
+pub mod Wiping
 pub mod Edited
 pub mod Appended
 pub mod Telling

@@ -5,6 +5,7 @@ pub mod Numbered
 pub mod Roster
 pub mod Raw
 pub mod Made
+pub mod Wiped
 pub mod Lists
 pub mod Places
 pub mod Flushing

@@ -52,9 +52,13 @@ pub record Nodes : Type 0 where
 abbrev pub no_row : Row
 no_row = record { kind = kinds.Data; band = 0; number = 0; start = 0; end = 0; next = None; ahead = None; behind = None }
 
+-- the bytes of a data block as it is made, and as it is freed
+abbrev pub no_bytes : List ℕ
+no_bytes = replicate 256 0
+
 -- a data block as it is made; so one that isn't made counts too
 abbrev pub no_data : DataRow
-no_data = record { next = None; references = 0; bytes = replicate 256 0 }
+no_data = record { next = None; references = 0; bytes = no_bytes }
 
 abbrev pub row_at : ℕ → List Row → Row
 row_at i rows = slice_index_or rows i no_row

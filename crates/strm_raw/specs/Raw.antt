@@ -1,7 +1,7 @@
 -- What a raw store stands for, and what holds of its fields.
 use Rattle.std.specs.Prelude.{◌≢◌, ℕ, ◌≡◌, ◌≤◌, ◌+◌, ◌-◌, ◌==◌, nat_lt, if◌then◌else◌, List, [], ◌∷◌, ◌++◌, length, map, drop, slice_index_or, replicate, sum_by, count_by, slice_range, Option, None, Some, option_map}
 use Rattle.strm_blocks.specs.Blocks.{Block, Held, StoreValue, times_in}
-use Rattle.strm_raw.specs.Numbered.{Nodes, Row, DataRow, row_at, data_at, msg_number, data_number, with_data, IsMsg, IsMsgOrNone, IsDataOrNone}
+use Rattle.strm_raw.specs.Numbered.{Nodes, Row, DataRow, row_at, data_at, no_bytes, msg_number, data_number, with_data, IsMsg, IsMsgOrNone, IsDataOrNone}
 use Rattle.strm_raw.specs.Roster.{Msg, Roster}
 use Rattle.strm_raw.specs.declared.msg_nodes.MsgLink.{MsgLink}
 use Rattle.strm_raw.specs.declared.data_nodes.DataLink.{DataLink}
@@ -173,10 +173,10 @@ given l b = let i = msg_number b.mat l in record b { free_m = i ∷ b.free_m; ha
 abbrev pub given_data : DataLink → Roster → Roster
 given_data k b = record b { free_d = data_number b.dat k ∷ b.free_d }
 
--- A data block has one reference less. Where that was its last one it is the first free one.
+-- A data block has one reference less. Where that was its last one it is the first free one, and zeros stand where its bytes were.
 pub record GivesLast (old new : Nodes) (b b' : Roster) (k : DataLink) (first first' : Option DataLink) (spare spare' : ℕ) : Type 0 where
   pub last : (data_at (data_number old.dat k) old.datas).references ≡ 1
-  pub memory : new ≡ with_data (data_number old.dat k) (record { next = option_map (data_number old.dat) first; references = 0; bytes = (data_at (data_number old.dat k) old.datas).bytes }) old
+  pub memory : new ≡ with_data (data_number old.dat k) (record { next = option_map (data_number old.dat) first; references = 0; bytes = no_bytes }) old
   pub roster : b' ≡ given_data k b
   pub first_is : first' ≡ Some k
   pub spare_is : spare' ≡ spare + 1

@@ -1,6 +1,8 @@
 //! All nodes of a store. What lies in memory is read and written here alone; a pointer is seen as the number of its node.
 ghost use Rattle.std.specs.Prelude.{◌≡◌, ◌<◌, ◌≤◌, ◌+◌, length, option_map, IfOk, take, drop, ◌++◌, [], ◌∷◌};
-ghost use Rattle.strm_raw.specs.Numbered.{IsMsg, IsMsgOrNone, IsData, IsDataOrNone, Fits, IsRow, row_of, data_of, row_at, data_at, msg_number, data_number, with_row, with_data, no_row, no_data, showing};
+ghost use Rattle.strm_raw.specs.Numbered.{IsMsg, IsMsgOrNone, IsData, IsDataOrNone, Fits, IsRow, row_of, data_of, row_at, data_at, msg_number, data_number, with_row, with_data, no_row, no_data, no_bytes, showing};
+ghost use Rattle.strm_raw.specs.Wiped.{AreBlank};
+ghost use Rattle.std_alloc.specs.Vec.{vec_capacity};
 
 use crate::data_nodes::{DataLink, DataNode};
 use crate::msg_nodes::{MsgLink, MsgNode, Shows};
@@ -10,8 +12,8 @@ use std::marker::Model;
 use strm_types::MsgKind;
 
 /// The nodes of message blocks and of data blocks, each kind in one block of memory, which is reserved and given back once.
-/// A node is made when it is first used, behind those that are made, and lies where it is from then on.
-#[derive(Drop)]
+/// A node is made when it is first used, behind those that are made, and lies where it is from then on. No byte of a message is left in
+/// what is given back.
 pub(crate) struct Memory {
     msgs: Vec<MsgNode>,
     datas: Vec<DataNode>,
@@ -26,6 +28,39 @@ impl Model for Memory {
     ghost view = { λ m. nodes_of (rows (vec_ptr m.msgs) (vec_capacity m.msgs) (vec_items m.msgs)) (rows (vec_ptr m.datas) (vec_capacity m.datas) (vec_items m.datas)) };
 
     ghost invariant = { λ m. AreLinked (rows (vec_ptr m.msgs) (vec_capacity m.msgs) (vec_items m.msgs)) (rows (vec_ptr m.datas) (vec_capacity m.datas) (vec_items m.datas)) };
+}
+
+impl Drop for Memory {
+    fn drop(mut self) {
+        self.clear();
+        let Memory { msgs: _, datas } = self;
+        give_back(datas);
+    }
+}
+
+// Writes zeros over the bytes of data blocks.
+fn wipe(nodes: &mut [DataNode])
+    ensures { AreBlank nodes.new }
+{
+    for data in nodes {
+        data.bytes = [0; 256];
+    }
+}
+
+// Forgets data blocks, in whose bytes zeros stand alone.
+fn forget(nodes: &mut Vec<DataNode>)
+    requires { AreBlank nodes.old.items }
+    ensures items { nodes.new.items ≡ [] }
+    ensures capacity { vec_capacity nodes.new ≡ vec_capacity nodes.old }
+{
+    nodes.clear();
+}
+
+// Gives the memory of data blocks back, all of which were forgotten.
+fn give_back(nodes: Vec<DataNode>)
+    requires { nodes.items ≡ [] }
+{
+    drop(nodes);
 }
 
 impl Memory {
@@ -88,15 +123,16 @@ impl Memory {
         }
     }
 
-    /// Forgets all nodes.
+    /// Writes zeros over the bytes of all data blocks, and forgets all nodes.
     pub(crate) fn clear(&mut self)
         ensures rows { self.new.rows ≡ [] }
         ensures datas { self.new.datas ≡ [] }
         ensures mblks { self.new.mblks ≡ self.old.mblks }
         ensures dblks { self.new.dblks ≡ self.old.dblks }
     {
+        wipe(self.datas.as_mut_slice());
+        forget(&mut self.datas);
         self.msgs.clear();
-        self.datas.clear();
     }
 
     /// Where the message blocks begin, and where the data blocks do.
@@ -230,16 +266,17 @@ impl Memory {
         reach(&self.datas, at.at)
     }
 
-    /// Gives a data block so many references, and another next one.
-    pub(crate) fn set_datum(&mut self, at: DataLink, references: u8, next: Option<DataLink>)
+    /// Takes the last reference away from a data block, which gets another next one. Zeros are written over its bytes.
+    pub(crate) fn wipe_datum(&mut self, at: DataLink, next: Option<DataLink>)
         requires there { IsData self.old.dat (length self.old.datas) at }
         requires link { IsDataOrNone self.old.dat (length self.old.datas) next }
-        ensures { let i = data_number self.old.dat at in
-            self.new ≡ with_data i (record { next = option_map (data_number self.old.dat) next; references = references; bytes = (data_at i self.old.datas).bytes }) self.old }
+        ensures { self.new ≡ with_data (data_number self.old.dat at)
+            (record { next = option_map (data_number self.old.dat) next; references = 0; bytes = no_bytes }) self.old }
     {
         let node = reach_mut(&mut self.datas, at.at);
-        node.references = references;
+        node.references = 0;
         node.next = next;
+        node.bytes = [0; 256];
     }
 
     /// Gives a data block so many references.

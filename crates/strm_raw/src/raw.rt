@@ -90,7 +90,7 @@ impl RawStore {
     }
 }
 
-// Takes a reference away from a data block, which is the first free one where it has no other.
+// Takes a reference away from a data block. Where it has no other it is the first free one, and its bytes are zeros.
 fn release(
     memory: &mut Memory,
     ledger: &mut Ledger,
@@ -107,7 +107,7 @@ fn release(
 {
     let references = memory.datum(number).references;
     if references == 1 {
-        memory.set_datum(number, 0, *first);
+        memory.wipe_datum(number, *first);
         ledger.note(null_mut(), number.at, 0, 0);
         *first = Some(number);
         *spare += 1;

@@ -256,7 +256,7 @@ impl Blocks for RawStore {
         (self.spare_m, self.spare_d)
     }
 
-    /// The cost is the same whatever the store's size.
+    /// It takes a step for each data block that was used since the store was made or reset.
     fn reset(&mut self) {
         self.memory.clear();
         let (message, datum) = self.memory.begins();

@@ -5,4 +5,4 @@ use Rattle.strm_pair.proofs.journal.Journal.clear.Goals as goal
 
 pub returns-clause-empty : goal.returns-clause-empty
 unfolding journal_of
-returns-clause-empty c = ap (λ es. entries_in es c.clear-2.new.self.items) c.clear.ensures.items
+returns-clause-empty c = ap (λ es. entries_in es c.shorten.new.buffer.items) c.forget_all.ensures.items

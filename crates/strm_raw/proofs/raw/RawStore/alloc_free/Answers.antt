@@ -1,6 +1,6 @@
 use Rattle.std.proofs.Common.{ℕ, ◌≡◌, ◌<◌, ◌+◌, ◌-◌, ◌++◌, List, [], ◌∷◌, drop, take, refl, sym, ap, ◌∙◌, subst, arith, length, inl, inr}
 use Rattle.std.proofs.lemmas.Bool.Decides.{nat_tests}
-use Rattle.std.proofs.Math.ListN.{length-set}
+use Rattle.std.proofs.Math.ListN.{set, length-set}
 use Rattle.std.proofs.lemmas.List.{get_or-set_same}
 use Rattle.std.specs.Prelude.{None, slice_range}
 use Rattle.strm_blocks.specs.Blocks.{StoreValue, held, copy_of, filled_block}
@@ -13,6 +13,8 @@ use Rattle.strm_raw.proofs.Standing.{free_m-value, free_d-value}
 use Rattle.strm_raw.proofs.Supplying.{room-m, room-d, gives-m, gives-d}
 use Rattle.strm_raw.proofs.Becoming.{Becomes, becomes-as}
 use Rattle.strm_raw.proofs.Stocking.{shown-kept}
+use Rattle.strm_raw.specs.Wiped.{AreWiped}
+use Rattle.strm_raw.proofs.Wiping.{wiped-named, wiped-given}
 use Rattle.strm_raw.proofs.Taking as taking
 use Rattle.strm_raw.proofs.Writing as writing
 use Rattle.strm_raw.proofs.raw.RawStore.alloc_free.Goals as goal
@@ -86,8 +88,24 @@ done c =
       }),
     )
 
+-- the bytes stand in a data block with a reference
+clean : (c : After-note) → AreWiped c.write.new.self.datas
+clean c =
+    let v = c.free_message-at.new.memory in let at = c.free_message-at.result in let k = c.free_data-number.result in let d = data_number v.dat k in
+    let beside = c.free_message-at.ensures.beside in
+    let within : d < length v.datas = subst (λ (w : Nodes). data_number w.dat k < length w.datas) (sym beside) c.free_data-number.ensures.there.0 in
+    let was = subst AreWiped (sym (ap (λ (w : Nodes). w.datas) beside)) (wiped-given _ _ _ _ _ _ c.self.invariant.wiped c.free_data-number.ensures.given) in
+    let y : DataRow = record (data_at d v.datas) { references = 1 } in
+    let fill : List ℕ → List ℕ = λ xs. take 0 xs ++ (c.args.bytes.now ++ drop (0 + length c.args.bytes.now) xs) in
+    let fills : Nodes → Nodes = λ w. with_data (data_number w.dat k) (record (data_at (data_number w.dat k) w.datas) { bytes = fill (data_at (data_number w.dat k) w.datas).bytes }) w in
+    let shows : Shows = record { kind = c.args.kind; band = c.args.band.0; number = k; start = 0; end = length c.args.bytes.now } in
+    let written : Nodes → Nodes = λ w. with_row (msg_number w.mat at) (showing w.dat shows (row_at (msg_number w.mat at) w.rows)) w in
+    let memory = c.write.ensures ∙ ap (λ (w : Nodes). fills w) c.show.ensures ∙ ap (λ (w : Nodes). fills (written w)) c.set_references.ensures in
+    let one = ap (λ (r : DataRow). r.references) (get_or-set_same v.datas d y no_data within) in
+    subst AreWiped (sym (ap (λ (w : Nodes). w.datas) memory)) (wiped-named (set v.datas d y) d _ (wiped-named v.datas d y was (omega arith)) (omega arith))
+
 pub invariant_of-self : goal.invariant_of-self
-invariant_of-self c = let d = (done (goal.at.invariant_of-self c).After-note).0 in record { raw = d.raw; listed = d.listed }
+invariant_of-self c = let a = (goal.at.invariant_of-self c).After-note in let d = (done a).0 in record { raw = d.raw; wiped = clean a; listed = d.listed }
 
 pub returns : goal.returns
 returns c =

@@ -1,4 +1,4 @@
-use Rattle.std.proofs.Common.{[], ◌∷◌, List, refl, sym, ap, ◌∙◌, arith}
+use Rattle.std.proofs.Common.{[], ◌∷◌, List, refl, sym, ap, ◌∙◌, arith, subst}
 use Rattle.std.proofs.Math.ListN.{set}
 use Rattle.std.specs.Prelude.{None}
 use Rattle.strm_blocks.specs.Blocks.{Block, StoreValue, token, in_hand, list_at, dropped, placed}
@@ -6,6 +6,8 @@ use Rattle.strm_raw.proofs.Finding as finding
 use Rattle.strm_raw.proofs.Becoming.{Becomes, becomes-as}
 use Rattle.strm_raw.proofs.Inserting.{count-few}
 use Rattle.strm_raw.proofs.Seating.{put-on, queue-none}
+use Rattle.strm_raw.specs.Numbered.{Nodes}
+use Rattle.strm_raw.specs.Wiped.{AreWiped}
 use Rattle.strm_raw.proofs.raw.RawStore.begin.Goals as goal
 use Rattle.strm_raw.proofs.raw.RawStore.begin.Goals.{After-note}
 
@@ -29,7 +31,7 @@ done c =
     (λ j. placed (dropped (c.self.view_is j) (e j)) k (in_hand (c.self.view_is j) (e j) ∷ []))
 
 pub invariant_of-self : goal.invariant_of-self
-invariant_of-self c = let d = done (goal.at.invariant_of-self c).After-note in record { raw = d.raw; listed = d.listed }
+invariant_of-self c = let d = done (goal.at.invariant_of-self c).After-note in record { raw = d.raw; wiped = subst AreWiped (sym (ap (λ (w : Nodes). w.datas) c.seat.ensures.nodes)) c.self.invariant.wiped; listed = d.listed }
 
 pub returns : goal.returns
 returns c = (done (goal.at.returns c).After-note).value

@@ -1,12 +1,13 @@
-use Rattle.std.proofs.Common.{length, sym, ap, ◌∙◌}
+use Rattle.std.proofs.Common.{length, sym, ap, ◌∙◌, subst}
 use Rattle.std.specs.Prelude.{slice_range}
 use Rattle.strm_blocks.specs.Blocks.{token, block_at, in_hand, changed, with_block}
 use Rattle.strm_raw.specs.Changes.{changed_by}
-use Rattle.strm_raw.specs.Numbered.{Row, DataRow, row_of, msg_number, with_row}
+use Rattle.strm_raw.specs.Numbered.{Nodes, Row, DataRow, row_of, msg_number, with_row}
 use Rattle.strm_raw.specs.Raw.{askew}
 use Rattle.strm_raw.proofs.Becoming.{Becomes}
 use Rattle.strm_raw.proofs.Finding as finding
 use Rattle.strm_raw.proofs.Edited.{changes, edited}
+use Rattle.strm_raw.specs.Wiped.{AreWiped}
 use Rattle.strm_raw.proofs.raw.RawStore.change.Goals as goal
 use Rattle.strm_raw.proofs.raw.RawStore.change.Goals.{After-set_message}
 
@@ -26,7 +27,7 @@ done c =
     (c.set_message.ensures ∙ ap (λ n. with_row (msg_number v.mat k) (row_of v.mat v.dat n) v) c.changed_node.ensures) (changed_by c.args.change) does.1.1
 
 pub invariant_of-self : goal.invariant_of-self
-invariant_of-self c = let d = done (goal.at.invariant_of-self c).After-set_message in record { raw = d.raw; listed = d.listed }
+invariant_of-self c = let d = done (goal.at.invariant_of-self c).After-set_message in record { raw = d.raw; wiped = subst AreWiped (sym (ap (λ (w : Nodes). w.datas) c.set_message.ensures)) c.self.invariant.wiped; listed = d.listed }
 
 pub returns : goal.returns
 returns c = (done (goal.at.returns c).After-set_message).value

@@ -6,6 +6,8 @@ use Rattle.strm_raw.specs.Roster.{Roster}
 use Rattle.strm_raw.specs.Raw.{without_in, IsHere}
 use Rattle.strm_raw.proofs.Finding as finding
 use Rattle.strm_raw.proofs.Becoming.{Becomes, becomes-as, row-becomes}
+use Rattle.strm_raw.specs.Wiped.{AreWiped}
+use Rattle.strm_raw.proofs.Wiping.{wipes-raw, wipes-value}
 use Rattle.strm_raw.proofs.Giving.{Released, released, Drops, given-raw, given-value}
 use Rattle.strm_raw.proofs.raw.RawStore.free_one.Goals as goal
 use Rattle.strm_raw.proofs.raw.RawStore.free_one.Goals.{After-message-node, After-release, After-note}
@@ -47,13 +49,19 @@ freed c here done =
     let memory = c.set_next.ensures ∙ ap (λ (w : Nodes). with_row (msg_number w.mat l) (record (row_at (msg_number w.mat l) w.rows) { next = option_map (msg_number w.mat) t.free_msg }) w) done.memory in
     let roster = c.note.ensures ∙ ap (λ (x : Roster). let i = msg_number x.mat l in record x { free_m = i ∷ x.free_m; hand = without_in i x.hand }) done.roster
     ∙ ap (λ mat. let i = msg_number mat l in record b { free_m = i ∷ b.free_m; free_d = done.free_d; hand = without_in i b.hand }) is.same in
-    becomes-as (row-becomes c.self.invariant.listed _ _ _ _ memory roster (given-raw is l here single _ _ _ _ drops) refl (msg_number v.mat l) (here.0).0 _ refl refl refl refl _ (given-value is l here single _ _ _ _ drops) refl)
+    let raw = given-raw is l here single _ _ _ _ drops in
+    let n = data_number v.dat c.message-node.result.number in
+    let within : n < length done.datas = subst (λ k. n < k) (sym drops.stock.len) c.message-node.ensures.links.number.0 in
+    becomes-as (row-becomes c.self.invariant.listed _ _ _ _ memory roster (wipes-raw raw n within done.left done.wipes) refl (msg_number v.mat l) (here.0).0 _ refl refl refl refl _ (wipes-value raw n within done.left done.wipes ∙ given-value is l here single _ _ _ _ drops) refl)
     (λ j. dropped (c.self.view_is j) (e j))
 
 pub invariant_of-self : goal.invariant_of-self
 invariant_of-self c =
     let g = goal.at.invariant_of-self c in let m = g.After-message-node in
-    let d = freed g.After-note (here m) (given-up g.After-release (named m)) in record { raw = d.raw; listed = d.listed }
+    let given = given-up g.After-release (named m) in
+    let d = freed g.After-note (here m) given in
+    let datas = ap (λ (w : Nodes). w.datas) c.set_next.ensures ∙ ap (λ (w : Nodes). w.datas) given.memory in
+    record { raw = d.raw; wiped = subst AreWiped (sym datas) (given.wiped c.self.invariant.wiped); listed = d.listed }
 
 pub returns : goal.returns
 returns c = let g = goal.at.returns c in let m = g.After-message-node in (freed g.After-note (here m) (given-up g.After-release (named m))).value

@@ -1,13 +1,14 @@
-use Rattle.std.proofs.Common.{refl, sym, ap, ◌∙◌, arith}
+use Rattle.std.proofs.Common.{refl, sym, ap, ◌∙◌, arith, subst}
 use Rattle.std.proofs.Math.ListN.{set}
 use Rattle.strm_blocks.specs.Blocks.{token, in_hand, list_at, dropped, placed, rank_of}
-use Rattle.strm_raw.specs.Numbered.{Row}
+use Rattle.strm_raw.specs.Numbered.{Nodes, Row}
 use Rattle.strm_raw.specs.Lists.{seated}
 use Rattle.strm_raw.specs.Places.{put_by, rank_by}
 use Rattle.strm_raw.specs.declared.msg_nodes.MsgLink.{MsgLink}
 use Rattle.strm_raw.proofs.Finding as finding
 use Rattle.strm_raw.proofs.Becoming.{Becomes, becomes-as}
 use Rattle.strm_raw.proofs.Inserting.{count-few, inserted}
+use Rattle.strm_raw.specs.Wiped.{AreWiped}
 use Rattle.strm_raw.proofs.raw.RawStore.insert.Goals as goal
 use Rattle.strm_raw.proofs.raw.RawStore.insert.Goals.{After-note}
 
@@ -31,7 +32,7 @@ done c =
     (λ j. placed (dropped (c.self.view_is j) (e j)) k (put_by c.args.course rank_of (in_hand (c.self.view_is j) (e j)) (list_at (c.self.view_is j) k)))
 
 pub invariant_of-self : goal.invariant_of-self
-invariant_of-self c = let d = done (goal.at.invariant_of-self c).After-note in record { raw = d.raw; listed = d.listed }
+invariant_of-self c = let d = done (goal.at.invariant_of-self c).After-note in record { raw = d.raw; wiped = subst AreWiped (sym (ap (λ (w : Nodes). w.datas) c.seat.ensures.nodes)) c.self.invariant.wiped; listed = d.listed }
 
 pub returns : goal.returns
 returns c = (done (goal.at.returns c).After-note).value

@@ -4,6 +4,7 @@ use Rattle.strm_raw.specs.Roster.{Roster}
 use Rattle.strm_raw.specs.Raw.{IsRaw}
 use Rattle.strm_raw.specs.Lists.{AreListed, no_ends}
 use Rattle.strm_raw.proofs.Listed.{listed-none}
+use Rattle.strm_raw.proofs.Wiping.{wiped-none}
 use Rattle.strm_raw.proofs.Fresh.{empty-raw}
 use Rattle.strm_raw.proofs.raw.RawStore.new.Goals as goal
 
@@ -13,5 +14,6 @@ invariant_of-result c =
     record {
       raw = subst (λ (b : Roster). IsRaw v None None c.args.mblks c.args.dblks b) (sym c.note.ensures)
           (empty-raw v _ _ made.rows made.datas c.begins.ensures.messages c.begins.ensures.data (subst (λ n. n ≤ 65536) (sym made.mblks) c.requires.few_mblks) (subst (λ n. n ≤ 65536) (sym made.dblks) c.requires.few_dblks) _ _ (sym made.mblks) (sym made.dblks));
+      wiped = wiped-none v.datas made.datas;
       listed = subst (λ (b : Roster). AreListed v (replicate 8 no_ends) b) (sym c.note.ensures) (listed-none v _ refl);
     }

@@ -3,10 +3,11 @@ use Rattle.std.proofs.Math.ListN.{set}
 use Rattle.std.specs.Prelude.{Option, option_map}
 use Rattle.strm_blocks.specs.Blocks.{StoreValue}
 use Rattle.strm_raw.specs.Lists.{PoppedBy, Ties, Unseats, ends_at}
-use Rattle.strm_raw.specs.Numbered.{Row, msg_number}
+use Rattle.strm_raw.specs.Numbered.{Nodes, Row, msg_number}
 use Rattle.strm_raw.specs.declared.msg_nodes.MsgLink.{MsgLink}
 use Rattle.strm_raw.proofs.Becoming.{Becomes}
 use Rattle.strm_raw.proofs.Popping.{nothing-there, sides-are, some-there, taken-end}
+use Rattle.strm_raw.specs.Wiped.{AreWiped}
 use Rattle.strm_raw.proofs.raw.RawStore.take_end.Goals as goal
 use Rattle.strm_raw.proofs.raw.RawStore.take_end.Goals.{After-note}
 
@@ -42,7 +43,7 @@ done : (c : After-note) → let t = c.self.inside in
 done c = taken-end c.self.invariant.raw c.self.invariant.listed c.self.view_is c.args.list c.requires c.in-Some.at (unseats c) c.args.course (sym c.beside.ensures.step ∙ ap (λ (o : Option MsgLink). option_map (msg_number c.self.inside.memory.mat) o) c.in-Some.is)
 
 pub invariant_of-self : goal.invariant_of-self
-invariant_of-self c = let d = (done (goal.at.invariant_of-self c).After-note).1.0 in record { raw = d.raw; listed = d.listed }
+invariant_of-self c = let d = (done (goal.at.invariant_of-self c).After-note).1.0 in record { raw = d.raw; wiped = subst AreWiped (sym (ap (λ (w : Nodes). w.datas) c.bypass.ensures.nodes)) c.self.invariant.wiped; listed = d.listed }
 
 pub returns : goal.returns
 returns c =

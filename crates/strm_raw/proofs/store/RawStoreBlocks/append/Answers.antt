@@ -1,4 +1,4 @@
-use Rattle.std.proofs.Common.{◌<◌, ◌+◌, ◌-◌, take, sym, ap, ◌∙◌, arith, length}
+use Rattle.std.proofs.Common.{◌<◌, ◌+◌, ◌-◌, take, sym, ap, subst, ◌∙◌, arith, length}
 use Rattle.std.proofs.lemmas.List.{length-take-le}
 use Rattle.strm_blocks.specs.Blocks.{token, in_hand, changed, extended}
 use Rattle.strm_blocks.proofs.Appends.{extended-none}
@@ -6,6 +6,8 @@ use Rattle.strm_raw.specs.Numbered.{Nodes, Row, DataRow, row_of, with_row, msg_n
 use Rattle.strm_raw.specs.Raw.{askew}
 use Rattle.strm_raw.proofs.Becoming.{Becomes}
 use Rattle.strm_raw.proofs.Finding as finding
+use Rattle.strm_raw.specs.Wiped.{AreWiped}
+use Rattle.strm_raw.proofs.Wiping.{wiped-named}
 use Rattle.strm_raw.proofs.Appended as appended
 use Rattle.strm_raw.proofs.store.RawStoreBlocks.append.Goals as goal
 use Rattle.strm_raw.proofs.store.RawStoreBlocks.append.Goals.{After-set_message}
@@ -59,8 +61,20 @@ done c =
     appended.appended is c.self.view_is l here name at within k (λ _. last) r c.message-node.ensures.row c.message-node.ensures.links.number.0 (omega arith) (ap (λ (d : DataRow). length d.bytes) (sym c.datum.ensures.row) ∙ c.datum.ensures.sized)
     new c.min-count.result (sym taken) (omega arith) c.set_message.new.self memory c.self.invariant.listed
 
+-- what is written stands in a data block that is named
+clean : (c : After-set_message) → AreWiped c.set_message.new.self.datas
+clean c =
+    let v = c.self.inside.memory in let is = c.self.invariant.raw in let l = c.message_link-first.result in let k = c.last_link-last.result in let n = token c.args.message.now in
+    let here = finding.here-by v c.self.inside.ledger.roster _ c.self.view_is l n _ c.message_link-first.ensures.there c.message_link-first.ensures.number c.name.ensures c.requires in
+    let name = c.message_link-first.ensures.number ∙ c.name.ensures in
+    let at = length (in_hand c.args.self.now n) - 1 in
+    let within : at < length (in_hand c.args.self.now n) = (let some = finding.first-within is c.self.view_is n c.requires in omega arith) in
+    let last = finding.last-number is c.self.view_is l here name c.messages.result c.messages.ensures (msg_number v.mat k) c.last_link-last.ensures.number in
+    let some = appended.named is c.self.view_is l here name at within k (λ _. last) (row_of v.mat v.dat c.message-node.result) c.message-node.ensures.row in
+    subst AreWiped (sym (ap (λ (w : Nodes). w.datas) c.set_message.ensures ∙ ap (λ (w : Nodes). w.datas) c.write.ensures)) (wiped-named _ _ _ c.self.invariant.wiped some)
+
 pub invariant_of-self : goal.invariant_of-self
-invariant_of-self c = let d = done (goal.at.invariant_of-self c).After-set_message in record { raw = d.raw; listed = d.listed }
+invariant_of-self c = let a = (goal.at.invariant_of-self c).After-set_message in let d = done a in record { raw = d.raw; wiped = clean a; listed = d.listed }
 
 pub returns-clause-written : goal.returns-clause-written
 returns-clause-written c = (done (goal.at.returns-clause-written c).After-set_message).value

@@ -12,6 +12,8 @@ use Rattle.strm_raw.proofs.Standing.{free_m-value, stored}
 use Rattle.strm_raw.proofs.Supplying.{room-m, gives-m}
 use Rattle.strm_raw.proofs.Becoming.{Becomes, becomes-as}
 use Rattle.strm_raw.proofs.Stocking.{shown-kept}
+use Rattle.strm_raw.specs.Wiped.{AreWiped}
+use Rattle.strm_raw.proofs.Wiping.{wiped-named}
 use Rattle.strm_raw.proofs.Taking as taking
 use Rattle.strm_raw.proofs.Finding as finding
 use Rattle.strm_raw.proofs.store.RawStoreBlocks.dup.Goals as goal
@@ -91,7 +93,11 @@ done c =
     )
 
 pub invariant_of-self : goal.invariant_of-self
-invariant_of-self c = let d = (done (goal.at.invariant_of-self c).After-note).0 in record { raw = d.raw; listed = d.listed }
+invariant_of-self c =
+    let d = (done (goal.at.invariant_of-self c).After-note).0 in
+    let was = subst AreWiped (sym (ap (λ (w : Nodes). w.datas) c.free_message-free.ensures.beside)) c.self.invariant.wiped in
+    let datas = ap (λ (w : Nodes). w.datas) c.show.ensures ∙ ap (λ (w : Nodes). w.datas) c.set_references.ensures in
+    record { raw = d.raw; wiped = subst AreWiped (sym datas) (wiped-named _ _ _ was (omega arith)); listed = d.listed }
 
 pub returns : goal.returns
 returns c =

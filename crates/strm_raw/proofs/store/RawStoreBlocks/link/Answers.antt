@@ -1,5 +1,6 @@
-use Rattle.std.proofs.Common.{refl}
+use Rattle.std.proofs.Common.{refl, sym, subst}
 use Rattle.strm_blocks.specs.Blocks.{token}
+use Rattle.strm_raw.specs.Wiped.{AreWiped}
 use Rattle.strm_raw.proofs.Finding.{token-below}
 use Rattle.strm_raw.proofs.Hanging.{Hung, hung}
 use Rattle.strm_raw.proofs.store.RawStoreBlocks.link.Goals as goal
@@ -15,7 +16,7 @@ done : (c : After-hang) → let t = c.self.inside in Hung t.memory c.hang.new.me
 done c = hung c.self.invariant.raw c.self.invariant.listed c.self.view_is _ _ c.requires.first_in_hand c.requires.second_in_hand c.requires.apart c.hang.ensures.hangs
 
 pub invariant_of-self : goal.invariant_of-self
-invariant_of-self c = let d = (done (goal.at.invariant_of-self c).After-hang).becomes in record { raw = d.raw; listed = d.listed }
+invariant_of-self c = let d = done (goal.at.invariant_of-self c).After-hang in record { raw = d.becomes.raw; wiped = subst AreWiped (sym d.datas) c.self.invariant.wiped; listed = d.becomes.listed }
 
 pub returns-clause-linked : goal.returns-clause-linked
 returns-clause-linked c = (done (goal.at.returns-clause-linked c).After-hang).becomes.value

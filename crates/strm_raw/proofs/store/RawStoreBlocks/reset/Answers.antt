@@ -5,6 +5,7 @@ use Rattle.strm_raw.specs.Roster.{Roster}
 use Rattle.strm_raw.specs.Raw.{IsRaw, value_of}
 use Rattle.strm_raw.specs.Lists.{AreListed, no_ends}
 use Rattle.strm_raw.proofs.Listed.{listed-none}
+use Rattle.strm_raw.proofs.Wiping.{wiped-none}
 use Rattle.strm_raw.proofs.Fresh.{empty-raw}
 use Rattle.strm_raw.proofs.store.RawStoreBlocks.reset.Goals as goal
 
@@ -15,6 +16,7 @@ invariant_of-self c =
     record {
       raw = subst (λ (b : Roster). IsRaw v None None c.room.result.0 c.room.result.1 b) (sym c.note.ensures)
           (empty-raw v _ _ clear.rows clear.datas c.begins.ensures.messages c.begins.ensures.data most_m most_d _ _ (ap (λ (r : ℕ × ℕ). r.0) c.room.ensures) (ap (λ (r : ℕ × ℕ). r.1) c.room.ensures));
+      wiped = wiped-none v.datas clear.datas;
       listed = subst (λ (b : Roster). AreListed v (replicate 8 no_ends) b) (sym c.note.ensures) (listed-none v _ refl);
     }
 

@@ -2,12 +2,13 @@ use Rattle.std.proofs.Common.{ℕ, refl, sym, ap, ◌∙◌, subst, arith, lengt
 use Rattle.std.specs.Prelude.{Option, option_map}
 use Rattle.strm_blocks.specs.Blocks.{StoreValue, token, in_hand, held, changed}
 use Rattle.strm_blocks.specs.Outcomes.{Unlinked}
-use Rattle.strm_raw.specs.Numbered.{Row, msg_number}
+use Rattle.strm_raw.specs.Numbered.{Nodes, Row, msg_number}
 use Rattle.strm_raw.specs.declared.msg_nodes.MsgLink.{MsgLink}
 use Rattle.strm_raw.specs.Raw.{value_of, rest_of, msg_in, with_in, alone, chain_of, block_no}
 use Rattle.strm_raw.proofs.Finding as finding
 use Rattle.strm_raw.proofs.Parting as parting
 use Rattle.strm_raw.proofs.Becoming.{Becomes, row-becomes}
+use Rattle.strm_raw.specs.Wiped.{AreWiped}
 use Rattle.strm_raw.proofs.store.RawStoreBlocks.unlink.Goals as goal
 use Rattle.strm_raw.proofs.store.RawStoreBlocks.unlink.Goals.{After-note}
 
@@ -48,7 +49,7 @@ done c =
     )
 
 pub invariant_of-self : goal.invariant_of-self
-invariant_of-self c = let d = done (goal.at.invariant_of-self c).After-note in record { raw = d.1.0.raw; listed = d.1.0.listed }
+invariant_of-self c = let d = done (goal.at.invariant_of-self c).After-note in record { raw = d.1.0.raw; wiped = subst AreWiped (sym (ap (λ (w : Nodes). w.datas) c.set_next.ensures)) c.self.invariant.wiped; listed = d.1.0.listed }
 
 pub returns : goal.returns
 returns c =
