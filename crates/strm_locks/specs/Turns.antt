@@ -4,18 +4,19 @@ use Rattle.atomic_table.specs.Seated.{TableId}
 use Rattle.strm_types.specs.declared.entries.Entry.TheVariants.{Turned}
 use Rattle.strm_types.specs.declared.refusals.NoMemory.{NoMemory}
 use Rattle.strm_types.specs.declared.refusals.Refusal.{Refusal}
-use Rattle.strm_laws.specs.Pair.{PairState, AddsEntry, queue_refused, restarted}
+use Rattle.strm_laws.specs.Pair.{PairState, AddsEntry, Stops, queue_refused, restarted}
 use Rattle.strm_image.specs.declared.trace.Trace.{Trace}
 use Rattle.strm_image.specs.Traces.{IsTrace}
 use Rattle.strm_locks.specs.declared.held.Made.{Made}
 use Rattle.strm_locks.specs.Shares.{IsShut}
 use Rattle.strm_locks.specs.Sounds.{IsSound}
 
--- The pair p makes this turn and becomes q: of the queue that was enabled first, with the pair's own answer. The turn is an entry of the journal then; a refused one leaves the pair
+-- The pair p makes this turn and becomes q: of the queue that was enabled first, with the pair's own answer. The turn is an entry of the journal then, and stops within its message where it may; a refused one leaves the pair
 pub record Makes (p : PairState) (m : Made) (q : PairState) : Type 0 where
   pub first : slice_get p.state.enabled 0 ≡ Some m.queue
   pub refused : MatchOption (queue_refused p m.queue) (IsOk m.answer) (λ r. (m.answer ≡ Err r) × (q ≡ p))
   pub adds : IfOk m.answer (λ t. AddsEntry p q (Turned m.queue t))
+  pub stops : IfOk m.answer (λ t. Stops p q m.queue t)
 
 -- a visit to the pair p, which becomes q: one turn, or none where no queue is enabled
 abbrev pub Visits : PairState → Option Made → PairState → Type 0

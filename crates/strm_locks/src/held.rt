@@ -4,7 +4,7 @@ ghost use Rattle.std.specs.Prelude.{◌≡◌, ◌≢◌, length, MatchOption, I
 ghost use Rattle.strm_types.specs.declared.entries.Entry.TheVariants.{Called, Turned};
 ghost use Rattle.strm_types.specs.Events.{request};
 ghost use Rattle.strm_types.specs.Journal.{answer_len, reply_in};
-ghost use Rattle.strm_laws.specs.Pair.{AddsEntry, call_refused, queue_refused, restarted};
+ghost use Rattle.strm_laws.specs.Pair.{AddsEntry, Stops, call_refused, queue_refused, restarted};
 
 use crate::end::ALL_PARTS;
 use crate::object::Object;
@@ -116,6 +116,7 @@ impl<P: Object> Held<P> {
         ensures refused { MatchOption (queue_refused self.old.pair name) (IsOk result)
             (λ r. (result ≡ Err r) × (self.new ≡ self.old)) }
         ensures adds { IfOk result (λ turn. AddsEntry self.old.pair self.new.pair (Turned name turn)) }
+        ensures stops { IfOk result (λ turn. Stops self.old.pair self.new.pair name turn) }
         ensures book { self.new.book ≡ self.old.book }
     {
         self.pair.turn(name)

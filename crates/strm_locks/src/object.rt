@@ -5,7 +5,7 @@ ghost use Rattle.strm_types.specs.declared.entries.Entry.TheVariants.{Called, Tu
 ghost use Rattle.strm_types.specs.Events.{request};
 ghost use Rattle.strm_types.specs.Journal.{answer_len, reply_in};
 ghost use Rattle.strm_laws.specs.Ledgers.{ledger_of};
-ghost use Rattle.strm_laws.specs.Pair.{PairState, AddsEntry, call_refused, new_pair, queue_refused, restarted};
+ghost use Rattle.strm_laws.specs.Pair.{PairState, AddsEntry, Stops, call_refused, new_pair, queue_refused, restarted};
 ghost use Rattle.strm_laws.specs.State.{book};
 ghost use Rattle.strm_locks.specs.Sounds.{IsSound};
 ghost use Rattle.strm_locks.specs.Tallies.{Tallies, bytes_read};
@@ -41,6 +41,7 @@ pub trait Object: Drop {
         ensures refused { MatchOption (queue_refused (pair_of self.old) name) (IsOk result)
             (λ r. (result ≡ Err r) × (pair_of self.new ≡ pair_of self.old)) }
         ensures adds { IfOk result (λ turn. AddsEntry (pair_of self.old) (pair_of self.new) (Turned name turn)) }
+        ensures stops { IfOk result (λ turn. Stops (pair_of self.old) (pair_of self.new) name turn) }
         ensures tally { IfOk result (λ turn. Tallies (pair_of self.old) (pair_of self.new) (Turned name turn)) };
 
     /// The queue that was enabled first, if any.

@@ -10,4 +10,5 @@ returns-clause-made g c = let p = c.args.self.now in let q = c.turn-answer.new.s
   first = search rules;
   refused = refused-map (IsOk c.turn-answer.result) (q ≡ p) (q.pair ≡ p.pair) (λ r. c.turn-answer.result ≡ Err r) asked asked refl (ap (λ (k : Kept). k.pair)) c.turn-answer.ensures.refused;
   adds = c.turn-answer.ensures.adds;
+  stops = c.turn-answer.ensures.stops;
 }
