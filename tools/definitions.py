@@ -53,12 +53,15 @@ class Changes:
             self.of[edit] = found, lines
         return self.of[edit]
 
-    def reaches(self, home, name):
-        """The declarations that a name of a crate reaches; none where there is no such function or lemma."""
+    def texts_of(self, home):
         if home.name not in self.texts:
             self.texts[home.name] = reach.Texts({it.name: it.folder for it in [home, *home.below()]})
+        return self.texts[home.name]
+
+    def reaches(self, home, name):
+        """The declarations that a name of a crate reaches; none where there is no such function or lemma."""
         if name not in self.reached:
-            self.reached[name] = self.texts[home.name].reached(name)
+            self.reached[name] = self.texts_of(home).reached(name)
         return self.reached[name]
 
     def why_not(self, home, edit):
@@ -126,18 +129,17 @@ def refused_of(said, names, shows_nothing):
     return unproved
 
 
-def check(rt, it, edits, shows_nothing, copy_with):
-    """Tries edits of a round in one copy: (those that were laid into it, why others weren't, the run, the names that aren't proved)"""
+def check(rt, it, edits, names, tools):
+    """Tries edits of a round in one copy: (those that were laid into it, why others weren't, the run, which of these names aren't proved)"""
     crate, home = it.crate, it.home
     with tempfile.TemporaryDirectory(prefix=f"wrong-{crate.name}-") as room:
         os.mkdir(f"{room}/{crate.name}")
-        here, told = copy_with(rt, crate, edits, f"{room}/{crate.name}")
+        here, told = tools.copy_with(rt, crate, edits, f"{room}/{crate.name}")
         if home.name != crate.name:
             for part in rt.rtlib.PARTS:
                 if os.path.isdir(f"{home.folder}/{part}"):
                     shutil.copytree(f"{home.folder}/{part}", f"{room}/{home.name}/{part}")
-        names = [name for edit in here for name in edit.refused]
         words = words_of(rt, crate, home, room, hook(it.changes, home, f"{room}/{home.name}", names))
         how = {"cwd": f"{room}/{home.name}", "stdin": subprocess.DEVNULL, "stdout": subprocess.PIPE, "stderr": subprocess.STDOUT, "errors": "replace"}
         ran = subprocess.run([*rt.rtlib.guarded(), *words], **how) if here else None
-    return here, told, ran, refused_of(ran.stdout, names, shows_nothing) if ran else set()
+    return here, told, ran, refused_of(ran.stdout, names, tools.SHOWS_NOTHING) if ran else set()

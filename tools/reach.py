@@ -55,7 +55,7 @@ class Texts:
     """The declarations of some crates, each known as (crate, path, name)."""
 
     def __init__(self, folders):
-        self.text, self.uses, self.inside, self.named, self.brings, self.stepped = {}, {}, {}, {}, {}, {}
+        self.text, self.uses, self.inside, self.named, self.brings, self.stepped, self.back = {}, {}, {}, {}, {}, {}, {}
         for crate, folder in folders.items():
             for part in ("src", "specs", "proofs"):
                 for path in glob.glob(f"{folder}/{part}/**/*.*", recursive=True):
@@ -123,13 +123,26 @@ class Texts:
 
     def reached(self, witness):
         """All that a witness reaches, itself with it."""
-        left, found = [*self.of(witness)], set()
-        while left:
-            it = left.pop()
-            if it not in found:
-                found.add(it)
-                left += self.steps(it) - found
-        return found
+        return closed(self.of(witness), self.steps)
+
+    def reaching(self, them):
+        """All that reach one of these, themselves with them."""
+        if not self.back:
+            for it in self.text:
+                for step in self.steps(it):
+                    self.back.setdefault(step, set()).add(it)
+        return closed(them, lambda it: self.back.get(it, set()))
+
+
+def closed(them, steps):
+    """These and all to which steps lead from them."""
+    left, found = [*them], set()
+    while left:
+        it = left.pop()
+        if it not in found:
+            found.add(it)
+            left += steps(it) - found
+    return found
 
 
 def changed(crate, path, old, new):
