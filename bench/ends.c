@@ -226,14 +226,15 @@ static void type_lines(strm_pair *p, int keys)
     }
 }
 
-static void weighs(const char *name, size_t blocks, unsigned long pairs, int keys, unsigned long most)
+static void weighs(const char *name, size_t blocks, bool anew, unsigned long pairs, int keys, unsigned long most)
 {
+    strm_choices chosen = { blocks, 64, 16384, STRM_TERMINAL_RESERVE, true };
     strm_pair *all = (strm_pair *)calloc(pairs, sizeof *all);
     unsigned long i, before, mean;
     if (!all) fail(name, "no memory");
     before = resident();
     for (i = 0; i < pairs; i++) {
-        wants(name, strm_new(&all[i], blocks, 64, 16384));
+        wants(name, anew ? strm_new_with(&all[i], &chosen) : strm_new(&all[i], blocks, 64, 16384));
         wants(name, strm_open_terminal(&all[i]));
         type_lines(&all[i], keys);
     }
@@ -252,9 +253,10 @@ int main(int argc, char **argv)
     for (i = 0; i < sizeof text; i++) text[i] = i % 64 == 63 ? '\n' : (uint8_t)('a' + i % 26);
     carries(bytes);
     takes_all(calls);
-    weighs("pairs of 256 blocks", 256, pairs, 0, 122880);
-    weighs("terminals", STRM_TERMINAL_BLOCKS, pairs, 0, 122880);
-    weighs("pairs of 256 blocks", 256, pairs, 100, 153600);
-    weighs("terminals", STRM_TERMINAL_BLOCKS, pairs, 100, 153600);
+    weighs("pairs of 256 blocks", 256, false, pairs, 0, 122880);
+    weighs("terminals", STRM_TERMINAL_BLOCKS, false, pairs, 0, 122880);
+    weighs("pairs of 256 blocks", 256, false, pairs, 100, 153600);
+    weighs("terminals", STRM_TERMINAL_BLOCKS, false, pairs, 100, 153600);
+    weighs("terminals whose journal begins anew", STRM_TERMINAL_BLOCKS, true, pairs, 100, 153600);
     return 0;
 }

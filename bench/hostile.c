@@ -4,7 +4,9 @@
  *
  * What strm.h says that a caller owes is kept: a buffer is as long as its length says, and no bool is anything but 0 or 1. Behind each call it is
  * compared: a refused one changed neither buffer nor reply, another wrote as many bytes as it says, and what lies behind the room stays. Before a
- * read, a get and a write it is asked what the side is ready for, and the call is EAGAIN where it says so and nowhere else. */
+ * read, a get and a write it is asked what the side is ready for, and the call is EAGAIN where it says so and nowhere else. A pair whose journal
+ * begins anew is never JOURNAL_FULL. At last each end of a terminal with a reserve makes 100,000 calls that nobody answers: it is told EAGAIN, the other
+ * end and all turns go on, and ^C is delivered, at once or behind the reads of the slave. */
 #include <stdio.h>
 #include <stdlib.h>
 #include <strm.h>
@@ -16,6 +18,7 @@ static const uint8_t keys[] = { 'a', 'b', ' ', '\r', '\n', '\t', 0x7f, 0x15, 0x1
 static uint64_t state;
 static uint8_t bytes[MOST], out[MOST + BEHIND], before[MOST + BEHIND];
 static unsigned long seen[16], stopped_at;
+static bool anew;
 
 static uint32_t chance(uint32_t n)
 {
@@ -49,6 +52,7 @@ static void fail(const char *what)
 static void judge(strm_refusal e, size_t room, size_t given, int told_stays)
 {
     if (e > STRM_EIO || e == STRM_NO_MINOR || e == STRM_STILL_SHARED) fail("a refusal without a name");
+    if (e == STRM_JOURNAL_FULL && anew) fail("a journal that begins anew was full");
     seen[e]++;
     if (e && !told_stays) fail("a refused call told something");
     if (!e && given > room) fail("more bytes than there is room for");
@@ -159,12 +163,111 @@ static void take_entry(strm_pair *p)
 static void make(strm_pair *p)
 {
     static const size_t blocks[] = { 0, 1, 40, 64, 256, 65536, 65537, 300 };
-    bool was_open = p->is_open;
+    bool was_open = p->is_open, begins = chance(2) != 0;
+    strm_choices chosen = { blocks[chance(8)], 0, 0, chance(3) ? 0 : number(300), begins };
     size_t entries = chance(20) ? number(500) % 5000 : (size_t)-1 >> chance(24);
-    strm_refusal e = strm_new(p, blocks[chance(8)], entries, chance(20) ? number(20000) % 100000 : (size_t)-1 >> chance(24));
+    size_t most = chance(20) ? number(20000) % 100000 : (size_t)-1 >> chance(24);
+    strm_refusal e;
+    chosen.entries = entries, chosen.bytes = most;
+    if (begins || chosen.reserve) e = strm_new_with(p, &chosen);
+    else e = strm_new(p, chosen.blocks, entries, most);
     judge(e, 0, 0, p->is_open == was_open);
     if (was_open && !e) fail("an open handle was made anew");
+    if (!e && (chosen.reserve > chosen.blocks || (begins && (!entries || most < 8192)))) fail("choices that don't fit were taken");
+    if (!e) anew = begins;
     if (!e && chance(8)) judge(strm_open_terminal(p), 0, 0, 1);
+}
+
+/* ------------------------------------------------------------------------------------------------- one end and the other */
+
+enum { FLOOD = 100000 };
+
+typedef struct flood {
+    const char *name;
+    uint32_t side, op, prio;
+    const char *bytes;
+    size_t n;
+    bool waits; /* it is told to wait, as what it sends stands somewhere */
+} flood;
+
+static const flood floods[] = {
+    { "EOF keys", STRM_MASTER, STRM_OP_WRITE, 0, "\4", 1, true },
+    { "EOF keys by the 1024", STRM_MASTER, STRM_OP_WRITE, 0, NULL, 1024, true },
+    { "Enter keys", STRM_MASTER, STRM_OP_WRITE, 0, "\r", 1, true },
+    { "Enter keys by the 1024", STRM_MASTER, STRM_OP_WRITE, 0, "", 1024, true },
+    { "empty writes of the master", STRM_MASTER, STRM_OP_WRITE, 0, "", 0, false },
+    { "empty writes of the slave", STRM_SLAVE, STRM_OP_WRITE, 0, "", 0, true },
+    { "output that nobody reads", STRM_SLAVE, STRM_OP_WRITE, 0, "y\n", 2, true },
+    { "puts of high priority of the master", STRM_MASTER, STRM_OP_PUT, STRM_HIPRI, "c", 1, false },
+    { "puts of high priority of the slave", STRM_SLAVE, STRM_OP_PUT, STRM_HIPRI, "c", 1, false },
+};
+
+static strm_refusal floods_once(strm_pair *p, const flood *f)
+{
+    static uint8_t many[1024];
+    strm_reply reply;
+    memset(many, f->bytes ? '\r' : 4, sizeof many);
+    if (f->op == STRM_OP_PUT) return strm_put(p, f->side, f->prio, f->bytes, f->n, NULL, 0);
+    return strm_write(p, f->side, f->n > 2 ? many : (const uint8_t *)f->bytes, f->n, &reply);
+}
+
+static void wants(const flood *f, const char *what, strm_refusal e)
+{
+    if (!e) return;
+    printf("%s: %s: %s\n", f->name, what, strm_refusal_name(e));
+    exit(1);
+}
+
+/* Whether ^C is taken; then it is delivered. */
+static bool interrupts(strm_pair *p, const flood *f)
+{
+    strm_reply reply;
+    uint8_t signals[32];
+    size_t n;
+    strm_refusal e = strm_write(p, STRM_MASTER, "\3", 1, &reply);
+    if (e == STRM_EAGAIN) return false;
+    wants(f, "^C", e);
+    wants(f, "turns behind ^C", strm_run(p));
+    wants(f, "signals", strm_signals(p, STRM_SLAVE, signals, &n));
+    if (n == 0 || signals[0] != STRM_SIGINT) fail("^C isn't delivered");
+    return true;
+}
+
+/* The end that floods reads what comes to it, and is told EAGAIN. The other one writes, and the slave asks for its window. */
+static void withstands(const flood *f)
+{
+    strm_choices terminal = { STRM_TERMINAL_BLOCKS, 64, 16384, STRM_TERMINAL_RESERVE, true };
+    strm_pair p = STRM_CLOSED;
+    strm_winsize size;
+    strm_reply reply;
+    strm_left left;
+    unsigned long taken = 0, i, reads = 0;
+    wants(f, "a terminal", strm_new_with(&p, &terminal));
+    wants(f, "a terminal", strm_open_terminal(&p));
+    for (i = 0; i < FLOOD; i++) {
+        strm_refusal e = floods_once(&p, f);
+        if (e && e != STRM_EAGAIN) wants(f, "a call", e);
+        if (!e) taken++;
+        wants(f, "turns", strm_run(&p));
+        if (f->waits && (strm_ready(&p, f->side) & STRM_CAN_READ)) wants(f, "a read", strm_read(&p, f->side, out, 4096, &reply));
+    }
+    wants(f, "what is left", strm_room(&p, &left));
+    if (f->waits ? taken == FLOOD : taken < FLOOD) fail("a flood is told to wait just where what it sends stands somewhere");
+    if (f->waits && (strm_ready(&p, f->side) & STRM_CAN_WRITE)) fail("who floods is told that it may write");
+    if (!(strm_ready(&p, !f->side) & STRM_CAN_WRITE)) fail("the other end is told that it may not write");
+    wants(f, "the other end's write", strm_write(&p, !f->side, "x", 1, &reply));
+    wants(f, "turns", strm_run(&p));
+    if (f->side == STRM_MASTER) wants(f, "the slave's window", strm_get_winsize(&p, STRM_SLAVE, &size));
+    while (!interrupts(&p, f)) {
+        if (f->side == STRM_SLAVE || ++reads > 8192) fail("^C isn't taken");
+        if (strm_read(&p, STRM_SLAVE, out, 4096, &reply) == STRM_EBADMSG) wants(f, "a get", strm_get(&p, STRM_SLAVE, STRM_ANY, 64, 256, out, sizeof out, &reply));
+        if (strm_ready(&p, STRM_MASTER) & STRM_CAN_READ) wants(f, "the master's read", strm_read(&p, STRM_MASTER, out, 4096, &reply));
+        wants(f, "turns", strm_run(&p));
+    }
+    wants(f, "a close", strm_close(&p, f->side));
+    wants(f, "turns behind a close", strm_run(&p));
+    printf("%s: %lu of %d taken, %zu blocks are left; ^C behind %lu reads\n", f->name, taken, FLOOD, left.blocks, reads);
+    strm_free(&p);
 }
 
 int main(int count, char **words)
@@ -186,6 +289,7 @@ int main(int count, char **words)
         else judge(strm_restart(&p), 0, 0, 1);
     }
     strm_free(&p);
+    for (i = 0; i < sizeof floods / sizeof *floods; i++) withstands(&floods[i]);
     printf("%lu calls", calls);
     for (i = 0; i <= STRM_EIO; i++)
         if (seen[i]) printf(", %s %lu", strm_refusal_name((strm_refusal)i), seen[i]);

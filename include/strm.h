@@ -24,17 +24,20 @@
  * ERRORS
  *   A function that returns strm_refusal gives 0 (STRM_OK), or the number of its refusal; these are the numbers below, and not those
  *   of errno.h (strm_host_errno). A refused call has changed nothing: neither the pair nor what the caller's pointers lead to; strm_runqueues
- *   has made the turns in front of the refused one, and strm_next_entry and strm_image tell how much doesn't fit.
+ *   has made the turns in front of the refused one, strm_next_entry and strm_image tell how much doesn't fit, and a journal that begins anew where it
+ *   is full (strm_choices) has begun so also where the call was then refused for something else.
  *   STRM_EINVAL comes first, for a closed handle, a number that names nothing, and a buffer that is too small for the greatest answer
- *   of the call, so that no byte is lost at this interface; then what the pair refuses, in the order of the README's section Refusals.
+ *   of the call, so that no byte is lost at this interface; then STRM_EAGAIN where the reserve holds the call back (strm_choices); then what the pair
+ *   refuses, in the order of the README's section Refusals.
  *
  * UNITS
  *   Lengths are bytes. A message block holds up to 256. The wire forms of termios and winsize are strm_termios and strm_winsize.
  *
  * OWNERSHIP
  *   The library keeps no pointer of the caller's behind a call, calls nothing back, and has no state of its own beside the handles.
- *   strm_new and strm_restore take all memory that a pair will use, by malloc, and strm_free gives it back; no other function takes any. Memory
- *   that is taken isn't touched before it is used: a pair costs what stands in it, however many blocks it has.
+ *   strm_new, strm_restore and those of chosen pairs, strm_new_with and strm_restore_with, take all memory that a pair will use, by malloc, and
+ *   strm_free gives it back; no other function takes any. Memory that is taken isn't touched before it is used: a pair costs what stands in it,
+ *   however many blocks it has.
  *   A handle is closed when its bytes are all 0 (STRM_CLOSED). An open one isn't copied and then used or freed twice, as with a FILE.
  *
  * SECRETS
@@ -59,7 +62,8 @@
  *   minor number has more calls. The shared object's soname carries the major number. A program that loads it compares strm_version().
  *   1.1 has strm_restart, strm_runqueues, strm_next_entry, strm_image and strm_restore beside the calls of 1.0; 1.2 has strm_ready and
  *   strm_room, and brings at most STRM_WRITE_MOST bytes by one write, where 1.1 entered all in the journal and refused what was longer
- *   than its blocks. A program of 1.0 or 1.1 runs with it as it is: what is taken of a write was never more than that.
+ *   than its blocks. A program of 1.0 or 1.1 runs with it as it is: what is taken of a write was never more than that. 1.3 has strm_new_with and
+ *   strm_restore_with: what they choose holds for pairs that they made, and for no other.
  *
  * PROVED: each function that libstrm exports, by its contract in crates/strm_ffi. NOT PROVED: the inline functions of this file, and malloc.
  */
@@ -75,7 +79,7 @@
 extern "C" {
 #endif
 
-#define STRM_VERSION 65538u /* 1.2 */
+#define STRM_VERSION 65539u /* 1.3 */
 
 /* A pair, in place. Nothing behind `at` is the caller's. */
 typedef struct strm_pair {
@@ -143,6 +147,26 @@ strm_refusal strm_new(strm_pair *p, size_t blocks, size_t entries, size_t bytes)
  * ldterm and the two of the drivers 512, together 12,288. A turn that found room makes 256 lines of a message of 256 bytes, and their
  * echo, 512 beyond these; a write asks for 36 at most, and a turn for 32. */
 #define STRM_TERMINAL_BLOCKS 12900
+
+/* Of STRM_TERMINAL_BLOCKS so many in reserve: what a turn of ldterm makes of two writes of lines, and their echo, finds room in them. */
+#define STRM_TERMINAL_RESERVE 4096
+
+/* What is chosen for a pair: blocks, entries and bytes as strm_new has them, and
+ *   reserve   so many blocks of each kind that neither side takes from the other: a write, a put or an ioctl is EAGAIN, and isn't entered, where
+ *             fewer of a kind are free than the reserve and what it asks for (a write and a put 32 and one for each begun 256 bytes or part,
+ *             an ioctl 34), and 64 messages that its side sent, or that came of them, wait on one queue. Nothing else asks for it: turns, reads,
+ *             signals, a flush and a close go on, and so does what the other side sends, as long as it is read. 0 is none; EINVAL: more than blocks
+ *   anew      a journal that is full for a call or a turn begins anew, as by strm_restart, and the call or turn is made then: none is
+ *             JOURNAL_FULL. It begins anew for nothing else. EINVAL: no entry, or fewer than the 8192 bytes that the longest call enters. A
+ *             recorder takes the entries first, and so wants false */
+typedef struct strm_choices {
+    size_t blocks, entries, bytes, reserve;
+    bool anew;
+} strm_choices;
+
+/* As strm_new, of what is chosen. With STRM_TERMINAL_BLOCKS, STRM_TERMINAL_RESERVE, 64 entries, 16,384 bytes and anew a terminal goes on whatever one end
+ * writes, and the other reads or not: its turns are refused for nothing, and its writes and reads with nothing but EAGAIN. */
+strm_refusal strm_new_with(strm_pair *p, const strm_choices *choices);
 
 /* Frees a pair and closes its handle. A closed one stays so. */
 void strm_free(strm_pair *p);
@@ -213,13 +237,17 @@ strm_refusal strm_turn(strm_pair *p, uint32_t queue, strm_went *went);
 
 /* Makes turns, each of the queue that was enabled first, until no queue is enabled (OK) or the next turn is refused: ERANGE, JOURNAL_FULL,
  * ENOSR. *turns is how many were made, also where one was refused; what stopped goes on where it was once there is room. Each turn takes an
- * entry of the journal, so it ends. EINVAL is a closed handle alone, and *turns stays then. */
+ * entry of the journal, so it ends; of a pair whose journal begins anew it makes RUN_MOST turns at most, and is EAGAIN where a queue is enabled behind
+ * them: more are to be made, or, where two ldterm echo each other's echo, they never end. EINVAL is a closed handle alone, and *turns stays then. */
+enum { STRM_RUN_MOST = 65536 };
+
 strm_refusal strm_runqueues(strm_pair *p, size_t *turns);
 
 /* ------------------------------------------------------------------------------------------------------------- the journal */
 
 /* Every call that wasn't refused and every turn is an entry, in order, with the bytes that the call brought and those that it was answered. A
- * recorder takes the entries one by one through a cursor of its own, and then empties the journal, which takes no memory.
+ * recorder takes the entries one by one through a cursor of its own, and then empties the journal, which takes no memory; of a pair whose journal begins
+ * anew by itself (strm_choices) entries that it hasn't taken are gone.
  * Two pairs of one journal give the same answers only with ample blocks: near the end of a pool one that has fewer, or was made of an image, which
  * doesn't say which blocks messages take, may refuse by ENOSR what the other grants. */
 
@@ -282,8 +310,8 @@ strm_refusal strm_ledger(strm_pair *p, uint32_t side, strm_books *told);
 /* What a side is ready for, as bits, for an event loop: no call is made, and turns come first (strm_run), as only they bring anything.
  *   CAN_READ      a read of a byte or more isn't EAGAIN: it gives bytes, the end of input, or EBADMSG
  *   CAN_GET       a get of any message isn't EAGAIN. Under RPROTDIS it may be set where CAN_READ isn't
- *   CAN_WRITE     a write is taken, however long it is: the side isn't hung up, the first queue below isn't full in band 0, and of each kind 36
- *                 blocks are free. Where it isn't set, a write of WRITE_MOST bytes is EAGAIN, ENOSR or ENXIO
+ *   CAN_WRITE     a write is taken, however long it is: the side isn't hung up, the first queue below isn't full in band 0, of each kind 36
+ *                 blocks are free, and the reserve doesn't hold it back. Where it isn't set, a write of WRITE_MOST bytes is EAGAIN, ENOSR or ENXIO
  *   HAS_SIGNALS   signals wait (strm_signals)
  *   HAS_ANSWER    an ioctl was answered, and its answer not taken: an IOCTL_RESULT of its number isn't EAGAIN
  *   HUNG_UP       the other end is gone
@@ -294,7 +322,8 @@ enum { STRM_CAN_READ = 1, STRM_CAN_GET = 2, STRM_CAN_WRITE = 4, STRM_HAS_SIGNALS
 uint32_t strm_ready(strm_pair *p, uint32_t side);
 
 /* What is left of a pair: how many blocks are free, of the kind of which fewer are, and how many entries and bytes its journal takes yet. A call
- * enters 8192 bytes at most: who needs no journal begins it anew (strm_restart) where less is left, and no call is JOURNAL_FULL. */
+ * enters 8192 bytes at most: who needs no journal begins it anew (strm_restart) where less is left, and no call is JOURNAL_FULL; or chooses a journal
+ * that does so itself (strm_choices). */
 typedef struct strm_left {
     size_t blocks, entries, bytes;
 } strm_left;
@@ -312,6 +341,9 @@ strm_refusal strm_image(strm_pair *p, void *out, size_t room, size_t *length);
  * image was made, and its journal is empty and begins there. EINVAL: the handle is open, the number of blocks is none of 1 to 65536, or the n
  * bytes are no image; ENOSR: the messages of the image take more blocks; NO_MEMORY. The handle stays then. */
 strm_refusal strm_restore(strm_pair *p, size_t blocks, size_t entries, size_t bytes, const void *image, size_t n);
+
+/* As strm_restore, of what is chosen: an image has no choices. EINVAL as of strm_new_with, too. */
+strm_refusal strm_restore_with(strm_pair *p, const strm_choices *choices, const void *image, size_t n);
 
 /* ------------------------------------------------------------------------------------------------------------- helpers, not proved */
 

@@ -12,7 +12,8 @@ A call returns at once. One that can't be made raises Refused, whose `name` is t
 changed. Bytes go from side to side by turns alone, so a pair is at rest where `pair.at_rest`: nothing happens until somebody calls.
 
 The journal has an entry for each call and turn. Where it is full it begins anew and the call is made again, so that no session ends by it;
-with `Pair(keeps=True)` the call is refused with "JournalFull" instead. strm_record.py keeps the entries of any session, however long.
+with `Pair(keeps=True)` the call is refused with "JournalFull" instead. strm_record.py keeps the entries of any session, however long. Who wants none
+makes the pair of `Choices()`: the library begins its journal anew, and neither side takes the other's blocks.
 
 The library is found by the argument `library`, else by the environment variable STRM_LIBRARY (each names the shared object), else by the
 loader, pkg-config, and in ~/.local/lib and /usr/local/lib: `tools/library PREFIX` lays it out. include/strm.h is the manual of each call.
@@ -21,7 +22,7 @@ A pair is used by one thread at a time. `python3 -m strm` is a prompt that shows
 import ctypes
 
 from strm_cursor import Cursor
-from strm_library import Ask, Counts, Entry, Handle, Left, Library, Place, Reply, Stands, Went
+from strm_library import Ask, Chosen, Counts, Entry, Handle, Left, Library, Place, Reply, Stands, Went
 from strm_words import *
 
 
@@ -33,24 +34,26 @@ def version(library=None):
 class Pair:
     """A master and a slave. `blocks` of each kind are its pool, `entries` and `journal_bytes` the room of its journal: a pair costs the memory that
     it touches, so many blocks cost addresses alone. All memory is taken here; `free`, or the end of a `with`, gives it back. EINVAL: no block, or
-    above 65536. With `image` the pair is made of what Pair.image gave: EINVAL where it is none, ENOSR where it wants more blocks.
+    above 65536. With `image` the pair is made of what Pair.image gave: EINVAL where it is none, ENOSR where it wants more blocks. `reserve` and `anew`
+    are those of Choices.
 
     `limits` are the Sizes it was made by. `before_restart` has what is called, with the pair, before its journal begins anew: recorders take
     its entries there."""
 
-    def __init__(self, blocks=TERMINAL_BLOCKS, entries=8192, journal_bytes=262144, keeps=False, library=None, image=None):
+    def __init__(self, blocks=TERMINAL_BLOCKS, entries=8192, journal_bytes=262144, keeps=False, library=None, image=None, reserve=0, anew=False):
         self.library = Library.at(library)
         self.limits = Sizes(blocks, entries, journal_bytes)
-        self.keeps, self.before_restart, self.restarts = keeps, [], 0
+        self.keeps, self.anew, self.before_restart, self.restarts = keeps, anew, [], 0
         self._handle, self._ask, self._reply, self._went = Handle(), Ask(), Reply(), Went()
         self._turns, self._room = ctypes.c_size_t(), ctypes.create_string_buffer(ANSWER_MOST)
         parts = (self._handle, self._ask, self._reply, self._went, self._turns, self._room)
         self._at, self._ask_at, self._reply_at, self._went_at, self._turns_at, self._room_at = map(ctypes.addressof, parts)
+        chosen = Chosen(*self.limits, reserve, anew)
         if image is None:
-            refused = self.library.new(self._at, *self.limits)
+            refused = self.library.new_with(self._at, ctypes.addressof(chosen))
         else:
             image = bytes(image)
-            refused = self.library.restore(self._at, *self.limits, image, len(image))
+            refused = self.library.restore_with(self._at, ctypes.addressof(chosen), image, len(image))
         if refused:
             raise Refused(refused, "new" if image is None else "restore")
         # Bound once: each look-up costs as much as the call itself.
@@ -62,6 +65,18 @@ class Pair:
     def new(cls, blocks, entries, bytes, **named):
         """A pair of these sizes, which nobody opened."""
         return cls(blocks, entries, bytes, **named)
+
+    @classmethod
+    def new_with(cls, choices, **named):
+        """A pair of Choices, which nobody opened. EINVAL, too: more blocks in reserve than there are, or, where the journal begins anew, no entry or
+        fewer than 8192 bytes."""
+        blocks, entries, bytes, reserve, anew = choices
+        return cls(blocks, entries, bytes, reserve=reserve, anew=anew, **named)
+
+    @classmethod
+    def restore_with(cls, choices, image, **named):
+        """The pair of an image, of Choices."""
+        return cls.new_with(choices, image=image, **named)
 
     @classmethod
     def restore(cls, blocks, entries, bytes, image, **named):
@@ -325,7 +340,8 @@ class Pair:
 
     def runqueues(self, most=1_000_000):
         """Turns, each of the queue that was enabled first, until none is: how many were made. JournalFull behind so many and more: they may not
-        end, as with an ldterm on each side that echo each other. What was made stays made, and another run goes on."""
+        end, as with an ldterm on each side that echo each other. Of a pair whose journal the library begins anew that is EAGAIN, behind RUN_MOST. What
+        was made stays made, and another run goes on."""
         refused = self._runqueues(self._at, self._turns_at)
         if not refused:
             return self._turns.value

@@ -9,11 +9,14 @@ from strm_words import (
 
 
 class Cursor:
-    """A place in a pair's journal: `next` gives the entry there and moves on. Behind a restart it stands at the new beginning."""
+    """A place in a pair's journal: `next` gives the entry there and moves on. Behind a restart it stands at the new beginning. EINVAL: the library
+    begins the pair's journal anew, so that entries go without being taken."""
 
     _fields = struct.Struct("@QII 6I?? Q5I?? II")  # strm_entry
 
     def __init__(self, pair):
+        if pair.anew:
+            raise Refused(EINVAL, "cursor")
         self._restarts = pair.restarts
         self.pair, self._place, self._entry = pair, Place(), Entry()
         self._grow(ANSWER_MOST + WRITE_MOST)

@@ -6,11 +6,15 @@ import subprocess
 
 from strm_words import RULES
 
-VERSION = (1, 2)  # the least version of the library that strm.py calls
+VERSION = (1, 3)  # the least version of the library that strm.py calls
 
 
 class Handle(ctypes.Structure):
     _fields_ = [("at", ctypes.c_void_p), ("is_open", ctypes.c_bool)]
+
+
+class Chosen(ctypes.Structure):
+    _fields_ = [(name, ctypes.c_size_t) for name in ("blocks", "entries", "bytes", "reserve")] + [("anew", ctypes.c_bool)]
 
 
 class Ask(ctypes.Structure):
@@ -64,6 +68,7 @@ def prototypes():
     return (
         ("strm_version", number, ()),
         ("strm_new", number, (pointer, size, size, size)),
+        ("strm_new_with", number, (pointer, pointer)),
         ("strm_free", None, (pointer,)),
         ("strm_call", number, (pointer, pointer, lent, size, pointer, size, pointer)),
         ("strm_write", number, (pointer, number, lent, size, pointer)),
@@ -80,6 +85,7 @@ def prototypes():
         ("strm_room", number, (pointer, pointer)),
         ("strm_image", number, (pointer, pointer, size, pointer)),
         ("strm_restore", number, (pointer, size, size, size, lent, size)),
+        ("strm_restore_with", number, (pointer, pointer, lent, size)),
     )
 
 

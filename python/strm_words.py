@@ -17,8 +17,11 @@ class Side(IntEnum):
 MASTER, SLAVE = Side.MASTER, Side.SLAVE
 HIGH, ANY = 256, 257  # beside a band from 0 to 255: high priority; any message, or all bands
 READ_MOST, WRITE_MOST, ANSWER_MOST, BLOCK = 4096, 1024, 8192, 256
-# So many blocks that bytes typed and written on a terminal are stopped by flow control, and never by its pool, whatever is read or isn't.
-TERMINAL_BLOCKS = 12900
+# So many blocks that bytes typed and written on a terminal are stopped by flow control, and never by its pool, whatever is read or isn't; and so many
+# of them in reserve, which neither side takes from the other (Choices).
+TERMINAL_BLOCKS, TERMINAL_RESERVE = 12900, 4096
+# So many turns one run makes of a pair whose journal begins anew.
+RUN_MOST = 65536
 
 REFUSALS = ("ok", "EINVAL", "EAGAIN", "ENXIO", "EBADMSG", "ENOSR", "ERANGE", "JournalFull", "NoMinor", "NoMemory", "StillShared", "EIO")
 EINVAL, EAGAIN, JOURNAL_FULL = map(REFUSALS.index, ("EINVAL", "EAGAIN", "JournalFull"))
@@ -122,6 +125,18 @@ class Sizes(NamedTuple):
     blocks: int
     entries: int
     bytes: int
+
+
+class Choices(NamedTuple):
+    """What a pair is made of: its Sizes; how many blocks are in reserve, which neither side takes from the other: a write, a put or an ioctl is EAGAIN
+    where fewer are free than the reserve and what it asks for, and 64 messages that its side sent wait on a queue; and whether the library begins a full
+    journal anew, so that nobody is handed its entries."""
+
+    blocks: int = TERMINAL_BLOCKS
+    entries: int = 64
+    bytes: int = 16384
+    reserve: int = TERMINAL_RESERVE
+    anew: bool = True
 
 
 class Ready(IntFlag):

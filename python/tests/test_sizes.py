@@ -2,7 +2,7 @@
 import random
 import unittest
 
-from strm import COMMANDS, MASTER, SLAVE, TERMINAL_BLOCKS, WRITE_MOST, Pair, Ready, Refused, Sizes, Winsize
+from strm import COMMANDS, MASTER, RUN_MOST, SLAVE, TERMINAL_BLOCKS, WRITE_MOST, Choices, Cursor, Pair, Ready, Refused, Sizes, Winsize
 
 from tests.test_pair import any_call
 
@@ -36,6 +36,58 @@ class Limits(unittest.TestCase):
                 self.assertEqual((pair.limits, pair.room()), (Sizes(100, 7, 9000), (100, 7, 9000)))
         with Pair.terminal() as pair:
             self.assertEqual(pair.limits, Sizes(TERMINAL_BLOCKS, 8192, 262144))
+
+    def test_choices_fit(self):
+        small = Choices(64, 1, 8192, 64, True)
+        Pair.new_with(small).free()
+        for other in (small._replace(blocks=0), small._replace(reserve=65), small._replace(entries=0), small._replace(bytes=8191)):
+            self.assertEqual(refusal_of(Pair.new_with, other), "EINVAL", other)
+        Pair.new_with(small._replace(entries=0, anew=False)).free()
+
+    def test_a_journal_that_begins_anew(self):
+        with Pair.new_with(Choices(64, 1, 8192, 0, True)) as pair, Pair(64, 8192, 262144) as other:
+            for each in (pair, other):
+                each.open_terminal()
+                for _ in range(100):
+                    each.write(MASTER, b"ab\r"), each.runqueues(), each.read(SLAVE), each.read(MASTER)
+            self.assertEqual(pair.image(), other.image())
+            self.assertEqual(refusal_of(Cursor, pair), "EINVAL")
+            image = pair.image()
+        with Pair.restore_with(Choices(64, 1, 8192, 0, True), image) as pair:
+            self.assertEqual(pair.write(MASTER, b"c"), 1)
+            pair.runqueues()
+            self.assertEqual(pair.room().entries, 0)
+
+    def test_turns_that_never_end(self):
+        with Pair.new_with(Choices()) as pair:
+            pair.open_terminal()
+            pair.push(MASTER, "ldterm")
+            pair.write(MASTER, b"x")
+            self.assertEqual(refusal_of(pair.runqueues), "EAGAIN")
+            pair.close(MASTER)
+            self.assertLess(pair.runqueues(), RUN_MOST)
+
+    def test_the_reserve(self):
+        floods = {
+            MASTER: lambda pair: pair.write(MASTER, b"\x04"),
+            SLAVE: lambda pair: pair.write(SLAVE, b""),
+        }
+        for side, flood in floods.items():
+            with Pair.new_with(Choices(1024, 64, 16384, 256, True)) as pair:
+                pair.open_terminal()
+                while (taken := refusal_of(flood, pair)) != "EAGAIN":
+                    self.assertIn(taken, (0, 1))
+                    pair.runqueues()
+                self.assertGreaterEqual(pair.room().blocks, 256)
+                self.assertFalse(pair.ready(side) & Ready.CAN_WRITE)
+                self.assertTrue(pair.ready(SLAVE if side == MASTER else MASTER) & Ready.CAN_WRITE)
+                self.assertEqual(pair.write(SLAVE if side == MASTER else MASTER, b"x"), 1)
+                pair.runqueues()
+                for _ in range(2 if side == MASTER else 0):
+                    self.assertEqual(pair.read(SLAVE), b"")
+                self.assertEqual(pair.write(MASTER, b"\x03"), 1)
+                pair.runqueues()
+                self.assertEqual([each.name for each in pair.signals(SLAVE)], ["INT"])
 
     def test_pairs_of_images(self):
         with Pair.terminal() as pair:

@@ -8,6 +8,15 @@ pub struct Handle {
 }
 
 #[repr(C)]
+pub struct Choices {
+    pub blocks: usize,
+    pub entries: usize,
+    pub bytes: usize,
+    pub reserve: usize,
+    pub anew: bool,
+}
+
+#[repr(C)]
 #[derive(Clone, Copy, Default)]
 pub struct Ask {
     pub op: u32,
@@ -87,6 +96,7 @@ pub struct Entry {
 extern "C" {
     pub fn strm_version() -> u32;
     pub fn strm_new(p: *mut Handle, blocks: usize, entries: usize, bytes: usize) -> u32;
+    pub fn strm_new_with(p: *mut Handle, choices: *const Choices) -> u32;
     pub fn strm_free(p: *mut Handle);
     pub fn strm_call(p: *mut Handle, ask: *const Ask, bytes: *const u8, n: usize, out: *mut u8, room: usize, reply: *mut Reply) -> u32;
     pub fn strm_write(p: *mut Handle, side: u32, bytes: *const u8, n: usize, reply: *mut Reply) -> u32;
@@ -103,4 +113,5 @@ extern "C" {
     pub fn strm_room(p: *mut Handle, told: *mut Left) -> u32;
     pub fn strm_image(p: *mut Handle, out: *mut u8, room: usize, length: *mut usize) -> u32;
     pub fn strm_restore(p: *mut Handle, blocks: usize, entries: usize, bytes: usize, image: *const u8, n: usize) -> u32;
+    pub fn strm_restore_with(p: *mut Handle, choices: *const Choices, image: *const u8, n: usize) -> u32;
 }

@@ -24,8 +24,12 @@ pub struct Cursor {
 }
 
 impl Pair {
-    /// Takes the entry at a cursor, which moves behind it. `None`: all were taken.
+    /// Takes the entry at a cursor, which moves behind it. `None`: all were taken. EINVAL: the library begins the pair's journal anew
+    /// ([`Choices`](crate::Choices)), so that entries go without being taken.
     pub fn next_entry(&mut self, at: &mut Cursor) -> Result<Option<Entry>, Refused> {
+        if self.anew {
+            return Err(Refused::Call(Refusal::Einval));
+        }
         if at.restarts != self.restarts {
             (at.place, at.restarts) = (ffi::Cursor::default(), self.restarts);
         }

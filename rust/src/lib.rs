@@ -44,6 +44,6 @@ pub use look::{Books, Ready, Room, Standing, RULES};
 pub use names::{Flush, Mode, Module, Priority, Queue, Side, Signal, Wanted};
 pub use pair::{version, Pair};
 pub use refused::{Refusal, Refused};
-pub use sizes::{Sizes, READ_MOST, TERMINAL_BLOCKS, WRITE_MOST};
+pub use sizes::{Choices, Sizes, READ_MOST, RUN_MOST, TERMINAL_BLOCKS, TERMINAL_RESERVE, WRITE_MOST};
 pub use termios::{Command, Termios, When, Winsize};
 pub use turn::Turn;

@@ -4,7 +4,7 @@ use std::{fmt, ptr};
 use crate::call::parts_of;
 use crate::ffi::{self, Ask, Reply};
 use crate::refused::told;
-use crate::sizes::{Sizes, READ_MOST, WRITE_MOST};
+use crate::sizes::{Choices, Sizes, READ_MOST, WRITE_MOST};
 use crate::{Answer, Call, Caller, Command, Event, Flush, Message, Mode, Module, Priority, Refusal, Refused, Side, Signal, Wanted};
 
 /// The version of the library that is linked: its major and its minor number.
@@ -24,6 +24,7 @@ pub struct Pair {
     /// Who makes the calls of this pair, for job control: nobody, where it isn't set.
     pub caller: Caller,
     pub(crate) restarts: u64,
+    pub(crate) anew: bool,
 }
 
 // SAFETY: a handle may be handed from one thread to another, and has no state beside itself.
@@ -48,10 +49,29 @@ impl Pair {
         Ok(pair)
     }
 
+    /// A pair of [`Choices`], which nobody opened. EINVAL, too: more blocks in reserve than there are, or, where the journal begins anew, no entry or
+    /// fewer than 8192 bytes.
+    pub fn new_with(choices: Choices) -> Result<Pair, Refused> {
+        let mut pair = Pair::closed();
+        // SAFETY: the handle is closed.
+        told(unsafe { ffi::strm_new_with(&mut pair.handle, &chosen(choices)) })?;
+        pair.anew = choices.anew;
+        Ok(pair)
+    }
+
+    /// The pair of an image, as [`Pair::restore`] makes it, of [`Choices`].
+    pub fn restore_with(choices: Choices, image: &[u8]) -> Result<Pair, Refused> {
+        let mut pair = Pair::closed();
+        // SAFETY: the handle is closed, and the image has so many bytes.
+        told(unsafe { ffi::strm_restore_with(&mut pair.handle, &chosen(choices), image.as_ptr(), image.len()) })?;
+        pair.anew = choices.anew;
+        Ok(pair)
+    }
+
     fn closed() -> Pair {
         let (major, minor) = version();
-        assert!(major == 1 && minor >= 2, "libstrm 1.2 is needed, and {major}.{minor} is linked");
-        Pair { handle: ffi::Handle { at: ptr::null_mut(), is_open: false }, keeps: false, caller: Caller::NOBODY, restarts: 0 }
+        assert!(major == 1 && minor >= 3, "libstrm 1.3 is needed, and {major}.{minor} is linked");
+        Pair { handle: ffi::Handle { at: ptr::null_mut(), is_open: false }, keeps: false, caller: Caller::NOBODY, restarts: 0, anew: false }
     }
 
     /// A terminal as a shell expects it, of the default [`Sizes`]: both sides open, `ptem` and `ldterm` on the slave.
@@ -266,6 +286,11 @@ impl Drop for Pair {
     fn drop(&mut self) {
         self.free();
     }
+}
+
+fn chosen(choices: Choices) -> ffi::Choices {
+    let Sizes { blocks, entries, bytes } = choices.sizes;
+    ffi::Choices { blocks, entries, bytes, reserve: choices.reserve, anew: choices.anew }
 }
 
 fn given(answer: Answer) -> Result<Vec<u8>, Refused> {

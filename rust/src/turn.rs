@@ -37,7 +37,8 @@ impl Pair {
     }
 
     /// Turns, each of the queue that was enabled first, until none is: how many were made. JournalFull behind a million: they may not end, as with
-    /// an `ldterm` on each side that echo each other. What was made stays made, and another run goes on.
+    /// an `ldterm` on each side that echo each other; of a pair whose journal the library begins anew EAGAIN, behind [`RUN_MOST`](crate::RUN_MOST). What
+    /// was made stays made, and another run goes on.
     pub fn runqueues(&mut self) -> Result<usize, Refused> {
         let mut made = 0;
         loop {

@@ -1,21 +1,20 @@
 -- A refusal of a restore, as the number that is told of it.
 use Rattle.std.proofs.Common.{◌≡◌, ◌≢◌, ◌∙◌, ℕ, List, ap, arith, false, refl, subst, sym, true}
-use Rattle.std.specs.Prelude.{None, Option, ◌&&◌, nat_lt, nat_le}
-use Rattle.strm_types.specs.declared.limits.Config.{Config}
+use Rattle.std.specs.Prelude.{None, Option}
 use Rattle.strm_types.specs.declared.refusals.Refusal.{Refusal}
 use Rattle.strm_types.specs.declared.refusals.Refusal.TheVariants as refusals
 use Rattle.strm_types.specs.Numbers.{number_of}
-use Rattle.strm_laws.specs.Pair.{PairState}
 use Rattle.strm_laws.specs.Refusals.{enough}
 use Rattle.strm_image.specs.Image.{Imaged}
 use Rattle.strm_pair.specs.Restored.{IsImageOf, IsNoImage, image_blocks}
-use Rattle.strm_ffi.specs.Outcomes.{sizes_of}
+use Rattle.strm_ffi.specs.declared.choices.Choices.{Choices}
+use Rattle.strm_ffi.specs.Kept.{KeptPair, are_fit}
 use Rattle.strm_ffi.specs.Restored.{Restores, RestoresOf, restores_where}
 
 -- what is known of a refusal
-pub record IsRefused (sizes : Config) (text : List ℕ) (why : Refusal) : Type 0 where
+pub record IsRefused (c : Choices) (text : List ℕ) (why : Refusal) : Type 0 where
   pub einval : why ≡ refusals.Einval → IsNoImage text
-  pub enosr : why ≡ refusals.Enosr → (x : Imaged) × (IsImageOf text x × (enough (image_blocks x) (record { mblks = sizes.mblks; dblks = sizes.dblks }) ≡ false))
+  pub enosr : why ≡ refusals.Enosr → (x : Imaged) × (IsImageOf text x × (enough (image_blocks x) (record { mblks = c.blocks; dblks = c.blocks }) ≡ false))
   pub others : (why ≢ refusals.Einval) → (why ≢ refusals.Enosr) → why ≡ refusals.NoMemory
 
 numbered-einval : (why : Refusal) → number_of why ≡ 1 → why ≡ refusals.Einval
@@ -60,8 +59,8 @@ some-number refusals.Eio is = omega (arith, is)
 ap-number : (why other : Refusal) → why ≡ other → number_of why ≡ number_of other
 ap-number why other is = ap number_of is
 
-pub refused-told : (sizes : Config) (text : List ℕ) (why : Refusal) (n : ℕ) → IsRefused sizes text why → n ≡ number_of why → RestoresOf sizes text None n
-refused-told sizes text why n is told = record {
+pub refused-told : (c : Choices) (text : List ℕ) (why : Refusal) (n : ℕ) → IsRefused c text why → n ≡ number_of why → RestoresOf c text None n
+refused-told c text why n is told = record {
   done = λ none. absurd (some-number why (sym told ∙ none));
   closed = λ some. refl;
   einval = λ one. is.einval (numbered-einval why (sym told ∙ one));
@@ -70,8 +69,7 @@ refused-told sizes text why n is told = record {
 }
 
 -- at a closed handle, which stays so
-pub restore-refused : (blocks entries bytes : ℕ) (text : List ℕ) (kept : Option PairState) (why : Refusal) (n : ℕ) → kept ≡ None → (nat_lt 0 blocks && nat_le blocks 65536) ≡ true
-    → IsRefused (sizes_of blocks entries bytes) text why → n ≡ number_of why → Restores blocks entries bytes text kept kept n
-restore-refused blocks entries bytes text kept why n none fits is told =
-    let sizes = sizes_of blocks entries bytes in
-    subst (λ (k : Option PairState). Restores blocks entries bytes text k k n) (sym none) (subst (λ b. restores_where b sizes text None n) (sym fits) (refused-told sizes text why n is told))
+pub restore-refused : (c : Choices) (text : List ℕ) (kept : Option KeptPair) (why : Refusal) (n : ℕ) → kept ≡ None → are_fit c ≡ true
+    → IsRefused c text why → n ≡ number_of why → Restores c text kept kept n
+restore-refused c text kept why n none fits is told =
+    subst (λ (k : Option KeptPair). Restores c text k k n) (sym none) (subst (λ b. restores_where b c text None n) (sym fits) (refused-told c text why n is told))

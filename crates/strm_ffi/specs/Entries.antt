@@ -13,6 +13,7 @@ use Rattle.strm_ffi.specs.declared.entries.Cursor.{Cursor}
 use Rattle.strm_ffi.specs.declared.entries.Entered.{Entered}
 use Rattle.strm_ffi.specs.Numbers.{queue_at, turn_at}
 use Rattle.strm_ffi.specs.Calls.{answer_in, caller_at, event_at}
+use Rattle.strm_ffi.specs.Kept.{KeptPair}
 
 -- the entry of numbers, over the bytes of its call and those of its answer behind them
 abbrev called_of : Option Caller → Option Request → Option events.Reply → Option PlainEntry
@@ -74,6 +75,6 @@ abbrev pub TakesAt : PairState → Taking → Taking → ℕ → Type 0
 TakesAt p old new n = Takes (slice_get p.journal old.at.entry) (StandsAt old.at p) old new n
 
 -- At a handle, whose pair stays; EINVAL for a closed one.
-abbrev pub NextEntry : Option PairState → Taking → Taking → ℕ → Type 0
+abbrev pub NextEntry : Option KeptPair → Taking → Taking → ℕ → Type 0
 NextEntry None old new n = (n ≡ 1) × (new ≡ old)
-NextEntry (Some p) old new n = TakesAt p old new n
+NextEntry (Some k) old new n = TakesAt k.pair old new n

@@ -4,6 +4,7 @@ use Rattle.strm_laws.specs.Pair.{PairState}
 use Rattle.strm_image.specs.HasImage.{imaged}
 use Rattle.strm_image.specs.Image.{image}
 use Rattle.strm_image.specs.declared.versions.Version.TheVariants.{Second}
+use Rattle.strm_ffi.specs.Kept.{KeptPair}
 
 -- the image of a pair, in version 2
 abbrev pub image_of : PairState → List ℕ
@@ -18,6 +19,6 @@ abbrev pub ImageInto : List ℕ → ℕ → (before out : List ℕ) → ℕ → 
 ImageInto text told before out n = text_into (nat_le (length text) (length before)) text told before out n
 
 -- At a handle, whose pair stays; EINVAL for a closed one.
-abbrev pub Images : Option PairState → (was told : ℕ) → (before out : List ℕ) → ℕ → Type 0
+abbrev pub Images : Option KeptPair → (was told : ℕ) → (before out : List ℕ) → ℕ → Type 0
 Images None was told before out n = (n ≡ 1) × ((told ≡ was) × (out ≡ before))
-Images (Some p) was told before out n = ImageInto (image_of p) told before out n
+Images (Some k) was told before out n = ImageInto (image_of k.pair) told before out n

@@ -1,7 +1,9 @@
 pub mod Numbers
 pub mod Calls
 pub mod Entries
+pub mod Few
 pub mod Held
+pub mod Kept
 pub mod Images
 pub mod Outcomes
 pub mod Ready

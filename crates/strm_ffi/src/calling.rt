@@ -4,7 +4,7 @@ ghost use Rattle.std.specs.Prelude.{◌≡◌, length, min, take};
 ghost use Rattle.strm_types.specs.declared.events.Event.TheVariants.{Read, Write};
 ghost use Rattle.strm_types.specs.declared.limits.TheConstants.{READ_MAX};
 ghost use Rattle.strm_ffi.specs.Calls.{brought};
-ghost use Rattle.strm_ffi.specs.Outcomes.{AtHandle, ask_refused, side_refused, AnswersAsk, AnswersSide, Stay, no_bytes};
+ghost use Rattle.strm_ffi.specs.Outcomes.{CallsAtHandle, ask_refused, side_refused, AnswersAsk, AnswersSide, Stay, no_bytes};
 
 use crate::asks::Ask;
 use crate::handle::Handle;
@@ -45,7 +45,7 @@ pub extern "C" fn strm_call(
     reply: &mut Reply,
 ) -> u32
     ensures { let bytes = brought ask.now bytes.now in
-        AtHandle (ask_refused ask.now bytes (length out.old)) (Stay out.old out.new reply.old reply.new)
+        CallsAtHandle (ask_refused ask.now bytes (length out.old)) (Stay out.old out.new reply.old reply.new)
         (AnswersAsk ask.now bytes reply.new out.old out.new) handle.old.held.kept handle.new.held.kept result }
 {
     let Some(mut kept) = handle.take(alloc) else {
@@ -65,16 +65,14 @@ pub extern "C" fn strm_write(
     bytes: &[u8],
     reply: &mut Reply,
 ) -> u32
-    ensures { AtHandle (side_refused side (Write (take 1024 bytes.now)) 0) (Stay no_bytes no_bytes reply.old reply.new)
+    ensures { CallsAtHandle (side_refused side (Write (take 1024 bytes.now)) 0) (Stay no_bytes no_bytes reply.old reply.new)
         (AnswersSide side (Write (take 1024 bytes.now)) reply.new no_bytes no_bytes) handle.old.held.kept handle.new.held.kept result }
 {
     let Some(mut kept) = handle.take(alloc) else {
         return refused(Refusal::Einval);
     };
     let bytes = first_bytes(bytes);
-    let told = kept
-        .as_mut()
-        .of_side(side, &Event::Write { bytes }, &mut [], reply);
+    let told = kept.as_mut().write(side, bytes, reply);
     handle.put(kept);
     told
 }
@@ -88,7 +86,7 @@ pub extern "C" fn strm_read(
     out: &mut [u8],
     reply: &mut Reply,
 ) -> u32
-    ensures { AtHandle (side_refused side (Read (min (length out.old) READ_MAX)) (length out.old)) (Stay out.old out.new reply.old reply.new)
+    ensures { CallsAtHandle (side_refused side (Read (min (length out.old) READ_MAX)) (length out.old)) (Stay out.old out.new reply.old reply.new)
         (AnswersSide side (Read (min (length out.old) READ_MAX)) reply.new out.old out.new) handle.old.held.kept handle.new.held.kept result }
 {
     let Some(mut kept) = handle.take(alloc) else {

@@ -1,10 +1,12 @@
 //! The library for C: a pair behind a handle, and calls, turns and looks at it by numbers. `include/strm.h` is its manual.
 #![tactic(auto)]
 
+mod anew;
 mod answering;
 mod asking;
 mod asks;
 mod calling;
+mod choices;
 mod entries;
 mod handle;
 mod held;
@@ -17,5 +19,6 @@ mod parts;
 mod polling;
 mod recording;
 mod replies;
+mod reserve;
 mod restoring;
 mod turning;

@@ -18,7 +18,7 @@ use strm_types::Refusal;
 #[unsafe(no_mangle)]
 pub extern "C" fn strm_enabled(alloc: Global, handle: &mut Handle, place: usize) -> u32
     ensures stays { handle.new.held.kept ≡ handle.old.held.kept }
-    ensures told { queue_at result ≡ option_and_then (λ p. slice_get p.state.enabled place) handle.old.held.kept }
+    ensures told { queue_at result ≡ option_and_then (λ k. slice_get k.pair.state.enabled place) handle.old.held.kept }
     ensures few { result ≤ 12 }
 {
     let Some(kept) = handle.take(alloc) else {

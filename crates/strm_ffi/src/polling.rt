@@ -1,7 +1,6 @@
 //! What an event loop asks for: what a side is ready for, and what is left of a pair.
 
 ghost use Rattle.std.specs.Prelude.{◌≡◌, ◌≤◌, None};
-ghost use Rattle.strm_laws.specs.Refusals.{enough};
 ghost use Rattle.strm_ffi.specs.Numbers.{side_at};
 ghost use Rattle.strm_ffi.specs.Outcomes.{AtHandle};
 ghost use Rattle.strm_ffi.specs.Ready.{IsLeft, TellsLeft, bit, bits_of, ready_at};
@@ -10,6 +9,7 @@ use crate::handle::Handle;
 use crate::kept::refused;
 use crate::numbers::side_of;
 use crate::replies::Left;
+use crate::reserve::has_blocks;
 use std::alloc::Global;
 use strm_pair::{Pair, Ready};
 use strm_raw::RawStore;
@@ -26,7 +26,7 @@ const fn bit(number: u32, is_set: bool) -> u32
     if is_set { number } else { 0 }
 }
 
-// The bits of what a side is ready for, where a write finds its blocks or not.
+// The bits of what a side is ready for, where a write finds its blocks, and isn't held back, or not.
 fn bits_of(ready: Ready, has_blocks: bool) -> u32
     ensures { result ≡ bits_of ready has_blocks }
 {
@@ -53,14 +53,6 @@ fn left_of(pair: &Pair<RawStore>) -> Left
     }
 }
 
-// Whether so many blocks of each kind are free.
-fn has_blocks(pair: &Pair<RawStore>, need: usize) -> bool
-    ensures { result ≡ enough need pair.now.free }
-{
-    let (mblks, dblks) = pair.free_blocks();
-    need <= mblks && need <= dblks
-}
-
 /// What a side is ready for, as bits: 0 of a side that isn't open, of a number that is no side's, and of a closed handle.
 #[unsafe(no_mangle)]
 pub extern "C" fn strm_ready(alloc: Global, handle: &mut Handle, side: u32) -> u32
@@ -73,10 +65,9 @@ pub extern "C" fn strm_ready(alloc: Global, handle: &mut Handle, side: u32) -> u
     let Some(kept) = handle.take(alloc) else {
         return 0;
     };
-    let bits = bits_of(
-        kept.pair.ready(side),
-        has_blocks(&kept.pair, WRITE_BLOCKS_MOST),
-    );
+    let has_blocks = has_blocks(&kept.pair, WRITE_BLOCKS_MOST, 0)
+        && !kept.as_ref().is_held_back(side, WRITE_BLOCKS_MOST);
+    let bits = bits_of(kept.pair.ready(side), has_blocks);
     handle.put(kept);
     bits
 }

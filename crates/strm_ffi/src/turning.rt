@@ -1,7 +1,7 @@
 //! Turns of a C program.
 
 ghost use Rattle.std.specs.Prelude.{◌≡◌};
-ghost use Rattle.strm_ffi.specs.Outcomes.{AtHandle, Runs, turn_refused, Turns};
+ghost use Rattle.strm_ffi.specs.Outcomes.{CallsAtHandle, Runs, turn_refused, Turns};
 
 use crate::handle::Handle;
 use crate::kept::refused;
@@ -12,7 +12,7 @@ use strm_types::Refusal;
 /// Makes a turn of an enabled queue's service procedure.
 #[unsafe(no_mangle)]
 pub extern "C" fn strm_turn(alloc: Global, handle: &mut Handle, queue: u32, went: &mut Went) -> u32
-    ensures { AtHandle (turn_refused queue) (went.new ≡ went.old) (Turns queue went.new) handle.old.held.kept handle.new.held.kept result }
+    ensures { CallsAtHandle (turn_refused queue) (went.new ≡ went.old) (Turns queue went.new) handle.old.held.kept handle.new.held.kept result }
 {
     let Some(mut kept) = handle.take(alloc) else {
         return refused(Refusal::Einval);

@@ -1,6 +1,7 @@
 -- The pair's refusals are told, over a store that is new.
 use Rattle.std.proofs.Common.{◌≡◌, ◌∙◌, ap, subst, false}
 use Rattle.std.specs.Prelude.{Some}
+use Rattle.strm_types.specs.declared.limits.Config.{Config}
 use Rattle.strm_types.specs.declared.refusals.Refusal.TheVariants.{Einval, Enosr}
 use Rattle.strm_laws.specs.Refusals.{Free, enough}
 use Rattle.strm_pair.specs.Restored.{image_blocks}
@@ -15,5 +16,6 @@ pub returns-in-Err-clause-enosr : goal.returns-in-Err-clause-enosr
 returns-in-Err-clause-enosr c is =
     let same : Some c.in-Err.why ≡ Some Enosr = cc in
     let found = c.in-Err.ensures.enosr.0 same in
-    let all = ap free_in c.in-Ok.ensures ∙ free-empty c.args.sizes.mblks c.args.sizes.dblks in
+    let sizes : Config = c.sizes-sizes.result in
+    let all = ap free_in c.in-Ok.ensures ∙ (free-empty sizes.mblks sizes.dblks ∙ ap (λ (s : Config). record { mblks = s.mblks; dblks = s.dblks }) c.sizes-sizes.ensures) in
     (found.0, (found.1.0, subst (λ (f : Free). enough (image_blocks found.0) f ≡ false) all found.1.1))

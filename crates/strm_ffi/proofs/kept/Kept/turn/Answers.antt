@@ -1,27 +1,40 @@
 use Rattle.std.proofs.Common.{◌≡◌, refl, sym, subst, ap, ◌∙◌}
+use Rattle.std.specs.Prelude.{Some}
 use Rattle.strm_types.specs.declared.entries.Entry.TheVariants.{Turned}
 use Rattle.strm_laws.specs.Pair.{PairState, queue_refused}
-use Rattle.strm_laws.specs.Within.{AreWithin}
-use Rattle.strm_ffi.specs.Outcomes.{Decided, Turns, turn_of}
-use Rattle.strm_ffi.proofs.Decisions.{left, stayed}
-use Rattle.strm_ffi.proofs.Fits.{stays-within}
+use Rattle.strm_laws.proofs.Replay.{refused-by}
+use Rattle.strm_ffi.specs.Kept.{IsKept, KeptPair, begun}
+use Rattle.strm_ffi.specs.Numbers.{queue_at}
+use Rattle.strm_ffi.specs.Outcomes.{CallsAt, Turns, turn_of, turn_refused}
+use Rattle.strm_ffi.proofs.Begun.{by-pair}
+use Rattle.strm_ffi.proofs.Decisions.{stayed}
+use Rattle.strm_ffi.proofs.Fits.{begun-kept, stays-kept}
+use Rattle.strm_ffi.proofs.NeverFull.{turn-other}
 use Rattle.strm_ffi.proofs.kept.Kept.turn.Goals as goal
 
--- src/kept.rt:126:29
 pub invariant_of-self : goal.invariant_of-self
 invariant_of-self c =
-    let same = left c.turn.result (c.turn.new.self ≡ c.self.inside.pair) (queue_refused c.self.inside.pair c.in-Some.name) c.in-Err.refusal c.turn.ensures.refused c.in-Err.is in
-    subst (λ (v : PairState). AreWithin v.state) (sym same) c.self.invariant
+    let k : KeptPair = record { pair = c.self.inside.pair; anew = c.self.inside.anew; reserve = c.self.inside.reserve } in
+    let at : PairState = begun k.anew (queue_refused k.pair c.in-Some.name) k.pair in
+    let stays = refused-by (queue_refused at c.in-Some.name) c.turn_at.result c.turn_at.ensures.refused c.in-Err.refusal c.in-Err.is in
+    subst (λ (p : PairState). IsKept (record k { pair = p })) (sym stays.1) (begun-kept k (queue_refused k.pair c.in-Some.name) c.self.invariant)
 
--- src/kept.rt:126:29
 pub returns-in-Err : goal.returns-in-Err
 returns-in-Err c =
-    let named = sym c.queue_of.ensures ∙ c.in-Some.is in
-    let refused = ap (λ (v : PairState). queue_refused v c.in-Some.name) c.self.view_is ∙ ap (λ q. turn_of q c.args.self.now) (sym named) in
-    subst (λ o. Decided o ((c.turn.new.self ≡ c.args.self.now) × (c.args.told.now ≡ c.args.told.now)) (Turns c.args.queue c.args.told.now c.args.self.now c.turn.new.self) c.refused-in-Err.result) refused
-    (stayed c.turn.result c.refused-in-Err.result (c.turn.new.self ≡ c.self.inside.pair) _ _ (queue_refused c.self.inside.pair c.in-Some.name) c.in-Err.refusal c.turn.ensures.refused c.in-Err.is c.refused-in-Err.ensures
-    (λ same. (same ∙ c.self.view_is, refl)))
+    let k : KeptPair = record { pair = c.self.inside.pair; anew = c.self.inside.anew; reserve = c.self.inside.reserve } in
+    let new : KeptPair = record k { pair = c.turn_at.new.pair } in
+    let at : KeptPair = record k { pair = begun k.anew (queue_refused k.pair c.in-Some.name) k.pair } in
+    let named : queue_at c.args.queue ≡ Some c.in-Some.name = sym c.queue_of.ensures ∙ c.in-Some.is in
+    let stays = (c.args.told.now ≡ c.args.told.now) in
+    let done = Turns c.args.queue c.args.told.now in
+    subst (λ (o : KeptPair). CallsAt (turn_refused c.args.queue) stays done o new c.refused-in-Err.result) c.self.view_is
+    (by-pair (turn_refused c.args.queue) (λ p. queue_refused p c.in-Some.name) stays done k new c.refused-in-Err.result (ap (λ q. turn_of q k) named) (ap (λ q. turn_of q at) named)
+    (λ anew. turn-other k.pair c.in-Some.name (c.self.invariant.anew anew))
+    (stayed c.turn_at.result c.refused-in-Err.result (c.turn_at.new.pair ≡ at.pair) _ _ (queue_refused at.pair c.in-Some.name) c.in-Err.refusal c.turn_at.ensures.refused c.in-Err.is c.refused-in-Err.ensures
+    (λ same. (ap (λ (p : PairState). record k { pair = p }) same, refl))))
 
--- src/kept.rt:118:5
 pub invariant_of-self-2 : goal.invariant_of-self-2
-invariant_of-self-2 c = stays-within c.self.inside.pair c.turn.new.self (Turned c.in-Some.name c.in-Ok.turn) c.self.invariant c.in-Ok.ensures.adds
+invariant_of-self-2 c =
+    let k : KeptPair = record { pair = c.self.inside.pair; anew = c.self.inside.anew; reserve = c.self.inside.reserve } in
+    let at : KeptPair = record k { pair = begun k.anew (queue_refused k.pair c.in-Some.name) k.pair } in
+    stays-kept at (record k { pair = c.turn_at.new.pair }) (Turned c.in-Some.name c.in-Ok.turn) (begun-kept k (queue_refused k.pair c.in-Some.name) c.self.invariant) (record { anew = refl; reserve = refl }) c.in-Ok.ensures.adds

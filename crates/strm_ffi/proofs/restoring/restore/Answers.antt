@@ -1,14 +1,15 @@
 -- A refused restore leaves a closed handle.
 use Rattle.std.proofs.Common.{◌≡◌, rules, true}
-use Rattle.std.specs.Prelude.{None, ◌&&◌, nat_lt, nat_le}
+use Rattle.std.specs.Prelude.{None}
+use Rattle.strm_ffi.specs.Kept.{are_fit}
 use Rattle.strm_ffi.proofs.RestoreRefused.{restore-refused}
-use Rattle.strm_ffi.proofs.restoring.strm_restore.Goals as goal
+use Rattle.strm_ffi.proofs.restoring.restore.Goals as goal
 
 pub returns-in-Err : goal.returns-in-Err
 returns-in-Err c =
     let kept = c.args.handle.now.held.kept in
     let closed : kept ≡ None = search rules in
-    let fits : (nat_lt 0 c.args.blocks && nat_le c.args.blocks 65536) ≡ true = search rules in
+    let fits : are_fit c.args.choices.now ≡ true = search rules in
     let e = c.in-Err.ensures in
-    restore-refused c.args.blocks c.args.entries c.args.bytes c.args.text.now kept c.in-Err.why c.refused-in-Err.result closed fits
+    restore-refused c.args.choices.now c.args.text.now kept c.in-Err.why c.refused-in-Err.result closed fits
     (record { einval = e.einval; enosr = e.enosr; others = e.others }) c.refused-in-Err.ensures
