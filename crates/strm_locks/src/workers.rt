@@ -1,15 +1,18 @@
-//! Workers: threads that visit pairs, and make the turns of enabled queues.
+//! Workers: threads that visit the pairs of a system, and make the turns of enabled queues.
 
-ghost use Rattle.std.specs.Prelude.{◌≡◌, ℕ, ◌+◌, ◌<◌, ◌≤◌, Option, Some, length, slice_get};
+ghost use Rattle.std.specs.Prelude.{◌≡◌, ◌+◌, ◌<◌, ◌≤◌, IfOk, length, map, replicate};
 ghost use Rattle.std.specs.Thread.{IsSync};
-ghost use Rattle.strm_locks.specs.Reports.{IsReportOf, Tours, both, counted};
+ghost use Rattle.strm_locks.specs.Reports.{AreAt, AreCrew, IsReportOf, Meets, Tours, at_rest, both, counted, visits_at};
 
-use crate::gate::Gate;
+use crate::gate::{At, Gate};
 use crate::held::Made;
 use crate::object::Object;
 use crate::system::System;
+use crate::visit::Post;
+use std::alloc::{AllocError, Global};
+use std::marker::Model;
 use std::sync::Wait;
-use std::thread::{Threads, join};
+use std::thread::{Threads, join_mut};
 use strm_types::Turn;
 
 /// What workers did: how many ran, how many turns they made, how many of these found the queue blocked, how many were refused, and how many
@@ -30,6 +33,12 @@ const BEGUN: Report = Report {
     blocked: 0,
     refused: 0,
     idle: 0,
+};
+
+// No worker.
+const NOBODY: Report = Report {
+    started: 0,
+    ..BEGUN
 };
 
 impl Report {
@@ -73,144 +82,177 @@ impl Report {
     }
 }
 
-/// What a worker visits: pairs, by their numbers. A system's workers visit its pairs; a fake in memory shows what a visit reads and writes.
-pub trait Round {
-    ghost use Rattle.strm_locks.specs.declared.held.Made.{Made};
-
-    /// How many there are.
-    ghost count: { Self → ℕ };
-
-    /// What a visit to a pair, which makes this, leads to.
-    ghost leads: { Self → ℕ → Option Made → Self → Type 0 };
-
-    /// Visits a pair, and makes a turn of the queue that was enabled first there, if any.
-    fn visit(&mut self, worker: u32, pair: u32) -> Option<Made>
-        requires { pair < count self.old }
-        ensures made { leads self.old pair result self.new }
-        ensures same { count self.new ≡ count self.old };
-}
-
-/// One worker, which makes so many visits: it goes from pair to pair, first to that of its number, modulo the number of pairs. It tells each
-/// visit once, as a turn, a refused turn, or one that found no queue enabled.
-pub fn work<V: Round>(round: &mut V, pairs: u32, worker: u32, visits: u32) -> Report
-    requires some { 0 < pairs }
-    requires all { V.count round.old ≡ pairs }
-    ensures tours { Tours V.leads pairs worker visits round.old result round.new }
-    ensures exact { IsReportOf 1 visits result }
-{
-    let mut report = BEGUN;
-    for visit in 0..visits {
-        let pair = ((worker as u64 + visit as u64) % pairs as u64) as u32;
-        report = report.counted(&round.visit(worker, pair));
-    }
-    report
-}
-
-// The pairs of a system, as one worker visits them within a gate.
+/// One worker: a seat at each pair of a system, by the pair's number.
 #[derive(Drop)]
-struct Floor<'a, P: Object, R: Wait, G: Gate> {
-    system: &'a System<P>,
-    rt: &'a R,
-    gate: &'a G,
+struct Worker<P: Object> {
+    posts: Vec<Post<P>>,
 }
 
-impl<'a, P: Object, R: Wait, G: Gate> Round for Floor<'a, P, R, G> {
-    ghost use Rattle.strm_locks.specs.Turns.{IsVisit, Visited};
+impl<P: Object> Model for Worker<P> {
+    ghost use Rattle.std.specs.Prelude.{List};
+    ghost use Rattle.strm_locks.specs.Turns.{Posted};
 
-    ghost count = { λ f. length f.system.now.locks };
+    ghost Value = { List Posted };
 
-    ghost leads = { λ a pair made b. (v : Visited) × (slice_get a.system.now.locks pair ≡ Some v.table) × IsVisit v.table v × (v.made ≡ made) };
-
-    fn visit(&mut self, worker: u32, pair: u32) -> Option<Made> {
-        let visit = self.system.visit(self.rt, self.gate, worker, pair);
-        visit.made()
-    }
+    ghost view = { λ w. w.posts.items };
 }
 
-// One worker at a system. Where it has no pair, no visit finds a queue enabled.
-fn work_at<P: Object, R: Wait, G: Gate>(
-    rt: &R,
-    system: &System<P>,
-    gate: &G,
-    worker: u32,
-    visits: u32,
-) -> Report
-    ensures { IsReportOf 1 visits result }
-{
-    let pairs = system.pairs();
-    if pairs == 0 {
-        return Report {
-            idle: visits as u64,
-            ..BEGUN
-        };
-    }
-    work(&mut Floor { system, rt, gate }, pairs, worker, visits)
+/// Workers of a system, numbered from 0 on, each with a seat at each pair, by which it makes its visits. `System::crew` makes them; those that are
+/// handed in are of that system.
+///
+/// Contracts see, for each worker and each pair, which lock it is, and the pairs that the worker met there: each as it found it, and as it left
+/// it.
+#[derive(Drop)]
+pub struct Crew<P: Object> {
+    workers: Vec<Worker<P>>,
 }
 
-// So many workers, from a number on.
+impl<P: Object> Model for Crew<P> {
+    ghost use Rattle.std.specs.Prelude.{◌<◌, List, length};
+    ghost use Rattle.strm_locks.specs.Turns.{Posted};
+
+    ghost Value = { List (List Posted) };
+
+    ghost view = { λ c. c.workers.items };
+
+    ghost invariant = { λ c. length c.workers.items < 4294967296 };
+}
+
+// What workers from a number on are to do: so many visits each.
 #[derive(Clone, Copy)]
-struct Crew {
+struct Shift {
     first: u32,
-    workers: u32,
+    visits: u32,
 }
 
-// A crew, each worker on a thread, by halves.
+impl<P: Object> System<P> {
+    // One worker, which met nothing.
+    fn worker(&self, alloc: Global) -> Result<Worker<P>, AllocError>
+        ensures { IfOk result (λ w. w ≡ map at_rest self.now.locks) }
+    {
+        let mut posts = Vec::new(alloc);
+        for pair in 0..self.pairs() {
+            let post = self.lock(pair).post();
+            posts.push(post)?;
+        }
+        Ok(Worker { posts })
+    }
+
+    /// So many workers, which met nothing. They are refused for want of memory alone.
+    pub fn crew(&self, alloc: Global, workers: u32) -> Result<Crew<P>, AllocError>
+        ensures rest { IfOk result (λ crew. crew ≡ replicate workers (map at_rest self.now.locks)) }
+        ensures own { IfOk result (λ crew. AreCrew self.now.locks crew) }
+    {
+        let mut all = Vec::new(alloc);
+        for made in 0..workers {
+            let worker = self.worker(alloc)?;
+            all.push(worker)?;
+        }
+        Ok(Crew { workers: all })
+    }
+
+    // One visit of a worker to a pair, within a gate.
+    fn visit<R: Wait, G: Gate>(
+        &self,
+        rt: &R,
+        gate: &G,
+        at: At,
+        worker: &mut Worker<P>,
+    ) -> Option<Made>
+        requires pair { at.pair < length self.now.locks }
+        requires own { AreAt self.now.locks worker.old }
+        ensures met { Meets worker.old at.pair result worker.new }
+        ensures own { AreAt self.now.locks worker.new }
+    {
+        let post = &mut worker.posts[at.pair as usize];
+        self.lock(at.pair).visit(rt, gate, at, post)
+    }
+
+    // All visits of the first worker of a shift: it goes from pair to pair, first to that of its number, modulo the number of pairs, and tells each
+    // visit once. Where the system has no pair it makes none.
+    fn tour<R: Wait, G: Gate>(
+        &self,
+        rt: &R,
+        gate: &G,
+        shift: Shift,
+        worker: &mut Worker<P>,
+    ) -> Report
+        requires { AreAt self.now.locks worker.old }
+        ensures tours { Tours (length self.now.locks) shift.first (visits_at (length self.now.locks) shift.visits) worker.old result worker.new }
+        ensures own { AreAt self.now.locks worker.new }
+        ensures counted { IsReportOf 1 (visits_at (length self.now.locks) shift.visits) result }
+    {
+        let pairs = self.pairs();
+        let mut report = BEGUN;
+        if pairs == 0 {
+            return report;
+        }
+        for visit in 0..shift.visits {
+            let pair = ((shift.first as u64 + visit as u64) % pairs as u64) as u32;
+            let at = At {
+                worker: shift.first,
+                pair,
+            };
+            report = report.counted(&self.visit(rt, gate, at, worker));
+        }
+        report
+    }
+}
+
+// The workers of a shift, each on a thread, by halves.
 fn work_from<P: Object + Send, R: Threads + Wait + Sync, G: Gate + Sync>(
     rt: &R,
     system: &System<P>,
     gate: &G,
-    crew: Crew,
-    visits: u32,
+    shift: Shift,
+    workers: &mut [Worker<P>],
 ) -> Report
-    requires some { 0 < crew.workers }
-    requires last { crew.first + crew.workers < 4294967296 }
-    ensures { IsReportOf crew.workers visits result }
+    requires some { 0 < length workers.old }
+    requires last { shift.first + length workers.old < 4294967296 }
+    requires own { AreCrew system.now.locks workers.old }
+    ensures { IsReportOf (length workers.old) (visits_at (length system.now.locks) shift.visits) result }
 {
-    let Crew { first, workers } = crew;
-    if workers == 1 {
-        return work_at(rt, system, gate, first, visits);
+    if workers.len() == 1 {
+        return system.tour(rt, gate, shift, &mut workers[0]);
     }
-    let half = Crew {
-        first,
-        workers: workers / 2,
+    let half = workers.len() / 2;
+    let rest = Shift {
+        first: shift.first + half as u32,
+        ..shift
     };
-    let rest = Crew {
-        first: first + half.workers,
-        workers: workers - half.workers,
-    };
-    let (one, two) = join(
+    let (left, right) = workers.split_at_mut(half);
+    let (one, two) = join_mut(
         rt,
-        || -> Report
-            requires { IsSync R.row × (0 < half.workers) × (half.first + half.workers < 4294967296) }
-            ensures { IsReportOf half.workers visits result }
-        { work_from(rt, system, gate, half, visits) },
-        || -> Report
-            requires { IsSync R.row × (0 < rest.workers) × (rest.first + rest.workers < 4294967296) }
-            ensures { IsReportOf rest.workers visits result }
-        { work_from(rt, system, gate, rest, visits) },
+        &mut || -> Report
+            requires { IsSync R.row × (0 < length left.now) × (shift.first + length left.now < 4294967296) × AreCrew system.now.locks left.now }
+            ensures { IsReportOf (length left.entry.now) (visits_at (length system.entry.now.locks) shift.visits) result }
+        { work_from(rt, system, gate, shift, left) },
+        &mut || -> Report
+            requires { IsSync R.row × (0 < length right.now) × (rest.first + length right.now < 4294967296) × AreCrew system.now.locks right.now }
+            ensures { IsReportOf (length right.entry.now) (visits_at (length system.entry.now.locks) rest.visits) result }
+        { work_from(rt, system, gate, rest, right) },
     );
     one.plus(&two)
 }
 
 impl<P: Object + Send> System<P> {
-    /// Runs so many workers, each on a thread of its own where one can be made. Each makes so many visits: the worker of number i first to the
-    /// pair of number i, modulo the number of pairs, then to the next, and so on round. A visit makes one turn of the queue that was enabled
-    /// first there, if any, under the pair's lock and within the gate.
+    /// Runs the workers, each on a thread of its own where one can be made. Each makes so many visits: the worker of number i first to the pair of
+    /// number i, modulo the number of pairs, then to the next, and so on round. A visit makes one turn of the queue that was enabled first there,
+    /// if any, under the pair's lock and within the gate. The report counts each visit once; where there is no pair, no visit is made.
     pub fn run_workers<R: Threads + Wait + Sync, G: Gate + Sync>(
         &self,
         rt: &R,
-        workers: u32,
+        crew: &mut Crew<P>,
         visits: u32,
         gate: &G,
     ) -> Report
-        ensures { IsReportOf workers visits result }
+        requires { AreCrew self.now.locks crew.old }
+        ensures { IsReportOf (length crew.old) (visits_at (length self.now.locks) visits) result }
     {
-        if workers == 0 {
-            return Report {
-                started: 0,
-                ..BEGUN
-            };
+        if crew.workers.is_empty() {
+            return NOBODY;
         }
-        work_from(rt, self, gate, Crew { first: 0, workers }, visits)
+        let shift = Shift { first: 0, visits };
+        work_from(rt, self, gate, shift, crew.workers.as_mut_slice())
     }
 }
