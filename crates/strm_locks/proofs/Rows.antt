@@ -6,7 +6,7 @@ use Rattle.std.proofs.lemmas.Nat.{mul-lt}
 use Rattle.strm_types.specs.declared.limits.Config.{Config}
 use Rattle.strm_locks.specs.declared.workers.Report.{Report}
 use Rattle.strm_locks.specs.Books.{LockId}
-use Rattle.strm_locks.specs.Reports.{AreAt, AreCrew, IsReportOf, Tours, Works, at_rest, both, nobody, visits_at}
+use Rattle.strm_locks.specs.Reports.{AreAt, AreCrew, IsReportOf, Tours, Works, at_rest, both, nobody, total, visits_at}
 use Rattle.strm_locks.specs.Turns.{Posted}
 use Rattle.strm_locks.proofs.Reports.{times-sum}
 
@@ -76,20 +76,6 @@ pub crew_own : (locks : List LockId) (n : ℕ) → AreCrew locks (replicate n (m
 crew_own locks zero = tt
 crew_own locks (suc n) = (at_rest_own locks, crew_own locks n)
 
--- a crew in two parts
-
-pub crew_left : (locks : List LockId) (xs ys : List (List Posted)) → AreCrew locks (xs ++ ys) → AreCrew locks xs
-crew_left locks [] ys own = tt
-crew_left locks (x ∷ xs) ys own = (own.0, crew_left locks xs ys own.1)
-
-pub crew_right : (locks : List LockId) (xs ys : List (List Posted)) → AreCrew locks (xs ++ ys) → AreCrew locks ys
-crew_right locks [] ys own = own
-crew_right locks (x ∷ xs) ys own = crew_right locks xs ys own.1
-
-pub crew_both : (locks : List LockId) (xs ys : List (List Posted)) → AreCrew locks xs → AreCrew locks ys → AreCrew locks (xs ++ ys)
-crew_both locks [] ys one two = two
-crew_both locks (x ∷ xs) ys one two = (one.0, crew_both locks xs ys one.1 two)
-
 abbrev report : ℕ → ℕ → ℕ → ℕ → ℕ → Report
 report started turns blocked refused idle = record { started = started; turns = turns; blocked = blocked; refused = refused; idle = idle }
 
@@ -105,35 +91,6 @@ both_assoc : (a b c : Report) → both (both a b) c ≡ both a (both b c)
 both_assoc a b c = λ j. report ((let e : (a.started + b.started) + c.started ≡ a.started + (b.started + c.started) = omega arith in e) j) ((let e : (a.turns + b.turns) + c.turns ≡ a.turns + (b.turns + c.turns) = omega arith in e) j)
     ((let e : (a.blocked + b.blocked) + c.blocked ≡ a.blocked + (b.blocked + c.blocked) = omega arith in e) j) ((let e : (a.refused + b.refused) + c.refused ≡ a.refused + (b.refused + c.refused) = omega arith in e) j)
     ((let e : (a.idle + b.idle) + c.idle ≡ a.idle + (b.idle + c.idle) = omega arith in e) j)
-
-pub works_one : (pairs visits first : ℕ) (a : List Posted) (r : Report) (b : List Posted) → Tours pairs first visits a r b → Works pairs visits first (a ∷ []) r (b ∷ [])
-works_one pairs visits first a r b tours = (b, [], r, nobody, refl, tours, (refl, refl), nobody_both r)
-
-pub works_both : (pairs visits first : ℕ) (xs ys : List (List Posted)) (q s : Report) (xs' ys' : List (List Posted)) → Works pairs visits first xs q xs' → Works pairs visits (first + length xs) ys s ys'
-    → Works pairs visits first (xs ++ ys) (both q s) (xs' ++ ys')
-works_both pairs visits first [] ys q s xs' ys' one two =
-    let at : first + 0 ≡ first = omega arith in
-    subst (λ (n : ℕ). Works pairs visits n ys (both q s) (xs' ++ ys')) at
-    (subst (λ (zs : List (List Posted)). Works pairs visits (first + 0) ys (both q s) (zs ++ ys')) (sym one.0)
-    (subst (λ (r : Report). Works pairs visits (first + 0) ys r ys') (sym (ap (λ (r : Report). both r s) one.1 ∙ both_nobody s)) two))
-works_both pairs visits first (x ∷ xs) ys q s xs' ys' one two =
-    let b = one.0 in let rest = one.1 in let q0 = one.2 in let s0 = one.3 in
-    let at : first + length (x ∷ xs) ≡ suc first + length xs = omega arith in (
-      b,
-      rest ++ ys',
-      q0,
-      both s0 s,
-      ap (λ (zs : List (List Posted)). zs ++ ys') one.4,
-      one.5,
-      works_both pairs visits (suc first) xs ys s0 s rest ys' one.6 (subst (λ (n : ℕ). Works pairs visits n ys s ys') at two),
-      ap (λ (r : Report). both r s) one.7 ∙ both_assoc q0 s0 s,
-    )
-
--- a crew of one
-pub alone : (xs : List (List Posted)) (d : List Posted) → length xs ≡ 1 → xs ≡ get_or xs 0 d ∷ []
-alone [] d one = absurd (omega arith)
-alone (x ∷ []) d one = refl
-alone (x ∷ y ∷ ys) d one = absurd (omega arith)
 
 pub some_visits : (pairs visits : ℕ) → 0 < pairs → visits ≡ visits_at pairs visits
 some_visits zero visits some = absurd (omega arith)
@@ -161,3 +118,51 @@ fits_both a b pairs visits q s few small one two =
       omega arith,
       omega arith,
     )
+
+total-snoc : (xs : List Report) (r : Report) → total (xs ++ r ∷ []) ≡ both (total xs) r
+total-snoc [] r = sym (nobody_both r) ∙ sym (both_nobody r)
+total-snoc (x ∷ xs) r = ap (λ (q : Report). both x q) (total-snoc xs r) ∙ sym (both_assoc x (total xs) r)
+
+snoc_or : {A B : Type 0} (f : A → B) (xs : List A) (i : ℕ) (d : A) → i < length xs → map f (take (suc i) xs) ≡ map f (take i xs) ++ f (get_or xs i d) ∷ []
+snoc_or f [] i d small = absurd (omega arith)
+snoc_or f (y ∷ ys) zero d small = refl
+snoc_or f (y ∷ ys) (suc i) d small = ap (λ zs. f y ∷ zs) (snoc_or f ys i d (omega arith))
+
+-- what workers told so far, and one more
+pub told_next : {H : Type 0} (report_in : H → Report) (xs : List H) (i : ℕ) (d : H) (now later : Report) → i < length xs → now ≡ total (map report_in (take i xs)) → later ≡ both now (report_in (get_or xs i d))
+    → later ≡ total (map report_in (take (i + 1) xs))
+told_next report_in xs i d now later small was more = let next : suc i ≡ i + 1 = omega arith in
+    more
+    ∙ ap (λ (r : Report). both r (report_in (get_or xs i d))) was
+    ∙ sym (total-snoc (map report_in (take i xs)) (report_in (get_or xs i d)))
+    ∙ ap (λ (rs : List Report). total rs) (sym (snoc_or report_in xs i d small))
+    ∙ ap (λ (n : ℕ). total (map report_in (take n xs))) next
+
+-- a crew by its workers, one after the other
+module _ {H : Type 0} (posts : H → List Posted) (report_in : H → Report) where
+  pub crew_each : (locks : List LockId) (hs : List H) → AreCrew locks (map posts hs) → (i : ℕ) (d : H) → i < length hs → AreAt locks (posts (get_or hs i d))
+  crew_each locks [] own i d small = absurd (omega arith)
+  crew_each locks (h ∷ hs) own zero d small = own.0
+  crew_each locks (h ∷ hs) own (suc i) d small = crew_each locks hs own.1 i d (omega arith)
+
+  pub crew_of : (locks : List LockId) (hs : List H) → ((i : ℕ) (d : H) → i < length hs → AreAt locks (posts (get_or hs i d))) → AreCrew locks (map posts hs)
+  crew_of locks [] each = tt
+  crew_of locks (h ∷ hs) each = (each 0 h (omega arith), crew_of locks hs (λ i d small. each (suc i) d (omega arith)))
+
+  pub works_of : (pairs visits first : ℕ) (xs ys : List H) → length ys ≡ length xs
+      → ((i : ℕ) (d : H) → i < length xs → Tours pairs (first + i) visits (posts (get_or xs i d)) (report_in (get_or ys i d)) (posts (get_or ys i d)))
+      → Works pairs visits first (map posts xs) (total (map report_in ys)) (map posts ys)
+  works_of pairs visits first [] [] same each = (refl, refl)
+  works_of pairs visits first [] (y ∷ ys) same each = absurd (omega arith)
+  works_of pairs visits first (x ∷ xs) [] same each = absurd (omega arith)
+  works_of pairs visits first (x ∷ xs) (y ∷ ys) same each = let here : first + 0 ≡ first = omega arith in (
+    posts y,
+    map posts ys,
+    report_in y,
+    total (map report_in ys),
+    refl,
+    subst (λ (n : ℕ). Tours pairs n visits (posts x) (report_in y) (posts y)) here (each 0 x (omega arith)),
+    works_of pairs visits (suc first) xs ys (omega arith) (λ i d small. let on : first + suc i ≡ suc first + i = omega arith in
+        subst (λ (n : ℕ). Tours pairs n visits (posts (get_or xs i d)) (report_in (get_or ys i d)) (posts (get_or ys i d))) on (each (suc i) d (omega arith))),
+    refl,
+  )

@@ -1,5 +1,5 @@
 -- What workers do, and what they report.
-use Rattle.std.specs.Prelude.{◌≡◌, ℕ, zero, suc, ◌+◌, ◌*◌, ◌≤◌, ◌%◌, ⊤, List, [], ◌∷◌, Option, None, Some, Result, Ok, Err, map, slice_get, slice_set}
+use Rattle.std.specs.Prelude.{◌≡◌, ℕ, zero, suc, ◌+◌, ◌*◌, ◌≤◌, ◌%◌, ⊤, List, [], ◌∷◌, Option, None, Some, Result, Ok, Err, length, map, slice_get, slice_set}
 use Rattle.strm_types.specs.declared.answers.Turn.{Turn}
 use Rattle.strm_types.specs.declared.answers.Turn.TheVariants.{Blocked}
 use Rattle.strm_types.specs.declared.refusals.Refusal.{Refusal}
@@ -31,6 +31,12 @@ both r s = record { started = r.started + s.started; turns = r.turns + s.turns; 
 abbrev pub nobody : Report
 nobody = record { started = 0; turns = 0; blocked = 0; refused = 0; idle = 0 }
 
+-- a report of so many workers with so many visits each: each visit is counted once, as a turn, as a refused one, or as one that found no queue enabled
+pub record IsReportOf (workers visits : ℕ) (r : Report) : Type 0 where
+  pub started : r.started ≡ workers
+  pub blocked : r.blocked ≤ r.turns
+  pub all : r.turns + r.refused + r.idle ≡ workers * visits
+
 -- A worker has a seat at each lock of a system, by its number: whatever it does at a pair, its seat there met.
 abbrev pub at_rest : LockId → Posted
 at_rest lock = record { lock = lock; met = [] }
@@ -61,14 +67,19 @@ abbrev pub visits_at : ℕ → ℕ → ℕ
 visits_at zero visits = 0
 visits_at (suc pairs) visits = visits
 
+-- the visits of the worker of this number, what it reports of them, and that its seats are at these locks still
+pub record Serves (locks : List LockId) (worker visits : ℕ) (a : List Posted) (r : Report) (b : List Posted) : Type 0 where
+  pub tours : Tours (length locks) worker (visits_at (length locks) visits) a r b
+  pub own : AreAt locks b
+  pub counted : IsReportOf 1 (visits_at (length locks) visits) r
+
+-- what several reports say together
+abbrev pub total : List Report → Report
+total [] = nobody
+total (r ∷ rs) = both r (total rs)
+
 -- workers from this number on, each of which makes so many visits, and what they report together
 abbrev pub Works : ℕ → ℕ → ℕ → List (List Posted) → Report → List (List Posted) → Type 0
 Works pairs visits first [] r bs = (bs ≡ []) × (r ≡ nobody)
 Works pairs visits first (a ∷ more) r bs = (b : List Posted) × (rest : List (List Posted)) × (q : Report) × (s : Report) × (bs ≡ b ∷ rest) × Tours pairs first visits a q b
     × Works pairs visits (suc first) more s rest × (r ≡ both q s)
-
--- a report of so many workers with so many visits each: each visit is counted once, as a turn, as a refused one, or as one that found no queue enabled
-pub record IsReportOf (workers visits : ℕ) (r : Report) : Type 0 where
-  pub started : r.started ≡ workers
-  pub blocked : r.blocked ≤ r.turns
-  pub all : r.turns + r.refused + r.idle ≡ workers * visits

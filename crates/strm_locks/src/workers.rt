@@ -1,8 +1,7 @@
 //! Workers: threads that visit the pairs of a system, and make the turns of enabled queues.
 
-ghost use Rattle.std.specs.Prelude.{◌≡◌, ◌+◌, ◌<◌, ◌≤◌, IfOk, length, map, replicate};
-ghost use Rattle.std.specs.Thread.{IsSync};
-ghost use Rattle.strm_locks.specs.Reports.{AreAt, AreCrew, IsReportOf, Meets, Tours, at_rest, both, counted, visits_at};
+ghost use Rattle.std.specs.Prelude.{◌≡◌, ℕ, ◌+◌, ◌<◌, ◌≤◌, IfOk, length, map, replicate, slice_index_or};
+ghost use Rattle.strm_locks.specs.Reports.{AreAt, AreCrew, IsReportOf, Meets, Serves, Tours, Works, at_rest, both, counted, total, visits_at};
 
 use crate::gate::{At, Gate};
 use crate::held::Made;
@@ -12,7 +11,7 @@ use crate::visit::Post;
 use std::alloc::{AllocError, Global};
 use std::marker::Model;
 use std::sync::Wait;
-use std::thread::{Threads, join_mut};
+use std::thread::{Threads, for_each_mut};
 use strm_types::Turn;
 
 /// What workers did: how many ran, how many turns they made, how many of these found the queue blocked, how many were refused, and how many
@@ -97,6 +96,13 @@ impl<P: Object> Model for Worker<P> {
     ghost view = { λ w. w.posts.items };
 }
 
+// A worker, and what it reported last.
+#[derive(Drop)]
+struct Hand<P: Object> {
+    worker: Worker<P>,
+    report: Report,
+}
+
 /// Workers of a system, numbered from 0 on, each with a seat at each pair, by which it makes its visits. `System::crew` makes them; those that are
 /// handed in are of that system.
 ///
@@ -104,21 +110,21 @@ impl<P: Object> Model for Worker<P> {
 /// it.
 #[derive(Drop)]
 pub struct Crew<P: Object> {
-    workers: Vec<Worker<P>>,
+    hands: Vec<Hand<P>>,
 }
 
 impl<P: Object> Model for Crew<P> {
-    ghost use Rattle.std.specs.Prelude.{◌<◌, List, length};
+    ghost use Rattle.std.specs.Prelude.{◌<◌, List, length, map};
     ghost use Rattle.strm_locks.specs.Turns.{Posted};
 
     ghost Value = { List (List Posted) };
 
-    ghost view = { λ c. c.workers.items };
+    ghost view = { λ c. map (λ h. h.worker) c.hands.items };
 
-    ghost invariant = { λ c. length c.workers.items < 4294967296 };
+    ghost invariant = { λ c. length c.hands.items < 4294967296 };
 }
 
-// What workers from a number on are to do: so many visits each.
+// What a worker of this number is to do: so many visits.
 #[derive(Clone, Copy)]
 struct Shift {
     first: u32,
@@ -146,9 +152,12 @@ impl<P: Object> System<P> {
         let mut all = Vec::new(alloc);
         for made in 0..workers {
             let worker = self.worker(alloc)?;
-            all.push(worker)?;
+            all.push(Hand {
+                worker,
+                report: BEGUN,
+            })?;
         }
-        Ok(Crew { workers: all })
+        Ok(Crew { hands: all })
     }
 
     // One visit of a worker to a pair, within a gate.
@@ -199,40 +208,64 @@ impl<P: Object> System<P> {
     }
 }
 
-// The workers of a shift, each on a thread, by halves.
-fn work_from<P: Object + Send, R: Threads + Wait + Sync, G: Gate + Sync>(
+// A worker's visits, and what it reports.
+fn serve<P: Object, R: Wait, G: Gate>(
     rt: &R,
     system: &System<P>,
     gate: &G,
     shift: Shift,
-    workers: &mut [Worker<P>],
-) -> Report
-    requires some { 0 < length workers.old }
-    requires last { shift.first + length workers.old < 4294967296 }
-    requires own { AreCrew system.now.locks workers.old }
-    ensures { IsReportOf (length workers.old) (visits_at (length system.now.locks) shift.visits) result }
+    hand: &mut Hand<P>,
+)
+    requires { AreAt system.now.locks hand.old.worker }
+    ensures { Serves system.now.locks shift.first shift.visits hand.old.worker hand.new.report hand.new.worker }
 {
-    if workers.len() == 1 {
-        return system.tour(rt, gate, shift, &mut workers[0]);
+    hand.report = system.tour(rt, gate, shift, &mut hand.worker);
+}
+
+// The visits of all workers, each on a thread.
+fn serve_all<P: Object + Send, R: Threads + Wait + Sync, G: Gate + Sync>(
+    rt: &R,
+    system: &System<P>,
+    gate: &G,
+    visits: u32,
+    hands: &mut [Hand<P>],
+)
+    requires few { length hands.old < 4294967296 }
+    requires own { (i : ℕ) (d : _) → i < length hands.old → AreAt system.now.locks (slice_index_or hands.old i d).worker }
+    ensures { (i : ℕ) (d : _) → i < length hands.old →
+        Serves system.now.locks i visits
+        (slice_index_or hands.old i d).worker (slice_index_or hands.new i d).report (slice_index_or hands.new i d).worker }
+{
+    let threads = hands.len();
+    if threads == 0 {
+        return;
     }
-    let half = workers.len() / 2;
-    let rest = Shift {
-        first: shift.first + half as u32,
-        ..shift
-    };
-    let (left, right) = workers.split_at_mut(half);
-    let (one, two) = join_mut(
+    for_each_mut(
         rt,
-        &mut || -> Report
-            requires { IsSync R.row × (0 < length left.now) × (shift.first + length left.now < 4294967296) × AreCrew system.now.locks left.now }
-            ensures { IsReportOf (length left.entry.now) (visits_at (length system.entry.now.locks) shift.visits) result }
-        { work_from(rt, system, gate, shift, left) },
-        &mut || -> Report
-            requires { IsSync R.row × (0 < length right.now) × (rest.first + length right.now < 4294967296) × AreCrew system.now.locks right.now }
-            ensures { IsReportOf (length right.entry.now) (visits_at (length system.entry.now.locks) rest.visits) result }
-        { work_from(rt, system, gate, rest, right) },
+        hands,
+        threads,
+        &|number: usize, hand: &mut Hand<P>|
+            requires { (number < 4294967296) × AreAt system.now.locks hand.now.worker }
+            ensures { Serves system.entry.now.locks number visits hand.entry.now.worker hand.exit.now.report hand.exit.now.worker }
+        {
+            let first = number as u32;
+            serve(rt, system, gate, Shift { first, visits }, hand);
+        },
     );
-    one.plus(&two)
+}
+
+// What all workers report together, each of so many visits at so many pairs.
+fn told<P: Object>(hands: &[Hand<P>], pairs: u32, visits: u32) -> Report
+    requires few { length hands.now < 4294967296 }
+    requires each { (i : ℕ) (d : _) → i < length hands.now → IsReportOf 1 (visits_at pairs visits) (slice_index_or hands.now i d).report }
+    ensures total { result ≡ total (map (λ h. h.report) hands.now) }
+    ensures counted { IsReportOf (length hands.now) (visits_at pairs visits) result }
+{
+    let mut report = NOBODY;
+    for hand in hands {
+        report = report.plus(&hand.report);
+    }
+    report
 }
 
 impl<P: Object + Send> System<P> {
@@ -247,12 +280,13 @@ impl<P: Object + Send> System<P> {
         gate: &G,
     ) -> Report
         requires { AreCrew self.now.locks crew.old }
-        ensures { IsReportOf (length crew.old) (visits_at (length self.now.locks) visits) result }
+        ensures works { Works (length self.now.locks) (visits_at (length self.now.locks) visits) 0 crew.old result crew.new }
+        ensures own { AreCrew self.now.locks crew.new }
+        ensures counted { IsReportOf (length crew.old) (visits_at (length self.now.locks) visits) result }
     {
-        if crew.workers.is_empty() {
-            return NOBODY;
-        }
-        let shift = Shift { first: 0, visits };
-        work_from(rt, self, gate, shift, crew.workers.as_mut_slice())
+        let pairs = self.pairs();
+        let hands = crew.hands.as_mut_slice();
+        serve_all(rt, self, gate, visits, hands);
+        told(hands, pairs, visits)
     }
 }
