@@ -3,4 +3,5 @@ pub mod Calling
 pub mod Keeps
 pub mod Refusing
 pub mod Reports
+pub mod Rows
 pub mod Sums

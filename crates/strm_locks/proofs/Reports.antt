@@ -25,7 +25,7 @@ visit-counts n made q r same is = subst (Counts (n + 1)) (sym same) (at made)
     at None = let b = is.2 in (is.0, is.1, omega arith)
     at (Some m) = answer-counts n m.answer q is
 
-times-sum : (a b v : ℕ) → (a + b) * v ≡ a * v + b * v
+pub times-sum : (a b v : ℕ) → (a + b) * v ≡ a * v + b * v
 times-sum zero b v = omega arith
 times-sum (suc a) b v = let r = times-sum a b v in omega arith
 
@@ -35,3 +35,7 @@ reports-join a b n v r s t sum one two is = subst (λ x. IsReportOf n v x) (sym 
   blocked = let x = one.blocked in let y = two.blocked in omega arith;
   all = let x = one.all in let y = two.all in let z = times-sum a b v in let w : (a + b) * v ≡ n * v = ap (λ k. k * v) sum in omega arith;
 }
+
+-- a report of one worker
+pub counts_one : (n : ℕ) (r : Report) → Counts n r → IsReportOf 1 n r
+counts_one n r is = let all = is.2 in record { started = is.0; blocked = is.1; all = omega arith }

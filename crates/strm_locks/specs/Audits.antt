@@ -25,6 +25,7 @@ pub record IsAudited (v : Visited) (told : Told) (ms sm : Ledger) : Type 0 where
   pub pair : PairState
   pub met : v.met ≡ pair ∷ pair ∷ []
   pub made : v.made ≡ None
+  pub sized : pair.limits ≡ v.lock.sizes
   pub shows : ShowsPair pair record { told = told; ms = ms; sm = sm }
   pub book : IsBookOf pair told
   pub ends : AreTold pair told

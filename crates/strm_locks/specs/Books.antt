@@ -1,6 +1,8 @@
 -- What is told of calls, and the book of all that was told of a pair.
 use Rattle.std.specs.Prelude.{◌≡◌, ◌≢◌, ℕ, zero, suc, ◌+◌, ◌-◌, ◌<◌, ◌≤◌, min, List, [], ◌∷◌, ◌++◌, length}
+use Rattle.atomic_table.specs.Seated.{TableId}
 use Rattle.strm_types.specs.declared.names.Dir.TheVariants.{MasterToSlave, SlaveToMaster}
+use Rattle.strm_types.specs.declared.limits.Config.{Config}
 use Rattle.strm_types.specs.Journal.{PlainEntry}
 use Rattle.strm_laws.specs.Pair.{PairState, new_pair}
 use Rattle.strm_laws.specs.State.{book}
@@ -94,6 +96,11 @@ kept calls p left = record { pair = p; book = book_of calls p left }
 -- the number of the calls, which stands still at the greatest of 64 bits
 abbrev pub IsCounted : ℕ → List PlainEntry → Type 0
 IsCounted calls entries = calls ≡ min (length entries) 18446744073709551615
+
+-- a lock, as contracts see it: its table, and the sizes of the pair that it was made with
+pub record LockId : Type 0 where
+  pub table : TableId
+  pub sizes : Config
 
 -- the pair is as it is made
 abbrev pub IsNew : PairState → Type 0

@@ -1,9 +1,9 @@
 -- An end, as contracts see it, and what calls do to it.
 use Rattle.std.specs.Prelude.{◌≡◌, ◌≢◌, ℕ, Bool, ◌+◌, ◌-◌, ◌/◌, ◌⊎◌, List, [], ◌∷◌, ◌++◌, Result, Ok, Err, MatchResult}
-use Rattle.atomic_table.specs.Seated.{TableId}
 use Rattle.strm_types.specs.declared.answers.Answer.{Answer}
 use Rattle.strm_types.specs.declared.events.Caller.{Caller}
 use Rattle.strm_types.specs.declared.events.Event.TheVariants.{OpenMaster, OpenSlave}
+use Rattle.strm_types.specs.declared.limits.Config.{Config}
 use Rattle.strm_types.specs.declared.names.Side.TheVariants.{Slave}
 use Rattle.strm_types.specs.declared.refusals.Refusal.{Refusal}
 use Rattle.strm_types.specs.declared.refusals.Refusal.TheVariants.{Erange}
@@ -13,14 +13,14 @@ use Rattle.strm_types.specs.Journal.{PlainEntry}
 use Rattle.strm_laws.specs.Pair.{PairState}
 use Rattle.strm_locks.specs.declared.end.TheConstants.{ALL_PARTS}
 use Rattle.strm_locks.specs.declared.told.Told.{Told}
-use Rattle.strm_locks.specs.Books.{IsNew, nothing, plus, tally_of}
+use Rattle.strm_locks.specs.Books.{IsNew, LockId, nothing, plus, tally_of}
 use Rattle.strm_locks.specs.Rules.{Mine, share}
 use Rattle.strm_locks.specs.Shares.{Does, IsShut, Makes, Outcome, Tells, entry_of, opener}
-use Rattle.strm_locks.specs.Sounds.{IsSound}
+use Rattle.strm_locks.specs.Sounds.{IsSoundAt}
 
--- an end: the table of its lock, whom it calls as, what it was told, the entries of its calls, its parts, and the pairs that its calls met, two for each: as the call found it, and as it left it
+-- an end: its lock, whom it calls as, what it was told, the entries of its calls, its parts, and the pairs that its calls met, two for each: as the call found it, and as it left it
 pub record Share : Type 0 where
-  pub table : TableId
+  pub lock : LockId
   pub caller : Caller
   pub told : Told
   pub made : List PlainEntry
@@ -28,8 +28,8 @@ pub record Share : Type 0 where
   pub met : List PairState
 
 -- the end is of this lock
-abbrev pub IsOf : TableId → Share → Type 0
-IsOf lock e = e.table ≡ lock
+abbrev pub IsOf : LockId → Share → Type 0
+IsOf lock e = e.lock ≡ lock
 
 -- the end met the pair p, and left it as q
 abbrev pub passing : Share → PairState → PairState → Share
@@ -52,7 +52,7 @@ split_end e = record e { told = nothing; made = []; parts = e.parts / 2; met = [
 
 -- the slave's end that is cut off one that opens the slave
 abbrev pub slave_end : Share → Share
-slave_end e = record { table = e.table; caller = caller_of Slave; told = nothing; made = []; parts = e.parts / 2; met = [] }
+slave_end e = record { lock = e.lock; caller = caller_of Slave; told = nothing; made = []; parts = e.parts / 2; met = [] }
 
 -- one end of two, with what both were told and the parts of both
 abbrev pub joined_end : Share → Share → Share
@@ -64,11 +64,11 @@ IsTold a p asked bytes r q b = MatchResult r
     (λ x. Gains a p (entry_of a.caller asked bytes x) q b)
     (λ _. b ≡ passing a p q)
 
--- A call by an end, with the bytes of the caller's buffer before and behind it: the end met one pair, to which this call was done and nothing else, and was told of just that
+-- A call by an end, with the bytes of the caller's buffer before and behind it: the end met its lock's pair, to which this call was done and nothing else, and was told of just that
 pub record Calls (a : Share) (asked : Request) (before bytes : List ℕ) (r : Outcome) (b : Share) : Type 0 where
   pub found : PairState
   pub left : PairState
-  pub sound : IsSound found
+  pub sound : IsSoundAt a.lock found
   pub does : Does found a.caller asked before bytes r left
   pub told : IsTold a found asked bytes r left b
 
@@ -85,14 +85,14 @@ CallsSlave stands a r c = MatchResult r
     (λ z. ((a.parts ≡ 1) × (z ≡ Erange) × (c ≡ a)) ⊎ ((a.parts ≢ 1) × (z ≢ Erange) × Calls a OpenSlave [] [] (Err z) c))
 
 -- The end that opened a pair: it met one that nobody had opened, has all its parts, and was told of that call alone.
-pub record IsOpened (lock : TableId) (e : Share) : Type 0 where
+pub record IsOpened (lock : LockId) (e : Share) : Type 0 where
   pub here : IsOf lock e
   pub caller : e.caller ≡ opener
   pub parts : e.parts ≡ ALL_PARTS
   pub found : PairState
   pub left : PairState
   pub met : e.met ≡ found ∷ left ∷ []
-  pub sound : IsSound found
+  pub sound : IsSoundAt lock found
   pub new : IsNew found
   pub answer : Answer ℕ
   pub bytes : List ℕ
@@ -101,7 +101,7 @@ pub record IsOpened (lock : TableId) (e : Share) : Type 0 where
   pub made : e.made ≡ entry_of opener OpenMaster bytes answer ∷ []
 
 -- What a seat that opens the master of the pair p, which becomes q, knows then: it has all parts and was told of that call alone; or it has nothing still, and the pair stays
-abbrev pub OpenedAs : PairState → PairState → List ℕ → Told → Mine → Outcome → Type 0
-OpenedAs p q bytes told m r = MatchResult r
-    (λ a. let e = entry_of opener OpenMaster bytes a in IsNew p × Makes p opener OpenMaster bytes a q × (told ≡ tally_of e) × (m ≡ (share told (e ∷ []) ALL_PARTS (p ∷ q ∷ []), [])))
-    (λ z. (q ≡ p) × IsShut p z × (m ≡ (share nothing [] 0 (p ∷ q ∷ []), [])))
+abbrev pub OpenedAs : Config → PairState → PairState → List ℕ → Told → Mine → Outcome → Type 0
+OpenedAs sizes p q bytes told m r = MatchResult r
+    (λ a. let e = entry_of opener OpenMaster bytes a in IsNew p × Makes p opener OpenMaster bytes a q × (told ≡ tally_of e) × (m ≡ (share sizes told (e ∷ []) ALL_PARTS (p ∷ q ∷ []), [])))
+    (λ z. (q ≡ p) × IsShut p z × (m ≡ (share sizes nothing [] 0 (p ∷ q ∷ []), [])))

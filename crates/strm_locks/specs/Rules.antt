@@ -3,6 +3,7 @@ use Rattle.std.specs.Prelude.{◌≡◌, ◌≢◌, ℕ, ◌+◌, ◌-◌, ◌/�
 use mathlib.Core.Option.{some}
 use lib.ListN.{get_elem?}
 use Rattle.atomic_table.specs.Table.{State, Me, Step}
+use Rattle.strm_types.specs.declared.limits.Config.{Config}
 use Rattle.strm_types.specs.Journal.{PlainEntry}
 use Rattle.strm_laws.specs.Pair.{PairState}
 use Rattle.strm_locks.specs.declared.end.TheConstants.{ALL_PARTS}
@@ -11,24 +12,28 @@ use Rattle.strm_locks.specs.declared.told.Told.{Told}
 use Rattle.strm_locks.specs.declared.view.View.{View}
 use Rattle.strm_locks.specs.Books.{pick, nothing, plus, minus, weigh, IsReordered, IsBelow, Fits, Book, Kept, closed_book}
 
-abbrev pub view : Told → List PlainEntry → ℕ → ℕ → Book → List PairState → View
-view told made parts holds found met = record { told = told; made = made; parts = parts; holds = holds; found = found; met = met }
+abbrev pub view : Config → Told → List PlainEntry → ℕ → ℕ → Book → List PairState → View
+view sizes told made parts holds found met = record { sizes = sizes; told = told; made = made; parts = parts; holds = holds; found = found; met = met }
 
 -- a view without the lock
-abbrev pub share : Told → List PlainEntry → ℕ → List PairState → View
-share told made parts met = view told made parts 0 closed_book met
+abbrev pub share : Config → Told → List PlainEntry → ℕ → List PairState → View
+share sizes told made parts met = view sizes told made parts 0 closed_book met
 
--- a view that was told nothing and met no pair
-abbrev pub fresh : View
-fresh = share nothing [] 0 []
+-- a view that was told nothing and met no pair, at a lock of a pair of these sizes
+abbrev pub fresh : Config → View
+fresh sizes = share sizes nothing [] 0 []
 
 -- the view v with the lock, which found this pair with its book
 abbrev pub holding : View → Kept → View
-holding v k = view v.told v.made v.parts 1 k.book (v.met ++ k.pair ∷ [])
+holding v k = view v.sizes v.told v.made v.parts 1 k.book (v.met ++ k.pair ∷ [])
 
 -- the view v without the lock, which has left this pair
 abbrev pub leaving : View → PairState → View
 leaving v p = record v { holds = 0; found = closed_book; met = v.met ++ p ∷ [] }
+
+-- the view of a seat that another took in
+abbrev pub spent : View
+spent = fresh record { mblks = 0; dblks = 0; journal_events = 0; journal_bytes = 0 }
 
 -- f of each view, added up
 abbrev pub total : (View → ℕ) → List View → ℕ
@@ -36,12 +41,13 @@ total f [] = 0
 total f (v ∷ vs) = f v + total f vs
 
 -- The rule, between any two steps: what all views were told adds up to the book. The word is 1 while one view holds the lock; the book is then the one that it found, else that of the pair in
--- the slot. The views' entries are those of the history, each as often; their parts with those left in the book are all; and a view without a part was told nothing.
-pub record AddsUp (s : State Kept View) : Type 0 where
+-- the slot, which has these sizes. The views' entries are those of the history, each as often; their parts with those left in the book are all; and a view without a part was
+-- told nothing.
+pub record AddsUp (sizes : Config) (s : State Kept View) : Type 0 where
   pub book : Book
   pub has_word : WORD < length s.words
   pub bit : slice_index s.words WORD < 2
-  pub at_home : slice_index s.words WORD ≡ 0 → (k : Kept) × (get_elem? s.homes 0 ≡ some (some k)) × (k.book ≡ book)
+  pub at_home : slice_index s.words WORD ≡ 0 → (k : Kept) × (get_elem? s.homes 0 ≡ some (some k)) × (k.book ≡ book) × (k.pair.limits ≡ sizes)
   pub holders : total (λ v. v.holds) s.views ≡ slice_index s.words WORD
   pub found : (id : ℕ) (v : View) → get_elem? s.views id ≡ some v → 0 < v.holds → v.found ≡ book
   pub totals : (i : ℕ) → total (λ v. pick i v.told) s.views ≡ pick i book.totals
@@ -73,15 +79,15 @@ Mine = Me Kept View
 -- the view v, which has left this pair and is told what its book has beyond the book b
 abbrev pub grown : View → Book → Kept → View
 grown v b k =
-    let c = k.book in share (minus (plus v.told c.totals) b.totals) (v.made ++ drop (length b.history) c.history) (v.parts + b.left - c.left) (v.met ++ k.pair ∷ [])
+    let c = k.book in share v.sizes (minus (plus v.told c.totals) b.totals) (v.made ++ drop (length b.history) c.history) (v.parts + b.left - c.left) (v.met ++ k.pair ∷ [])
 
 -- the view v, which has closed the book of this pair: it has nothing but what it met
 abbrev pub closing : View → PairState → View
-closing v p = share nothing [] 0 (v.met ++ p ∷ [])
+closing v p = share v.sizes nothing [] 0 (v.met ++ p ∷ [])
 
--- the lock is tried: where it was free the seat has it, with the pair and its book
+-- the lock is tried: where it was free the seat has it, with the pair, of the sizes that it knows, and its book
 abbrev pub taken : Step Kept → Mine → ℕ → Mine → Type 0
-taken st m n m' = (n ≡ 0 → (k : Kept) × (m' ≡ (holding m.0 k, (0, k) ∷ m.1)) × Knows m.0 k.book) × (n ≢ 0 → m' ≡ m)
+taken st m n m' = (n ≡ 0 → (k : Kept) × (m' ≡ (holding m.0 k, (0, k) ∷ m.1)) × Knows m.0 k.book × (k.pair.limits ≡ m.0.sizes)) × (n ≢ 0 → m' ≡ m)
 
 -- the lock is given back with a pair whose book may have grown
 abbrev pub given : Step Kept → Mine → ℕ → Mine → Type 0
@@ -99,17 +105,17 @@ passed st m n m' = (k : Kept) → m.1 ≡ (0, k) ∷ [] → m' ≡ (leaving m.0 
 abbrev pub looked : Step Kept → Mine → ℕ → Mine → Type 0
 looked st m n m' = (m' ≡ m) × Fits m.0.told × (m.0.parts ≤ ALL_PARTS)
 
--- a seat comes
+-- a seat comes as it is made
 abbrev pub sat : Step Kept → Mine → ℕ → Mine → Type 0
-sat st m n m' = m' ≡ (fresh, [])
+sat st m n m' = m' ≡ m
 
 -- a seat is cut in two: the first keeps what was told and met, and the greater half of the parts
 abbrev pub kept_half : View → View
-kept_half v = view v.told v.made (v.parts - v.parts / 2) v.holds v.found v.met
+kept_half v = view v.sizes v.told v.made (v.parts - v.parts / 2) v.holds v.found v.met
 
 abbrev pub split_half : View → View
-split_half v = share nothing [] (v.parts / 2) []
+split_half v = share v.sizes nothing [] (v.parts / 2) []
 
 -- two seats are joined
 abbrev pub joined : View → View → View
-joined v w = view (plus v.told w.told) (v.made ++ w.made) (v.parts + w.parts) v.holds v.found (v.met ++ w.met)
+joined v w = view v.sizes (plus v.told w.told) (v.made ++ w.made) (v.parts + w.parts) v.holds v.found (v.met ++ w.met)

@@ -39,4 +39,5 @@ pub record IsAll (told : Told) (made : List PlainEntry) (pair : PairState) (s : 
 pub record IsSettled (e : Share) (s : Settled) (seen : List PairState) : Type 0 where
   pub pair : PairState
   pub all : IsAll e.told e.made pair s
+  pub sized : pair.limits ≡ e.lock.sizes
   pub met : seen ≡ e.met ++ pair ∷ [] ++ new_pair pair.limits ∷ []

@@ -15,14 +15,18 @@ use Rattle.strm_laws.specs.Pair.{PairState, AddsEntry, call_refused}
 use Rattle.strm_locks.specs.declared.end.TheConstants.{ALL_PARTS}
 use Rattle.strm_locks.specs.declared.told.Told.{Told}
 use Rattle.strm_locks.specs.declared.view.View.{View}
-use Rattle.strm_locks.specs.Books.{pick, minus, IsBelow, IsCounted, IsNew, Fits, Book, Kept, Adds, book_with, history_of, tally_of}
+use Rattle.strm_locks.specs.Books.{pick, minus, nothing, IsBelow, IsCounted, IsNew, Fits, Book, Kept, LockId, Adds, book_with, history_of, tally_of}
 use Rattle.strm_locks.specs.Rules.{Mine, share, holding, Knows}
 use Rattle.strm_locks.specs.Sounds.{IsSound}
 
 -- an end's seat, where the end was told this and has so many parts: it holds no lock
 pub record IsSeated (seat : Mine) (told : Told) (parts : ℕ) : Type 0 where
-  pub shown : seat ≡ (share told seat.0.made parts seat.0.met, [])
+  pub shown : seat ≡ (share seat.0.sizes told seat.0.made parts seat.0.met, [])
   pub some_part : 0 < parts
+
+-- a seat that was told nothing, and holds no lock
+abbrev pub IsPosted : Mine → Type 0
+IsPosted seat = seat ≡ (share seat.0.sizes nothing [] 0 seat.0.met, [])
 
 -- a seat without the lock
 abbrev pub IsFree : Seat Kept View → Type 0
@@ -31,6 +35,10 @@ IsFree s = (s.me.1 ≡ []) × (s.me.0.holds ≡ 0)
 -- one seat, of the same table
 abbrev pub IsSame : Seat Kept View → Seat Kept View → Type 0
 IsSame s t = (t.table_id ≡ s.table_id) × (t.id ≡ s.id)
+
+-- the lock that a seat is at
+abbrev pub lock_of : Seat Kept View → LockId
+lock_of s = record { table = s.table_id; sizes = s.me.0.sizes }
 
 -- the seat has the pair
 abbrev pub HasPair : Seat Kept View → Type 0
@@ -44,10 +52,11 @@ HasOpened s = (k : Kept) × (s.me.1 ≡ (0, k) ∷ []) × (k.book.left ≢ ALL_P
 abbrev pub Became : (Kept → Kept → Type 0) → List (ℕ × Kept) → List (ℕ × Kept) → Type 0
 Became done before behind = (k : Kept) → before ≡ (0, k) ∷ [] → (k' : Kept) × (behind ≡ (0, k') ∷ []) × done k k'
 
--- the seat whose view was v has the lock, and found this pair with its book
+-- the seat whose view was v has the lock, and found this pair, of its lock's sizes, with its book
 pub record HasLock (v : View) (k : Kept) (s : Seat Kept View) : Type 0 where
   pub seen : s.me ≡ (holding v k, (0, k) ∷ [])
   pub knows : Knows v k.book
+  pub sized : k.pair.limits ≡ v.sizes
 
 -- what the lock's holder may give back: a book that has grown from the one that it found, and whose numbers fit
 pub record MayGive (v : View) (c : Book) : Type 0 where

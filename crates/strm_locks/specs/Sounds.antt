@@ -8,6 +8,7 @@ use Rattle.strm_laws.specs.Ledgers.{Balanced, is_booked, own_places_of, places_o
 use Rattle.strm_laws.specs.Pair.{PairState}
 use Rattle.strm_laws.specs.State.{AreOrdered, messages_in}
 use Rattle.strm_laws.specs.Step.{IsLegal, replay}
+use Rattle.strm_locks.specs.Books.{LockId}
 
 -- each message has a message block at least, and where none stands all blocks of both kinds are free
 abbrev pub HasBlocks : PairState → Type 0
@@ -28,3 +29,7 @@ pub record IsSound (p : PairState) : Type 0 where
   pub blocks : HasBlocks p
   pub balanced : (dir : Dir) → Balanced dir p.state p.fates
   pub once : (o : Origin) → IsPlacedOnce o p
+
+-- the same, of a pair that has the sizes of the one that its lock was made with
+abbrev pub IsSoundAt : LockId → PairState → Type 0
+IsSoundAt lock p = IsSound p × (p.limits ≡ lock.sizes)

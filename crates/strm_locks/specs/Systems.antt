@@ -1,12 +1,12 @@
 -- A system of pairs, and the ends that are of it.
 use Rattle.std.specs.Prelude.{◌≡◌, ℕ, List, Option, None, Some, slice_get}
-use Rattle.atomic_table.specs.Seated.{TableId}
 use Rattle.strm_minors.specs.Openers.{MinorSpace}
+use Rattle.strm_locks.specs.Books.{LockId}
 use Rattle.strm_locks.specs.Ends.{Share, joined_end}
 
 -- a system: the lock of each pair, by its number, and the minors
 pub record Plan : Type 0 where
-  pub locks : List TableId
+  pub locks : List LockId
   pub minors : MinorSpace
 
 -- an end of a system's pair, with the number of the pair, and the minor by which the pair was opened, where this end has it
@@ -29,4 +29,4 @@ joined_ends a b = numbered a.pair (either_minor a.minor b.minor) (joined_end a.e
 
 -- the end is of the pair that has its number in this system
 abbrev pub IsOne : Plan → Numbered → Type 0
-IsOne system e = slice_get system.locks e.pair ≡ Some e.end.table
+IsOne system e = slice_get system.locks e.pair ≡ Some e.end.lock

@@ -36,7 +36,7 @@ pub struct Audit<P: Object> {
 impl<P: Object> Lock<P> {
     // What the pair in its slot tells. It stays.
     fn look_held(&self, seat: &mut Place<P>) -> Settled
-        requires own { seat.old.table_id ≡ self.now }
+        requires own { seat.old.table_id ≡ self.now.table }
         requires lock { HasPair seat.old }
         ensures same { IsSame seat.old seat.new × (seat.new.me.0 ≡ seat.old.me.0) }
         ensures did { Became (λ k k'. (k' ≡ k) × IsShown k result) seat.old.me.1 seat.new.me.1 }
@@ -47,7 +47,7 @@ impl<P: Object> Lock<P> {
 
     // The audit, and all that is known of it.
     fn audited<R: Wait>(&self, rt: &R) -> Audit<P>
-        ensures here { result.visit.table ≡ self.now }
+        ensures here { result.visit.lock ≡ self.now }
         ensures found { IsAudited result.visit result.told result.ms result.sm }
     {
         let mut seat = self.sit();
@@ -66,6 +66,7 @@ impl<P: Object> Lock<P> {
     /// Takes the lock, looks, and gives it back. Of the pair that it found, and left as it was, it tells what holds of every pair whose lock is
     /// free, after any calls of any threads:
     ///
+    /// - it has the sizes of the pair that the lock was made with (`sizes`);
     /// - its journal is legal from its base (`legal`), and the queues for which its message blocks stand are the plain queues that replaying it
     ///   gives (`stands`);
     /// - each queue is ordered by priority, and first come within each (`ordered`);
@@ -76,7 +77,8 @@ impl<P: Object> Lock<P> {
     /// - both ledgers are that pair's own (`ledgers`);
     /// - what is told is its book: its calls, and the bytes that they wrote and read (`book`), and what its ends were told adds up to it (`ends`).
     pub fn audit<R: Wait>(&self, rt: &R) -> Audit<P>
-        ensures here { result.visit.table ≡ self.now }
+        ensures here { result.visit.lock ≡ self.now }
+        ensures sizes { Found result.visit (λ p. p.limits ≡ self.now.sizes) }
         ensures legal { Found result.visit (λ p. IsLegal plain p.base p.journal) }
         ensures stands { Found result.visit (λ p. p.state ≡ replay plain p.base p.journal) }
         ensures ordered { Found result.visit (λ p. AreOrdered p.state) }
@@ -97,7 +99,8 @@ impl<P: Object> System<P> {
     /// What [`Lock::audit`] tells of a pair: clause by clause what holds of it, whatever any threads called.
     pub fn audit<R: Wait>(&self, rt: &R, pair: u32) -> Audit<P>
         requires { pair < length self.now.locks }
-        ensures here { slice_get self.now.locks pair ≡ Some result.visit.table }
+        ensures here { slice_get self.now.locks pair ≡ Some result.visit.lock }
+        ensures sizes { Found result.visit (λ p. p.limits ≡ result.visit.lock.sizes) }
         ensures legal { Found result.visit (λ p. IsLegal plain p.base p.journal) }
         ensures stands { Found result.visit (λ p. p.state ≡ replay plain p.base p.journal) }
         ensures ordered { Found result.visit (λ p. AreOrdered p.state) }

@@ -4,21 +4,22 @@ ghost use Rattle.std.specs.Prelude.{◌≡◌, ◌≢◌, [], ◌∷◌, ◌++�
 ghost use Rattle.strm_types.specs.Events.{request};
 ghost use Rattle.strm_locks.specs.Books.{closed_book};
 ghost use Rattle.strm_locks.specs.Ends.{IsOf, IsOpened, Calls, CallsSlave, OpenedAs, Splits, joined_end, kept_end, slave_end};
+ghost use Rattle.strm_locks.specs.Reports.{at_rest};
 ghost use Rattle.strm_locks.specs.Rules.{fresh};
 ghost use Rattle.strm_locks.specs.Settles.{IsAll, IsShown, IsSettled};
-ghost use Rattle.strm_locks.specs.Shares.{IsSame, IsSeated, HasOpened, HasPair, Became, Applied, Opened};
-ghost use Rattle.strm_locks.specs.Sounds.{IsSound};
+ghost use Rattle.strm_locks.specs.Shares.{IsSame, IsSeated, HasOpened, HasPair, Became, Applied, Opened, lock_of};
+ghost use Rattle.strm_locks.specs.Sounds.{IsSound, IsSoundAt};
 ghost use Rattle.strm_laws.specs.Pair.{PairState, new_pair, restarted};
-ghost use Rattle.strm_locks.specs.Turns.{Cuts, IsCut, IsRefusedOpen, IsRestart, IsVisit, Visits};
+ghost use Rattle.strm_locks.specs.Turns.{Cuts, IsCut, IsRefusedOpen, IsRestart, IsVisit, MeetsPair, Visits};
 
 use crate::end::{ALL_PARTS, End, StillShared};
-use crate::gate::{Gate, NoGate};
+use crate::gate::{At, Gate, NoGate};
 use crate::held::{Made, Settled};
 use crate::lock::Lock;
 use crate::object::Object;
 use crate::rule::Place;
 use crate::told::Told;
-use crate::visit::{Closed, Cut, NotOpened, Visit};
+use crate::visit::{Closed, Cut, NotOpened, Post, Visit};
 use std::alloc::Global;
 use std::sync::Wait;
 use strm_image::Trace;
@@ -34,7 +35,7 @@ impl<P: Object> Lock<P> {
         event: &Event<&[u8]>,
         out: &mut Content,
     ) -> (Result<Answer<u32>, Refusal>, Told)
-        requires own { seat.old.table_id ≡ self.now }
+        requires own { seat.old.table_id ≡ self.now.table }
         requires lock { HasOpened seat.old }
         ensures same { IsSame seat.old seat.new × (seat.new.me.0 ≡ seat.old.me.0) }
         ensures did { Became (λ k k'. Applied k caller (request event.now) out.old.items out.new.items result k') seat.old.me.1 seat.new.me.1 }
@@ -49,7 +50,7 @@ impl<P: Object> Lock<P> {
         seat: &mut Place<P>,
         out: &mut Content,
     ) -> (Result<Answer<u32>, Refusal>, Told)
-        requires own { seat.old.table_id ≡ self.now }
+        requires own { seat.old.table_id ≡ self.now.table }
         requires lock { HasPair seat.old }
         ensures same { IsSame seat.old seat.new × (seat.new.me.0 ≡ seat.old.me.0) }
         ensures did { Became (λ k k'. Opened k out.new.items result k') seat.old.me.1 seat.new.me.1 }
@@ -60,7 +61,7 @@ impl<P: Object> Lock<P> {
     }
 
     fn turn_held(&self, seat: &mut Place<P>) -> Option<Made>
-        requires own { seat.old.table_id ≡ self.now }
+        requires own { seat.old.table_id ≡ self.now.table }
         requires lock { HasPair seat.old }
         ensures same { IsSame seat.old seat.new × (seat.new.me.0 ≡ seat.old.me.0) }
         ensures did { Became (λ k k'. (k'.book ≡ k.book) × IsSound k.pair × Visits k.pair result k'.pair) seat.old.me.1 seat.new.me.1 }
@@ -71,7 +72,7 @@ impl<P: Object> Lock<P> {
     }
 
     fn restart_held(&self, seat: &mut Place<P>)
-        requires own { seat.old.table_id ≡ self.now }
+        requires own { seat.old.table_id ≡ self.now.table }
         requires lock { HasPair seat.old }
         ensures same { IsSame seat.old seat.new × (seat.new.me.0 ≡ seat.old.me.0) }
         ensures did { Became (λ k k'. (k'.book ≡ k.book) × IsSound k.pair × (k'.pair ≡ restarted k.pair)) seat.old.me.1 seat.new.me.1 }
@@ -82,7 +83,7 @@ impl<P: Object> Lock<P> {
     }
 
     fn cut_held(&self, seat: &mut Place<P>, alloc: Global) -> Result<Trace, NoMemory>
-        requires own { seat.old.table_id ≡ self.now }
+        requires own { seat.old.table_id ≡ self.now.table }
         requires lock { HasPair seat.old }
         ensures same { IsSame seat.old seat.new × (seat.new.me.0 ≡ seat.old.me.0) }
         ensures did { Became (λ k k'. (k'.book ≡ k.book) × IsSound k.pair × Cuts k.pair result k'.pair) seat.old.me.1 seat.new.me.1 }
@@ -93,7 +94,7 @@ impl<P: Object> Lock<P> {
     }
 
     fn close_held(&self, seat: &mut Place<P>) -> Settled
-        requires own { seat.old.table_id ≡ self.now }
+        requires own { seat.old.table_id ≡ self.now.table }
         requires lock { HasPair seat.old }
         ensures same { IsSame seat.old seat.new × (seat.new.me.0 ≡ seat.old.me.0) }
         ensures did { Became (λ k k'. (k'.book ≡ closed_book) × IsShown k result × (k'.pair ≡ new_pair k.pair.limits)) seat.old.me.1 seat.new.me.1 }
@@ -132,10 +133,11 @@ impl<P: Object> Lock<P> {
         seat: &mut Place<P>,
         out: &mut Content,
     ) -> (Result<Answer<u32>, Refusal>, Told)
-        requires own { seat.old.table_id ≡ self.now }
-        requires fresh { seat.old.me ≡ (fresh, []) }
+        requires own { seat.old.table_id ≡ self.now.table }
+        requires fresh { seat.old.me ≡ (fresh self.now.sizes, []) }
         ensures same { IsSame seat.old seat.new }
-        ensures opened { (p : PairState) × (q : PairState) × IsSound p × OpenedAs p q out.new.items result.1 seat.new.me result.0 }
+        ensures opened { (p : PairState) × (q : PairState) × IsSoundAt self.now p
+            × OpenedAs self.now.sizes p q out.new.items result.1 seat.new.me result.0 }
     {
         self.take(rt, seat);
         let (answer, told) = self.open_held(seat, out);
@@ -264,7 +266,7 @@ impl<P: Object> Lock<P> {
     pub fn settle<R: Wait>(&self, rt: &R, end: End<P>) -> Result<Closed<P>, (StillShared, End<P>)>
         requires { IsOf self.now end }
         ensures { MatchResult result
-            (λ c. (end.parts ≡ ALL_PARTS) × IsOf c.visit.table end × IsSettled end c.settled c.visit.met)
+            (λ c. (end.parts ≡ ALL_PARTS) × IsOf c.visit.lock end × IsSettled end c.settled c.visit.met)
             (λ back. (end.parts ≢ ALL_PARTS) × (back.1 ≡ end)) }
     {
         if end.parts != ALL_PARTS {
@@ -278,10 +280,11 @@ impl<P: Object> Lock<P> {
 
     // The same by the seat of such an end, which has nothing since but what it met, and no lock.
     fn settle_by<R: Wait>(&self, rt: &R, seat: &mut Place<P>) -> Settled
-        requires own { seat.old.table_id ≡ self.now }
+        requires own { lock_of seat.old ≡ self.now }
         requires all { IsSeated seat.old.me seat.old.me.0.told ALL_PARTS }
         ensures same { IsSame seat.old seat.new }
-        ensures settled { (p : PairState) × IsAll seat.old.me.0.told seat.old.me.0.made p result
+        ensures sizes { seat.new.me.0.sizes ≡ seat.old.me.0.sizes }
+        ensures settled { (p : PairState) × (p.limits ≡ seat.old.me.0.sizes) × IsAll seat.old.me.0.told seat.old.me.0.made p result
             × (seat.new.me.0.met ≡ seat.old.me.0.met ++ p ∷ [] ++ new_pair p.limits ∷ []) }
     {
         self.take(rt, seat);
@@ -321,25 +324,34 @@ impl<P: Object> Lock<P> {
     pub fn turn<R: Wait>(&self, rt: &R) -> Visit<P>
         ensures { IsVisit self.now result }
     {
-        self.visit(rt, &NoGate, 0, 0)
+        let mut post = self.post();
+        let made = self.visit(rt, &NoGate, At { worker: 0, pair: 0 }, &mut post);
+        Visit::of(post, made)
     }
 
-    // The same within a gate, for a worker at a pair of these numbers.
+    // A seat that met nothing.
+    pub(crate) fn post(&self) -> Post<P>
+        ensures { result ≡ at_rest self.now }
+    {
+        Post { seat: self.sit() }
+    }
+
+    // One visit by a seat, within a gate.
     pub(crate) fn visit<R: Wait, G: Gate>(
         &self,
         rt: &R,
         gate: &G,
-        worker: u32,
-        pair: u32,
-    ) -> Visit<P>
-        ensures { IsVisit self.now result }
+        at: At,
+        post: &mut Post<P>,
+    ) -> Option<Made>
+        requires { post.old.lock ≡ self.now }
+        ensures { MeetsPair post.old result post.new }
     {
-        let mut seat = self.sit();
-        self.take(rt, &mut seat);
-        gate.before(worker, pair);
-        let made = self.turn_held(&mut seat);
-        gate.after(worker, pair);
-        self.pass(&mut seat);
-        Visit { seat, made }
+        self.take(rt, &mut post.seat);
+        gate.before(at.worker, at.pair);
+        let made = self.turn_held(&mut post.seat);
+        gate.after(at.worker, at.pair);
+        self.pass(&mut post.seat);
+        made
     }
 }

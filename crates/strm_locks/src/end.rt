@@ -34,11 +34,18 @@ pub struct End<P: Object> {
 
 impl<P: Object> Model for End<P> {
     ghost use Rattle.strm_locks.specs.Ends.{Share};
-    ghost use Rattle.strm_locks.specs.Shares.{IsSeated};
+    ghost use Rattle.strm_locks.specs.Shares.{IsSeated, lock_of};
 
     ghost Value = { Share };
 
-    ghost view = { λ e. record { table = e.seat.table_id; caller = e.caller; told = e.told; made = e.seat.me.0.made; parts = e.parts; met = e.seat.me.0.met } };
+    ghost view = { λ e. record {
+      lock = lock_of e.seat;
+      caller = e.caller;
+      told = e.told;
+      made = e.seat.me.0.made;
+      parts = e.parts;
+      met = e.seat.me.0.met;
+    } };
 
     ghost invariant = { λ e. IsSeated e.seat.me e.told e.parts };
 }

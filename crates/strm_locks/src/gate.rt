@@ -8,6 +8,13 @@ pub trait Gate {
     fn after(&self, worker: u32, pair: u32);
 }
 
+// Which worker is at which pair.
+#[derive(Clone, Copy)]
+pub(crate) struct At {
+    pub(crate) worker: u32,
+    pub(crate) pair: u32,
+}
+
 /// A gate that does nothing.
 pub struct NoGate;
 

@@ -25,4 +25,4 @@ pub use object::Object;
 pub use system::{PairEnd, System};
 pub use told::{Each, Told};
 pub use visit::{Closed, Cut, NotOpened, Visit};
-pub use workers::{Report, Round, work};
+pub use workers::{Crew, Report};

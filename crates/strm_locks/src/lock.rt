@@ -1,10 +1,10 @@
 //! The lock of a pair: a table with a word, which is 1 while a seat has the pair, and one slot, in which the pair lies with its book
 //! while the word is 0. Each function but `new` is one kind of step.
 
-ghost use Rattle.std.specs.Prelude.{◌≡◌, ◌≤◌, [], ◌∷◌};
+ghost use Rattle.std.specs.Prelude.{◌≡◌, ◌≤◌, [], ◌∷◌, IfOk};
 ghost use Rattle.strm_locks.specs.Books.{closed_book, Kept, Fits};
 ghost use Rattle.strm_locks.specs.Rules.{fresh, kept_half, split_half, joined, grown, leaving, closing};
-ghost use Rattle.strm_locks.specs.Shares.{IsFree, IsSame, HasLock, MayGive};
+ghost use Rattle.strm_locks.specs.Shares.{IsFree, IsSame, HasLock, MayGive, lock_of};
 
 use crate::end::ALL_PARTS;
 use crate::held::Held;
@@ -13,6 +13,7 @@ use crate::rule::{Board, Empty, Give, Halves, Look, Pass, Place, Sit, Take};
 use atomic_table::{Refused, Table};
 use std::alloc::{AllocError, Global};
 use std::marker::Model;
+use std::snapshot::Snapshot;
 use std::sync::Wait;
 use std::sync::atomic::{AtomicU64, Ordering};
 
@@ -27,7 +28,7 @@ const WORD: usize = 8;
 /// A call that takes the lock waits until it is free: it parks, and is woken where the lock is given back. Nothing is said of which thread
 /// gets it, nor when. An end that is handed in is of this lock: it was opened with it, or split or joined from such.
 ///
-/// Contracts see which lock it is.
+/// Contracts see which lock it is, and the sizes of its pair, which stay.
 #[derive(Drop)]
 pub struct Lock<P: Object> {
     pub(crate) table: Board<P>,
@@ -37,12 +38,12 @@ pub struct Lock<P: Object> {
 
 impl<P: Object> Model for Lock<P> {
     ghost use Rattle.std.specs.Prelude.{◌≡◌};
-    ghost use Rattle.atomic_table.specs.Seated.{TableId};
+    ghost use Rattle.strm_locks.specs.Books.{LockId};
     ghost use Rattle.strm_locks.specs.declared.lock.TheConstants.{WORDS};
 
-    ghost Value = { TableId };
+    ghost Value = { LockId };
 
-    ghost view = { λ l. l.table.shared.table_id };
+    ghost view = { λ l. record { table = l.table.shared.table_id; sizes = l.table.shared.key.value.pair.limits } };
 
     ghost invariant = { λ l. (l.table.shared.table_id.words ≡ WORDS) × (l.table.shared.table_id.slots ≡ 1) };
 }
@@ -51,10 +52,12 @@ impl<P: Object> Lock<P> {
     /// The lock of a pair that nobody opened, which is free. It is refused for want of memory alone, and no later call takes any.
     pub fn new(alloc: Global, held: Held<P>) -> Result<Lock<P>, AllocError>
         requires { held.book ≡ closed_book }
+        ensures { IfOk result (λ lock. lock.sizes ≡ held.pair.limits) }
     {
+        let made = Snapshot::of(&held);
         let mut slots = Vec::with_capacity(alloc, 1)?;
         slots.push_reserved(held);
-        match Table::new(alloc, &[0; WORDS], slots, &()) {
+        match Table::new(alloc, &[0; WORDS], slots, &made) {
             Ok((table, _seat)) => Ok(Lock {
                 table,
                 waiting: AtomicU64::new(0),
@@ -65,14 +68,14 @@ impl<P: Object> Lock<P> {
 
     // A seat that was told nothing and has no part.
     pub(crate) fn sit(&self) -> Place<P>
-        ensures { (result.table_id ≡ self.now) × (result.me ≡ (fresh, [])) }
+        ensures { (result.table_id ≡ self.now.table) × (result.me ≡ (fresh self.now.sizes, [])) }
     {
         self.table.shared.load_new_seat::<Sit>(WORD).1
     }
 
     // Takes the lock, and with it the pair. The word is tested and set in one step; where it was 1 the thread parks until it is given back.
     pub(crate) fn take<R: Wait>(&self, rt: &R, seat: &mut Place<P>)
-        requires own { seat.old.table_id ≡ self.now }
+        requires own { lock_of seat.old ≡ self.now }
         requires free { IsFree seat.old }
         ensures same { IsSame seat.old seat.new }
         ensures lock { (k : Kept) × HasLock seat.old.me.0 k seat.new }
@@ -103,9 +106,9 @@ impl<P: Object> Lock<P> {
 
     // Gives the pair and the lock back, and wakes one that waits. The seat was told what the book gained.
     pub(crate) fn give(&self, seat: &mut Place<P>)
-        requires own { seat.old.table_id ≡ self.now }
+        requires own { seat.old.table_id ≡ self.now.table }
         requires held { seat.old.me.0.holds ≡ 1 }
-        requires lock { (k : Kept) × (seat.old.me.1 ≡ (0, k) ∷ []) × MayGive seat.old.me.0 k.book }
+        requires lock { (k : Kept) × (seat.old.me.1 ≡ (0, k) ∷ []) × MayGive seat.old.me.0 k.book × (k.pair.limits ≡ self.now.sizes) }
         ensures same { IsSame seat.old seat.new }
         ensures told { (k : Kept) → seat.old.me.1 ≡ (0, k) ∷ [] → seat.new.me ≡ (grown seat.old.me.0 seat.old.me.0.found k, []) }
     {
@@ -115,9 +118,9 @@ impl<P: Object> Lock<P> {
 
     // The same where the book was closed, by a seat that had all parts.
     pub(crate) fn give_closed(&self, seat: &mut Place<P>)
-        requires own { seat.old.table_id ≡ self.now }
+        requires own { seat.old.table_id ≡ self.now.table }
         requires held { (seat.old.me.0.holds ≡ 1) × (seat.old.me.0.parts ≡ ALL_PARTS) }
-        requires lock { (k : Kept) × (seat.old.me.1 ≡ (0, k) ∷ []) × (k.book ≡ closed_book) }
+        requires lock { (k : Kept) × (seat.old.me.1 ≡ (0, k) ∷ []) × (k.book ≡ closed_book) × (k.pair.limits ≡ self.now.sizes) }
         ensures same { IsSame seat.old seat.new }
         ensures met { (k : Kept) → seat.old.me.1 ≡ (0, k) ∷ [] → seat.new.me ≡ (closing seat.old.me.0 k.pair, []) }
     {
@@ -127,9 +130,9 @@ impl<P: Object> Lock<P> {
 
     // The same at the end of a visit, where the book stayed: the seat was told nothing, and has met the pair that it leaves.
     pub(crate) fn pass(&self, seat: &mut Place<P>)
-        requires own { seat.old.table_id ≡ self.now }
+        requires own { seat.old.table_id ≡ self.now.table }
         requires held { seat.old.me.0.holds ≡ 1 }
-        requires lock { (k : Kept) × (seat.old.me.1 ≡ (0, k) ∷ []) × (k.book ≡ seat.old.me.0.found) }
+        requires lock { (k : Kept) × (seat.old.me.1 ≡ (0, k) ∷ []) × (k.book ≡ seat.old.me.0.found) × (k.pair.limits ≡ self.now.sizes) }
         ensures same { IsSame seat.old seat.new }
         ensures met { (k : Kept) → seat.old.me.1 ≡ (0, k) ∷ [] → seat.new.me ≡ (leaving seat.old.me.0 k.pair, []) }
     {
@@ -139,19 +142,19 @@ impl<P: Object> Lock<P> {
 
     // Cuts a seat in two: this one keeps what was told, and the second has half of the parts, rounded down.
     pub(crate) fn split_seat(&self, seat: &mut Place<P>) -> Place<P>
-        requires own { seat.old.table_id ≡ self.now }
+        requires own { seat.old.table_id ≡ self.now.table }
         requires free { IsFree seat.old }
         ensures first { IsSame seat.old seat.new × (seat.new.me ≡ (kept_half seat.old.me.0, [])) }
-        ensures second { (result.table_id ≡ self.now) × (result.me ≡ (split_half seat.old.me.0, [])) }
+        ensures second { (result.table_id ≡ self.now.table) × (result.me ≡ (split_half seat.old.me.0, [])) }
     {
         self.table.shared.split_seat::<Halves>(seat)
     }
 
     // Joins two seats, and looks: the rule says that the numbers of both together fit.
     pub(crate) fn join_seat(&self, seat: &mut Place<P>, other: Place<P>)
-        requires own { seat.old.table_id ≡ self.now }
+        requires own { seat.old.table_id ≡ self.now.table }
         requires free { IsFree seat.old }
-        requires other_own { other.table_id ≡ self.now }
+        requires other_own { other.table_id ≡ self.now.table }
         requires other_free { IsFree other }
         ensures same { IsSame seat.old seat.new × (seat.new.me ≡ (joined seat.old.me.0 other.me.0, [])) }
         ensures fits { Fits seat.new.me.0.told }

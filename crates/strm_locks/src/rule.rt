@@ -1,25 +1,26 @@
 //! The rule of a lock's table, and the kinds of step on it.
 
-ghost use Rattle.strm_locks.specs.Rules.{AddsUp, fresh, taken, given, emptied, passed, looked, sat, kept_half, split_half, joined};
+ghost use Rattle.strm_locks.specs.Rules.{AddsUp, fresh, taken, given, emptied, passed, looked, sat, kept_half, split_half, joined, spent};
 
 use crate::held::Held;
 use crate::object::Object;
 use crate::view::View;
 use atomic_table::{Join, Play, Seat, Split, Table, TableRule};
 use std::alloc::Global;
+use std::snapshot::Snapshot;
 
-// What all seats were told adds up to the book.
+// What all seats were told adds up to the book. The key is the pair as the lock was made with it: of that the rule keeps the sizes.
 pub(crate) struct Shared;
 
-impl<P: Object> TableRule<Held<P>, View, ()> for Shared {
-    ghost holds = { λ _. AddsUp };
+impl<P: Object> TableRule<Held<P>, View, Snapshot<Held<P>>> for Shared {
+    ghost holds = { λ made. AddsUp made.value.pair.limits };
 
-    ghost first = { λ _. fresh };
+    ghost first = { λ made. fresh made.value.pair.limits };
 }
 
 pub(crate) type Place<P> = Seat<Held<P>, View>;
 
-pub(crate) type Board<P> = Table<Held<P>, View, (), Shared, Global>;
+pub(crate) type Board<P> = Table<Held<P>, View, Snapshot<Held<P>>, Shared, Global>;
 
 // A seat comes that was told nothing: a load.
 pub(crate) struct Sit;
@@ -75,5 +76,5 @@ impl Split<View> for Halves {
 impl Join<View> for Halves {
     ghost both = { joined };
 
-    ghost spent = { fresh };
+    ghost spent = { spent };
 }

@@ -1,6 +1,6 @@
 //! Pairs that threads share, a lock each, and the numbers by which they are opened.
 
-ghost use Rattle.std.specs.Prelude.{◌≡◌, ◌≢◌, ◌<◌, ◌≤◌, ◌⊎◌, All, Some, IfOk, OnErr, MatchResult, length, slice_get};
+ghost use Rattle.std.specs.Prelude.{◌≡◌, ◌≢◌, ◌<◌, ◌≤◌, ◌⊎◌, All, Some, IfOk, OnErr, MatchResult, length, map, slice_get};
 ghost use Rattle.strm_types.specs.Events.{request};
 ghost use Rattle.strm_minors.specs.Openers.{Gains, Holds, Loses, Unites, opening, past};
 ghost use Rattle.strm_minors.specs.Openers as minors;
@@ -11,7 +11,6 @@ ghost use Rattle.strm_locks.specs.Systems.{IsOne, joined_ends, numbered};
 ghost use Rattle.strm_locks.specs.Turns.{IsCut, IsRefusedOpen, IsRestart, IsVisit};
 
 use crate::end::{ALL_PARTS, End, StillShared};
-use crate::gate::Gate;
 use crate::held::Held;
 use crate::lock::Lock;
 use crate::object::Object;
@@ -89,22 +88,25 @@ impl<P: Object> PairEnd<P> {
 // The locks of pairs that nobody opened.
 fn locked<P: Object>(alloc: Global, pairs: Vec<P>) -> Result<Vec<Lock<P>>, AllocError>
     requires { All (λ p. IsNew (P.pair_of p)) pairs.items }
-    ensures { IfOk result (λ v. length v.items ≡ length pairs.items) }
+    ensures { IfOk result (λ v. map (λ l. l.sizes) v.items ≡ map (λ p. (P.pair_of p).limits) pairs.items) }
 {
     let mut locks = Vec::with_capacity(alloc, pairs.len())?;
     for pair in pairs {
-        locks.push(Lock::new(alloc, Held::new(pair))?)?;
+        let held = Held::new(pair);
+        let lock = Lock::new(alloc, held)?;
+        locks.push(lock)?;
     }
     Ok(locks)
 }
 
 impl<P: Object> System<P> {
-    /// A system of pairs that nobody opened, at most 64, and the first opener of its minors, which holds none. It is refused for want of
-    /// memory alone, and no later call takes any.
+    /// A system of pairs that nobody opened, at most 64, and the first opener of its minors, which holds none. The lock of each number has the
+    /// pair of that number, by its sizes: pairs that nobody opened differ in no more. It is refused for want of memory alone, and no later call
+    /// takes any.
     pub fn new(alloc: Global, pairs: Vec<P>) -> Result<(System<P>, Opener), AllocError>
         requires new { All (λ p. IsNew (P.pair_of p)) pairs.items }
         requires few { length pairs.items ≤ 64 }
-        ensures pairs { IfOk result (λ made. length made.0.locks ≡ length pairs.items) }
+        ensures pairs { IfOk result (λ made. map (λ l. l.sizes) made.0.locks ≡ map (λ p. (P.pair_of p).limits) pairs.items) }
         ensures opener { IfOk result (λ made. made.1 ≡ opening made.0.minors) }
     {
         let (minors, opener) = Minors::new(alloc, pairs.len() as u32)?;
@@ -170,8 +172,8 @@ impl<P: Object> System<P> {
     pub fn open<R: Wait>(&self, rt: &R, minor: Minor) -> Result<PairEnd<P>, (NotOpened<P>, Minor)>
         requires { minor < length self.now.locks }
         ensures { MatchResult result
-            (λ e. (e.pair ≡ minor) × (e.minor ≡ Some minor) × IsOne self.now e × IsOpened e.end.table e.end)
-            (λ n. (n.1 ≡ minor) × (slice_get self.now.locks minor ≡ Some n.0.visit.table) × IsRefusedOpen n.0.visit.table n.0.visit n.0.refusal) }
+            (λ e. (e.pair ≡ minor) × (e.minor ≡ Some minor) × IsOne self.now e × IsOpened e.end.lock e.end)
+            (λ n. (n.1 ≡ minor) × (slice_get self.now.locks minor ≡ Some n.0.visit.lock) × IsRefusedOpen n.0.visit.lock n.0.visit n.0.refusal) }
     {
         let pair = minor.number();
         match self.lock(pair).open(rt) {
@@ -282,7 +284,7 @@ impl<P: Object> System<P> {
         requires { IsOne self.now end }
         ensures { MatchResult result
             (λ c. (end.end.parts ≡ ALL_PARTS) × (end.minor ≡ Some c.1) × (c.1 ≡ end.pair)
-            × (slice_get self.now.locks end.pair ≡ Some c.0.visit.table) × IsSettled end.end c.0.settled c.0.visit.met)
+            × (slice_get self.now.locks end.pair ≡ Some c.0.visit.lock) × IsSettled end.end c.0.settled c.0.visit.met)
             (λ back. ((end.end.parts ≢ ALL_PARTS) ⊎ (end.minor ≡ None)) × (back.1 ≡ end)) }
     {
         let PairEnd { pair, end, minor } = end;
@@ -302,8 +304,8 @@ impl<P: Object> System<P> {
     /// Begins the journal of an end's pair anew, as [`Lock::restart`] does.
     pub fn restart<R: Wait>(&self, rt: &R, end: &PairEnd<P>) -> Visit<P>
         requires { IsOne self.now end.now }
-        ensures pair { slice_get self.now.locks end.now.pair ≡ Some result.table }
-        ensures made { IsRestart result.table result }
+        ensures pair { slice_get self.now.locks end.now.pair ≡ Some result.lock }
+        ensures made { IsRestart result.lock result }
     {
         self.lock(end.pair).restart(rt)
     }
@@ -311,8 +313,8 @@ impl<P: Object> System<P> {
     /// Cuts an end's pair, as [`Lock::cut`] does. What the end was told stays.
     pub fn cut<R: Wait>(&self, rt: &R, alloc: Global, end: &PairEnd<P>) -> Cut<P>
         requires { IsOne self.now end.now }
-        ensures pair { slice_get self.now.locks end.now.pair ≡ Some result.visit.table }
-        ensures made { IsCut result.visit.table result.visit result.trace }
+        ensures pair { slice_get self.now.locks end.now.pair ≡ Some result.visit.lock }
+        ensures made { IsCut result.visit.lock result.visit result.trace }
     {
         self.lock(end.pair).cut(rt, alloc)
     }
@@ -320,24 +322,9 @@ impl<P: Object> System<P> {
     /// Makes a turn of the queue of a pair that was enabled first, as [`Lock::turn`] does.
     pub fn turn<R: Wait>(&self, rt: &R, pair: u32) -> Visit<P>
         requires { pair < length self.now.locks }
-        ensures pair { slice_get self.now.locks pair ≡ Some result.table }
-        ensures made { IsVisit result.table result }
+        ensures pair { slice_get self.now.locks pair ≡ Some result.lock }
+        ensures made { IsVisit result.lock result }
     {
         self.lock(pair).turn(rt)
-    }
-
-    // The same within a gate, for a worker of this number.
-    pub(crate) fn visit<R: Wait, G: Gate>(
-        &self,
-        rt: &R,
-        gate: &G,
-        worker: u32,
-        pair: u32,
-    ) -> Visit<P>
-        requires { pair < length self.now.locks }
-        ensures pair { slice_get self.now.locks pair ≡ Some result.table }
-        ensures made { IsVisit result.table result }
-    {
-        self.lock(pair).visit(rt, gate, worker, pair)
     }
 }

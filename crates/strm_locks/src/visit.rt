@@ -9,6 +9,23 @@ use std::marker::Model;
 use strm_image::Trace;
 use strm_types::{NoMemory, Refusal};
 
+/// A seat that was told nothing, by which visits are made. Contracts see its lock, and the pairs that it met.
+#[derive(Drop)]
+pub(crate) struct Post<P: Object> {
+    pub(crate) seat: Place<P>,
+}
+
+impl<P: Object> Model for Post<P> {
+    ghost use Rattle.strm_locks.specs.Shares.{IsPosted, lock_of};
+    ghost use Rattle.strm_locks.specs.Turns.{Posted};
+
+    ghost Value = { Posted };
+
+    ghost view = { λ p. record { lock = lock_of p.seat; met = p.seat.me.0.met } };
+
+    ghost invariant = { λ p. IsPosted p.seat.me };
+}
+
 /// What a visit to a pair was: the seat that had the lock, and the turn that it made there, if it made one. No end was told of it: a turn writes
 /// and reads nothing, and nor does who begins the journal anew or cuts it.
 ///
@@ -20,14 +37,22 @@ pub struct Visit<P: Object> {
 }
 
 impl<P: Object> Model for Visit<P> {
+    ghost use Rattle.strm_locks.specs.Shares.{lock_of};
     ghost use Rattle.strm_locks.specs.Turns.{Visited};
 
     ghost Value = { Visited };
 
-    ghost view = { λ v. record { table = v.seat.table_id; met = v.seat.me.0.met; made = v.made } };
+    ghost view = { λ v. record { lock = lock_of v.seat; met = v.seat.me.0.met; made = v.made } };
 }
 
 impl<P: Object> Visit<P> {
+    pub(crate) fn of(post: Post<P>, made: Option<Made>) -> Visit<P>
+        ensures { result ≡ record { lock = post.lock; met = post.met; made = made } }
+    {
+        let Post { seat } = post;
+        Visit { seat, made }
+    }
+
     /// The turn, if a queue was enabled.
     pub fn made(&self) -> Option<Made>
         ensures { result ≡ self.now.made }

@@ -1,4 +1,9 @@
+use Rattle.std.proofs.Common.{ap, ◌∙◌}
+use Rattle.strm_locks.specs.Books.{LockId}
 use Rattle.strm_locks.proofs.lock.Lock.audit.Goals as goal
+
+pub returns-clause-sizes : goal.returns-clause-sizes
+returns-clause-sizes g c = let a = c.audited.ensures.found in (a.pair, a.met, a.made, a.sized ∙ ap (λ (l : LockId). l.sizes) c.audited.ensures.here)
 
 pub returns-clause-legal : goal.returns-clause-legal
 returns-clause-legal g c = let a = c.audited.ensures.found in (a.pair, a.met, a.made, a.shows.sound.legal)

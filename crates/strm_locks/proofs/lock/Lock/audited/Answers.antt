@@ -8,20 +8,25 @@ use Rattle.strm_locks.proofs.lock.Lock.audited.Goals as goal
 pub pass-requires-clause-lock : goal.pass-requires-clause-lock
 pass-requires-clause-lock g c = let k = c.take.ensures.lock.0 in let h = c.take.ensures.lock.1 in
     let did = c.look_held-shown.ensures.did k (ap (λ (m : Mine). m.1) h.seen) in
-    (did.0, did.1, ap (λ (x : Kept). x.book) did.2.0 ∙ sym (ap (λ v. v.found) (c.look_held-shown.ensures.same.1 ∙ ap (λ (m : Mine). m.0) h.seen)))
+    (did.0, did.1, ap (λ (x : Kept). x.book) did.2.0 ∙ sym (ap (λ v. v.found) (c.look_held-shown.ensures.same.1 ∙ ap (λ (m : Mine). m.0) h.seen)), ap (λ (x : Kept). x.pair.limits) did.2.0 ∙ h.sized ∙ ap (λ (m : Mine). m.0.sizes) c.sit-seat.ensures.1)
 
 pub returns-clause-here : goal.returns-clause-here
-returns-clause-here g c = c.pass.ensures.same.0 ∙ c.look_held-shown.ensures.same.0.0 ∙ c.take.ensures.same.0 ∙ c.sit-seat.ensures.0
+returns-clause-here g c = let k = c.take.ensures.lock.0 in let h = c.take.ensures.lock.1 in
+    let did = c.look_held-shown.ensures.did k (ap (λ (m : Mine). m.1) h.seen) in
+    let is : c.look_held-shown.new.seat.me.0 ≡ holding (fresh c.args.self.now.sizes) k = c.look_held-shown.ensures.same.1 ∙ ap (λ (m : Mine). m.0) h.seen ∙ ap (λ (m : Mine). holding m.0 k) c.sit-seat.ensures.1 in
+    let now = c.pass.ensures.met did.0 did.1 ∙ ap (λ v. (leaving v did.0.pair, [])) is in
+    λ j. record { table = (c.pass.ensures.same.0 ∙ c.look_held-shown.ensures.same.0.0 ∙ c.take.ensures.same.0 ∙ c.sit-seat.ensures.0) j; sizes = ap (λ (m : Mine). m.0.sizes) now j }
 
 pub returns-clause-found : goal.returns-clause-found
 returns-clause-found g c = let k = c.take.ensures.lock.0 in let h = c.take.ensures.lock.1 in
     let did = c.look_held-shown.ensures.did k (ap (λ (m : Mine). m.1) h.seen) in let shown = did.2.1 in
-    let is : c.look_held-shown.new.seat.me.0 ≡ holding fresh k = c.look_held-shown.ensures.same.1 ∙ ap (λ (m : Mine). m.0) h.seen ∙ ap (λ (m : Mine). holding m.0 k) c.sit-seat.ensures.1 in
+    let is : c.look_held-shown.new.seat.me.0 ≡ holding (fresh c.args.self.now.sizes) k = c.look_held-shown.ensures.same.1 ∙ ap (λ (m : Mine). m.0) h.seen ∙ ap (λ (m : Mine). holding m.0 k) c.sit-seat.ensures.1 in
     let now = c.pass.ensures.met did.0 did.1 ∙ ap (λ v. (leaving v did.0.pair, [])) is in
     let told : k.book.totals ≡ c.look_held-shown.result.told = sym shown.told in record {
       pair = k.pair;
       met = ap (λ (m : Mine). m.0.met) now ∙ ap (λ (x : Kept). k.pair ∷ x.pair ∷ []) did.2.0;
       made = refl;
+      sized = h.sized ∙ ap (λ (m : Mine). m.0.sizes) c.sit-seat.ensures.1 ∙ sym (ap (λ (m : Mine). m.0.sizes) now);
       shows = shown.pair;
       book = (
         subst (λ (t : Told). t ≡ told_of t.calls k.pair) told shown.numbers,

@@ -1,10 +1,10 @@
 use Rattle.std.proofs.Common.{◌≡◌, [], arith, refl, sym, ap, ◌∙◌, subst}
 use Rattle.strm_types.specs.Events.{request}
-use Rattle.strm_locks.specs.Books.{Fits, plus}
+use Rattle.strm_locks.specs.Books.{Fits, LockId, plus}
 use Rattle.strm_locks.specs.Ends.{Calls, Share}
 use Rattle.strm_locks.specs.Rules.{Mine, holding, grown}
-use Rattle.strm_locks.specs.Shares.{MayGive}
-use Rattle.strm_locks.proofs.Calling.{call_seated, call_told, fits_told, gives_applied, has_part}
+use Rattle.strm_locks.specs.Shares.{MayGive, lock_of}
+use Rattle.strm_locks.proofs.Calling.{call_seated, call_told, did_sized, fits_told, gives_applied, has_part}
 use Rattle.strm_locks.proofs.lock.Lock.call.Goals as goal
 
 pub call_held-answer-requires-clause-lock : goal.call_held-answer-requires-clause-lock
@@ -14,8 +14,12 @@ call_held-answer-requires-clause-lock g c = let k = c.take.ensures.lock.0 in let
 pub give-requires-clause-lock : goal.give-requires-clause-lock
 give-requires-clause-lock g c = let i = c.end.inside in let k = c.take.ensures.lock.0 in let h = c.take.ensures.lock.1 in
     let did = c.call_held-answer.ensures.did k (ap (λ (m : Mine). m.1) h.seen) in
-    let is : c.call_held-answer.new.seat.me.0 ≡ holding i.seat.me.0 k = c.call_held-answer.ensures.same.1 ∙ ap (λ (m : Mine). m.0) h.seen in
-    (did.0, did.1, subst (λ w. MayGive w did.0.book) (sym is) (gives_applied k i.caller (request c.args.event.now) _ c.call_held-answer.new.out.items did.0 i.seat.me.0 c.call_held-answer.result (has_part _ _ _ c.end.invariant) did.2))
+    let is : c.call_held-answer.new.seat.me.0 ≡ holding i.seat.me.0 k = c.call_held-answer.ensures.same.1 ∙ ap (λ (m : Mine). m.0) h.seen in (
+      did.0,
+      did.1,
+      subst (λ w. MayGive w did.0.book) (sym is) (gives_applied k i.caller (request c.args.event.now) _ c.call_held-answer.new.out.items did.0 i.seat.me.0 c.call_held-answer.result (has_part _ _ _ c.end.invariant) did.2),
+      did_sized k _ _ _ _ _ did.0 did.2.answer ∙ h.sized ∙ ap (λ (l : LockId). l.sizes) (ap (λ (x : Share). x.lock) c.end.view_is ∙ c.requires),
+    )
 
 pub plus-end-inside-requires : goal.plus-end-inside-requires
 plus-end-inside-requires g c = let i = c.end.inside in let k = c.take.ensures.lock.0 in let h = c.take.ensures.lock.1 in
@@ -27,7 +31,7 @@ pub invariant_of-end : goal.invariant_of-end
 invariant_of-end g c = let i = c.end.inside in let k = c.take.ensures.lock.0 in let h = c.take.ensures.lock.1 in
     let did = c.call_held-answer.ensures.did k (ap (λ (m : Mine). m.1) h.seen) in
     let is : c.call_held-answer.new.seat.me.0 ≡ holding i.seat.me.0 k = c.call_held-answer.ensures.same.1 ∙ ap (λ (m : Mine). m.0) h.seen in
-    let e : Share = record { table = i.seat.table_id; caller = i.caller; told = i.told; made = i.seat.me.0.made; parts = i.parts; met = i.seat.me.0.met } in
+    let e : Share = record { lock = lock_of i.seat; caller = i.caller; told = i.told; made = i.seat.me.0.made; parts = i.parts; met = i.seat.me.0.met } in
     call_seated k (request c.args.event.now) _ c.call_held-answer.new.out.items did.0 e i.seat.me c.give.new.seat.me c.call_held-answer.result c.plus-end-inside.result
     c.end.invariant did.2 (c.give.ensures.told did.0 did.1 ∙ ap (λ w. (grown w w.found did.0, [])) is) c.plus-end-inside.ensures
 
@@ -37,10 +41,12 @@ returns g c = let i = c.end.inside in let k = c.take.ensures.lock.0 in let h = c
     let asked = request c.args.event.now in
     let bytes = c.call_held-answer.new.out.items in
     let is : c.call_held-answer.new.seat.me.0 ≡ holding i.seat.me.0 k = c.call_held-answer.ensures.same.1 ∙ ap (λ (m : Mine). m.0) h.seen in
-    let e : Share = record { table = i.seat.table_id; caller = i.caller; told = i.told; made = i.seat.me.0.made; parts = i.parts; met = i.seat.me.0.met } in
-    let n : Share = record { table = c.give.new.seat.table_id; caller = i.caller; told = c.plus-end-inside.result; made = c.give.new.seat.me.0.made; parts = i.parts; met = c.give.new.seat.me.0.met } in
+    let e : Share = record { lock = lock_of i.seat; caller = i.caller; told = i.told; made = i.seat.me.0.made; parts = i.parts; met = i.seat.me.0.met } in
+    let n : Share = record { lock = lock_of c.give.new.seat; caller = i.caller; told = c.plus-end-inside.result; made = c.give.new.seat.me.0.made; parts = i.parts; met = c.give.new.seat.me.0.met } in
     let table : c.give.new.seat.table_id ≡ i.seat.table_id = c.give.ensures.same.0 ∙ c.call_held-answer.ensures.same.0.0 ∙ c.take.ensures.same.0 in
+    let now = c.give.ensures.told did.0 did.1 ∙ ap (λ w. (grown w w.found did.0, [])) is in
+    let sizes : c.give.new.seat.me.0.sizes ≡ i.seat.me.0.sizes = ap (λ (m : Mine). m.0.sizes) now in
     subst (λ (x : Share). Calls x asked c.args.out.now.items bytes c.call_held-answer.result.0 n) c.end.view_is
     (call_told k asked c.args.out.now.items bytes did.0 e i.seat.me c.give.new.seat.me c.call_held-answer.result c.plus-end-inside.result
     c.end.invariant did.2 (c.give.ensures.told did.0 did.1 ∙ ap (λ w. (grown w w.found did.0, [])) is) c.plus-end-inside.ensures n refl refl
-    (λ j. let x : Share = record { table = table j; caller = i.caller; told = c.plus-end-inside.result; made = c.give.new.seat.me.0.made; parts = i.parts; met = c.give.new.seat.me.0.met } in x))
+    (λ j. let x : Share = record { lock = record { table = table j; sizes = sizes j }; caller = i.caller; told = c.plus-end-inside.result; made = c.give.new.seat.me.0.made; parts = i.parts; met = c.give.new.seat.me.0.met } in x) h.sized)

@@ -7,13 +7,13 @@ use Rattle.strm_locks.proofs.lock.Lock.open.Goals as goal
 
 pub invariant_of-result : goal.invariant_of-result
 invariant_of-result g c = let o = c.open_by-answer.ensures.opened in
-    let t = subst (λ x. OpenedAs o.0 o.1 c.open_by-answer.new.out.items c.open_by-answer.result.1 c.open_by-answer.new.seat.me x) c.in-Ok.is o.3 in
-    seated _ _ _ _ _ t.3 (search rules)
+    let t = subst (λ x. OpenedAs c.args.self.now.sizes o.0 o.1 c.open_by-answer.new.out.items c.open_by-answer.result.1 c.open_by-answer.new.seat.me x) c.in-Ok.is o.3 in
+    seated _ _ _ _ _ _ t.3 (search rules)
 
 pub returns-in-Ok : goal.returns-in-Ok
 returns-in-Ok g c = let o = c.open_by-answer.ensures.opened in
-    let t = subst (λ x. OpenedAs o.0 o.1 c.open_by-answer.new.out.items c.open_by-answer.result.1 c.open_by-answer.new.seat.me x) c.in-Ok.is o.3 in record {
-      here = c.open_by-answer.ensures.same.0 ∙ c.sit-seat.ensures.0;
+    let t = subst (λ x. OpenedAs c.args.self.now.sizes o.0 o.1 c.open_by-answer.new.out.items c.open_by-answer.result.1 c.open_by-answer.new.seat.me x) c.in-Ok.is o.3 in record {
+      here = λ j. record { table = (c.open_by-answer.ensures.same.0 ∙ c.sit-seat.ensures.0) j; sizes = ap (λ (m : Mine). m.0.sizes) t.3 j };
       caller = c.of.ensures;
       parts = refl;
       found = o.0;
@@ -30,8 +30,8 @@ returns-in-Ok g c = let o = c.open_by-answer.ensures.opened in
 
 pub returns-in-Err : goal.returns-in-Err
 returns-in-Err g c = let o = c.open_by-answer.ensures.opened in
-    let t = subst (λ x. OpenedAs o.0 o.1 c.open_by-answer.new.out.items c.open_by-answer.result.1 c.open_by-answer.new.seat.me x) c.in-Err.is o.3 in (
-      c.open_by-answer.ensures.same.0 ∙ c.sit-seat.ensures.0,
+    let t = subst (λ x. OpenedAs c.args.self.now.sizes o.0 o.1 c.open_by-answer.new.out.items c.open_by-answer.result.1 c.open_by-answer.new.seat.me x) c.in-Err.is o.3 in (
+      (λ j. record { table = (c.open_by-answer.ensures.same.0 ∙ c.sit-seat.ensures.0) j; sizes = ap (λ (m : Mine). m.0.sizes) t.2 j }),
       o.0,
       ap (λ (m : Mine). m.0.met) t.2 ∙ ap (λ (q : PairState). o.0 ∷ q ∷ []) t.0,
       o.2,

@@ -9,7 +9,7 @@ use Rattle.strm_locks.proofs.lock.Lock.open_slave.Goals as goal
 pub cut_slave-requires-clause-own : goal.cut_slave-requires-clause-own
 cut_slave-requires-clause-own g c =
     let t = subst (λ (r : Outcome). Calls c.args.end.now OpenSlave c.new-out.result.items c.call.new.out.items r c.call.new.end) c.in-Ok.is c.call.ensures in
-    ap (λ (x : Share). x.table) t.told.2 ∙ c.requires
+    ap (λ (x : Share). x.lock) t.told.2 ∙ c.requires
 
 pub cut_slave-requires-clause-two : goal.cut_slave-requires-clause-two
 cut_slave-requires-clause-two g c =
