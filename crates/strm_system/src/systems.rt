@@ -1,6 +1,6 @@
 //! Systems of real pairs.
 
-ghost use Rattle.std.specs.Prelude.{◌≡◌, ◌≤◌, All, MatchResult, length};
+ghost use Rattle.std.specs.Prelude.{◌≡◌, ◌≤◌, All, MatchResult, length, map, replicate};
 ghost use Rattle.strm_laws.specs.Pair.{new_pair};
 ghost use Rattle.strm_minors.specs.Openers.{opening};
 ghost use Rattle.strm_system.specs.Sizes.{AreSizes, NotMade};
@@ -19,7 +19,9 @@ fn all_unopened<B: Reserve>(
     sizes: Config,
 ) -> Result<Vec<Locked<B>>, Refusal>
     requires { AreSizes sizes }
-    ensures { MatchResult result (λ v. (length v.items ≡ pairs) × All (λ l. l.pair ≡ new_pair sizes) v.items) (NotMade sizes) }
+    ensures { MatchResult result
+        (λ v. (length v.items ≡ pairs) × All (λ l. l.pair ≡ new_pair sizes) v.items × (map (λ l. l.pair.limits) v.items ≡ replicate pairs sizes))
+        (NotMade sizes) }
 {
     let mut all = Vec::new(alloc);
     for made in 0..pairs {
@@ -32,8 +34,8 @@ fn all_unopened<B: Reserve>(
     Ok(all)
 }
 
-/// A system of so many pairs that nobody opened, each of these sizes, over the program's store, and the first opener of its minors. It is
-/// refused as [`unopened`] is, and a system of no pair is too.
+/// A system of so many pairs that nobody opened, each of these sizes, over the program's store, and the first opener of its minors: whoever takes
+/// a lock finds a pair of these sizes there. It is refused as [`unopened`] is, and a system of no pair is too.
 pub fn system(
     alloc: Global,
     pairs: u32,
@@ -41,7 +43,8 @@ pub fn system(
 ) -> Result<(System<Locked<Store>>, Opener), Refusal>
     requires { pairs ≤ 64 }
     ensures { MatchResult result
-        (λ made. AreSizes sizes × (length made.0.locks ≡ pairs) × (made.1 ≡ opening made.0.minors))
+        (λ made. AreSizes sizes × (length made.0.locks ≡ pairs) × (map (λ l. l.sizes) made.0.locks ≡ replicate pairs sizes)
+        × (made.1 ≡ opening made.0.minors))
         (NotMade sizes) }
 {
     system_over::<Store>(alloc, pairs, sizes)
@@ -55,7 +58,8 @@ pub fn system_over<B: Reserve>(
 ) -> Result<(System<Locked<B>>, Opener), Refusal>
     requires { pairs ≤ 64 }
     ensures { MatchResult result
-        (λ made. AreSizes sizes × (length made.0.locks ≡ pairs) × (made.1 ≡ opening made.0.minors))
+        (λ made. AreSizes sizes × (length made.0.locks ≡ pairs) × (map (λ l. l.sizes) made.0.locks ≡ replicate pairs sizes)
+        × (made.1 ≡ opening made.0.minors))
         (NotMade sizes) }
 {
     if !are_sizes(&sizes) {

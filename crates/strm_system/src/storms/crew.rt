@@ -164,9 +164,10 @@ pub(crate) fn blow<P: Object + Send, R: Threads + Wait + Sync>(
             requires { All (λ j. IsJob system.now calls j) jobs.items × (length jobs.items ≡ wanted) × AreHands system.now hands.items × (wanted ≤ 16) × (calls ≤ 65536) }
             ensures { IfOk result (λ g. IsGathered system.entry.now wanted calls g) }
         {
+            let mut crew = system.crew(alloc, wanted)?;
             let threads = started(scope, rt, alloc, system, jobs)?;
             let whole = threads.len() == wanted as usize;
-            system.run_workers(rt, wanted, calls, &NoGate);
+            system.run_workers(rt, &mut crew, calls, &NoGate);
             let (hands, counts) = joined(rt, alloc, system, hands, threads);
             Ok(Gathered {
                 hands,

@@ -4,23 +4,22 @@ ghost use Rattle.strm_minors.specs.Openers.{IsOf};
 ghost use Rattle.strm_locks.specs.Systems.{IsOne};
 
 use super::steps::{cut, opened, restart, settled, writes};
-use super::systems::{SIZES, system};
+use super::systems::SIZES;
 use std::alloc::Global;
 use std::process::Abort;
 use std::sync::Wait;
-use std::test::Fail;
 use strm_image::Trace;
 use strm_locks::{Object, PairEnd, System};
 use strm_minors::Opener;
 use strm_types::Config;
 
 // Room for the three calls that open a pair, and for a write.
-const FOUR: Config = Config {
+pub(crate) const FOUR: Config = Config {
     journal_events: 4,
     ..SIZES
 };
 
-fn go_on<P: Object, R: Wait + Abort>(rt: &R, system: &System<P>, opener: &mut Opener)
+pub(crate) fn go_on<P: Object, R: Wait + Abort>(rt: &R, system: &System<P>, opener: &mut Opener)
     requires { IsOf system.now.minors opener.old }
 {
     let (mut master, slave) = opened(rt, system, opener);
@@ -30,13 +29,6 @@ fn go_on<P: Object, R: Wait + Abort>(rt: &R, system: &System<P>, opener: &mut Op
     assert!(rt; writes(rt, system, &mut master, b"b"));
     let settled = settled(rt, system, master, slave);
     assert!(rt; settled.told.calls == 5 && settled.ms.written == 2);
-}
-
-#[test]
-fn a_session_goes_on_behind_a_full_journal(rt: HostRuntime) -> Result<(), Fail> {
-    let (system, mut opener) = system(rt.alloc(), 1, FOUR)?;
-    go_on(&rt, &system, &mut opener);
-    Ok(())
 }
 
 // Cuts the pair of an end, and once more where memory is refused.
@@ -83,7 +75,7 @@ fn same(one: &Trace, two: &Trace) -> bool {
 }
 
 // Where a cut of one pair is refused, none of the other is: what both hand out is the same all the same.
-fn two_are_cut<P: Object, R: Wait + Abort>(
+pub(crate) fn two_are_cut<P: Object, R: Wait + Abort>(
     rt: &R,
     alloc: Global,
     system: &System<P>,
@@ -96,12 +88,4 @@ fn two_are_cut<P: Object, R: Wait + Abort>(
     assert!(rt; second.entries.is_empty() && second.base.as_slice() != first.base.as_slice());
     let other = writes_and_is_cut(rt, alloc, system, opener);
     assert!(rt; same(&first, &other.0) && same(&second, &other.1));
-}
-
-// `tools/refusals --tests strm_system cut_may_be_refused` refuses each request for memory in turn.
-#[test]
-fn memory_for_a_cut_may_be_refused(rt: HostRuntime) -> Result<(), Fail> {
-    let (system, mut opener) = system(rt.alloc(), 2, SIZES)?;
-    two_are_cut(&rt, rt.alloc(), &system, &mut opener);
-    Ok(())
 }

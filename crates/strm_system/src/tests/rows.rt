@@ -1,4 +1,4 @@
-//! Four threads at one pair, over either store, each with an end of its own, and a fifth that audits the pair meanwhile; what the four counted of
+//! Four threads at one pair, each with an end of its own, and a fifth that audits the pair meanwhile; what the four counted of
 //! their own calls is what their ends were told.
 
 ghost use Rattle.std.specs.Prelude.{◌≤◌, IfOk};
@@ -8,19 +8,16 @@ ghost use Rattle.strm_locks.specs.Systems.{IsOne};
 use super::steps::turn;
 use crate::storms::dealing::opened;
 use crate::storms::hands::{Hand, balances};
-use crate::{Store, system_over};
-use std::alloc::{AllocError, Global};
+use std::alloc::AllocError;
 use std::process::Abort;
 use std::sync::Wait;
-use std::test::Fail;
 use std::thread::{Threads, join};
-use strm_blocks::{Reserve, TableStore};
 use strm_locks::{Object, System};
 use strm_minors::Opener;
 use strm_types::{Config, Event, FlushQueues};
 
 // A journal that takes each call of the four, and a turn behind each.
-const AMPLE: Config = Config {
+pub(crate) const AMPLE: Config = Config {
     mblks: 512,
     dblks: 512,
     journal_events: 16384,
@@ -124,7 +121,7 @@ fn audits<P: Object, R: Wait>(rt: &R, system: &System<P>, times: u32) -> u32 {
 }
 
 // What the ends were told is what the threads counted and the three calls that opened the pair, and both ledgers balance.
-fn all_is_told<P: Object + Send, R: Threads + Wait + Sync + Abort>(
+pub(crate) fn all_is_told<P: Object + Send, R: Threads + Wait + Sync + Abort>(
     rt: &R,
     system: &System<P>,
     opener: &mut Opener,
@@ -146,23 +143,4 @@ fn all_is_told<P: Object + Send, R: Threads + Wait + Sync + Abort>(
     assert!(rt; own.calls > 1000 && own.written.from_master > 0 && own.written.from_slave > 0);
     assert!(rt; all.settles(rt, system));
     Ok(())
-}
-
-fn four_threads_over<B: Reserve + Send, R: Threads + Wait + Sync + Abort>(
-    rt: &R,
-    alloc: Global,
-) -> Result<(), Fail> {
-    let (system, mut opener) = system_over::<B>(alloc, 1, AMPLE)?;
-    all_is_told(rt, &system, &mut opener)?;
-    Ok(())
-}
-
-#[test]
-fn four_threads_are_told_what_the_pair_did(rt: HostRuntime) -> Result<(), Fail> {
-    four_threads_over::<Store, HostRuntime>(&rt, rt.alloc())
-}
-
-#[test]
-fn four_threads_are_told_over_tables_too(rt: HostRuntime) -> Result<(), Fail> {
-    four_threads_over::<TableStore, HostRuntime>(&rt, rt.alloc())
 }

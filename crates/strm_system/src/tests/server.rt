@@ -1,14 +1,16 @@
 //! A server: on each of eight pairs a thread has the master's end, and another the slave's.
 
 ghost use Rattle.std.specs.Prelude.{◌<◌, length};
+ghost use Rattle.strm_minors.specs.Openers.{IsOf};
 ghost use Rattle.strm_locks.specs.Systems.{IsOne};
 
-use super::systems::{SIZES, system};
+use super::steps::claimed;
+use std::process::Abort;
 use std::sync::Wait;
 use std::test::Fail;
 use std::thread::{Threads, join};
 use strm_locks::{Object, PairEnd, System};
-use strm_minors::Minor;
+use strm_minors::{Minor, Opener};
 use strm_types::{Content, Event, Refusal};
 
 // The master's thread writes a greeting.
@@ -72,12 +74,17 @@ fn serve<P: Object + Send, R: Threads + Wait + Sync>(
     }
 }
 
-#[test]
-fn eight_pairs_are_served(rt: HostRuntime) -> Result<(), Fail> {
-    let (system, mut opener) = system(rt.alloc(), 8, SIZES)?;
+// Serves eight pairs, one after the other.
+pub(crate) fn serves_eight<P: Object + Send, R: Threads + Wait + Sync + Abort>(
+    rt: &R,
+    system: &System<P>,
+    opener: &mut Opener,
+) -> Result<(), Fail>
+    requires { IsOf system.now.minors opener.old }
+{
     for _ in 0..8 {
-        let minor = system.claim(&mut opener)?;
-        let (calls, _minor) = serve(&rt, &system, minor)?;
+        let minor = claimed(rt, system, opener);
+        let (calls, _minor) = serve(rt, system, minor)?;
         assert!(rt; calls >= 5);
     }
     Ok(())

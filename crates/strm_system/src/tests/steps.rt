@@ -7,8 +7,9 @@ ghost use Rattle.strm_locks.specs.Systems.{IsOne};
 use std::alloc::Global;
 use std::process::Abort;
 use std::sync::Wait;
+use std::thread::Threads;
 use strm_image::Trace;
-use strm_locks::{Object, PairEnd, Settled, System};
+use strm_locks::{Gate, Object, PairEnd, Report, Settled, System};
 use strm_minors::{Minor, Opener};
 use strm_types::{Answer, Content, Event, Refusal};
 
@@ -270,4 +271,18 @@ pub(crate) fn cut<P: Object, R: Wait>(
     requires { IsOne system.now end.now }
 {
     system.cut(rt, alloc, end).trace.ok()
+}
+
+// So many workers, with so many visits each.
+pub(crate) fn worked<P: Object + Send, R: Threads + Wait + Sync + Abort, G: Gate + Sync>(
+    rt: &R,
+    alloc: Global,
+    system: &System<P>,
+    (workers, visits): (u32, u32),
+    gate: &G,
+) -> Report {
+    let Ok(mut crew) = system.crew(alloc, workers) else {
+        panic!(rt; "no memory")
+    };
+    system.run_workers(rt, &mut crew, visits, gate)
 }

@@ -1,4 +1,4 @@
-//! Systems of pairs: what their ends are told, and what is refused. What tests do is said for any system; a test makes one of real pairs.
+//! Systems of pairs: what their ends are told, and what is refused.
 
 ghost use Rattle.std.specs.Prelude.{◌<◌, length};
 ghost use Rattle.strm_minors.specs.Openers.{IsOf};
@@ -6,9 +6,9 @@ ghost use Rattle.strm_locks.specs.Systems.{IsOne};
 
 use super::steps::{
     call, claimed, cut, halves, joined, makes, no_slave, opened, opened_master, reads, settled,
-    settled_with, slave_of, split, tried, unlock, writes,
+    settled_with, slave_of, split, tried, unlock, worked, writes,
 };
-pub(crate) use crate::system;
+use crate::{host, system};
 use std::alloc::Global;
 use std::process::Abort;
 use std::sync::Wait;
@@ -27,14 +27,18 @@ pub(crate) const SIZES: Config = Config {
 };
 
 // A journal that takes no entry.
-const NO_JOURNAL: Config = Config {
+pub(crate) const NO_JOURNAL: Config = Config {
     mblks: 1,
     dblks: 1,
     journal_events: 0,
     journal_bytes: 0,
 };
 
-fn opens_and_refuses<P: Object, R: Wait + Abort>(rt: &R, system: &System<P>, opener: &mut Opener)
+pub(crate) fn opens_and_refuses<P: Object, R: Wait + Abort>(
+    rt: &R,
+    system: &System<P>,
+    opener: &mut Opener,
+)
     requires { IsOf system.now.minors opener.old }
 {
     let mut master = opened_master(rt, system, opener);
@@ -44,13 +48,6 @@ fn opens_and_refuses<P: Object, R: Wait + Abort>(rt: &R, system: &System<P>, ope
     assert!(rt; master.end().told().calls == 2);
     let slave = slave_of(rt, system, &mut master);
     assert!(rt; master.end().told().calls == 3 && slave.end().told().calls == 0);
-}
-
-#[test]
-fn openings_are_refused_and_told(rt: HostRuntime) -> Result<(), Fail> {
-    let (system, mut opener) = system(rt.alloc(), 1, SIZES)?;
-    opens_and_refuses(&rt, &system, &mut opener);
-    Ok(())
 }
 
 // A pair that was opened isn't opened by a minor of the same number, till it settles. Its own minor comes back then, and opens it again.
@@ -76,26 +73,20 @@ fn is_opened_twice<P: Object, R: Wait + Abort>(
     assert!(rt; told.told.calls == 1 && tried(rt, system, minor).is_ok());
 }
 
-fn strange_minor<P: Object, R: Wait + Abort>(
+pub(crate) fn strange_minor<P: Object, R: Wait + Abort>(
     rt: &R,
+    alloc: Global,
     system: &System<P>,
     opener: &mut Opener,
-    stranger: Minor,
-)
+) -> Result<(), Fail>
     requires { IsOf system.now.minors opener.old }
 {
+    let (other, mut own) = Minors::new(alloc, 1)?;
+    let stranger = other.claim(&mut own)?;
     let minor = claimed(rt, system, opener);
     if stranger.number() < system.pairs() {
         is_opened_twice(rt, system, minor, stranger);
     }
-}
-
-#[test]
-fn a_pair_is_opened_again_where_it_settled(rt: HostRuntime) -> Result<(), Fail> {
-    let (other, mut stranger) = Minors::new(rt.alloc(), 1)?;
-    let minor = other.claim(&mut stranger)?;
-    let (system, mut opener) = system(rt.alloc(), 1, SIZES)?;
-    strange_minor(&rt, &system, &mut opener, minor);
     Ok(())
 }
 
@@ -119,6 +110,7 @@ fn sizes_are_refused(rt: HostRuntime) {
 // The master writes, a worker makes the turn, and the slave reads.
 fn carries<P: Object + Send, R: Threads + Wait + Sync + Abort>(
     rt: &R,
+    alloc: Global,
     system: &System<P>,
     master: &mut PairEnd<P>,
     slave: &mut PairEnd<P>,
@@ -129,22 +121,23 @@ fn carries<P: Object + Send, R: Threads + Wait + Sync + Abort>(
     ensures slave { IsOne system.now slave.new }
 {
     assert!(rt; writes(rt, system, master, b"abc"));
-    let report = system.run_workers(rt, 1, 1, &NoGate);
+    let report = worked(rt, alloc, system, (1, 1), &NoGate);
     assert!(rt; report.started == 1 && report.turns == 1);
     assert!(rt; report.blocked == 0 && report.refused == 0 && report.idle == 0);
     assert!(rt; reads(rt, system, slave, b"abc"));
     assert!(rt; master.end().told().calls == 4 && slave.end().told().read.from_master == 3);
 }
 
-fn carries_and_settles<P: Object + Send, R: Threads + Wait + Sync + Abort>(
+pub(crate) fn carries_and_settles<P: Object + Send, R: Threads + Wait + Sync + Abort>(
     rt: &R,
+    alloc: Global,
     system: &System<P>,
     opener: &mut Opener,
 )
     requires { IsOf system.now.minors opener.old }
 {
     let (mut master, mut slave) = opened(rt, system, opener);
-    carries(rt, system, &mut master, &mut slave);
+    carries(rt, alloc, system, &mut master, &mut slave);
     all_is_told(rt, &settled(rt, system, master, slave));
 }
 
@@ -155,15 +148,8 @@ fn all_is_told<R: Abort>(rt: &R, settled: &Settled) {
     assert!(rt; settled.ms.written == 3 && settled.ms.fates[0] == 3 && settled.sm.written == 0);
 }
 
-#[test]
-fn what_is_written_is_carried_read_and_told(rt: HostRuntime) -> Result<(), Fail> {
-    let (system, mut opener) = system(rt.alloc(), 1, SIZES)?;
-    carries_and_settles(&rt, &system, &mut opener);
-    Ok(())
-}
-
 // The same with a cut before the end: what ends were told stays.
-fn carries_and_is_cut<P: Object + Send, R: Threads + Wait + Sync + Abort>(
+pub(crate) fn carries_and_is_cut<P: Object + Send, R: Threads + Wait + Sync + Abort>(
     rt: &R,
     alloc: Global,
     system: &System<P>,
@@ -172,7 +158,7 @@ fn carries_and_is_cut<P: Object + Send, R: Threads + Wait + Sync + Abort>(
     requires { IsOf system.now.minors opener.old }
 {
     let (mut master, mut slave) = opened(rt, system, opener);
-    carries(rt, system, &mut master, &mut slave);
+    carries(rt, alloc, system, &mut master, &mut slave);
     let first = cut(rt, alloc, system, &master);
     let second = cut(rt, alloc, system, &slave);
     has_all_and_none(rt, first, second);
@@ -189,14 +175,11 @@ fn has_all_and_none<R: Abort>(rt: &R, first: Option<Trace>, second: Option<Trace
     assert!(rt; trace.base.as_slice() != rest.base.as_slice());
 }
 
-#[test]
-fn what_ends_were_told_stays_where_a_pair_is_cut(rt: HostRuntime) -> Result<(), Fail> {
-    let (system, mut opener) = system(rt.alloc(), 1, SIZES)?;
-    carries_and_is_cut(&rt, rt.alloc(), &system, &mut opener);
-    Ok(())
-}
-
-fn runs_out_of_minors<P: Object, R: Wait + Abort>(rt: &R, system: &System<P>, opener: &mut Opener)
+pub(crate) fn runs_out_of_minors<P: Object, R: Wait + Abort>(
+    rt: &R,
+    system: &System<P>,
+    opener: &mut Opener,
+)
     requires { IsOf system.now.minors opener.old }
 {
     let first = claimed(rt, system, opener);
@@ -209,14 +192,11 @@ fn runs_out_of_minors<P: Object, R: Wait + Abort>(rt: &R, system: &System<P>, op
     assert!(rt; why == Refusal::JournalFull && minor.number() == 1);
 }
 
-#[test]
-fn minors_run_out_and_a_full_journal_refuses(rt: HostRuntime) -> Result<(), Fail> {
-    let (system, mut opener) = system(rt.alloc(), 2, NO_JOURNAL)?;
-    runs_out_of_minors(&rt, &system, &mut opener);
-    Ok(())
-}
-
-fn joins_two_pairs<P: Object, R: Wait + Abort>(rt: &R, system: &System<P>, opener: &mut Opener)
+pub(crate) fn joins_two_pairs<P: Object, R: Wait + Abort>(
+    rt: &R,
+    system: &System<P>,
+    opener: &mut Opener,
+)
     requires { IsOf system.now.minors opener.old }
 {
     let first = opened_master(rt, system, opener);
@@ -226,13 +206,6 @@ fn joins_two_pairs<P: Object, R: Wait + Abort>(rt: &R, system: &System<P>, opene
     };
     assert!(rt; first.pair() == 0 && second.pair() == 1);
     assert!(rt; first.end().told().calls == 1 && second.end().told().calls == 1);
-}
-
-#[test]
-fn ends_of_two_pairs_come_back(rt: HostRuntime) -> Result<(), Fail> {
-    let (system, mut opener) = system(rt.alloc(), 2, SIZES)?;
-    joins_two_pairs(&rt, &system, &mut opener);
-    Ok(())
 }
 
 // Cuts an end in two so often, first halves first, and joins all again. The last one has one part, and opens no slave.
@@ -270,7 +243,11 @@ fn is_last<P: Object, R: Wait + Abort>(rt: &R, system: &System<P>, end: PairEnd<
     end
 }
 
-fn splits_to_one_part<P: Object, R: Wait + Abort>(rt: &R, system: &System<P>, opener: &mut Opener)
+pub(crate) fn splits_to_one_part<P: Object, R: Wait + Abort>(
+    rt: &R,
+    system: &System<P>,
+    opener: &mut Opener,
+)
     requires { IsOf system.now.minors opener.old }
 {
     let end = opened_master(rt, system, opener);
@@ -282,28 +259,18 @@ fn splits_to_one_part<P: Object, R: Wait + Abort>(rt: &R, system: &System<P>, op
     assert!(rt; settled.told.calls == 1);
 }
 
-#[test]
-fn an_end_of_one_part_opens_no_slave(rt: HostRuntime) -> Result<(), Fail> {
-    let (system, mut opener) = system(rt.alloc(), 1, SIZES)?;
-    splits_to_one_part(&rt, &system, &mut opener);
-    Ok(())
-}
-
 // A part of an end settles nothing, nor does what is left without it.
-fn parts_settle_nothing<P: Object, R: Wait + Abort>(rt: &R, system: &System<P>, opener: &mut Opener)
+pub(crate) fn parts_settle_nothing<P: Object, R: Wait + Abort>(
+    rt: &R,
+    system: &System<P>,
+    opener: &mut Opener,
+)
     requires { IsOf system.now.minors opener.old }
 {
     let end = opened_master(rt, system, opener);
     let (first, second) = halves(rt, system, end);
     assert!(rt; settled_with(rt, system, second).is_none());
     assert!(rt; settled_with(rt, system, first).is_none());
-}
-
-#[test]
-fn an_end_that_lacks_parts_settles_nothing(rt: HostRuntime) -> Result<(), Fail> {
-    let (system, mut opener) = system(rt.alloc(), 1, SIZES)?;
-    parts_settle_nothing(&rt, &system, &mut opener);
-    Ok(())
 }
 
 // A shell in the foreground and a job in the background have one side, where a line stands.
@@ -324,8 +291,9 @@ fn stops_the_job<P: Object, R: Wait + Abort>(
     assert!(rt; shell.end().told().calls == 2 && shell.end().told().read.from_master == 3);
 }
 
-fn job_reads<P: Object + Send, R: Threads + Wait + Sync + Abort>(
+pub(crate) fn job_reads<P: Object + Send, R: Threads + Wait + Sync + Abort>(
     rt: &R,
+    alloc: Global,
     system: &System<P>,
     opener: &mut Opener,
 )
@@ -341,13 +309,16 @@ fn job_reads<P: Object + Send, R: Threads + Wait + Sync + Abort>(
     };
     assert!(rt; makes(rt, system, &mut shell, &foreground));
     assert!(rt; writes(rt, system, &mut master, b"abc"));
-    assert!(rt; system.run_workers(rt, 1, 1, &NoGate).turns == 1);
+    assert!(rt; worked(rt, alloc, system, (1, 1), &NoGate).turns == 1);
     stops_the_job(rt, system, &mut shell, &mut job);
 }
 
+// No host has no pair, nor more than 65,536.
 #[test]
-fn an_end_in_the_background_is_stopped_where_another_reads(rt: HostRuntime) -> Result<(), Fail> {
-    let (system, mut opener) = system(rt.alloc(), 1, SIZES)?;
-    job_reads(&rt, &system, &mut opener);
-    Ok(())
+fn hosts_are_refused(rt: HostRuntime) {
+    for pairs in [0, 65537] {
+        assert!(rt; matches!(&host(rt.alloc(), pairs, SIZES), Err(Refusal::Einval)));
+    }
+    let few = Config { mblks: 0, ..SIZES };
+    assert!(rt; matches!(&host(rt.alloc(), 65, few), Err(Refusal::Einval)));
 }

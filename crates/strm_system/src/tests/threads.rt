@@ -3,12 +3,11 @@
 ghost use Rattle.strm_minors.specs.Openers.{IsOf};
 ghost use Rattle.strm_locks.specs.Systems.{IsOne};
 
-use super::steps::{makes, opened, opened_master, settled, turn, writes};
-use super::systems::{SIZES, system};
+use super::steps::{makes, opened, opened_master, settled, turn, worked, writes};
+use std::alloc::Global;
 use std::process::Abort;
 use std::sync::Wait;
 use std::sync::atomic::{AtomicU64, Ordering};
-use std::test::Fail;
 use std::thread::{Threads, join, yield_now};
 use strm_locks::{Gate, Object, PairEnd, System};
 use strm_minors::Opener;
@@ -77,7 +76,7 @@ fn read_beside<P: Object + Send, R: Threads + Wait + Sync>(
     end
 }
 
-fn hand_over<P: Object + Send, R: Threads + Wait + Sync + Abort>(
+pub(crate) fn hand_over<P: Object + Send, R: Threads + Wait + Sync + Abort>(
     rt: &R,
     system: &System<P>,
     opener: &mut Opener,
@@ -99,13 +98,6 @@ fn hand_over<P: Object + Send, R: Threads + Wait + Sync + Abort>(
     let settled = settled(rt, system, slave, master);
     assert!(rt; settled.told.written.from_master == ALL && settled.told.read.from_master == ALL);
     assert!(rt; settled.ms.written == ALL && settled.ms.queued == 0);
-}
-
-#[test]
-fn threads_read_what_they_write(rt: HostRuntime) -> Result<(), Fail> {
-    let (system, mut opener) = system(rt.alloc(), 1, SIZES)?;
-    hand_over(&rt, &system, &mut opener);
-    Ok(())
 }
 
 // The gate holds worker 1 before its turn on pair 1 until worker 0 is at its own on pair 0, and worker 0 there until worker 1's turn is done.
@@ -147,8 +139,9 @@ impl Gate for Meeting {
     }
 }
 
-fn workers_meet<P: Object + Send, R: Threads + Wait + Sync + Abort>(
+pub(crate) fn workers_meet<P: Object + Send, R: Threads + Wait + Sync + Abort>(
     rt: &R,
+    alloc: Global,
     system: &System<P>,
     opener: &mut Opener,
 )
@@ -163,14 +156,7 @@ fn workers_meet<P: Object + Send, R: Threads + Wait + Sync + Abort>(
         done: AtomicU64::new(0),
         seen: AtomicU64::new(0),
     };
-    let report = system.run_workers(rt, 2, 1, &gate);
+    let report = worked(rt, alloc, system, (2, 1), &gate);
     assert!(rt; gate.seen.load(Ordering::SeqCst) == 2);
     assert!(rt; report.started == 2 && report.turns == 2);
-}
-
-#[test]
-fn two_workers_wait_for_each_other_at_their_gates(rt: HostRuntime) -> Result<(), Fail> {
-    let (system, mut opener) = system(rt.alloc(), 2, SIZES)?;
-    workers_meet(&rt, &system, &mut opener);
-    Ok(())
 }

@@ -1,12 +1,15 @@
-//! Workers at pairs that nobody opened, and at pairs in memory: each visit takes the lock and gives it back, and is counted.
+//! Workers: each visit takes the lock and gives it back, and is counted.
 
-ghost use Rattle.std.specs.Prelude.{◌≡◌, ◌+◌, ◌*◌, ◌<◌};
+ghost use Rattle.strm_minors.specs.Openers.{IsOf};
 
-use super::systems::{SIZES, system};
+use super::steps::{opened, worked, writes};
 use crate::{Locked, Store};
-use std::test::Fail;
-use strm_locks::{End, Lock, Made, NoGate, PairEnd, Round, System, work};
-use strm_types::{Place, QueueName, Refusal, Side, Turn, Way};
+use std::alloc::Global;
+use std::process::Abort;
+use std::sync::Wait;
+use std::thread::Threads;
+use strm_locks::{Crew, End, Lock, NoGate, Object, PairEnd, System};
+use strm_minors::Opener;
 
 fn may_be_sent<T: Send>() {}
 
@@ -17,62 +20,46 @@ fn may_be_shared<T: Sync>() {}
 fn ends_may_be_sent_and_locks_shared() {
     may_be_sent::<End<Locked<Store>>>();
     may_be_sent::<PairEnd<Locked<Store>>>();
+    may_be_sent::<Crew<Locked<Store>>>();
     may_be_shared::<Lock<Locked<Store>>>();
     may_be_shared::<System<Locked<Store>>>();
 }
 
 // Four workers visit two pairs that nobody opened, so no queue is enabled there.
-#[test]
-fn threads_take_turns_at_two_locks(rt: HostRuntime) -> Result<(), Fail> {
-    let (system, _) = system(rt.alloc(), 2, SIZES)?;
-    let report = system.run_workers(&rt, 4, 10000, &NoGate);
-    assert_eq!(rt; report.started, 4);
-    assert_eq!(rt; report.idle, 40000);
-    let report = system.run_workers(&rt, 0, 1, &NoGate);
+pub(crate) fn visits_two<P: Object + Send, R: Threads + Wait + Sync + Abort>(
+    rt: &R,
+    alloc: Global,
+    system: &System<P>,
+) {
+    let report = worked(rt, alloc, system, (4, 10000), &NoGate);
+    assert!(rt; report.started == 4 && report.idle == 40000);
+    let report = worked(rt, alloc, system, (0, 1), &NoGate);
     assert!(rt; report.started == 0 && report.idle == 0);
-    Ok(())
 }
 
-// Three pairs in memory, of which a visit notes the number as a digit: the first is idle, the second blocked, and the third refuses.
-#[derive(Drop)]
-struct Noted {
-    digits: u64,
+// One worker visits three pairs round, and the first two of them twice. At those a queue is enabled, till its turn is made.
+pub(crate) fn visits_round<P: Object + Send, R: Threads + Wait + Sync + Abort>(
+    rt: &R,
+    alloc: Global,
+    system: &System<P>,
+    opener: &mut Opener,
+)
+    requires { IsOf system.now.minors opener.old }
+{
+    let (mut first, _slave) = opened(rt, system, opener);
+    let (mut second, _slave) = opened(rt, system, opener);
+    assert!(rt; writes(rt, system, &mut first, b"x") && writes(rt, system, &mut second, b"y"));
+    let report = worked(rt, alloc, system, (1, 5), &NoGate);
+    assert!(rt; report.started == 1 && report.turns == 2 && report.idle == 3);
+    assert!(rt; report.blocked == 0 && report.refused == 0);
 }
 
-impl Round for Noted {
-    ghost count = { λ _. 3 };
-
-    ghost leads = { λ a pair made b. a.digits < 100000000 → b.digits ≡ a.digits * 10 + pair };
-
-    fn visit(&mut self, _worker: u32, pair: u32) -> Option<Made> {
-        if self.digits < 100_000_000 {
-            self.digits = self.digits * 10 + pair as u64;
-        }
-        let queue = QueueName {
-            side: Side::Master,
-            place: Place::Driver,
-            way: Way::Down,
-        };
-        match pair {
-            0 => None,
-            1 => Some(Made {
-                queue,
-                answer: Ok(Turn::Blocked),
-            }),
-            _ => Some(Made {
-                queue,
-                answer: Err(Refusal::Enosr),
-            }),
-        }
-    }
-}
-
-#[test]
-fn a_worker_visits_pairs_round_and_counts(rt: HostRuntime) -> Result<(), Fail> {
-    let mut noted = Noted { digits: 0 };
-    let report = work(&mut noted, 3, 1, 5);
-    assert_eq!(rt; noted.digits, 12012);
-    assert!(rt; report.started == 1 && report.turns == 2 && report.blocked == 2);
-    assert!(rt; report.refused == 2 && report.idle == 1);
-    Ok(())
+// Where there is no pair, no visit is made.
+pub(crate) fn visits_none<P: Object + Send, R: Threads + Wait + Sync + Abort>(
+    rt: &R,
+    alloc: Global,
+    system: &System<P>,
+) {
+    let report = worked(rt, alloc, system, (3, 5), &NoGate);
+    assert!(rt; report.started == 3 && report.turns == 0 && report.idle == 0);
 }
