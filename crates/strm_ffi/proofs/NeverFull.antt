@@ -1,43 +1,39 @@
 -- An empty journal of 8192 bytes takes any call and any turn: so a pair whose full journal begins anew never refuses one for it.
-use Rattle.std.proofs.Common.{ℕ, ◌≡◌, ◌≢◌, ◌≤◌, ◌<◌, ◌+◌, Bool, true, false, cond, List, [], ◌∷◌, ◌++◌, length, length-append, refl, sym, subst, ap, ◌∙◌, arith}
+use Rattle.std.proofs.Common.{ℕ, ◌≡◌, ◌≤◌, ◌<◌, ◌+◌, Bool, true, false, cond, List, [], ◌∷◌, ◌++◌, length, length-append, refl, sym, subst, ap, arith}
 use Rattle.std.proofs.lemmas.Bool.Decides.{nat_tests}
-use Rattle.std.specs.Prelude.{Option, None, Some, is_some, min, nat_le, nat_lt, not, ◌&&◌, ◌||◌, ◌==◌, slice_get}
+use Rattle.std.specs.Prelude.{Option, None, Some, nat_le, nat_lt, not, ◌&&◌, ◌||◌, ◌==◌}
 use Rattle.strm_types.specs.declared.events.Caller.{Caller}
 use Rattle.strm_types.specs.declared.events.Event.TheVariants.{OpenMaster, Unlock, OpenSlave, Shut, Push, Pop, Look, Flush, Write, Read, Put, Get, Mode, Nread, Ioctl, IoctlResult, Signals}
 use Rattle.strm_types.specs.declared.job_control.Verdict.{Verdict}
 use Rattle.strm_types.specs.declared.job_control.Verdict.TheVariants.{Allowed, Refused, Stopped}
 use Rattle.strm_types.specs.declared.limits.Config.{Config}
-use Rattle.strm_types.specs.declared.limits.TheConstants.{CONTROL_MAX, DATA_MAX, IOCTL_MAX, READ_MAX}
+use Rattle.strm_types.specs.declared.limits.TheConstants.{CONTROL_MAX, DATA_MAX, IOCTL_MAX}
 use Rattle.strm_types.specs.declared.modes.ControlMode.{ControlMode}
 use Rattle.strm_types.specs.declared.modes.Prio.{Prio}
-use Rattle.strm_types.specs.declared.modes.Prio.TheVariants as prios
 use Rattle.strm_types.specs.declared.modes.Wanted.{Wanted}
 use Rattle.strm_types.specs.declared.names.QueueName.{QueueName}
 use Rattle.strm_types.specs.declared.names.Side.{Side}
-use Rattle.strm_types.specs.declared.names.Side.TheVariants.{Master, Slave}
+use Rattle.strm_types.specs.declared.names.Side.TheVariants.{Slave}
 use Rattle.strm_types.specs.declared.needs.Access.{Access}
 use Rattle.strm_types.specs.declared.needs.Access.TheVariants.{Reads, Writes}
 use Rattle.strm_types.specs.declared.needs.Needs.{Needs}
 use Rattle.strm_types.specs.declared.refusals.Refusal.{Refusal}
-use Rattle.strm_types.specs.declared.refusals.Refusal.TheVariants.{Einval, Eagain, Enxio, Ebadmsg, Enosr, Erange, Eio, JournalFull}
+use Rattle.strm_types.specs.declared.refusals.Refusal.TheVariants.{Einval, Eagain, Enxio, Enosr, Erange, Eio, JournalFull}
 use Rattle.strm_types.specs.declared.slots.Slot.{Slot}
 use Rattle.strm_types.specs.declared.slots.Slot.TheVariants.{Free, Waiting, Answered}
-use Rattle.strm_types.specs.Events.{Request, payload_of}
+use Rattle.strm_types.specs.Events.{Request}
 use Rattle.strm_types.specs.Gets.{get_refusal, is_wanted}
 use Rattle.strm_types.specs.JobControl.{foreground, from_background, held, is_background, refusal_behind}
-use Rattle.strm_types.specs.Journal.{content_max}
 use Rattle.strm_types.specs.Message.{Message, part}
-use Rattle.strm_types.specs.Names.{is_closed, is_enabled, is_master, is_never, is_open}
+use Rattle.strm_types.specs.Names.{is_enabled, is_master, is_open}
 use Rattle.strm_types.specs.Needs.{needs}
-use Rattle.strm_types.specs.PutMsg.{is_no_prio, is_too_long, put_refusal, put_waits}
+use Rattle.strm_types.specs.PutMsg.{is_no_prio, is_too_long, put_refusal}
 use Rattle.strm_types.specs.Reads.{finds_none, read_refusal, starts_refused}
 use Rattle.strm_types.specs.Refused.{or_else, turn_blocks, unless}
-use Rattle.strm_types.specs.Slots.{is_free, result_refusal, unless_same}
-use Rattle.strm_laws.specs.Pair.{PairState, call_refused, next_refused, queue_refused, refused_of, restarted}
-use Rattle.strm_laws.specs.Pushes.{may_stand, named_by, top_on}
-use Rattle.strm_laws.specs.Refusals.{at_end, blocks_asked, enough, has_room, hold, in_range, is_numbered, is_reached, refused_at_once, refused_by_state, turn_refused, unfit, unmet}
+use Rattle.strm_types.specs.Slots.{result_refusal}
+use Rattle.strm_laws.specs.Pair.{PairState, call_refused, queue_refused, refused_of, restarted}
+use Rattle.strm_laws.specs.Refusals.{at_end, blocks_asked, enough, has_room, hold, in_range, is_numbered, is_reached, refused_at_once, refused_by_state, unfit, unmet}
 use Rattle.strm_laws.specs.State.{State, stream}
-use Rattle.strm_laws.specs.Writes.{is_full_below}
 use Rattle.strm_laws.proofs.Replay.{met, unless-none}
 use Rattle.strm_ffi.specs.Few.{FewBytes}
 use Rattle.strm_ffi.specs.Kept.{TakesAny, is_full}

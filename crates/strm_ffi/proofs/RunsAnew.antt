@@ -1,5 +1,5 @@
 -- Turns of a pair whose full journal stays are turns at the pair.
-use Rattle.std.proofs.Common.{ℕ, zero, suc, ◌≡◌, ◌≢◌, ◌<◌, ◌≤◌, ◌+◌, Bool, true, false, List, [], ◌∷◌, refl, sym, subst, ap, ◌∙◌, add-one, arith}
+use Rattle.std.proofs.Common.{ℕ, zero, suc, ◌≡◌, ◌≢◌, ◌<◌, ◌+◌, true, false, List, [], ◌∷◌, refl, sym, subst, ap, ◌∙◌, add-one, arith}
 use Rattle.std.proofs.lemmas.Bool.Decides.{nat_tests}
 use Rattle.std.specs.Prelude.{Option, None, Some, IfNone, T, not, ◌&&◌, ◌==◌, slice_get}
 use Rattle.strm_types.specs.declared.answers.Turn.{Turn}

@@ -1,5 +1,5 @@
 -- That a call brings no more bytes than an empty journal takes: of a write 1024 at most.
-use Rattle.std.specs.Prelude.{ℕ, ◌≤◌, Option, None, Some, length}
+use Rattle.std.specs.Prelude.{◌≤◌, Option, None, Some, length}
 use Rattle.strm_types.specs.declared.events.Event.TheVariants.{Write}
 use Rattle.strm_types.specs.Events.{Request}
 

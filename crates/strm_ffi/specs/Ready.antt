@@ -1,5 +1,5 @@
 -- What an event loop is told: what a side is ready for, and what is left of a pair.
-use Rattle.std.specs.Prelude.{ℕ, ◌≡◌, ◌+◌, ◌&&◌, min, not, Bool, if◌then◌else◌, length, Option, None, Some}
+use Rattle.std.specs.Prelude.{ℕ, ◌≡◌, ◌+◌, ◌&&◌, min, not, Bool, if◌then◌else◌, length, Option, Some}
 use Rattle.strm_types.specs.declared.names.Side.{Side}
 use Rattle.strm_types.specs.Journal.{room_used}
 use Rattle.strm_laws.specs.Pair.{PairState}

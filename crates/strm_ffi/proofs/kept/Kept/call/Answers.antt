@@ -1,4 +1,4 @@
-use Rattle.std.proofs.Common.{◌≡◌, length, refl, sym, ◌∙◌}
+use Rattle.std.proofs.Common.{length, refl, sym, ◌∙◌}
 use Rattle.strm_types.specs.Events.{request}
 use Rattle.strm_ffi.specs.Outcomes.{Answers, Stay}
 use Rattle.strm_ffi.proofs.Decisions.{called-early}

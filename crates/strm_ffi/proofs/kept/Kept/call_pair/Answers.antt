@@ -3,7 +3,7 @@ use Rattle.std.specs.Prelude.{None}
 use Rattle.strm_types.specs.declared.entries.Entry.TheVariants.{Called}
 use Rattle.strm_types.specs.Events.{request}
 use Rattle.strm_types.specs.Journal.{content_max, reply_in}
-use Rattle.strm_laws.specs.Pair.{AddsEntry, PairState, call_refused}
+use Rattle.strm_laws.specs.Pair.{PairState, call_refused}
 use Rattle.strm_ffi.specs.Kept.{IsKept, KeptPair, begun}
 use Rattle.strm_ffi.specs.Outcomes.{Answers, CallsAt, Stay, refused_before, refused_within}
 use Rattle.strm_ffi.proofs.Decisions.{before-fits, called-at, left, stayed, was_done}

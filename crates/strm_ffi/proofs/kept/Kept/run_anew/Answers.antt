@@ -1,6 +1,6 @@
 -- Turn by turn.
 use Rattle.std.proofs.Common.{◌≡◌, true, subst, ◌∙◌, arith}
-use Rattle.strm_ffi.specs.Outcomes.{RanAt, RunsQueues}
+use Rattle.strm_ffi.specs.Outcomes.{RanAt}
 use Rattle.strm_ffi.proofs.RunsAnew.{made-all, one-more, ran-choices, stopped-anew}
 use Rattle.strm_ffi.proofs.kept.Kept.run_anew.Goals as goal
 

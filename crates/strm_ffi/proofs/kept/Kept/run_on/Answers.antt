@@ -1,4 +1,4 @@
-use Rattle.std.proofs.Common.{◌≡◌, false, [], sym, subst, ap, ◌∙◌}
+use Rattle.std.proofs.Common.{◌≡◌, false, [], subst, ap, ◌∙◌}
 use Rattle.std.specs.Prelude.{IfNone}
 use Rattle.strm_ffi.specs.Kept.{KeptPair}
 use Rattle.strm_ffi.specs.Outcomes.{RunsQueues, number_told}

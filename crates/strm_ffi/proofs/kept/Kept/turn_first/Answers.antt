@@ -1,5 +1,5 @@
-use Rattle.std.proofs.Common.{◌≡◌, true, false, [], refl, sym, subst, ap, ◌∙◌}
-use Rattle.std.specs.Prelude.{None, Some, IfNone, slice_get}
+use Rattle.std.proofs.Common.{◌≡◌, true, false, [], refl, sym, subst, ◌∙◌}
+use Rattle.std.specs.Prelude.{None, Some}
 use Rattle.strm_types.specs.declared.entries.Entry.TheVariants.{Turned}
 use Rattle.strm_laws.specs.Pair.{PairState, queue_refused}
 use Rattle.strm_laws.proofs.Replay.{refused-by}

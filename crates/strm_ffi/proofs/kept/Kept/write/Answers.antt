@@ -1,4 +1,4 @@
-use Rattle.std.proofs.Common.{ℕ, ◌≡◌, List, [], subst}
+use Rattle.std.proofs.Common.{ℕ, List, [], subst}
 use Rattle.strm_types.specs.declared.events.Event.TheVariants.{Write}
 use Rattle.strm_ffi.specs.Outcomes.{AnswersSide, CallsAt, Stay, side_refused}
 use Rattle.strm_ffi.proofs.NoBytes.{gives-none}
