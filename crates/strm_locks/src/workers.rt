@@ -1,7 +1,7 @@
 //! Workers: threads that visit the pairs of a system, and make the turns of enabled queues.
 
-ghost use Rattle.std.specs.Prelude.{◌≡◌, ℕ, ◌+◌, ◌<◌, ◌≤◌, IfOk, length, map, replicate, slice_index_or};
-ghost use Rattle.strm_locks.specs.Reports.{AreAt, AreCrew, IsReportOf, Meets, Serves, Tours, Works, at_rest, both, counted, total, visits_at};
+ghost use Rattle.std.specs.Prelude.{◌≡◌, ◌⊎◌, ℕ, ◌+◌, ◌<◌, ◌≤◌, IfOk, length, map, replicate, slice_index_or};
+ghost use Rattle.strm_locks.specs.Reports.{AreAt, AreCrew, IsReportOf, Meets, Serves, Tours, Works, at_rest, both, counted, nobody, total, visits_at};
 
 use crate::gate::{At, Gate};
 use crate::held::Made;
@@ -269,10 +269,10 @@ fn told<P: Object>(hands: &[Hand<P>], pairs: u32, visits: u32) -> Report
 }
 
 impl<P: Object + Send> System<P> {
-    /// Runs the workers, each on a thread of its own where one can be made. Each makes so many visits: the worker of number i first to the pair of
+    /// Runs the workers of a crew, each on a thread of its own where one can be made. Each makes so many visits: the worker of number i first to the pair of
     /// number i, modulo the number of pairs, then to the next, and so on round. A visit makes one turn of the queue that was enabled first there,
     /// if any, under the pair's lock and within the gate. The report counts each visit once; where there is no pair, no visit is made.
-    pub fn run_workers<R: Threads + Wait + Sync, G: Gate + Sync>(
+    pub fn run_crew<R: Threads + Wait + Sync, G: Gate + Sync>(
         &self,
         rt: &R,
         crew: &mut Crew<P>,
@@ -288,5 +288,22 @@ impl<P: Object + Send> System<P> {
         let hands = crew.hands.as_mut_slice();
         serve_all(rt, self, gate, visits, hands);
         told(hands, pairs, visits)
+    }
+
+    /// Runs so many workers, as `run_crew` does those of a crew that is made here and let go. None starts where memory for it is refused.
+    pub fn run_workers<R: Threads + Wait + Sync, G: Gate + Sync>(
+        &self,
+        rt: &R,
+        alloc: Global,
+        workers: u32,
+        visits: u32,
+        gate: &G,
+    ) -> Report
+        ensures { let each = visits_at (length self.now.locks) visits in IsReportOf workers each result ⊎ (result ≡ nobody) }
+    {
+        match self.crew(alloc, workers) {
+            Ok(mut crew) => self.run_crew(rt, &mut crew, visits, gate),
+            Err(_) => NOBODY,
+        }
     }
 }

@@ -167,7 +167,7 @@ pub(crate) fn blow<P: Object + Send, R: Threads + Wait + Sync>(
             let mut crew = system.crew(alloc, wanted)?;
             let threads = started(scope, rt, alloc, system, jobs)?;
             let whole = threads.len() == wanted as usize;
-            system.run_workers(rt, &mut crew, calls, &NoGate);
+            system.run_crew(rt, &mut crew, calls, &NoGate);
             let (hands, counts) = joined(rt, alloc, system, hands, threads);
             Ok(Gathered {
                 hands,

@@ -274,15 +274,12 @@ pub(crate) fn cut<P: Object, R: Wait>(
 }
 
 // So many workers, with so many visits each.
-pub(crate) fn worked<P: Object + Send, R: Threads + Wait + Sync + Abort, G: Gate + Sync>(
+pub(crate) fn worked<P: Object + Send, R: Threads + Wait + Sync, G: Gate + Sync>(
     rt: &R,
     alloc: Global,
     system: &System<P>,
     (workers, visits): (u32, u32),
     gate: &G,
 ) -> Report {
-    let Ok(mut crew) = system.crew(alloc, workers) else {
-        panic!(rt; "no memory")
-    };
-    system.run_workers(rt, &mut crew, visits, gate)
+    system.run_workers(rt, alloc, workers, visits, gate)
 }

@@ -4,7 +4,7 @@ use Rattle.std.specs.Prelude.{map}
 use Rattle.std.specs.Vec.{with_items}
 use Rattle.strm_locks.specs.Reports.{AreAt, AreCrew, IsReportOf, Tours, Works, visits_at}
 use Rattle.strm_locks.proofs.Rows.{crew_each, crew_of, works_of}
-use Rattle.strm_locks.proofs.system.System.run_workers.Goals as goal
+use Rattle.strm_locks.proofs.system.System.run_crew.Goals as goal
 
 pub serve_all-requires-clause-own : goal.serve_all-requires-clause-own
 serve_all-requires-clause-own g c = let locks = c.args.self.now.locks in let hs = c.as_mut_slice-hands.result.now in
