@@ -118,7 +118,7 @@ impl<B: Blocks + Drop> Pair<B> {
     }
 
     /// Makes the pair as new, in place: nobody opened it, and its store and its journal are empty. It takes no
-    /// memory. The cost is a step for each message block in use, and that of the image of a new pair.
+    /// memory. The cost is that of the blocks that were used, of what was entered, and of the image of a new pair.
     pub fn reset(&mut self)
         ensures { self.new ≡ new_pair self.old.limits }
     {

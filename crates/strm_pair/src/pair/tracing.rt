@@ -56,7 +56,7 @@ impl<B: Blocks + Drop> Pair<B> {
     }
 
     /// Begins the journal anew, in place: it is empty, and the state and the fates that the pair has are those at which it begins. All
-    /// else stays, so a pair whose journal is full goes on. It takes no memory. The cost is that of an image.
+    /// else stays, so a pair whose journal is full goes on. It takes no memory. The cost is that of an image, and of writing over what was entered.
     pub fn restart(&mut self)
         ensures { self.new ≡ restarted self.old }
     {
