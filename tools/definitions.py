@@ -99,9 +99,10 @@ def hook(changes, home, room, names):
     functions = [name for name in names if not is_lemma(name)]
     if files:
         proofs = [f"{at}/{it}" for at, _, found in os.walk(f"{room}/proofs") for it in found if it in ("Answers.antt", "Proof.antt")]
-        if not proofs:
-            raise LookupError(f"no function of {home.name} has a proof file that could import its lemmas")
         named = {"::".join([home.name, *os.path.relpath(os.path.dirname(it), f"{room}/proofs").split("/")]): it for it in sorted(proofs)}
+        named = {name: it for name, it in named.items() if re.fullmatch(r"[\w:]+", name)}
+        if not named:
+            raise LookupError(f"no function of {home.name} has a proof file that could import its lemmas")
         least = min(named, key=lambda it: len(changes.reaches(home, it)) or len(named) ** 9)
         text = reach.text_of(named[least])
         with open(named[least], "w", encoding="utf-8") as file:

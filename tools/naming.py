@@ -8,6 +8,7 @@ import collections
 import glob
 import os
 import random
+import re
 
 import definitions
 import reach
@@ -20,9 +21,9 @@ def provable(home):
     """What a check of a crate can find unproved: its functions that have a proof file, and its lemmas and rows."""
     for path in sorted(glob.glob(f"{home.folder}/proofs/**/*.antt", recursive=True)):
         inside = os.path.relpath(path, f"{home.folder}/proofs").split("/")
-        if len(inside) > 1:
+        if len(inside) > 1 and all(re.fullmatch(r"\w+", it) for it in inside[:-1]):
             yield "::".join([home.name, *inside[:-1]])
-        elif inside != ["Lib.antt"]:
+        elif len(inside) == 1 and inside != ["Lib.antt"]:
             for name in reach.declarations(reach.text_of(path)):
                 yield f"{home.name}::proofs::{inside[0][:-len('.antt')]}::{name}"
 
