@@ -348,3 +348,24 @@ module _ {A : Type 0} (f : Format A) (exact : IsExact f) where
 
   pub unwhole : (bytes : List ℕ) (x : A) → whole f bytes ≡ None → IsTextOf f bytes x → ⊥
   unwhole bytes x none h = let read = whole_again bytes x h in cc
+
+-- ---- three tests of what was read, the first one innermost
+
+module _ {A : Type 0} (a b c : A → Bool) (f : Format A) (bytes : List ℕ) (x : A × List ℕ) (read : f.read bytes ≡ Some x) where
+  abbrev tested : Option (A × List ℕ)
+  tested = (only c (only b (only a f))).read bytes
+
+  by_each : (p q r : Bool) → a x.0 ≡ p → b x.0 ≡ q → c x.0 ≡ r → tested ≡ cond (p && (q && r)) (Some x) None
+  by_each false q r first second third = rw (read, first) refl
+  by_each true false r first second third = rw (read, first, second) refl
+  by_each true true false first second third = rw (read, first, second, third) refl
+  by_each true true true first second third = rw (read, first, second, third) refl
+
+  by_all : tested ≡ cond (a x.0 && (b x.0 && c x.0)) (Some x) None
+  by_all = by_each (a x.0) (b x.0) (c x.0) refl refl refl
+
+  pub three_pass : (a x.0 && (b x.0 && c x.0)) ≡ true → (only c (only b (only a f))).read bytes ≡ Some x
+  three_pass is = by_all ∙ ap (λ t. cond t (Some x) None) is
+
+  pub three_fail : (a x.0 && (b x.0 && c x.0)) ≡ false → (only c (only b (only a f))).read bytes ≡ None
+  three_fail is = by_all ∙ ap (λ t. cond t (Some x) None) is

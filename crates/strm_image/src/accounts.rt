@@ -3,11 +3,11 @@
 ghost use Rattle.std.specs.Prelude.{◌≡◌, ◌<◌, ◌^◌};
 ghost use Rattle.std.specs.List.{sum};
 ghost use Rattle.strm_image.specs.AccountTexts.{account_now};
-ghost use Rattle.strm_image.specs.Format.{Reads};
+ghost use Rattle.strm_image.specs.Format.{Reads, ◌then◌};
 ghost use Rattle.strm_image.specs.Image.{account, rule_counts};
 
 use crate::fields::u64_at;
-use strm_types::RULES;
+use strm_types::{Both, RULES};
 
 /// What was written and made in a direction, and what has gone by each rule, by the numbers of the rules.
 #[derive(Clone, Copy, Drop)]
@@ -33,7 +33,7 @@ fn rule_counts_at(text: &[u8]) -> Option<([u64; RULES], &[u8])>
 
 /// The ledger of a direction, but for what stands on its queues and in its lines.
 #[tactic(auto, unfolding(crate::specs::Image::account))]
-pub fn account_at(text: &[u8]) -> Option<(AccountText, &[u8])>
+fn account_at(text: &[u8]) -> Option<(AccountText, &[u8])>
     ensures { Reads (λ x. (account_now x.0, x.1.now)) result (account.read text.now) }
 {
     let (written, rest) = u64_at(text)?;
@@ -51,6 +51,15 @@ pub fn account_at(text: &[u8]) -> Option<(AccountText, &[u8])>
         fates,
     };
     Some((account, rest))
+}
+
+/// The ledgers of both directions, that of what the master writes first.
+pub fn accounts_at(text: &[u8]) -> Option<(Both<AccountText>, &[u8])>
+    ensures { Reads (λ x. ((account_now x.0.master, account_now x.0.slave), x.1.now)) result ((account then account).read text.now) }
+{
+    let (master, rest) = account_at(text)?;
+    let (slave, rest) = account_at(rest)?;
+    Some((Both { master, slave }, rest))
 }
 
 /// How many bytes have gone by some rule.

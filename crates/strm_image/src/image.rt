@@ -9,7 +9,7 @@ ghost use Rattle.strm_image.specs.Image.{Imaged, are_balanced, are_quiet, are_th
 ghost use Rattle.strm_image.specs.ImageTexts.{image_now, imaged_now};
 ghost use Rattle.strm_image.specs.StreamTexts.{laid_now};
 
-use crate::accounts::{AccountText, account_at, total};
+use crate::accounts::{AccountText, accounts_at, total};
 use crate::codes::{flag_at, openness_at, version_at};
 use crate::enabled::{NAMES, enabled_at};
 use crate::fields::{bytes_at, u32_at};
@@ -112,6 +112,13 @@ impl<'a> StateText<'a> {
     {
         self.both_balance()
     }
+
+    // Whether all that is asked of the whole holds.
+    fn holds(&self) -> bool
+        ensures { result ≡ (are_quiet (imaged_now self.now) && (are_there (imaged_now self.now) && are_balanced (imaged_now self.now))) }
+    {
+        self.are_quiet() && self.are_there() && self.are_balanced()
+    }
 }
 
 // Whether what a side wrote, and what was made of it, is on its way to the other one or has gone. The sums have 128 bits, so none goes
@@ -125,7 +132,6 @@ fn is_balanced(account: &AccountText, from: &StreamText<'_>, to: &StreamText<'_>
 }
 
 // The state at the front of a text.
-#[tactic(auto, unfolding(crate::specs::Image::body))]
 fn state_at(text: &[u8], version: Version) -> Option<(StateText<'_>, &[u8])>
     ensures { Reads (λ x. (imaged_now x.0, x.1.now)) result ((body version).read text.now) }
 {
@@ -139,8 +145,7 @@ fn state_at(text: &[u8], version: Version) -> Option<(StateText<'_>, &[u8])>
     let (master, rest) = stream_at(rest, version, false)?;
     let (slave, rest) = stream_at(rest, version, true)?;
     let (enabled, rest) = enabled_at(rest)?;
-    let (from_master, rest) = account_at(rest)?;
-    let (from_slave, rest) = account_at(rest)?;
+    let (accounts, rest) = accounts_at(rest)?;
     let state = StateText {
         opened: Both {
             master: master_opened,
@@ -150,12 +155,9 @@ fn state_at(text: &[u8], version: Version) -> Option<(StateText<'_>, &[u8])>
         next_ioctl,
         streams: Both { master, slave },
         enabled,
-        accounts: Both {
-            master: from_master,
-            slave: from_slave,
-        },
+        accounts,
     };
-    if !state.are_quiet() || !state.are_there() || !state.are_balanced() {
+    if !state.holds() {
         return None;
     }
     Some((state, rest))

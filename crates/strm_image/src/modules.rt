@@ -4,13 +4,13 @@ ghost use Rattle.std.specs.Prelude.{◌≡◌, ◌≤◌, [], length, map};
 ghost use Rattle.strm_types.specs.Modules.{stands};
 ghost use Rattle.strm_types.specs.Queue.{is_none_left};
 ghost use Rattle.strm_laws.specs.Stacked.{module_name};
-ghost use Rattle.strm_image.specs.Format.{Reads, at_end, gather_from};
-ghost use Rattle.strm_image.specs.Modules.{has_name, ldterm, module_below, module_format, modules, next_names, ptem, termios, winsize};
+ghost use Rattle.strm_image.specs.Format.{Reads, at_end, byte, bytes_of, counted, gather_from, only, u32};
+ghost use Rattle.strm_image.specs.Modules.{has_name, is_column, ldterm, module_below, module_format, modules, next_names, ptem, termios, winsize};
 ghost use Rattle.strm_image.specs.ModuleTexts.{ldterm_now, module_now, modules_now, names_now, ptem_now};
 
 use crate::codes::{flag_at, module_kind_at};
 use crate::fields::{byte_at, bytes_at, u16_at, u32_at};
-use crate::queues::{QueueText, queue_at};
+use crate::queues::{QueueText, queues_at};
 use crate::versions::{QueueKind, Version};
 use arrayvec::ArrayVec;
 use strm_types::{
@@ -85,21 +85,35 @@ fn winsize_at(text: &[u8]) -> Option<(Winsize, &[u8])>
     Some((window, rest))
 }
 
-#[tactic(auto, unfolding(crate::specs::Modules::ldterm))]
+// The column of output.
+fn column_at(text: &[u8]) -> Option<(u32, &[u8])>
+    ensures { Reads (λ x. (x.0, x.1.now)) result ((only is_column u32).read text.now) }
+{
+    let (column, rest) = u32_at(text)?;
+    if column > u32::from(COLUMN_MAX) {
+        return None;
+    }
+    Some((column, rest))
+}
+
+// The unfinished line.
+fn line_at(text: &[u8]) -> Option<(&[u8], &[u8])>
+    ensures { Reads (λ x. (x.0.now, x.1.now)) result ((counted byte bytes_of).read text.now) }
+{
+    let (length, rest) = byte_at(text)?;
+    bytes_at(rest, usize::from(length))
+}
+
 fn ldterm_at(text: &[u8], version: Version) -> Option<(LdtermText<'_>, &[u8])>
     ensures { Reads (λ x. (ldterm_now x.0, x.1.now)) result ((ldterm version).read text.now) }
 {
     let (termios, rest) = termios_at(text)?;
     let (stopped, rest) = flag_at(rest)?;
     let (after_lnext, rest) = flag_at(rest)?;
-    let (column, rest) = u32_at(rest)?;
-    if column > u32::from(COLUMN_MAX) {
-        return None;
-    }
-    let (length, rest) = byte_at(rest)?;
-    let (line, rest) = bytes_at(rest, usize::from(length))?;
-    let (read_queue, rest) = queue_at(rest, version, QueueKind::LdtermRead)?;
-    let (write_queue, rest) = queue_at(rest, version, QueueKind::LdtermWrite)?;
+    let (column, rest) = column_at(rest)?;
+    let (line, rest) = line_at(rest)?;
+    let (read, write) = (QueueKind::LdtermRead, QueueKind::LdtermWrite);
+    let ((read_queue, write_queue), rest) = queues_at(rest, version, read, write)?;
     let found = LdtermText {
         termios,
         stopped,

@@ -1,7 +1,7 @@
 //! Queues as they stand in a text.
 
 ghost use Rattle.std.specs.Prelude.{◌≡◌};
-ghost use Rattle.strm_image.specs.Format.{Reads};
+ghost use Rattle.strm_image.specs.Format.{Reads, ◌then◌};
 ghost use Rattle.strm_image.specs.Queues.{flags, queue};
 ghost use Rattle.strm_image.specs.QueueTexts.{queue_now};
 
@@ -51,4 +51,19 @@ pub fn queue_at(text: &[u8], version: Version, at: QueueKind) -> Option<(QueueTe
         messages,
     };
     Some((found, rest))
+}
+
+/// Two queues, one behind the other.
+pub fn queues_at(
+    text: &[u8],
+    version: Version,
+    first: QueueKind,
+    second: QueueKind,
+) -> Option<((QueueText<'_>, QueueText<'_>), &[u8])>
+    ensures { Reads (λ x. ((queue_now x.0.0, queue_now x.0.1), x.1.now)) result
+        ((queue version first then queue version second).read text.now) }
+{
+    let (before, rest) = queue_at(text, version, first)?;
+    let (behind, rest) = queue_at(rest, version, second)?;
+    Some(((before, behind), rest))
 }

@@ -3,20 +3,21 @@
 ghost use Rattle.std.specs.Prelude.{◌≡◌};
 ghost use Rattle.strm_types.specs.Queue.{is_none_left};
 ghost use Rattle.strm_types.specs.Slots.{map_slot};
-ghost use Rattle.strm_image.specs.Format.{Reads};
-ghost use Rattle.strm_image.specs.Streams.{are_signals, bits, head_bits, laid, signals, slot, slot_kind};
+ghost use Rattle.strm_image.specs.declared.versions.SlotKind.TheVariants as slots;
+ghost use Rattle.strm_image.specs.Format.{Reads, bytes_of, counted, only, u32};
+ghost use Rattle.strm_image.specs.Streams.{are_signals, bits, head_bits, is_answer, laid, signals, slot, slot_body, slot_kind};
 ghost use Rattle.strm_image.specs.StreamTexts.{bits_now, laid_now};
 
 use crate::codes::{control_mode_at, flag_at, read_mode_at};
 use crate::fields::{byte_at, bytes_at, u32_at};
 use crate::modules::{ModuleText, modules_at};
-use crate::queues::{QueueText, queue_at};
+use crate::queues::{QueueText, queues_at};
 use crate::versions::{QueueKind, SlotKind, Version};
 use arrayvec::ArrayVec;
 use strm_types::{ControlMode, IOCTL_MAX, MODULES, ReadMode, SIGNAL_LAST, Slot};
 
 /// The flags of a head: whether an M_HANGUP came, whether TOSTOP is set, and the foreground group, 0 where there is none.
-#[derive(Clone, Copy, Debug, PartialEq)]
+#[derive(Clone, Copy)]
 pub struct HeadBits {
     pub hung_up: bool,
     pub tostop: bool,
@@ -76,6 +77,45 @@ fn slot_kind_at(text: &[u8]) -> Option<(SlotKind, &[u8])>
     Some((kind, rest))
 }
 
+// An ioctl that has no answer.
+fn waiting_at(text: &[u8]) -> Option<(Slot<&[u8]>, &[u8])>
+    ensures { Reads (λ x. (map_slot (λ b. b.now) x.0, x.1.now)) result ((slot_body slots.Waiting).read text.now) }
+{
+    let (number, rest) = u32_at(text)?;
+    let (command, rest) = u32_at(rest)?;
+    Some((Slot::Waiting { number, command }, rest))
+}
+
+// The bytes of an answer, 256 at most.
+fn answer_at(text: &[u8]) -> Option<(&[u8], &[u8])>
+    ensures { Reads (λ x. (x.0.now, x.1.now)) result ((counted (only is_answer u32) bytes_of).read text.now) }
+{
+    let (length, rest) = u32_at(text)?;
+    if length as usize > IOCTL_MAX {
+        return None;
+    }
+    bytes_at(rest, length as usize)
+}
+
+// An ioctl that was answered.
+fn answered_at(text: &[u8]) -> Option<(Slot<&[u8]>, &[u8])>
+    ensures { Reads (λ x. (map_slot (λ b. b.now) x.0, x.1.now)) result ((slot_body slots.Answered).read text.now) }
+{
+    let (number, rest) = u32_at(text)?;
+    let (command, rest) = u32_at(rest)?;
+    let (acked, rest) = flag_at(rest)?;
+    let (error, rest) = u32_at(rest)?;
+    let (body, rest) = answer_at(rest)?;
+    let slot = Slot::Answered {
+        number,
+        command,
+        acked,
+        error,
+        body,
+    };
+    Some((slot, rest))
+}
+
 // The ioctl that is under way.
 #[tactic(auto, unfolding(crate::specs::Streams::slot))]
 fn slot_at(text: &[u8]) -> Option<(Slot<&[u8]>, &[u8])>
@@ -84,30 +124,8 @@ fn slot_at(text: &[u8]) -> Option<(Slot<&[u8]>, &[u8])>
     let (kind, rest) = slot_kind_at(text)?;
     match kind {
         SlotKind::Free => Some((Slot::Free, rest)),
-        SlotKind::Waiting => {
-            let (number, rest) = u32_at(rest)?;
-            let (command, rest) = u32_at(rest)?;
-            Some((Slot::Waiting { number, command }, rest))
-        }
-        SlotKind::Answered => {
-            let (number, rest) = u32_at(rest)?;
-            let (command, rest) = u32_at(rest)?;
-            let (acked, rest) = flag_at(rest)?;
-            let (error, rest) = u32_at(rest)?;
-            let (length, rest) = u32_at(rest)?;
-            if length as usize > IOCTL_MAX {
-                return None;
-            }
-            let (body, rest) = bytes_at(rest, length as usize)?;
-            let slot = Slot::Answered {
-                number,
-                command,
-                acked,
-                error,
-                body,
-            };
-            Some((slot, rest))
-        }
+        SlotKind::Waiting => waiting_at(rest),
+        SlotKind::Answered => answered_at(rest),
     }
 }
 
@@ -161,7 +179,6 @@ fn head_bits_at(text: &[u8], is_slave: bool) -> Option<(HeadBits, &[u8])>
 }
 
 /// A stream at the front of a text.
-#[tactic(auto, unfolding(crate::specs::Streams::laid))]
 pub fn stream_at(text: &[u8], version: Version, is_slave: bool) -> Option<(StreamText<'_>, &[u8])>
     ensures { Reads (λ x. (laid_now x.0, x.1.now)) result ((laid version is_slave).read text.now) }
 {
@@ -171,8 +188,7 @@ pub fn stream_at(text: &[u8], version: Version, is_slave: bool) -> Option<(Strea
     let (signals, rest) = signals_at(rest)?;
     let (slot, rest) = slot_at(rest)?;
     let (modules, rest) = modules_at(rest, version)?;
-    let (head, rest) = queue_at(rest, version, QueueKind::Head)?;
-    let (driver, rest) = queue_at(rest, version, QueueKind::Driver)?;
+    let ((head, driver), rest) = queues_at(rest, version, QueueKind::Head, QueueKind::Driver)?;
     let found = StreamText {
         read_mode,
         control_mode,

@@ -2,7 +2,7 @@
 
 /// The version of an image. Version 1 lists the first [`FIRST_BANDS`] bands of each queue, version 2 those that aren't as a queue
 /// is made.
-#[derive(Clone, Copy, Debug, PartialEq)]
+#[derive(Clone, Copy)]
 pub enum Version {
     First = 1,
     Second = 2,
@@ -12,7 +12,7 @@ pub enum Version {
 pub const FIRST_BANDS: usize = 8;
 
 /// Which of the queues of a stream one is: the head's, those of `ldterm`, or the driver's.
-#[derive(Clone, Copy, Debug, PartialEq)]
+#[derive(Clone, Copy)]
 pub enum QueueKind {
     Head,
     LdtermRead,
@@ -21,7 +21,7 @@ pub enum QueueKind {
 }
 
 /// What there is of an ioctl under way, as a byte of an image says it.
-#[derive(Clone, Copy, Debug, PartialEq)]
+#[derive(Clone, Copy)]
 pub enum SlotKind {
     Free = 0,
     Waiting = 1,
@@ -30,7 +30,7 @@ pub enum SlotKind {
 
 /// What messages take and hold: how many blocks of each kind they take, and how many of their bytes a ledger counts, which are
 /// those of M_DATA, M_PROTO and M_PCPROTO.
-#[derive(Clone, Copy, Debug, PartialEq)]
+#[derive(Clone, Copy)]
 pub struct Load {
     pub blocks: usize,
     pub cells: u128,
