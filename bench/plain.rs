@@ -6,7 +6,8 @@ mod queues;
 use blocks::{BLOCK, Kind, NONE, Pool};
 use ioctls::Module;
 use ldterm::{Line, plain};
-use queues::{HEADS, LineRead, LineWrite, MasterDriver, MasterHead, PLACES, Place, Queue, Queues, SlaveDriver, SlaveHead};
+pub use queues::Place;
+use queues::{HEADS, LineRead, LineWrite, MasterDriver, MasterHead, PLACES, Queue, Queues, SlaveDriver, SlaveHead};
 use std::mem::take;
 
 const BOOK_END: u64 = 1 << 62;
