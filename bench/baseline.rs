@@ -1,5 +1,6 @@
 //! What a pair is compared with: the pseudoterminal of `plain`, or the buffers of `floor`. It makes the plans of `strm_bench`, which stand on its
-//! standard input, a line each, and answers as that does; act 10 is TIOCGWINSZ answered in its place.
+//! standard input, a line each, and answers as that does; act 10 is TIOCGWINSZ answered in its place, and
+//! act 11 a message in each of as many bands as are asked for.
 //!
 //!     baseline [floor]
 mod floor;
@@ -90,6 +91,7 @@ fn round<P: Peer>(pair: &mut P, act: usize, text: &[u8], asked: usize, out: &mut
         0 | 1 => (0, 1),
         2 => (0, 0),
         3 => (1, 0),
+        11 => return bands(pair, text, asked, out),
         5 | 10 => return pair.window_size(act == 10, out).map(|()| out.len()),
         _ => {
             pair.putmsg(if act == 6 { 200 } else { 0 }, b"head", text)?;
@@ -110,6 +112,18 @@ fn round<P: Peer>(pair: &mut P, act: usize, text: &[u8], asked: usize, out: &mut
         turns(pair)?;
     }
     Ok(asked - left)
+}
+
+/// A message in each of so many bands from the lowest on, which are then taken.
+fn bands<P: Peer>(pair: &mut P, text: &[u8], count: usize, out: &mut Vec<u8>) -> Result<usize, Refusal> {
+    for band in 1..=count {
+        pair.putmsg(band as u8, b"head", text)?;
+        turns(pair)?;
+    }
+    for _ in 0..count {
+        pair.getmsg(64, 256, out)?;
+    }
+    Ok(count)
 }
 
 /// What a plan tells: how many bytes were read, and how many entries and bytes the last pair's journal has.
