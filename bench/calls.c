@@ -80,13 +80,14 @@ static size_t least_of(size_t a, size_t b)
     return a < b ? a : b;
 }
 
-/* How many newlines stand among bytes, and how many bytes behind the last of them. */
-static size_t newlines(const uint8_t *bytes, size_t n, size_t *rest)
+/* Of so many bytes of a round's text from a place on: how many newlines stand among them, and how many bytes behind the last. Without lines each byte
+ * is to be read at once. */
+static size_t newlines(const row *is, size_t at, size_t n, size_t *rest)
 {
-    size_t i, found = 0;
-    *rest = n;
-    for (i = 0; i < n; i++)
-        if (bytes[i] == '\n') found++, *rest = n - i - 1;
+    size_t found = 0;
+    *rest = is->line ? n : 0;
+    if (is->line) found = (at + n) / is->line - at / is->line;
+    if (found) *rest = (at + n) % is->line;
     return found;
 }
 
@@ -142,8 +143,7 @@ static void pair_moves(const row *is)
 {
     size_t at = 0, line = 0;
     while (at < is->size) {
-        size_t n = pair_write(is->act == SHOWS ? STRM_SLAVE : STRM_MASTER, text + at, is->size - at), rest, more = newlines(text + at, n, &rest);
-        if (is->stack != LINES) more = rest = 0;
+        size_t n = pair_write(is->act == SHOWS ? STRM_SLAVE : STRM_MASTER, text + at, is->size - at), rest, more = newlines(is, at, n, &rest);
         at += n, line += n;
         pair_run();
         if (is->act != TYPES) pair_reads(STRM_MASTER, n + more);
@@ -234,8 +234,7 @@ static void system_moves(const row *is)
 {
     size_t at, line = 0;
     for (at = 0; at < is->size; at += PART) {
-        size_t n = least_of(is->size - at, PART), rest, more = newlines(text + at, n, &rest);
-        if (is->stack != LINES) more = rest = 0;
+        size_t n = least_of(is->size - at, PART), rest, more = newlines(is, at, n, &rest);
         if (write(is->act == SHOWS ? slave : master, text + at, n) != (ssize_t)n) die("not all was taken");
         if (is->act != TYPES) system_reads(master, n + more);
         line += n;

@@ -71,14 +71,16 @@ impl Pty {
         size_of_val(&size)
     }
 
-    /// A round of an act, as a plan counts them, and how many bytes were read.
-    fn round(&self, act: usize, text: &[u8], out: &mut [u8]) -> usize {
+    /// A round of an act, as a plan counts them, whose text has lines of so many bytes, or none; and how many bytes were read.
+    fn round(&self, act: usize, text: &[u8], lines: usize, out: &mut [u8]) -> usize {
         if act == 5 {
             return self.window_size();
         }
-        let (mut read, mut line) = (0, 0);
+        let lines = if self.raw { 0 } else { lines };
+        let (mut read, mut line, mut at) = (0, 0, 0);
         for part in text.chunks(PART) {
-            let newlines = if self.raw { 0 } else { part.iter().filter(|byte| **byte == b'\n').count() };
+            let newlines = (at + part.len()).checked_div(lines).unwrap_or(0) - at.checked_div(lines).unwrap_or(0);
+            at += part.len();
             if act == 3 {
                 self.writes(self.slave, part);
                 self.reads(self.master, part.len() + newlines, out);
@@ -90,7 +92,7 @@ impl Pty {
                 self.reads(self.master, part.len() + newlines, out);
             }
             line += part.len();
-            let rest = if self.raw { 0 } else { part.iter().rev().take_while(|byte| **byte != b'\n').count() };
+            let rest = if newlines > 0 { at % lines } else { part.len() * !self.raw as usize };
             if act != 2 && rest < part.len() {
                 self.reads(self.slave, line - rest, out);
                 (read, line) = (read + line - rest, rest);
@@ -119,7 +121,7 @@ fn run([pairs, rounds, _, _, _, warm, _, act, stack, text, line, size, _]: [usiz
     for _ in 0..pairs {
         let pty = Pty::new(stack != 1);
         for _ in 0..(1 + warm) * rounds {
-            read += pty.round(act, &text, &mut out);
+            read += pty.round(act, &text, line, &mut out);
         }
     }
     read

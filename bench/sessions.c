@@ -141,7 +141,6 @@ static cost pseudoterminals(unsigned long count)
     int(*all)[2] = (int(*)[2])calloc(count, sizeof *all);
     cost is = { 0, 0, 0, 0, 0 };
     unsigned long i;
-    long open_before = descriptors();
     double before = kilobytes("/proc/meminfo", "Slab:", "VmallocUsed:"), began = cpu();
     if (!all) die("no memory");
     while (is.made < count && opens(&all[is.made][0], &all[is.made][1])) is.made++;
@@ -149,7 +148,7 @@ static cost pseudoterminals(unsigned long count)
     for (i = 0; i < is.made; i++) system_types(all[i][0], all[i][1]);
     is.typed_ns = cpu() - began - is.made_ns;
     is.bytes = (kilobytes("/proc/meminfo", "Slab:", "VmallocUsed:") - before) * 1024;
-    is.descriptors = is.made < count ? 2 * (long)is.made : descriptors() - open_before;
+    is.descriptors = 2 * (long)is.made;
     for (i = 0; i < is.made; i++) close(all[i][1]), close(all[i][0]);
     free(all);
     return is;
