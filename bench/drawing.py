@@ -1,19 +1,23 @@
 """Pictures of figures as SVG: rows of marks on a logarithmic scale, and panels of lines. They are 480 wide, so that at 400 pixels their text is
 read as well as at 1200, and take the colours that the reader's system asks for, light or dark."""
 import math
-from typing import Dict, List, NamedTuple, Optional, Sequence, Tuple
+from typing import Dict, List, NamedTuple, Optional, Sequence
 from xml.sax.saxutils import escape
 
 WIDTH = 480
 
-LIGHT = {"ground": "#ffffff", "text": "#1b1f24", "dim": "#57606a", "rule": "#d4d9df", "pair": "#1a5fd0", "baseline": "#b3530c", "floor": "#68717d", "pty": "#16803c"}
-DARK = {"ground": "#0d1117", "text": "#e6edf3", "dim": "#9aa5b1", "rule": "#333b45", "pair": "#74aaff", "baseline": "#ffa25e", "floor": "#a3adb8", "pty": "#5fd68d"}
+KINDS = ("pair", "baseline", "floor", "pty")
+
+LIGHT = {"ground": "#ffffff", "text": "#1b1f24", "dim": "#57606a", "rule": "#d4d9df",
+         "pair": "#1a5fd0", "baseline": "#b3530c", "floor": "#68717d", "pty": "#16803c"}
+DARK = {"ground": "#0d1117", "text": "#e6edf3", "dim": "#9aa5b1", "rule": "#333b45",
+        "pair": "#74aaff", "baseline": "#ffa25e", "floor": "#a3adb8", "pty": "#5fd68d"}
 
 
 def colours(of: Dict[str, str]) -> str:
     """Rules of a style sheet, each colour spelt out: some programs that draw pictures know no variables."""
-    told = [f"text {{ fill: {of['text']}; }}", f".ground {{ fill: {of['ground']}; }}", f".rule {{ stroke: {of['rule']}; }}", f".dim {{ fill: {of['dim']}; }}"]
-    for kind in ("pair", "baseline", "floor", "pty"):
+    told = [f"text {{ fill: {of['text']}; }} .ground {{ fill: {of['ground']}; }} .rule {{ stroke: {of['rule']}; }} .dim {{ fill: {of['dim']}; }}"]
+    for kind in KINDS:
         told += [f".{kind} {{ fill: {of[kind]}; }}", f".line-{kind} {{ stroke: {of[kind]}; }}"]
     return " ".join(told)
 
@@ -88,7 +92,8 @@ def marks_in_rows(title: str, unit: str, noted: str, names: Sequence[str], notes
     for power in range(low, high + 1):
         x = at(10**power)
         parts.append(rule(x, top - 16, x, bottom))
-        parts.append(text(x, top - 22, short(10**power) + (f" {unit}" if power == low else ""), 12, "end" if power == high else "start" if power == low else "middle", "dim"))
+        anchor, said = {low: "start", high: "end"}.get(power, "middle"), short(10**power) + (f" {unit}" if power == low else "")
+        parts.append(text(x, top - 22, said, 12, anchor, "dim"))
     for i, (name, note) in enumerate(zip(names, notes)):
         y = top + step * i
         # A row's text stands on the ground, so that no rule runs through its letters.
@@ -97,8 +102,8 @@ def marks_in_rows(title: str, unit: str, noted: str, names: Sequence[str], notes
         there = [one.values[i] for one in series if one.values[i]]
         parts.append(rule(at(min(there)), y + 27, at(max(there)), y + 27))
         parts += [mark(one.kind, at(one.values[i]), y + 27) for one in reversed(series) if one.values[i]]
-    told = "; ".join(f"{name}: " + ", ".join(f"{one.name} {one.values[i]:,.0f}" for one in series if one.values[i]) for i, name in enumerate(names))
-    return picture(title, told, bottom + 12, parts)
+    values = lambda i: ", ".join(f"{one.name} {one.values[i]:,.0f}" for one in series if one.values[i])
+    return picture(title, "; ".join(f"{name}: {values(i)}" for i, name in enumerate(names)), bottom + 12, parts)
 
 
 class Panel(NamedTuple):
@@ -141,11 +146,7 @@ def panels(title: str, named: Sequence[Series], each: Sequence[Panel]) -> str:
     parts = [text(14, 26, title, 16, weight="600"), *legend(named, 50)]
     for i, panel in enumerate(each):
         parts += lines_in(panel, 6 + i % 2 * (width - 6), top + i // 2 * height, width - 6, height)
-    told = "; ".join(f"{panel.title}, {panel.unit}: " + ", ".join(
-        f"{one.name} " + " ".join(f"{size}: {value:,.0f}" for size, value in zip(panel.sizes, one.values) if value is not None) for one in panel.series) for panel in each)
+    values = lambda panel, one: " ".join(f"{size}: {value:,.0f}" for size, value in zip(panel.sizes, one.values))
+    lines = lambda panel: ", ".join(f"{one.name} {values(panel, one)}" for one in panel.series)
+    told = "; ".join(f"{panel.title}, {panel.unit}: {lines(panel)}" for panel in each)
     return picture(title, told, top + (len(each) + 1) // 2 * height + 8, parts)
-
-
-def checks(svg: str) -> Tuple[int, Dict[str, int]]:
-    """How many bytes a picture has, and how many of its elements are text."""
-    return len(svg.encode()), {"text": svg.count("<text ")}

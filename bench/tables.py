@@ -1,10 +1,11 @@
 """The tables of docs/PERFORMANCE.md, from the figures that bench/instructions and bench/run measured."""
+import textwrap
 from typing import Any, Callable, Dict, List, Sequence
 
 
 def table(heads: Sequence[str], rows: Sequence[Sequence[Any]]) -> str:
-    lines = [heads, ["---"] * len(heads), *[[str(cell) for cell in row] for row in rows]]
-    return "\n".join(f"| {' | '.join(line)} |".replace("|  |", "| |") for line in lines)
+    lines = [f"| {' | '.join(str(cell) for cell in row)} |" for row in (heads, *rows)]
+    return "\n".join([lines[0], "|" + "---|" * len(heads), *lines[1:]])
 
 
 def whole(n):
@@ -21,8 +22,10 @@ def micro(ns):
 
 def rounds(f):
     heads = ["Instructions of", "pair", "baseline", "ratio", "floor", "entries", "bytes"]
-    rows = [[r["what"], whole(r["pair"]), whole(r["baseline"]), ratio(r["pair"], r["baseline"]), whole(r["floor"]), whole(r["entries"]), whole(r["bytes"])]
-            for r in f["instructions"]["rounds"]]
+    rows = []
+    for r in f["instructions"]["rounds"]:
+        pair, plain = r["pair"], r["baseline"]
+        rows.append([r["what"], whole(pair), whole(plain), ratio(pair, plain), whole(r["floor"]), whole(r["entries"]), whole(r["bytes"])])
     return table(heads, rows)
 
 
@@ -32,7 +35,8 @@ def pairs(f):
     rows = []
     for r in f["instructions"]["pairs"]:
         t = took.get(r["blocks"], {})
-        rows.append([f"of {r['blocks']:,} blocks", whole(r["pair"]), whole(r["baseline"]), micro(t.get("pair")), micro(t.get("baseline")), micro(t.get("pty"))])
+        took_each = [micro(t.get(kind)) for kind in ("pair", "baseline", "pty")]
+        rows.append([f"of {r['blocks']:,} blocks", whole(r["pair"]), whole(r["baseline"]), *took_each])
     return table(heads, rows)
 
 
@@ -75,7 +79,8 @@ def growth(f):
         rows += [[f"{n:,} {r['what']}", whole(pair), whole(plain)] for n, pair, plain in zip(r["sizes"], r["pair"], r["baseline"])]
     bands = f.get("library", {}).get("bands")
     if bands:
-        rows += [[f"a message in each of {n:,} bands, for each", whole(pair), whole(plain)] for n, pair, plain in zip(bands["sizes"], bands["pair"], bands["baseline"])]
+        each = zip(bands["sizes"], bands["pair"], bands["baseline"])
+        rows += [[f"a message in each of {n:,} bands, for each", whole(pair), whole(plain)] for n, pair, plain in each]
     return table(["Instructions of a byte beside", "pair", "baseline"], rows)
 
 
@@ -97,8 +102,10 @@ def image_times(f):
 def one_thread(f):
     counts, times_of = f["system"]["instructions"], f["times"]["threads"]["one"]
     first = times_of[0]
-    rows = [[r["what"], whole(counts[r["what"]]), ratio(counts[r["what"]], counts[first["what"]], 2), whole(r["steady"]), ratio(r["steady"], first["steady"])]
-            for r in times_of]
+    rows = []
+    for r in times_of:
+        count = counts[r["what"]]
+        rows.append([r["what"], whole(count), ratio(count, counts[first["what"]], 2), whole(r["steady"]), ratio(r["steady"], first["steady"])])
     return table(["A round of 1 byte on one thread", "instructions", "to `Pair::call`", "steady, CPU ns", "to `Pair::call`"], rows)
 
 
@@ -113,7 +120,8 @@ def calls(f):
     return table(["A round of, ns", "pair, CPU", "clock", "Linux pty, CPU", "clock"], rows)
 
 
-SERVER = ["Terminals", "memory, MB", "kB each", "to make one, µs", "a keystroke, µs", "descriptors", "Linux ptys", "memory, MB", "kB each", "to make one, µs", "descriptors"]
+SERVER = ["Terminals", "memory, MB", "kB each", "to make one, µs", "a keystroke, µs", "descriptors",
+          "Linux ptys", "memory, MB", "kB each", "to make one, µs", "a keystroke, µs", "descriptors"]
 
 
 def server(f):
@@ -121,50 +129,83 @@ def server(f):
     told = f["library"]["sessions"]
     rows = []
     for ours, theirs in zip(told[::2], told[1::2]):
-        _, wanted, _, mb, each, made, key, descriptors = ours
-        _, _, got, pty_mb, pty_each, pty_made, _, pty_descriptors = theirs
-        made_of = whole(got) + ("" if got == wanted else ", and no more")
-        rows.append([whole(wanted), whole(mb), f"{each:.0f}", f"{made:.1f}", f"{key:.2f}", whole(descriptors), made_of, whole(pty_mb), f"{pty_each:.0f}", f"{pty_made:.1f}",
-                     whole(pty_descriptors)])
-    last = [whole(told[-2][1] * 10) + ", reckoned", whole(told[-2][3] * 10), *rows[-1][2:5], "0", "none", "", "", "", ""]
+        wanted, got = ours[1], theirs[2]
+        rows.append([whole(wanted), *costs(ours[3:]), whole(got) + ("" if got == wanted else ", and no more"), *costs(theirs[3:])])
+    last = [whole(told[-2][1] * 10) + ", reckoned", whole(told[-2][3] * 10), *rows[-1][2:6], "none", *[""] * 5]
     return table(SERVER, [*rows, last])
 
 
-def sentences(f) -> Dict[str, str]:
-    """Short texts that have figures of the runs in them."""
-    said = {}
-    if "times" in f:
-        short, long = f["times"]["scripts"]
-        said["scripts"] = (f"A script goes through at {short / 1e6:.1f} million lines a second (a third each of writes, runs and reads of a byte), and at "
-                           f"{long / 1e6:.2f} million with\ntexts of 250 bytes.")
-    if "library" in f:
-        lib, raw = f["library"], f["instructions"]["rounds"][1]["pair"]
-        more = f"{(lib['raw_byte'] - raw) / 3:.0f}" if lib.get("raw_byte") else "some"
-        said["library"] = (f"A call through libstrm takes {more} instructions beside the pair's own: `./calls 1 2000` less `./calls 1 1000`, counted by callgrind, is "
-                           f"{whole(lib.get('raw_byte'))} a\nround of 1 byte in raw mode, which are three calls, and the first table has {raw:,} of the pair. An entry taken "
-                           f"by strm_next_entry takes\n{lib['entry_ns']} ns, and strm_image of a terminal at rest, {lib['image_bytes']} bytes, {lib['image_ns'] / 1000:.2f} "
-                           "microseconds (`./calls` tells both below the table).")
-        line, refused, recorded = lib["line"]
-        said["python"] = (f"`python3 bench/line.py`: a typed line from Python, which is a write, the turns and two reads, takes {line:.1f} microseconds; a read that is\n"
-                          f"refused {refused:.1f}; a line whose seven entries a recorder takes {recorded:.0f}.")
-    return said
+def costs(told):
+    mb, each, made, key, descriptors = told
+    return [whole(mb), f"{each:.0f}", f"{made:.1f}", f"{key:.2f}", whole(descriptors)]
 
 
-TABLES: Dict[str, Callable[[Dict[str, Any]], str]] = {
-    "rounds": rounds, "pairs": pairs, "stores": stores, "images": images, "zeroing": zeroing, "times": times, "growth": growth, "growth-times": growth_times,
-    "modes": modes, "image-times": image_times, "one-thread": one_thread, "threads": threads, "calls": calls, "server": server,
-}
+# ---------------------------------------------------------------------------------------------------- sentences with figures in them
 
 
-NAMES = [*TABLES, "scripts", "library", "python"]
+def readme(f) -> str:
+    rows, calls_of = ({row[key]: row for row in rows} for key, rows in (("what", f["instructions"]["rounds"]), (0, f["library"]["calls"])))
+    byte, key = rows["1 byte, no modules"], rows["a keystroke, and its echo read"]
+    typed, output = calls_of[key["what"]], calls_of["output of 4096 bytes with a newline each 80"]
+    nanoseconds = f["times"]["rounds"][0]["pair"]
+    return (
+        f"A round of a byte (write, turn, read) takes {byte['pair']:,} instructions and {nanoseconds:.0f} ns: "
+        f"{ratio(byte['pair'], byte['baseline'])} times the instructions of the leanest plain program of the same behaviour, without proof, that we "
+        f"could write. A keystroke with its echo read takes {typed[1] / 1000:.2f} µs from C ({ratio(key['pair'], key['baseline'])} times), where a "
+        f"Linux pty takes {typed[3] / 1000:.1f} of the processor; 4096 bytes of output {output[1] / 1000:.1f} µs, a Linux pty {output[3] / 1000:.1f}; an image of a terminal "
+        f"{f['library']['image_ns'] / 1000:.2f}."
+    )
+
+
+def reserved(f) -> str:
+    of = f["instructions"]["reserved"]
+    return f"As valgrind sees it, a block reserves {of['block']:.1f} bytes, and an entry {of['entry']:.1f}."
+
+
+def system(f) -> str:
+    return f"`bench/run` measures such a system, by valgrind's dhat: {f['system']['bytes']:,} bytes at most."
+
+
+def scripts(f) -> str:
+    short, long = (n / 1e6 for n in f["times"]["scripts"])
+    return (
+        f"A script goes through at {short:.1f} million lines a second (a third each of writes, runs and reads of a byte), and at {long:.2f} million "
+        "with texts of 250 bytes."
+    )
+
+
+def library(f) -> str:
+    lib, pair = f["library"], f["instructions"]["rounds"][1]["pair"]
+    return (
+        f"A call through libstrm takes {(lib['raw_byte'] - pair) / 3:.0f} instructions beside the pair's own: `./calls 1 2000` less "
+        f"`./calls 1 1000`, counted by callgrind, is {lib['raw_byte']:,} a round of 1 byte in raw mode, which are three calls, and the first table has {pair:,} of the "
+        f"pair. An entry taken by strm_next_entry takes {lib['entry_ns']} ns, and strm_image of a terminal at rest, {lib['image_bytes']} bytes, "
+        f"{lib['image_ns'] / 1000:.2f} microseconds (`./calls` tells both below the table)."
+    )
+
+
+def python(f) -> str:
+    line, refused, recorded = f["library"]["line"]
+    return (
+        f"`python3 bench/line.py`: a typed line from Python, which is a write, the turns and two reads, takes {line:.1f} microseconds; a read that "
+        f"is refused {refused:.1f}; a line whose seven entries a recorder takes {recorded:.0f}."
+    )
+
+
+TABLES = (rounds, pairs, stores, images, zeroing, times, growth, growth_times, modes, image_times, one_thread, threads, calls, server)
+SENTENCES = (readme, reserved, system, scripts, library, python)
+
+# How each is called in a document: by its name, with hyphens.
+NAMES: Dict[str, Callable[[Dict[str, Any]], str]] = {of.__name__.replace("_", "-"): of for of in (*TABLES, *SENTENCES)}
 
 
 def all_of(f: Dict[str, Any]) -> Dict[str, str]:
     """Each table and sentence whose figures were measured."""
-    made = sentences(f)
-    for name, of in TABLES.items():
+    made = {}
+    for name, of in NAMES.items():
         try:
-            made[name] = of(f)
+            text = of(f)
         except KeyError:
             continue
+        made[name] = text if of in TABLES else textwrap.fill(text, 150, break_long_words=False, break_on_hyphens=False)
     return made
