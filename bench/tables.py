@@ -152,8 +152,8 @@ def readme(f) -> str:
         f"A round of a byte (write, turn, read) takes {byte['pair']:,} instructions and {nanoseconds:.0f} ns: "
         f"{ratio(byte['pair'], byte['baseline'])} times the instructions of the leanest plain program of the same behaviour, without proof, that we "
         f"could write. A keystroke with its echo read takes {typed[1] / 1000:.2f} µs from C ({ratio(key['pair'], key['baseline'])} times), where a "
-        f"Linux pty takes {typed[3] / 1000:.1f} of the processor; 4096 bytes of output {output[1] / 1000:.1f} µs, a Linux pty {output[3] / 1000:.1f}; an image of a terminal "
-        f"{f['library']['image_ns'] / 1000:.2f}."
+        f"Linux pty takes {typed[3] / 1000:.1f} of the processor; 4096 bytes of output {output[1] / 1000:.1f} µs, a Linux pty "
+        f"{output[3] / 1000:.1f}; an image of a terminal {f['library']['image_ns'] / 1000:.2f}."
     )
 
 
@@ -178,8 +178,8 @@ def library(f) -> str:
     lib, pair = f["library"], f["instructions"]["rounds"][1]["pair"]
     return (
         f"A call through libstrm takes {(lib['raw_byte'] - pair) / 3:.0f} instructions beside the pair's own: `./calls 1 2000` less "
-        f"`./calls 1 1000`, counted by callgrind, is {lib['raw_byte']:,} a round of 1 byte in raw mode, which are three calls, and the first table has {pair:,} of the "
-        f"pair. An entry taken by strm_next_entry takes {lib['entry_ns']} ns, and strm_image of a terminal at rest, {lib['image_bytes']} bytes, "
+        f"`./calls 1 1000`, counted by callgrind, is {lib['raw_byte']:,} a round of 1 byte in raw mode, which are three calls, and the first "
+        f"table has {pair:,} of the pair. An entry taken by strm_next_entry takes {lib['entry_ns']} ns, and strm_image of a terminal at rest, {lib['image_bytes']} bytes, "
         f"{lib['image_ns'] / 1000:.2f} microseconds (`./calls` tells both below the table)."
     )
 
