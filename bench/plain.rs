@@ -185,7 +185,7 @@ impl Pair {
         unless(head.kind == Kind::Data, Refusal::BadMessage)?;
         out.clear();
         loop {
-            queue.take(m, head);
+            queue.take(head);
             let rest = self.pool.draw(m, Kind::Data, n, out);
             if rest != NONE {
                 queue.insert(&mut self.pool, NONE, rest);
@@ -227,7 +227,7 @@ impl Pair {
         let queue = &mut self.queues[HEADS[side]];
         let first = queue.first;
         unless(first != NONE, Refusal::Again)?;
-        queue.take(first, self.pool.head(first));
+        queue.take(self.pool.head(first));
         out.clear();
         let behind = self.pool.draw(first, Kind::Control, cmax.min(4096), out);
         let control = out.len();
@@ -257,7 +257,7 @@ impl Pair {
             self.note(Done::Blocked, place as usize, [0; 4]);
             return Ok(());
         }
-        self.queues[place].take(m, head);
+        self.queues[place].take(head);
         self.serve(place, m, head.kind);
         self.back_enable(place);
         self.queues[place].want_read = self.queues[place].first == NONE;

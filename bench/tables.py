@@ -179,8 +179,8 @@ def library(f) -> str:
     return (
         f"A call through libstrm takes {(lib['raw_byte'] - pair) / 3:.0f} instructions beside the pair's own: `./calls 1 2000` less "
         f"`./calls 1 1000`, counted by callgrind, is {lib['raw_byte']:,} a round of 1 byte in raw mode, which are three calls, and the first "
-        f"table has {pair:,} of the pair. An entry taken by strm_next_entry takes {lib['entry_ns']} ns, and strm_image of a terminal at rest, {lib['image_bytes']} bytes, "
-        f"{lib['image_ns'] / 1000:.2f} microseconds (`./calls` tells both below the table)."
+        f"table has {pair:,} of the pair. An entry taken by strm_next_entry takes {lib['entry_ns']} ns, and strm_image of a terminal at "
+        f"rest, {lib['image_bytes']} bytes, {lib['image_ns'] / 1000:.2f} microseconds (`./calls` tells both below the table)."
     )
 
 

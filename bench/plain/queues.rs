@@ -100,11 +100,10 @@ impl Queue {
         }
     }
 
-    /// Takes the first message, which is `m`.
-    pub fn take(&mut self, m: u32, Head { next, band, size, .. }: Head) -> u32 {
+    /// getq(9F) of the first message, whose first block is this.
+    pub fn take(&mut self, Head { next, band, size, .. }: Head) {
         (self.first, self.want_read) = (next, false);
         self.counts[band as usize] -= size as u32;
-        m
     }
 
     /// Forgets the bands that a queue before waited for, and that have room; whether there were any.
