@@ -59,8 +59,9 @@ def zeroing(f):
     rows = []
     for r in f["zeroing"]:
         most = ", ".join(f"`{name}` {n:,}" for name, n in r["functions"])
-        rows.append([r["what"], whole(r["total"]), whole(r["memset"]), f"{100 * r['memset'] / r['total']:.0f} %", most])
-    return table(["A round of", "instructions", "in memset", "share", "most of it called from"], rows)
+        clears = r["memset"] + r["stores"]
+        rows.append([r["what"], whole(r["total"]), whole(r["memset"]), whole(r["stores"]), f"{100 * clears / r['total']:.0f} %", most])
+    return table(["A round of", "instructions", "in memset", "stores of zero", "share", "most of it in"], rows)
 
 
 def times(f):
