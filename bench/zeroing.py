@@ -1,8 +1,8 @@
 """What a program clears, from a callgrind profile of its instructions and its machine code.
 
 A proved build clears each aggregate local before it is written, at the entry of the function that has it, which may stand within another one. Large
-ones are cleared by memset, and small ones by stores of zero to the frame. A store that the source asks for counts too, as `let mut sum = 0` where that
-isn't in a register.
+ones are cleared by memset, and small ones by stores of zero to the frame. A store that the source asks for counts too, as `let mut sum = 0` where
+that isn't in a register.
 """
 import collections
 import re
