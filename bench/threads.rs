@@ -10,7 +10,7 @@ use std::sync::{Mutex, MutexGuard};
 
 /// What threads share: one pair, or one queue.
 enum Shared {
-    Pair(Mutex<Pair>),
+    Pair(Box<Mutex<Pair>>),
     Queue(Mutex<VecDeque<u8>>),
 }
 
@@ -21,7 +21,7 @@ fn locked<T>(lock: &Mutex<T>) -> MutexGuard<'_, T> {
 /// Makes the turn of the queue that was enabled first, if any.
 fn turns(pair: &Mutex<Pair>) -> bool {
     let mut pair = locked(pair);
-    pair.enabled.first().copied().is_some_and(|queue| pair.turn(queue).is_ok())
+    pair.enabled().is_some_and(|place| pair.turn(place).is_ok())
 }
 
 impl Shared {
@@ -30,7 +30,7 @@ impl Shared {
             true => {
                 let mut pair = Pair::new(256, 0, 0);
                 (pair.entries, pair.bytes) = (Vec::with_capacity(entries), Vec::with_capacity(entries * 8));
-                Shared::Pair(Mutex::new(pair))
+                Shared::Pair(Box::new(Mutex::new(pair)))
             }
             false => Shared::Queue(Mutex::new(VecDeque::with_capacity(4096))),
         }
