@@ -53,7 +53,7 @@ static const row rows[] = {
     { "putmsg and getmsg of 4 and 256 bytes", MESSAGES, NOTHING, "z", 0, 256, 20000, 0 },
     { "the same in band 200", MESSAGES, NOTHING, "z", 0, 256, 20000, 200 },
     { "TIOCGWINSZ", WINSIZE, LINES, "z", 0, 0, 20000, 0 },
-    { "a new pair, and its end", NEW, LINES, "z", 0, 0, 400, 0 },
+    { "a new pair of 1024 blocks, and its end", NEW, LINES, "z", 0, 0, 400, 0 },
 };
 
 enum { ROWS = sizeof rows / sizeof *rows };
@@ -175,7 +175,7 @@ static void pair_opens(enum stack stack)
 {
     strm_termios t;
     strm_free(&pair);
-    done(strm_new(&pair, 512, 8192, 262144));
+    done(strm_new(&pair, 1024, 8192, 262144));
     if (stack == NOTHING) {
         done(strm_open_master(&pair));
         done(strm_unlock(&pair));

@@ -132,7 +132,7 @@ def server(f):
     for ours, theirs in zip(told[::2], told[1::2]):
         wanted, got = ours[1], theirs[2]
         rows.append([whole(wanted), *costs(ours[3:]), whole(got) + ("" if got == wanted else ", and no more"), *costs(theirs[3:])])
-    last = [whole(told[-2][1] * 10) + ", reckoned", whole(told[-2][3] * 10), *rows[-1][2:6], "none", *[""] * 5]
+    last = [whole(told[-2][1] * 10) + ", reckoned", whole(told[-2][3] * 10), *rows[-1][2:6], "more than the kernel gives", *[""] * 5]
     return table(SERVER, [*rows, last])
 
 
