@@ -5,8 +5,8 @@
  * What strm.h says that a caller owes is kept: a buffer is as long as its length says, and no bool is anything but 0 or 1. Behind each call it is
  * compared: a refused one changed neither buffer nor reply, another wrote as many bytes as it says, and what lies behind the room stays. Before a
  * read, a get and a write it is asked what the side is ready for, and the call is EAGAIN where it says so and nowhere else. A pair whose journal
- * begins anew is never JOURNAL_FULL. At last each end of a terminal with a reserve makes 100,000 calls that nobody answers: it is told EAGAIN, the other
- * end and all turns go on, and ^C is delivered, at once or behind the reads of the slave. */
+ * begins anew is never JOURNAL_FULL. At last each end of a terminal with a reserve makes 100,000 calls that nobody answers: it is told EAGAIN, the
+ * other end and all turns go on, and ^C is delivered, at once or behind the reads of the slave. */
 #include <stdio.h>
 #include <stdlib.h>
 #include <strm.h>
@@ -260,7 +260,8 @@ static void withstands(const flood *f)
     if (f->side == STRM_MASTER) wants(f, "the slave's window", strm_get_winsize(&p, STRM_SLAVE, &size));
     while (!interrupts(&p, f)) {
         if (f->side == STRM_SLAVE || ++reads > 8192) fail("^C isn't taken");
-        if (strm_read(&p, STRM_SLAVE, out, 4096, &reply) == STRM_EBADMSG) wants(f, "a get", strm_get(&p, STRM_SLAVE, STRM_ANY, 64, 256, out, sizeof out, &reply));
+        if (strm_read(&p, STRM_SLAVE, out, 4096, &reply) == STRM_EBADMSG)
+            wants(f, "a get", strm_get(&p, STRM_SLAVE, STRM_ANY, 64, 256, out, sizeof out, &reply));
         if (strm_ready(&p, STRM_MASTER) & STRM_CAN_READ) wants(f, "the master's read", strm_read(&p, STRM_MASTER, out, 4096, &reply));
         wants(f, "turns", strm_run(&p));
     }

@@ -164,8 +164,8 @@ typedef struct strm_choices {
     bool anew;
 } strm_choices;
 
-/* As strm_new, of what is chosen. With STRM_TERMINAL_BLOCKS, STRM_TERMINAL_RESERVE, 64 entries, 16,384 bytes and anew a terminal goes on whatever one end
- * writes, and the other reads or not: its turns are refused for nothing, and its writes and reads with nothing but EAGAIN. */
+/* As strm_new, of what is chosen. With STRM_TERMINAL_BLOCKS, STRM_TERMINAL_RESERVE, 64 entries, 16,384 bytes and anew a terminal goes on, whatever
+ * one end writes and whether the other one reads (tried, not proved): turns are refused for nothing, writes and reads with nothing but EAGAIN. */
 strm_refusal strm_new_with(strm_pair *p, const strm_choices *choices);
 
 /* Frees a pair and closes its handle. A closed one stays so. */
