@@ -66,6 +66,8 @@ class Changes:
 
     def why_not(self, home, edit):
         """Why what an edit names can't show anything of it, or None."""
+        if not edit.refused:
+            return "it names nothing that is refused: tools/wrong --name finds something"
         if len({name.split("::")[0] for name in edit.refused}) > 1:
             return "it names functions of several crates"
         for name in edit.refused:
