@@ -1,7 +1,7 @@
 -- What isn't marked at the end was marked by none.
 use Rattle.std.proofs.Common.{◌∙◌}
 use Rattle.strm_ldterm.proofs.Unmarked.{in-table, outside, plain-is}
-use Rattle.strm_ldterm.proofs.pasting.odd_bytes.Goals as goal
+use Rattle.strm_ldterm.proofs.pasting.mark_odd.Goals as goal
 
 pub returns : goal.returns
 returns c = λ b free.
