@@ -1,11 +1,13 @@
 -- Openers in a row, one for each system.
-use Rattle.std.proofs.Common.{◌≡◌, ℕ, zero, suc, ◌<◌, List, [], ◌∷◌, get_or, set, length, refl, sym, ap, ◌∙◌, subst, arith}
+use Rattle.std.proofs.Common.{◌≡◌, ℕ, zero, suc, ◌<◌, List, [], ◌∷◌, ◌++◌, get_or, set, take, length, refl, sym, ap, ◌∙◌, subst, arith, append_assoc, append-nil, length-append}
+use Rattle.std.proofs.Math.Seq.{take-length}
 use Rattle.std.proofs.lemmas.List.{length-map}
+use Rattle.std.proofs.lemmas.Simd.{map-map}
 use Rattle.std.specs.Prelude.{IfOk, OnErr, MatchResult, Result, Ok, Err, Option, None, Some, map, slice_get}
 use Rattle.atomic_table.specs.Seated.{TableId}
-use Rattle.strm_minors.specs.Openers.{Gains, Holding, Holds, Loses, past}
+use Rattle.strm_minors.specs.Openers.{Gains, Holding, Holds, Loses, opening, past}
 use Rattle.strm_locks.specs.Systems.{Plan}
-use Rattle.strm_hosts.specs.Hosts.{AreOf, Finds, FindsNone, HoldsAt, Releases}
+use Rattle.strm_hosts.specs.Hosts.{AreOf, Finds, FindsNone, HoldsAt, Releases, all_opening}
 
 abbrev value_or : {A : Type 0} → A → Option A → A
 value_or d None = d
@@ -79,3 +81,54 @@ module _ (host : List Plan) (old items : List Holding) (same : items ≡ old) (n
 
   pub released : (m : ℕ) → Loses here new m → Releases old n m (set items n new)
   released m lost = record { before = here; behind = new; here = here_in; lost = lost; others = set_in new }
+
+-- an opener is cut in two system by system, from 0 on
+
+pub empty : (xs : List Holding) → length xs ≡ 0 → xs ≡ []
+empty [] is = refl
+empty (x ∷ xs) is = absurd (omega arith)
+
+next_of : (kept rest : List Holding) (here : Holding) → slice_get (kept ++ here ∷ rest) (length kept) ≡ Some here
+next_of [] rest here = refl
+next_of (x ∷ xs) rest here = next_of xs rest here
+
+take_on : (xs : List Plan) (n : ℕ) (x : Plan) → slice_get xs n ≡ Some x → all_opening (take (suc n) xs) ≡ all_opening (take n xs) ++ opening x.minors ∷ []
+take_on [] n x at = absurd (cc)
+take_on (y ∷ ys) zero x at = ap (λ (p : Option Plan). opening (plan_or x p).minors ∷ []) at
+  where
+    plan_or : Plan → Option Plan → Plan
+    plan_or d None = d
+    plan_or d (Some p) = p
+take_on (y ∷ ys) (suc n) x at = ap (λ os. opening y.minors ∷ os) (take_on ys n x at)
+
+module _ (host : List Plan) (openers kept rest : List Holding) (here : Holding) (n : ℕ) (own : AreOf host openers) (front : kept ++ here ∷ rest ≡ openers) (many : length kept ≡ n) where
+  pub turn_within : n < length host
+  turn_within =
+      let a = ap (λ (ts : List TableId). length ts) own in
+      let b = ap (λ (xs : List Holding). length xs) front in
+      omega (arith, a, b, many, length-append kept (here ∷ rest), length-map openers table_in, length-map host table_at)
+
+  pub turn_of : (s : Plan) → slice_get host n ≡ Some s → here.table ≡ s.minors.table
+  turn_of s there = opener_of host openers n here s own (subst (λ k. slice_get openers k ≡ Some here) many (subst (λ xs. slice_get xs (length kept) ≡ Some here) front (next_of kept rest here))) there
+
+  pub turn_kept : (new : List Holding) (first : Holding) → new ≡ kept ++ first ∷ [] → first ≡ here → new ++ rest ≡ openers
+  turn_kept new first is same = ap (λ xs. xs ++ rest) is ∙ ap (λ o. (kept ++ o ∷ []) ++ rest) same ∙ append_assoc kept (here ∷ []) rest ∙ front
+
+pub turn_opened : (host : List Plan) (old new : List Holding) (n m : ℕ) (s : Plan) (second : Holding) → slice_get host n ≡ Some s → old ≡ all_opening (take n host) → new ≡ old ++ second ∷ [] → second ≡ opening s.minors → m ≡ suc n
+    → new ≡ all_opening (take m host)
+turn_opened host old new n m s second there was is fresh next = is ∙ (λ k. was k ++ fresh k ∷ []) ∙ sym (take_on host n s there) ∙ ap (λ k. all_opening (take k host)) (sym next)
+
+pub all_turned : (host : List Plan) (openers kept : List Holding) (n : ℕ) → AreOf host openers → kept ++ [] ≡ openers → length kept ≡ n → kept ≡ openers × (n ≡ length host)
+all_turned host openers kept n own front many =
+    let same : kept ≡ openers = sym (append-nil kept) ∙ front in
+    let a = ap (λ (ts : List TableId). length ts) own in
+    let b = ap (λ (xs : List Holding). length xs) same in (
+      same,
+      omega (arith, a, b, many, length-map openers table_in, length-map host table_at),
+    )
+
+pub all_fresh : (host : List Plan) (new : List Holding) (n : ℕ) → n ≡ length host → new ≡ all_opening (take n host) → new ≡ all_opening host
+all_fresh host new n is now = now ∙ ap (λ k. all_opening (take k host)) is ∙ ap (λ xs. all_opening xs) (take-length host)
+
+pub fresh_own : (host : List Plan) → AreOf host (all_opening host)
+fresh_own host = map-map table_in (λ (s : Plan). opening s.minors) host

@@ -1,11 +1,15 @@
 -- A host is its systems, by number; its opener has an opener of each. What is told of a claim and of a release.
 use Rattle.std.specs.Prelude.{◌≡◌, ℕ, zero, suc, ◌<◌, List, Some, length, map, slice_get, slice_set}
-use Rattle.strm_minors.specs.Openers.{Gains, Holding, Holds, Loses, past}
+use Rattle.strm_minors.specs.Openers.{Gains, Holding, Holds, Loses, opening, past}
 use Rattle.strm_locks.specs.Systems.{Plan}
 
 -- the openers are of these systems, one of each
 abbrev pub AreOf : List Plan → List Holding → Type 0
 AreOf host openers = map (λ o. o.table) openers ≡ map (λ s. s.minors.table) host
+
+-- an opener of each of these systems, which hold nothing
+abbrev pub all_opening : List Plan → List Holding
+all_opening host = map (λ s. opening s.minors) host
 
 -- the opener of the system of this number found its first free minor, and no other opener did anything
 pub record Finds (host : List Plan) (old : List Holding) (system minor : ℕ) (new : List Holding) : Type 0 where

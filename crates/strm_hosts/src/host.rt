@@ -1,9 +1,10 @@
 //! A host: its systems, and how minors are claimed there.
 
 ghost use Rattle.std.specs.Prelude.{◌≡◌, ◌<◌, ◌≤◌, Some, IfOk, MatchResult, length, slice_get};
-ghost use Rattle.strm_hosts.specs.Hosts.{AreOf, Claims, Finds, FindsNone, HoldsAt, Passes, Releases};
+ghost use Rattle.strm_hosts.specs.Hosts.{AreOf, Claims, Finds, FindsNone, HoldsAt, Passes, Releases, all_opening};
 
 use crate::opener::{HostMinor, HostOpener};
+use std::alloc::Global;
 use std::marker::Model;
 use strm_locks::{Object, System};
 use strm_minors::{Minor, NoMinor, Opener};
@@ -106,5 +107,33 @@ impl<P: Object> Host<P> {
         let HostMinor { system, minor } = minor;
         let here = &mut opener.openers[system as usize];
         self.at(system).release(here, minor);
+    }
+
+    /// The opener as it was, and a second one, which holds no minor: one for each thread that claims. Where memory is refused the opener comes back.
+    pub fn split_opener(
+        &self,
+        alloc: Global,
+        opener: HostOpener,
+    ) -> Result<(HostOpener, HostOpener), HostOpener>
+        requires { AreOf self.now opener }
+        ensures { MatchResult result
+            (λ two. (two.0 ≡ opener) × (two.1 ≡ all_opening self.now) × AreOf self.now two.1)
+            (λ back. back ≡ opener) }
+    {
+        let count = self.systems() as usize;
+        let Ok(mut kept) = Vec::with_capacity(alloc, count) else {
+            return Err(opener);
+        };
+        let Ok(mut new) = Vec::with_capacity(alloc, count) else {
+            return Err(opener);
+        };
+        let mut system = 0u32;
+        for here in opener.openers {
+            let (first, second) = self.at(system).split_opener(here);
+            kept.push_reserved(first);
+            new.push_reserved(second);
+            system += 1;
+        }
+        Ok((HostOpener { openers: kept }, HostOpener { openers: new }))
     }
 }
