@@ -381,8 +381,8 @@ impl<B: Blocks + Drop> Pair<B> {
     /// full (ERANGE), the journal is full, or too few blocks of a kind are free (ENOSR): 8 for a driver's queue, 32 for a module's. It
     /// changes nothing then. Else the journal gains the turn with its answer.
     ///
-    /// A turn of ldterm's may stop within its message where fewer than 32 blocks are left, and its answer says how far it went: a byte at
-    /// least where the message has any, so that no turn moves nothing of it.
+    /// A turn of ldterm's may stop within its message, and only where fewer than 32 blocks of a kind are left behind it; once the master is closed
+    /// its driver frees output, and more may be. Its answer says how far it went: a byte at least where the message has any.
     /// The cost is that of one message. No memory is taken.
     pub fn turn(&mut self, name: QueueName) -> Result<Turn, Refusal>
         ensures refused { MatchOption (queue_refused self.old name) (IsOk result)
