@@ -3,6 +3,8 @@
 #![tactic(auto)]
 
 mod audits;
+mod bell;
+mod busy;
 mod calls;
 mod end;
 mod gate;
@@ -12,11 +14,14 @@ mod object;
 mod rule;
 mod system;
 mod told;
+mod tries;
 mod view;
 mod visit;
 mod workers;
 
 pub use audits::Audit;
+pub use bell::{Bell, NoBell, Wakes};
+pub use busy::Busy;
 pub use end::{ALL_PARTS, End, StillShared};
 pub use gate::{Gate, NoGate};
 pub use held::{Held, Made, Settled};
