@@ -65,7 +65,8 @@
  *   than its blocks. A program of 1.0 or 1.1 runs with it as it is: what is taken of a write was never more than that. 1.3 has strm_new_with and
  *   strm_restore_with: what they choose holds for pairs that they made, and for no other.
  *
- * PROVED: each function that libstrm exports, by its contract in crates/strm_ffi. NOT PROVED: the inline functions of this file, and malloc.
+ * PROVED: each function that libstrm exports, by its contract in crates/strm_ffi, whose words are those of crates/strm_handle. NOT PROVED: the inline
+ * functions of this file, and malloc.
  */
 #ifndef STRM_H
 #define STRM_H
