@@ -43,20 +43,20 @@ impl Handle {
     }
 
     /// Takes the pair out of a handle, which is closed then.
-    #[tactic(auto, using(crate::proofs::Opens::opens))]
+    #[tactic(auto, using(crate::proofs::Opens::closes, crate::proofs::Opens::opens))]
     pub(crate) fn take(&mut self, alloc: Global) -> Option<Box<Kept, Global>>
         ensures taken { option_map (λ kept. kept.value) result ≡ self.old.held.kept }
         ensures closed { self.new.held.kept ≡ None }
     {
+        // Nothing is written to a closed one: a signal handler may call while `put` writes to it.
+        if !self.is_open {
+            return None;
+        }
         let closed = Handle {
             held: Held::closed(alloc, std::ptr::null_mut()),
             is_open: false,
         };
-        let Handle { held, is_open } = std::mem::replace(self, closed);
-        if is_open {
-            Some(held.into_parts().into_box())
-        } else {
-            None
-        }
+        let Handle { held, .. } = std::mem::replace(self, closed);
+        Some(held.into_parts().into_box())
     }
 }
