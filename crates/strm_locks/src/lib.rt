@@ -10,6 +10,7 @@ mod end;
 mod gate;
 mod held;
 mod lock;
+mod looks;
 mod object;
 mod rule;
 mod system;
