@@ -10,8 +10,8 @@ use Rattle.strm_laws.specs.Puts.{earlier_at, noted}
 use Rattle.strm_blocks.specs.Blocks.{StoreValue}
 use Rattle.strm_pair.specs.declared.streams.Streams.{Streams}
 use Rattle.strm_pair.specs.Pairs.{state_in}
-use Rattle.strm_pair.proofs.streams.Streams.+note.Goals as goal
-use Rattle.strm_pair.proofs.streams.Streams.+note.Goals.{in-Enable, in-Room}
+use Rattle.strm_pair.proofs.streams.Streams.+note_each.Goals as goal
+use Rattle.strm_pair.proofs.streams.Streams.+note_each.Goals.{in-Enable, in-Room}
 
 module _ (s : StoreValue) (side : Side) (place : Option Place) (at : ℕ) where
   -- streams behind notes
@@ -28,8 +28,8 @@ returns t c = λ s.
     let at = c.args.at in
     let p = c.args.self.now in
     let first = noted_on s side c.args.place at in
-    noted-more s side c.args.place at c.in-Some.first.now c.in-Some.rest.now c.args.notes.now p c.match-first.self c.note.new.self c.in-Some.ensures.cases.0
+    noted-more s side c.args.place at c.in-Some.first.now c.in-Some.rest.now c.args.notes.now p c.match-first.self c.note_each.new.self c.in-Some.ensures.cases.0
     (elim c.match-first.branch [
       | in-Enable w ↦ w.self-is ∙ ap (λ names. record p { enabled = names }) (w.enable_found.ensures ∙ ap (λ name. enable_found name p.enabled) w.queue_named.ensures) ∙ ap (λ n. first (n ∷ []) p) (sym w.in-Enable.is)
       | in-Room w ↦ w.self-is ∙ w.let_go.ensures s ∙ ap (λ n. first (n ∷ []) p) (sym w.in-Room.is)
-    ]) (c.note.ensures s)
+    ]) (c.note_each.ensures s)
