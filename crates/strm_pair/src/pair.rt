@@ -315,6 +315,7 @@ impl<B: Blocks + Drop> Pair<B> {
     }
 
     // The refusal of a turn, if any.
+    #[inline(always)]
     pub(crate) fn turn_refusal(&self, name: QueueName) -> Option<Refusal>
         ensures { result ≡ queue_refused self.now name }
     {
