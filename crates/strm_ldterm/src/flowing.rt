@@ -1,13 +1,12 @@
 //! What bytes give that go out one after the other, as far as a buffer has room for it (termio(7I): "Output Modes").
 
-ghost use Rattle.std.specs.Prelude.{ℕ, ◌≡◌, ◌≤◌, ◌<◌, ◌+◌, [], ◌∷◌, ◌++◌, true, false, length, nat_le, not, take};
+ghost use Rattle.std.specs.Prelude.{ℕ, ◌≡◌, ◌≤◌, ◌<◌, ◌+◌, [], ◌∷◌, ◌++◌, true, length, nat_le, take};
 ghost use Rattle.std.specs.List.{AllByRecursion};
 ghost use Rattle.strm_types.specs.declared.rules.Fates.{Fates};
 ghost use Rattle.strm_types.specs.declared.spots.Spot.{Spot};
 ghost use Rattle.strm_types.specs.declared.termios.Termios.{Termios};
 ghost use Rattle.strm_types.specs.Cells.{plain};
 ghost use Rattle.strm_types.specs.Deliver.{tallied};
-ghost use Rattle.strm_types.specs.Echo.{is_control};
 ghost use Rattle.strm_types.specs.Output.{made_for, told_for};
 ghost use Rattle.strm_types.specs.OutputTurns.{output_dir};
 ghost use Rattle.strm_types.specs.Termios.{olcuc};

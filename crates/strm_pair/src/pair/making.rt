@@ -113,6 +113,8 @@ impl<B: Blocks + Drop> Pair<B> {
                 let command = *command;
                 self.make(caller, &Event::Ioctl { command, body }, out)
             }
+            // Each new pair is opened by these: their kind is asked for among three.
+            Event::OpenMaster | Event::Unlock | Event::OpenSlave => self.make(caller, event, out),
             _ => self.make(caller, event, out),
         }
     }
