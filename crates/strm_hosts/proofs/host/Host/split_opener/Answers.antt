@@ -1,4 +1,4 @@
-use Rattle.std.proofs.Common.{rules, ◌≡◌, ◌≤◌, ◌+◌, [], ◌∷◌, ◌++◌, ◌∙◌, length, ap, sym, arith, subst, length-append}
+use Rattle.std.proofs.Common.{rules, ◌≡◌, ◌+◌, [], ◌∷◌, ◌++◌, ◌∙◌, length, ap, sym, arith, subst, length-append}
 use Rattle.strm_hosts.specs.Hosts.{AreOf}
 use Rattle.strm_hosts.proofs.Rows.{all_fresh, all_turned, empty, fresh_own, turn_kept, turn_of, turn_opened, turn_within}
 use Rattle.strm_hosts.proofs.host.Host.split_opener.Goals as goal

@@ -1,5 +1,4 @@
 use Rattle.std.proofs.Common.{◌≡◌, [], ◌∷◌, refl, sym, ap, ◌∙◌, subst}
-use Rattle.strm_laws.specs.Pair.{PairState}
 use Rattle.strm_locks.specs.declared.told.Told.{Told}
 use Rattle.strm_locks.specs.Books.{IsCounted, Kept, book_with, history_of, told_of}
 use Rattle.strm_locks.specs.Rules.{AreToldOf, Mine, fresh, holding, leaving}

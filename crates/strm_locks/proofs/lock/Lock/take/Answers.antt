@@ -1,2 +1,0 @@
-use Rattle.std.proofs.Common.{rules}
-use Rattle.strm_locks.proofs.lock.Lock.take.Goals as goal

@@ -1,4 +1,4 @@
-use Rattle.std.proofs.Common.{rules, ◌≡◌, ◌≢◌, sym, ap, ◌∙◌, subst, inr}
+use Rattle.std.proofs.Common.{rules, ◌≢◌, sym, ap, ◌∙◌, subst, inr}
 use Rattle.std.proofs.lemmas.Result.{MatchResult-at_err, MatchResult-at_ok}
 use Rattle.std.specs.Prelude.{Err, Ok}
 use Rattle.strm_types.specs.declared.events.Event.TheVariants.{OpenSlave}

@@ -1,5 +1,5 @@
 use Rattle.std.proofs.Common.{◌≡◌, [], ◌∷◌, ◌++◌, ap, ◌∙◌}
-use Rattle.strm_laws.specs.Pair.{PairState, new_pair}
+use Rattle.strm_laws.specs.Pair.{PairState}
 use Rattle.strm_locks.specs.Books.{LockId}
 use Rattle.strm_locks.specs.Rules.{Mine, holding, closing}
 use Rattle.strm_locks.proofs.Booking.{settled-all}

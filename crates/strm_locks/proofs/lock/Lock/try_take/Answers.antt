@@ -1,6 +1,5 @@
-use Rattle.std.proofs.Common.{rules, ◌∷◌, sym, ap, ◌∙◌, subst}
+use Rattle.std.proofs.Common.{rules, sym, ap, ◌∙◌}
 use Rattle.strm_locks.specs.Books.{LockId}
-use Rattle.strm_locks.specs.Rules.{holding}
 use Rattle.strm_locks.proofs.Keeps.{takes_lock}
 use Rattle.strm_locks.proofs.lock.Lock.try_take.Goals as goal
 

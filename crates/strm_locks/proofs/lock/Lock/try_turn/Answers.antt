@@ -1,4 +1,4 @@
-use Rattle.std.proofs.Common.{◌≡◌, [], ◌∷◌, refl, sym, ap, ◌∙◌}
+use Rattle.std.proofs.Common.{◌≡◌, [], sym, ap, ◌∙◌}
 use Rattle.std.proofs.lemmas.Bool.Decides.{when_true}
 use Rattle.strm_locks.specs.Rules.{Mine, fresh, holding, leaving}
 use Rattle.strm_locks.proofs.Calling.{visits_sized}

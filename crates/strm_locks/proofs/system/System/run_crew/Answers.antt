@@ -1,8 +1,8 @@
-use Rattle.std.proofs.Common.{rules, ◌≡◌, ℕ, ◌<◌, ◌+◌, get_or, length, sym, ap, ◌∙◌, arith, subst}
+use Rattle.std.proofs.Common.{rules, ◌≡◌, ◌+◌, get_or, length, sym, ap, ◌∙◌, arith, subst}
 use Rattle.std.proofs.lemmas.List.{with_items_is}
 use Rattle.std.specs.Prelude.{map}
 use Rattle.std.specs.Vec.{with_items}
-use Rattle.strm_locks.specs.Reports.{AreAt, AreCrew, IsReportOf, Tours, Works, visits_at}
+use Rattle.strm_locks.specs.Reports.{AreCrew, IsReportOf, Tours, Works, visits_at}
 use Rattle.strm_locks.proofs.Rows.{crew_each, crew_of, works_of}
 use Rattle.strm_locks.proofs.system.System.run_crew.Goals as goal
 
