@@ -56,9 +56,9 @@ def plan(pairs, rounds, words="0 0 0 0 1 1", blocks=256, entries=ENTRIES, standi
     return f"{pairs} {rounds} {standing} {blocks} {entries} {warm} {store} {words}\n"
 
 
-def answer(words: List[str], given: str):
+def answer(words: List[str], given: str, **settings: str):
     """What a program answers to a plan, and what it wrote to standard error."""
-    done = subprocess.run(words, input=given, capture_output=True, text=True, check=True)
+    done = subprocess.run(words, input=given, capture_output=True, text=True, check=True, env={**os.environ, **settings})
     if "plan" in done.stdout or "refused" in done.stdout:
         raise SystemExit(f"{words[-1]}: {given}{done.stdout}")
     return [int(word) for word in done.stdout.split()], done.stderr
@@ -66,7 +66,9 @@ def answer(words: List[str], given: str):
 
 def instructions(words: List[str], given: str, profile="/dev/null", options=()) -> int:
     """How many instructions a program takes for a plan, by callgrind, which may write its profile."""
-    _, said = answer(["valgrind", "--tool=callgrind", f"--callgrind-out-file={profile}", *options, *words], given)
+    counted = ["valgrind", "--tool=callgrind", f"--callgrind-out-file={profile}", *options, *words]
+    # (where the C library clears long memory by `rep stosb`, from a length on that machines differ in, each byte counts as an instruction)
+    _, said = answer(counted, given, GLIBC_TUNABLES="glibc.cpu.x86_rep_stosb_threshold=1000000000")
     return int(re.search(r"Collected : (\d+)", said).group(1))
 
 
