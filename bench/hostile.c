@@ -5,11 +5,14 @@
  * What strm.h says that a caller owes is kept: a buffer is as long as its length says, and no bool is anything but 0 or 1. Behind each call it is
  * compared: a refused one changed neither buffer nor reply, another wrote as many bytes as it says, and what lies behind the room stays. Before a
  * read, a get and a write it is asked what the side is ready for, and the call is EAGAIN where it says so and nowhere else. A pair whose journal
- * begins anew is never JOURNAL_FULL. At last each end of a terminal with a reserve makes 100,000 calls that nobody answers: it is told EAGAIN, the
- * other end and all turns go on, and ^C is delivered, at once or behind the reads of the slave. */
+ * begins anew is never JOURNAL_FULL. Then each end of a terminal with a reserve makes 100,000 calls that nobody answers: it is told EAGAIN, the
+ * other end and all turns go on, and ^C is delivered, at once or behind the reads of the slave. At last a signal handler calls on the handle of the
+ * calls that it interrupts: each of its calls is EINVAL, or finds no call under way and is made, and the books have all that was written. */
+#include <signal.h>
 #include <stdio.h>
 #include <stdlib.h>
 #include <strm.h>
+#include <sys/time.h>
 
 enum { MOST = 10000, BEHIND = 64 };
 
@@ -271,6 +274,83 @@ static void withstands(const flood *f)
     strm_free(&p);
 }
 
+/* ------------------------------------------------------------------------------------------------- a handle in use */
+
+enum { STORM = 20000, ROUNDS = 4000000 };
+
+static strm_pair stormed = STRM_CLOSED;
+static volatile unsigned long signalled, in_use, wrote;
+
+/* A call of each kind that takes no memory, one a signal. With these arguments an open handle is EINVAL for none. */
+static void interrupt(int number)
+{
+    static uint8_t room[4096];
+    strm_refusal e;
+    strm_reply reply;
+    strm_books books;
+    strm_left left;
+    size_t told;
+    (void)number;
+    switch (signalled++ % 6) {
+    case 0:
+        e = strm_write(&stormed, STRM_MASTER, "s", 1, &reply);
+        if (!e) wrote += reply.value;
+        break;
+    case 1: e = strm_read(&stormed, STRM_SLAVE, room, sizeof room, &reply); break;
+    case 2: e = strm_runqueues(&stormed, &told); break;
+    case 3: e = strm_ledger(&stormed, STRM_MASTER, &books); break;
+    case 4: e = strm_room(&stormed, &left); break;
+    default: e = strm_restart(&stormed); break;
+    }
+    if (e == STRM_EINVAL) in_use++;
+}
+
+static void every(suseconds_t microseconds)
+{
+    struct itimerval timer = { { 0, microseconds }, { 0, microseconds } };
+    if (setitimer(ITIMER_REAL, &timer, NULL)) fail("no timer");
+}
+
+/* A call that isn't the handler's meets an open handle: whatever the handler did is done. */
+static void goes(strm_refusal e)
+{
+    if (e == STRM_EINVAL) fail("a handle that a handler called on is closed");
+}
+
+static void storms(void)
+{
+    strm_choices terminal = { STRM_TERMINAL_BLOCKS, 64, 16384, STRM_TERMINAL_RESERVE, true };
+    struct sigaction action = { 0 };
+    unsigned long written = 0, i;
+    uint64_t gone;
+    strm_reply reply;
+    strm_books books;
+    size_t turns;
+    if (strm_new_with(&stormed, &terminal) || strm_open_terminal(&stormed)) fail("no terminal");
+    action.sa_handler = interrupt;
+    action.sa_flags = SA_RESTART;
+    if (sigaction(SIGALRM, &action, NULL)) fail("no handler");
+    every(20);
+    for (i = 0; i < ROUNDS && signalled < STORM; i++) {
+        strm_refusal e = strm_write(&stormed, STRM_MASTER, i % 20 ? "k" : "\r", 1, &reply);
+        goes(e);
+        if (!e) written += reply.value;
+        goes(strm_runqueues(&stormed, &turns));
+        goes(strm_read(&stormed, STRM_SLAVE, out, 4096, &reply));
+        goes(strm_read(&stormed, STRM_MASTER, out, 4096, &reply));
+        goes(strm_ledger(&stormed, STRM_MASTER, &books));
+    }
+    every(0);
+    if (!in_use || in_use == signalled) fail("no signal met a handle in use, or none met one that isn't");
+    if (strm_ledger(&stormed, STRM_MASTER, &books)) fail("no ledger");
+    if (books.written != written + wrote) fail("the books don't have what was written");
+    gone = books.queued + books.inlined;
+    for (i = 0; i < STRM_RULES; i++) gone += books.gone[i];
+    if (books.written + books.made != gone) fail("the books don't balance");
+    printf("a signal handler: %lu calls, %lu of them on a handle in use, EINVAL\n", signalled, in_use);
+    strm_free(&stormed);
+}
+
 int main(int count, char **words)
 {
     unsigned long calls = count > 1 ? strtoul(words[1], NULL, 10) : 1000000;
@@ -291,6 +371,7 @@ int main(int count, char **words)
     }
     strm_free(&p);
     for (i = 0; i < sizeof floods / sizeof *floods; i++) withstands(&floods[i]);
+    storms();
     printf("%lu calls", calls);
     for (i = 0; i <= STRM_EIO; i++)
         if (seen[i]) printf(", %s %lu", strm_refusal_name((strm_refusal)i), seen[i]);

@@ -17,8 +17,10 @@
  *   while (!strm_host_ended(h)) {                  strm_host_fd(h) is readable where there is something to pump
  *       poll(..);
  *       strm_write(&p, STRM_MASTER, ..);           what is typed
- *       if (strm_host_pump(h, &what) == STRM_JOURNAL_FULL) strm_restart(&p);
- *       while (!strm_read(&p, STRM_MASTER, ..)) ..  what is shown
+ *       do {
+ *           while (strm_host_pump(h, &what) == STRM_JOURNAL_FULL) strm_restart(&p);
+ *           while (!strm_read(&p, STRM_MASTER, ..)) ..  what is shown
+ *       } while (what & (STRM_HOST_SHOWS | STRM_HOST_MOVED));
  *   }
  *   strm_host_close(h);
  *   strm_free(&p);
@@ -90,8 +92,9 @@ int strm_host_spawn(strm_host **made, strm_pair *pair, char *const words[], char
 enum { STRM_HOST_SHOWS = 1, STRM_HOST_MOVED = 2, STRM_HOST_ENDED = 4 };
 
 /* Carries what is there, both ways, makes the turns, hands signals on and answers the program's ioctls, and doesn't wait. It is called where
- * strm_host_fd is readable, and behind writes and reads of the master. JOURNAL_FULL: nothing was lost, and it goes on where it was when the journal
- * has begun anew (strm_restart). ERANGE: a book is full. ENOSR and EAGAIN aren't told: they end where the master is read. */
+ * strm_host_fd is readable, and behind writes and reads of the master. JOURNAL_FULL: nothing was lost, and the next pump goes on where it was when
+ * the journal has begun anew (strm_restart); make it at once, as strm_host_fd doesn't tell of it. ERANGE: a book is full. ENOSR and EAGAIN aren't
+ * told: they end where the master is read. */
 strm_refusal strm_host_pump(strm_host *h, uint32_t *what);
 
 /* Pumps and reads the master, again and again, until nothing goes on or less than 4096 of the room are left: *n bytes are what was shown, also where

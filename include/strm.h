@@ -48,14 +48,19 @@
  *   strm_restart. What stood there at the time is in the caller's buffers, images and recordings, which are the caller's to clear, and may be on
  *   the stack of a thread that called.
  *
- * THREADS
+ * THREADS AND SIGNALS
  *   A handle is used by one thread at a time, and may be handed from one to another behind a lock, a thread's start or its join. Two
- *   handles are independent. No function is called from a signal handler, nor in the forked child of a process with threads.
+ *   handles are independent. No function is called in the forked child of a process with threads.
+ *   A handle is closed while a call is made at it. So a signal handler may call, on the thread that it interrupts, all but what takes or gives back
+ *   memory (strm_new, strm_restore, those of chosen pairs, and strm_free), as malloc isn't called there. On the handle of the call that it
+ *   interrupts its call is STRM_EINVAL and changes nothing (strm_enabled tells NO_QUEUE, strm_ready 0), or is made whole in front of that call or
+ *   behind it; on any other it is a call like another. This is tried (bench/hostile.c), and not proved.
  *
  * WHAT A CALLER OWES (nothing checks it)
- *   Pointers lead to as much memory as their length says, and don't overlap where one is written to; one beside a length of 0 may be NULL, no
- *   other. A bool is 0 or 1. A handle is closed, or was made by these functions and only handed to them since. A cursor
- *   was zeroed when the journal began, and only moved by strm_next_entry since: another one corrupts nothing, but may tell other bytes.
+ *   Two threads don't call on one handle at once: that isn't told, and may corrupt the pair or end the process. Pointers lead to as much memory as
+ *   their length says, and don't overlap where one is written to; one beside a length of 0 may be NULL, no other. A bool is 0 or 1. A handle is
+ *   closed, or was made by these functions and only handed to them since. A cursor was zeroed when the journal began, and only moved by
+ *   strm_next_entry since: another one corrupts nothing, but may tell other bytes.
  *
  * WHAT STAYS
  *   STRM_VERSION is 65536 times a major number and a minor one. Within a major number names, numbers, layouts and meanings stay; a larger
@@ -65,7 +70,8 @@
  *   than its blocks. A program of 1.0 or 1.1 runs with it as it is: what is taken of a write was never more than that. 1.3 has strm_new_with and
  *   strm_restore_with: what they choose holds for pairs that they made, and for no other.
  *
- * PROVED: each function that libstrm exports, by its contract in crates/strm_ffi. NOT PROVED: the inline functions of this file, and malloc.
+ * PROVED: each function that libstrm exports, by its contract in crates/strm_ffi, whose words are those of crates/strm_handle. NOT PROVED: the inline
+ * functions of this file, and malloc.
  */
 #ifndef STRM_H
 #define STRM_H

@@ -7,7 +7,6 @@ what the other changes, as the texts tell (tools/reach.py): so what is refused i
 import os
 import re
 import shutil
-import subprocess
 import sys
 import tempfile
 
@@ -96,7 +95,8 @@ class Changes:
 
 
 def hook(changes, home, room, names):
-    """Has the proof of the function that reaches least import the files of the lemmas, and gives the functions to check."""
+    """Has the check reach the files of the lemmas, and gives the functions to check: the proof of the one that reaches least imports these files. A
+    crate without functions, whose check is of all its files, is left with these and with what they import."""
     files = sorted({"::".join(name.split("::")[2:-1]) for name in names if is_lemma(name)})
     functions = [name for name in names if not is_lemma(name)]
     if files:
@@ -104,7 +104,8 @@ def hook(changes, home, room, names):
         named = {"::".join([home.name, *os.path.relpath(os.path.dirname(it), f"{room}/proofs").split("/")]): it for it in sorted(proofs)}
         named = {name: it for name, it in named.items() if re.fullmatch(r"[\w:]+", name)}
         if not named:
-            raise LookupError(f"no function of {home.name} has a proof file that could import its lemmas")
+            keep_files(home, f"{room}/proofs", files)
+            return functions
         least = min(named, key=lambda it: len(changes.reaches(home, it)) or len(named) ** 9)
         text = reach.text_of(named[least])
         with open(named[least], "w", encoding="utf-8") as file:
@@ -113,12 +114,28 @@ def hook(changes, home, room, names):
     return functions
 
 
-def words_of(rt, crate, home, room, functions):
-    """The check of these functions; where they are of a crate above, over the sources below."""
-    above = home.name != crate.name
-    words = home.words(["--jobs", "1"], keeps=False, as_source=above)
+def keep_files(home, proofs, files):
+    """Leaves of a crate's files of proofs these, and those that they import."""
+    imports = re.compile(rf"^(?:pub )?use Rattle\.{home.name}\.proofs\.(\w+)", re.M)
+    kept = reach.closed(files, lambda it: {*imports.findall(reach.text_of(f"{proofs}/{it}.antt"))})
+    lines = [line for line in reach.text_of(f"{proofs}/Lib.antt").split("\n") if line.split(" ")[-1] in kept]
+    for name in os.listdir(proofs):
+        if name[:-len(".antt")] not in {*kept, "Lib"}:
+            os.remove(f"{proofs}/{name}")
+    with open(f"{proofs}/Lib.antt", "w", encoding="utf-8") as file:
+        file.write("\n".join([*lines, ""]))
+
+
+def words_of(crate, home, room, functions):
+    """The check of these functions; where they are of a crate above, over the sources from the changed crate up."""
+    words = home.words(["--jobs", "1"], keeps=False, as_source=home.name != crate.name)
     words = [it.replace(f"={crate.folder}/src/", f"={room}/{crate.name}/src/") for it in words]
-    return [rt.rtlib.RATTLE, "check", *words, *(word for name in dict.fromkeys(functions) for word in ("--only", name))]
+    built = {it.name: it.rlib for it in crate.below()}
+    for at, word in enumerate(words):
+        name = word.split(":")[0]
+        if words[at - 1] == "--lib" and name in built:
+            words[at - 1], words[at] = "--extern", f"{name}={built[name]}"
+    return [*words, *(word for name in dict.fromkeys(functions) for word in ("--only", name))]
 
 
 def refused_of(said, names, shows_nothing):
@@ -142,7 +159,6 @@ def check(rt, it, edits, names, tools):
             for part in rt.rtlib.PARTS:
                 if os.path.isdir(f"{home.folder}/{part}"):
                     shutil.copytree(f"{home.folder}/{part}", f"{room}/{home.name}/{part}")
-        words = words_of(rt, crate, home, room, hook(it.changes, home, f"{room}/{home.name}", names))
-        how = {"cwd": f"{room}/{home.name}", "stdin": subprocess.DEVNULL, "stdout": subprocess.PIPE, "stderr": subprocess.STDOUT, "errors": "replace"}
-        ran = subprocess.run([*rt.rtlib.guarded(), *words], **how) if here else None
+        words = words_of(crate, home, room, hook(it.changes, home, f"{room}/{home.name}", names))
+        ran = tools.run(rt, words, f"{room}/{home.name}", [home, *home.below()]) if here else None
     return here, told, ran, refused_of(ran.stdout, names, tools.SHOWS_NOTHING) if ran else set()

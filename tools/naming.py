@@ -78,7 +78,7 @@ class Namer:
         here, why_not, ran, unproved = definitions.check(self.rt, self, group, names, self.tools)
         for edit, why in why_not.items():
             print(f"{edit.crate.name}/{edit.name}: {why}")
-        if ran is None or "\nonly=" not in ran.stdout:
+        if ran is None or not re.search(self.tools.VERDICT, ran.stdout, re.M):
             print(f"no verdict on {', '.join(it.name for it in here)}: " + " ".join(ran.stdout.split("\n")[-4:])[:300] if ran else "nothing to try")
         return unproved
 

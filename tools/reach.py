@@ -1,8 +1,9 @@
 """Which definitions the proof of a function or a lemma can reach, by the text alone: for tools/wrong.
 
-A declaration is one of a crate's files of specs/ and proofs/, or a function of its src/. It reaches each one that a word of its text names there, by
-the file's own declarations and by what the file imports, what those reach, and so on. A function's text has its contract, its body and the files of
-its proof in it. A variable that is spelled like a definition reaches that one too: more is reached than a proof uses, and never less.
+A declaration is one of a crate's files of specs/ and proofs/, or a function or a constant of its src/. It reaches each one that a word of its text
+names there, by the file's own declarations and by what the file imports, what those reach, and so on. A function's text has its contract, its body
+and the files of its proof in it. A variable that is spelled like a definition reaches that one too: more is reached than a proof uses, and never
+less.
 """
 import glob
 import os
@@ -11,7 +12,7 @@ import re
 WORD = re.compile(r"[^\s(){}\[\],;.:=\"⟦⟧⌜⌝`&|*!?<>@#/\\◌]+")
 MODIFIERS = re.compile(r"(?:(?:abbrev|pub|record|data|private|axiom) )*")
 USE = re.compile(r"^(?:pub |ghost )?use (Rattle\.[\w.«»+-]+?)(?:\.\{([^}]*)\}| as (\w+))?;?$", re.M)
-FUNCTION = re.compile(r"^(?: *#\[[^\n]*\]\n+)* *(?:pub(?:\([a-z ]+\))? )?(?:const |unsafe |extern \"C\" )*fn (\w+)", re.M)
+FUNCTION = re.compile(r"^(?: *#\[[^\n]*\]\n+)* *(?:pub(?:\([a-z ]+\))? )?(?:(?:const |unsafe |extern \"C\" )*fn|const) (\w+)", re.M)
 COMMENT = re.compile(r"^ *//.*\n", re.M)
 
 
@@ -43,7 +44,7 @@ def declarations(text):
 
 
 def functions(text):
-    """{name: text} of the functions of a file of src/, each up to the next one; methods of one name together."""
+    """{name: text} of the functions and constants of a file of src/, each up to the next one; methods of one name together."""
     text, found = COMMENT.sub("", text), {}
     starts = [(it.start(), it[1]) for it in FUNCTION.finditer(text)]
     for (at, name), (after, _) in zip(starts, [*starts[1:], (len(text), "")]):
@@ -95,6 +96,8 @@ class Texts:
             return {it} if it in self.text else set()
         of, path = file
         words = path[:-len(".antt")].split("/")
+        if words[-1] == "TheConstants":
+            return self.named.get((of, name), set())
         return self.named.get((of, words[-2]), set()) if words[0] == "proofs" and len(words) > 2 else set()
 
     def steps(self, it):

@@ -28,9 +28,10 @@ static size_t shown(void)
     struct pollfd ready = { strm_host_fd(host), POLLIN, 0 };
     uint32_t what = 0;
     size_t n = 0;
-    strm_refusal e = strm_host_pump(host, &what);
-    must(!e || e == STRM_JOURNAL_FULL, "a pump is refused");
-    if (e) strm_restart(&p);
+    strm_refusal e;
+    do e = strm_host_pump(host, &what);
+    while (e == STRM_JOURNAL_FULL && !strm_restart(&p));
+    must(!e, "a pump is refused");
     for (;;) {
         strm_reply r;
         e = strm_read(&p, STRM_MASTER, out, sizeof out, &r);

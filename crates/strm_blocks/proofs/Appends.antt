@@ -48,6 +48,20 @@ module _ (t : Inside) {s : StoreValue} (is : value_of t ≡ s) (holds : IsTableS
   pub last-within : length (in_hand s i) - 1 < length (in_hand s i)
   last-within = let l = chain-len t is i in let s = some-block holds (place_in i t.hand) (found-within t is i here) in omega arith
 
+  -- the last of its rows, so many, is its last block
+  module _ (rows : List MessageBlock) (n : ℕ) (rows-are : rows ≡ blocks) (long : n ≡ length rows) where
+    pub row-some : 0 < n
+    row-some = let l = ap (λ (q : List MessageBlock). length q) rows-are in let some = some-block holds (place_in i t.hand) (found-within t is i here) in omega arith
+
+    pub row-last : n - 1 ≡ length (in_hand s i) - 1
+    row-last = let l = ap (λ (q : List MessageBlock). length q) rows-are in let len = chain-len t is i in omega arith
+
+    pub row-within : n - 1 < length blocks
+    row-within = let l = ap (λ (q : List MessageBlock). length q) rows-are in let some = row-some in omega arith
+
+    pub row-same : (row : MessageBlock) → row ≡ row_at (n - 1) rows → row ≡ row_at (length (in_hand s i) - 1) blocks
+    row-same row at = at ∙ ap (λ (q : List MessageBlock). row_at (n - 1) q) rows-are ∙ ap (λ (k : ℕ). row_at k blocks) row-last
+
   module _ (row : MessageBlock) (same : row ≡ row_at (length (in_hand s i) - 1) blocks) where
     last-is : last_of (in_hand s i) ≡ shown t.data.bytes row
     last-is = row-is t is holds i (length (in_hand s i) - 1) here last-within row same

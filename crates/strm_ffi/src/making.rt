@@ -1,17 +1,12 @@
-//! Making and freeing pairs.
+//! Making and freeing pairs, also of an image.
 
-ghost use Rattle.std.specs.Prelude.{◌≡◌, true, None, IfSome};
-ghost use Rattle.strm_laws.specs.Pair.{new_pair};
-ghost use Rattle.strm_ffi.specs.Kept.{are_fit, kept_by, plain_choices, sizes_of};
-ghost use Rattle.strm_ffi.specs.Outcomes.{Makes};
+ghost use Rattle.std.specs.Prelude.{◌≡◌, None};
+ghost use Rattle.strm_handle.specs.Kept.{plain_choices};
+ghost use Rattle.strm_handle.specs.Outcomes.{Makes};
+ghost use Rattle.strm_handle.specs.Restored.{Restores};
 
-use crate::choices::Choices;
-use crate::handle::Handle;
-use crate::kept::{Kept, give_back, refused};
 use std::alloc::Global;
-use strm_pair::Pair;
-use strm_raw::RawStore;
-use strm_types::{Content, Refusal};
+use strm_handle::{Choices, Handle};
 
 /// The version of this interface: 65536 times the major number and the minor number.
 const VERSION: u32 = 65539;
@@ -22,43 +17,6 @@ pub extern "C" fn strm_version() -> u32
     ensures { result ≡ 65539 }
 {
     VERSION
-}
-
-// A pair that nobody opened; None where memory is refused.
-fn made(alloc: Global, choices: &Choices) -> Option<Box<Kept, Global>>
-    requires { are_fit choices.now ≡ true }
-    ensures { IfSome result (λ kept. kept.value ≡ kept_by choices.now (new_pair (sizes_of choices.now))) }
-{
-    let sizes = choices.sizes();
-    let Ok(store) = RawStore::new(alloc, sizes.mblks, sizes.dblks) else {
-        return None;
-    };
-    let Ok(pair) = Pair::new(alloc, sizes, store) else {
-        return None;
-    };
-    let kept = Kept {
-        pair,
-        answer: Content::new(),
-        anew: choices.anew,
-        reserve: choices.reserve,
-    };
-    Box::new(alloc, kept).ok()
-}
-
-// Makes a pair of what is chosen.
-fn make(alloc: Global, handle: &mut Handle, choices: &Choices) -> u32
-    ensures { Makes choices.now handle.old.held.kept handle.new.held.kept result }
-{
-    if handle.is_open() || !choices.are_fit() {
-        return refused(Refusal::Einval);
-    }
-    match made(alloc, choices) {
-        Some(kept) => {
-            handle.put(kept);
-            0
-        }
-        None => refused(Refusal::NoMemory),
-    }
 }
 
 /// Makes a pair that nobody opened, with so many blocks of each kind and so large a journal. All memory is taken here.
@@ -72,7 +30,7 @@ pub extern "C" fn strm_new(
 ) -> u32
     ensures { Makes (plain_choices blocks entries bytes) handle.old.held.kept handle.new.held.kept result }
 {
-    make(alloc, handle, &Choices::plain(blocks, entries, bytes))
+    strm_handle::make(alloc, handle, &Choices::plain(blocks, entries, bytes))
 }
 
 /// Makes a pair that nobody opened, of what is chosen. All memory is taken here.
@@ -80,7 +38,35 @@ pub extern "C" fn strm_new(
 pub extern "C" fn strm_new_with(alloc: Global, handle: &mut Handle, choices: &Choices) -> u32
     ensures { Makes choices.now handle.old.held.kept handle.new.held.kept result }
 {
-    make(alloc, handle, choices)
+    strm_handle::make(alloc, handle, choices)
+}
+
+/// Makes a pair of an image, with so many blocks of each kind and so large a journal. All memory is taken here.
+#[unsafe(no_mangle)]
+pub extern "C" fn strm_restore(
+    alloc: Global,
+    handle: &mut Handle,
+    blocks: usize,
+    entries: usize,
+    bytes: usize,
+    text: &[u8],
+) -> u32
+    ensures { Restores (plain_choices blocks entries bytes) text.now handle.old.held.kept handle.new.held.kept result }
+{
+    strm_handle::restore(alloc, handle, &Choices::plain(blocks, entries, bytes), text)
+}
+
+/// Makes a pair of an image, of what is chosen. All memory is taken here.
+#[unsafe(no_mangle)]
+pub extern "C" fn strm_restore_with(
+    alloc: Global,
+    handle: &mut Handle,
+    choices: &Choices,
+    text: &[u8],
+) -> u32
+    ensures { Restores choices.now text.now handle.old.held.kept handle.new.held.kept result }
+{
+    strm_handle::restore(alloc, handle, choices, text)
 }
 
 /// Frees a pair, in whose memory no byte of a message, a line or the journal is left, and closes its handle. A closed one stays so.
@@ -88,9 +74,5 @@ pub extern "C" fn strm_new_with(alloc: Global, handle: &mut Handle, choices: &Ch
 pub extern "C" fn strm_free(alloc: Global, handle: &mut Handle)
     ensures { handle.new.held.kept ≡ None }
 {
-    let Some(mut kept) = handle.take(alloc) else {
-        return;
-    };
-    kept.as_mut().wipe();
-    give_back(kept);
+    strm_handle::free(alloc, handle);
 }

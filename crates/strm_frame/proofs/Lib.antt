@@ -9,3 +9,4 @@ pub mod Read
 pub mod Behind
 pub mod Asked
 pub mod Seeking
+mod Staying

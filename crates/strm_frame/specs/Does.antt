@@ -1,18 +1,18 @@
 -- What a put, a delivery, a call of a service procedure, the end of a turn and a pop did to a store and what stands beside it.
-use Rattle.std.specs.Prelude.{ℕ, ◌≡◌, ◌<◌, ◌≤◌, Bool, false, List, Option}
+use Rattle.std.specs.Prelude.{ℕ, ◌≡◌, ◌<◌, ◌≤◌, Bool, true, false, List, [], ◌∷◌, Option}
 use Rattle.std.specs.Bool.{OnTrue}
 use Rattle.strm_types.specs.declared.limits.TheConstants.{STOP_BLOCKS}
 use Rattle.strm_types.specs.declared.rules.Fates.{Fates}
 use Rattle.strm_types.specs.declared.spots.Spot.{Spot}
 use Rattle.strm_types.specs.Costs.{cost_of}
-use Rattle.strm_types.specs.Deliver.{Acted, AreLower, Carried, Took, tallied}
+use Rattle.strm_types.specs.Deliver.{Acted, AreLower, Carried, Parcel, Took, tallied}
 use Rattle.strm_types.specs.Dropped.{is_met}
 use Rattle.strm_types.specs.Input.{made_of}
 use Rattle.strm_types.specs.LdtermCalls.{most_made}
-use Rattle.strm_types.specs.Message.{Message}
+use Rattle.strm_types.specs.Message.{Message, is_held}
 use Rattle.strm_types.specs.Service.{Serving}
 use Rattle.strm_blocks.specs.Blocks.{StoreValue}
-use Rattle.strm_queue.specs.Stored.{FreesBlocks}
+use Rattle.strm_queue.specs.Stored.{FreesBlocks, FreesNone}
 use Rattle.strm_frame.specs.declared.modules.Acts.{Acts}
 use Rattle.strm_frame.specs.declared.modules.LetGo.{LetGo}
 use Rattle.strm_frame.specs.declared.parcels.Sent.{Sent}
@@ -21,6 +21,12 @@ use Rattle.strm_frame.specs.declared.service.TurnEnd.{TurnEnd}
 use Rattle.strm_frame.specs.Hands.{Handles, Hands, HasRoom, OnlyOwn, SamePool, Spends, Takes}
 use Rattle.strm_frame.specs.Outboxes.{message_in, sent_of, times_sent, parcels_in, AreChains}
 use Rattle.strm_frame.specs.Serves.{SameHand, least_free, later_cost}
+
+-- What is on its way is nothing, or one message that stays, by what stays.
+abbrev pub StaysAlone : {P : Type 0} → (P → Spot → Message ℕ → Type 0) → P → List (Parcel ℕ) → Type 0
+StaysAlone stays p [] = Unit {0}
+StaysAlone stays p (x ∷ []) = stays p x.to x.message
+StaysAlone stays p (x ∷ y ∷ more) = ⊥
 
 module _ {X P : Type 0} (plain : StoreValue → X → P) (IsHeld : StoreValue → X → Type 0) (keeps : X → ℕ → ℕ) (spare : P → ℕ) where
   -- A put at a spot did what a definition says: the message has gone, and what is sent on has come in hand, and has less before it. No more was taken
@@ -48,7 +54,8 @@ module _ {X P : Type 0} (plain : StoreValue → X → P) (IsHeld : StoreValue �
 
 module _ {X P : Type 0} (plain : StoreValue → X → P) (IsHeld : StoreValue → X → Type 0) (owns keeps : X → ℕ → ℕ) where
   -- A put procedure did what a definition says: the message has gone, and what is sent on has come in hand, and has less before it. Only the module's own
-  -- lists changed. No more blocks of each kind were taken than `most`, and where that many were free, `later` are free behind it.
+  -- lists changed. No more blocks of each kind were taken than `most`, and where that many were free, `later` are free behind it. An M_DATA or M_PROTO
+  -- frees none.
   pub record Puts (height : Spot → Message ℕ → ℕ) (old new : StoreValue) (x y : X) (here : Spot) (message most later : ℕ) (acts : Acts) (t t' : Fates) (is : Acted ℕ P) : Type 0 where
     pub state : plain new y ≡ is.state
     pub notes : acts.notes.items ≡ is.notes
@@ -60,6 +67,7 @@ module _ {X P : Type 0} (plain : StoreValue → X → P) (IsHeld : StoreValue �
     pub falls : AreLower height (height here (message_in old message)) (parcels_in new (sent_of acts.sent))
     pub hands : Hands old new message (keeps x) (keeps y) (λ i. times_sent i (sent_of acts.sent))
     pub spends : Spends old new most later
+    pub blocks : is_held (message_in old message).kind ≡ true → FreesNone old new
     pub pool : SamePool old new
 
   -- A call of a service procedure did what a definition says: what is sent has come in hand, beside what the module keeps, and has less than `top` before

@@ -7,7 +7,8 @@ ghost use Rattle.strm_blocks.specs.Blocks.{in_hand, token};
 ghost use Rattle.strm_msg.specs.Messages.{IsChain};
 ghost use Rattle.strm_types.specs.Costs.{cost_of};
 ghost use Rattle.strm_frame.specs.Outboxes.{AreChains, message_in, parcels_in, sent_of, times_sent};
-ghost use Rattle.strm_frame.specs.Does.{Delivers};
+ghost use Rattle.strm_queue.specs.Stored.{FreesNone};
+ghost use Rattle.strm_frame.specs.Does.{Delivers, StaysAlone};
 ghost use Rattle.strm_frame.specs.Hands.{AreIn, CanPut, MayTake, once};
 
 use crate::parcels::Outbox;
@@ -16,7 +17,7 @@ use strm_blocks::{Blocks, InHand};
 use strm_types::{Fates, Spot};
 
 /// Delivers a message to a spot, with all that it gives rise to: what is put there sends others on, and each is carried
-/// with all that it gives rise to before the next. It is handed on fewer than `hops` times.
+/// with all that it gives rise to before the next. It is handed on fewer than `hops` times. One that stays frees no block.
 ///
 /// The cost is that of the puts. No byte is copied but by a put, and no memory is taken.
 #[cycle(delivery)]
@@ -34,9 +35,11 @@ pub fn deliver<B: Blocks, S: Stations<B>>(
     requires low { S.height to (message_in (B.value store.old) (token message)) < hops }
     requires room { let s = B.value store.old in let p = S.plain s stations.old in
         MayTake s (S.spare p) (S.cost p to (message_in s (token message))) }
-    ensures { let s = B.value store.old in let p = S.plain s stations.old in let m = message_in s (token message) in
+    ensures delivers { let s = B.value store.old in let p = S.plain s stations.old in let m = message_in s (token message) in
         Delivers S.plain S.IsHeld S.keeps S.spare s (B.value store.new) stations.old stations.new (once (token message)) (S.cost p to m)
         told.old told.new (carried S.puts hops (record { to = to; message = m }) p) }
+    ensures blocks { let s = B.value store.old in
+        S.stays (S.plain s stations.old) to (message_in s (token message)) → FreesNone s (B.value store.new) }
 {
     let sent = stations.put_at(store, to, message, told);
     store.audit();
@@ -47,7 +50,7 @@ pub fn deliver<B: Blocks, S: Stations<B>>(
 }
 
 /// Delivers messages one after the other, each with all that it gives rise to before the next. Each is handed on fewer than `hops`
-/// times.
+/// times. One that is alone and stays frees no block.
 #[cycle(delivery)]
 pub fn deliver_all<B: Blocks, S: Stations<B>>(
     store: &mut B,
@@ -62,9 +65,11 @@ pub fn deliver_all<B: Blocks, S: Stations<B>>(
     requires low { AreLower S.height hops (parcels_in (B.value store.old) (sent_of sent)) }
     requires room { let s = B.value store.old in let p = S.plain s stations.old in
         MayTake s (S.spare p) (cost_of (S.cost p) (parcels_in s (sent_of sent))) }
-    ensures { let s = B.value store.old in let p = S.plain s stations.old in let parcels = parcels_in s (sent_of sent) in
+    ensures delivers { let s = B.value store.old in let p = S.plain s stations.old in let parcels = parcels_in s (sent_of sent) in
         Delivers S.plain S.IsHeld S.keeps S.spare s (B.value store.new) stations.old stations.new (λ i. times_sent i (sent_of sent))
         (cost_of (S.cost p) parcels) told.old told.new (in_turn (carried S.puts hops) parcels p) }
+    ensures blocks { let s = B.value store.old in
+        StaysAlone S.stays (S.plain s stations.old) (parcels_in s (sent_of sent)) → FreesNone s (B.value store.new) }
 {
     let mut left = sent;
     if left.is_empty() {

@@ -127,7 +127,7 @@ pub trait Module: Drop {
     fn name(&self) -> ModuleName
         ensures { (s : StoreValue) → result ≡ name_of (plain s self.now) };
 
-    /// Puts a message in hand here, on its way up or down, and says what it does: `put(9E)`.
+    /// Puts a message in hand here, on its way up or down, and says what it does: `put(9E)`. An M_DATA or M_PROTO frees no block.
     fn put<B: Blocks>(
         &mut self,
         store: &mut B,

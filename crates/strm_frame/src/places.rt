@@ -6,7 +6,8 @@ ghost use Rattle.strm_types.specs.Message.{Message};
 ghost use Rattle.strm_types.specs.Deliver.{Took};
 ghost use Rattle.strm_blocks.specs.Blocks.{StoreValue, in_hand, token};
 ghost use Rattle.strm_msg.specs.Messages.{IsChain};
-ghost use Rattle.strm_frame.specs.Does.{PutsAt};
+ghost use Rattle.strm_queue.specs.Stored.{FreesNone};
+ghost use Rattle.strm_frame.specs.Does.{PutsAt, StaysAlone};
 ghost use Rattle.strm_frame.specs.Outboxes.{message_in, sent_of};
 ghost use Rattle.strm_frame.specs.Hands.{CanPut, SameFor, MayTake};
 
@@ -42,6 +43,9 @@ pub trait Stations<B: Blocks> {
     /// many as blocks.
     ghost spare: { Plain → ℕ };
 
+    /// A message that stays, put at a spot: it comes to stand on a queue with its blocks, as it is or in what is made of it, and frees none.
+    ghost stays: { Plain → Spot → Message ℕ → Type 0 };
+
     /// Puts a message in hand at a spot, and gives what is sent on, in order.
     fn put_at(&mut self, store: &mut B, to: Spot, message: InHand, told: &mut Fates) -> Outbox
         requires held { IsHeld (B.value store.old) self.old }
@@ -49,9 +53,11 @@ pub trait Stations<B: Blocks> {
         requires chain { IsChain (in_hand (B.value store.old) (token message)) }
         requires room { let s = B.value store.old in
             MayTake s (spare (plain s self.old)) (cost (plain s self.old) to (message_in s (token message))) }
-        ensures { let s = B.value store.old in let p = plain s self.old in
+        ensures puts { let s = B.value store.old in let p = plain s self.old in
             PutsAt plain IsHeld keeps spare height (cost p) s (B.value store.new) self.old self.new to (token message) (sent_of result)
-            told.old told.new (puts to (message_in s (token message)) p) };
+            told.old told.new (puts to (message_in s (token message)) p) }
+        ensures blocks { let s = B.value store.old in
+            stays (plain s self.old) to (message_in s (token message)) → FreesNone s (B.value store.new) };
 
     /// The stations stand for the same, and fit, wherever the lists are the same and what they keep in hand is.
     ghost frame: { (s t : StoreValue) (x : Self) → SameFor s t (keeps x) → IsHeld s x → (plain t x ≡ plain s x) ×
@@ -59,4 +65,7 @@ pub trait Stations<B: Blocks> {
 
     /// No put changes what messages cost.
     ghost cost_stays: { (to : Spot) (m : Message ℕ) (p : Plain) → cost (puts to m p).state ≡ cost p };
+
+    /// A message that stays waits there, or is sent on as one that stays.
+    ghost stays_on: { (to : Spot) (m : Message ℕ) (p : Plain) → stays p to m → let t = puts to m p in StaysAlone stays t.state t.sent };
 }

@@ -149,15 +149,24 @@ module _ (s got cut : StoreValue) (q : Queue) (i cmax dmax n d : ℕ) (within : 
           ∙ ap (λ v. left_behind (v || second.more) cmax dmax m others) more_control
           ∙ ap (λ v. left_behind (nat_lt cmax (length (part m.control)) || v) cmax dmax m others) more_data
 
-      pub took : (flows : plain_flows q'.flows ≡ plain_flows q.flows) (want : q'.want_read ≡ false) (no_enable : q'.no_enable ≡ q.no_enable)
+      took : (flows : plain_flows q'.flows ≡ plain_flows q.flows) (want : q'.want_read ≡ false) (no_enable : q'.no_enable ≡ q.no_enable)
           (x : Message ℕ) (xs : List (Message ℕ)) → messages_on s q.list ≡ x ∷ xs → TakesFirst result out s new q q' (parts_of cmax dmax x xs)
       took flows want no_enable x xs stood =
           subst (TakesFirst result out s new q q') (ap (of_first cmax dmax) (sym (before s got q.list i within p) ∙ stood))
           (record { gives = gives; queue = queue-left s new q q' _ left-is same flows want no_enable })
 
-      pub leaves : Leaves (list_at s q.list) (list_at new q.list)
+      leaves : Leaves (list_at s q.list) (list_at new q.list)
       leaves = left-leaves (list_at s q.list) (list_at new q.list) chain rest (cut_by n d chain) p.rest more p.joined (alike n d chain one readable) refl there.here
 
-      pub keeps : AreCounted q'.flows (list_at new q'.list) → Keeps s new q q'
+      keeps : AreCounted q'.flows (list_at new q'.list) → Keeps s new q q'
       keeps counted =
           left-keeps s new q q' chain rest p.rest ready.ready p.joined more rest_one (λ is test passes was. rest-kind n d chain one readable (some_left is) test passes was) there same counted
+
+      -- what a get of the first message promises
+      pub record Taken : Type 0 where
+        pub took : (x : Message ℕ) (xs : List (Message ℕ)) → messages_on s q.list ≡ x ∷ xs → TakesFirst result out s new q q' (parts_of cmax dmax x xs)
+        pub leaves : Leaves (list_at s q.list) (list_at new q.list)
+        pub keeps : Keeps s new q q'
+
+      pub taken : plain_flows q'.flows ≡ plain_flows q.flows → q'.want_read ≡ false → q'.no_enable ≡ q.no_enable → AreCounted q'.flows (list_at new q'.list) → Taken
+      taken flows want no_enable counted = record { took = took flows want no_enable; leaves = leaves; keeps = keeps counted }

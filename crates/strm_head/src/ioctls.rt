@@ -1,6 +1,6 @@
 //! The ioctl that is under way on a stream, at its head (ioctl(2), streamio(7I): I_STR).
 
-ghost use Rattle.std.specs.Prelude.{ℕ, ◌≡◌, ◌≤◌, List, [], length, MatchOption, if◌then◌else◌};
+ghost use Rattle.std.specs.Prelude.{ℕ, ◌≡◌, ◌≤◌, List, [], length, if◌then◌else◌};
 ghost use Rattle.strm_types.specs.declared.answers.Answer.TheVariants.{Done, Bytes};
 ghost use Rattle.strm_types.specs.Dropped.{is_met, number_sought, slot_dropped};
 ghost use Rattle.strm_types.specs.Ioctls.{ioctl_message};
@@ -28,6 +28,7 @@ pub type IoctlBytes = ArrayVec<u8, IOCTL_MAX>;
 pub(crate) const HEADER: usize = 16;
 
 // What stands behind the header of an answer, 256 bytes at most.
+#[inline(always)]
 fn answer_body(bytes: &[u8]) -> IoctlBytes
     requires { HEADER ≤ length bytes.now }
     ensures { result.items ≡ answer_body bytes.now }
@@ -39,7 +40,8 @@ fn answer_body(bytes: &[u8]) -> IoctlBytes
     body
 }
 
-// The slot with the answer of the ioctl that waits: M_IOCACK or M_IOCNAK.
+// The slot with the answer of the ioctl that waits: M_IOCACK or M_IOCNAK. Inlined, as it is large.
+#[inline(always)]
 fn with_answer(is_ack: bool, number: u32, command: u32, ioc: Ioc, bytes: &[u8]) -> Slot<IoctlBytes>
     requires { HEADER ≤ length bytes.now }
     ensures { plain_slot result ≡ with_answer is_ack number command ioc bytes.now }
@@ -53,23 +55,19 @@ fn with_answer(is_ack: bool, number: u32, command: u32, ioc: Ioc, bytes: &[u8]) 
     }
 }
 
-// What the slot is by an answer that comes up; none where that is nobody's, and the slot stays.
-pub(crate) fn answered(
-    slot: &Slot<IoctlBytes>,
-    is_ack: bool,
-    bytes: &[u8],
-) -> Option<Slot<IoctlBytes>>
-    ensures { let after = slot_answered is_ack bytes.now (plain_slot slot.now) in
-        MatchOption result (plain_slot slot.now ≡ after) (λ answered. plain_slot answered ≡ after) }
+// Puts an answer that comes up into the slot that waits for it, where it stays: the slot is large. One that is nobody's leaves the slot.
+fn settle(slot: &mut Slot<IoctlBytes>, is_ack: bool, bytes: &[u8])
+    ensures { plain_slot slot.new ≡ slot_answered is_ack bytes.now (plain_slot slot.old) }
 {
-    let Slot::Waiting { number, command } = slot else {
-        return None;
+    let Slot::Waiting { number, command } = *slot else {
+        return;
     };
-    let ioc = Ioc::read(bytes)?;
-    if ioc.number != *number {
-        return None;
+    let Some(ioc) = Ioc::read(bytes) else {
+        return;
+    };
+    if ioc.number == number {
+        *slot = with_answer(is_ack, number, command, ioc, bytes);
     }
-    Some(with_answer(is_ack, *number, *command, ioc, bytes))
 }
 
 // Whether the answer of a command gives nothing but that it is done.
@@ -253,8 +251,6 @@ impl Head {
         ensures state { (s : StoreValue) → head_in s self.new ≡ record (head_in s self.old) { ioctl = slot_answered is_ack bytes.now (plain_slot self.old.ioctl) } }
         ensures queue { self.new.queue ≡ self.old.queue }
     {
-        if let Some(slot) = answered(&self.ioctl, is_ack, bytes) {
-            self.ioctl = slot;
-        }
+        settle(&mut self.ioctl, is_ack, bytes);
     }
 }

@@ -115,4 +115,5 @@ pub mod Balances
 pub mod Based
 pub mod JournalPlaces
 pub mod LedgerSums
+pub mod Staying
 pub mod RefusedForgets

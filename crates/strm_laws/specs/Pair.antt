@@ -5,19 +5,21 @@ use Rattle.strm_types.specs.declared.answers.Turn.{Turn}
 use Rattle.strm_types.specs.declared.answers.Turn.TheVariants.{Moved, Blocked, Idle}
 use Rattle.strm_types.specs.declared.limits.TheConstants.{STOP_BLOCKS}
 use Rattle.strm_types.specs.declared.names.Place.TheVariants.{Ldterm}
-use Rattle.strm_types.specs.declared.names.Way.TheVariants.{Up}
+use Rattle.strm_types.specs.declared.names.Side.{Side}
+use Rattle.strm_types.specs.declared.names.Side.TheVariants.{Master}
+use Rattle.strm_types.specs.declared.names.Way.{Way}
+use Rattle.strm_types.specs.declared.names.Way.TheVariants.{Up, Down}
 use Rattle.strm_types.specs.declared.entries.Entry.TheVariants.{Turned}
 use Rattle.strm_types.specs.declared.events.Caller.{Caller}
 use Rattle.strm_types.specs.declared.job_control.Verdict.{Verdict}
 use Rattle.strm_types.specs.declared.names.QueueName.{QueueName}
 use Rattle.strm_types.specs.declared.refusals.Refusal.{Refusal}
-use Rattle.strm_laws.specs.ModuleTurns.{place_named}
 use Rattle.strm_laws.specs.State.{State, opening, stream}
 use Rattle.strm_laws.specs.Turns.{whole_turn}
 use Rattle.strm_types.specs.Events.{Request}
 use Rattle.strm_types.specs.JobControl.{judged}
 use Rattle.strm_types.specs.Journal.{PlainEntry}
-use Rattle.strm_types.specs.Names.{is_open}
+use Rattle.strm_types.specs.Names.{is_closed, is_open}
 use Rattle.strm_laws.specs.Refusals.{Free, enough, blocks_asked, refused, stop_of, turn_refused}
 use Rattle.strm_types.specs.Refused.{turn_blocks}
 use Rattle.strm_types.specs.Cells.{plain}
@@ -87,18 +89,18 @@ refused_of p (Some name) = queue_refused p name
 abbrev pub next_refused : PairState → Option Refusal
 next_refused p = refused_of p (slice_get p.state.enabled 0)
 
--- the read queue of the module on top of a stream whose side is open
-pub record IsOnTop (s : State ℕ) (name : QueueName) : Type 0 where
-  pub up : name.way ≡ Up
-  pub top : place_named name.place (stream name.side s).modules ≡ Some 1
-  pub opened : is_open (stream name.side s).opened ≡ true
+-- What a module sends on as M_DATA comes to stand on a queue ahead with its blocks: up the stream of a side that is open, and down while the master
+-- isn't closed (streamio(7I), ptm(7D)). Else the head or the driver there frees it.
+abbrev pub IsKeptAhead : {C : Type 0} → Way → Side → State C → Type 0
+IsKeptAhead Up side s = is_open (stream side s).opened ≡ true
+IsKeptAhead Down side s = is_closed (stream Master s).opened ≡ false
 
 -- A turn that moved so many bytes, of a pair in this state, stopped within its message, and so many blocks are free behind it: that is one of
--- ldterm's, which treated a byte at least, and where it is of such a read queue fewer than `STOP_BLOCKS` blocks of some kind are free.
+-- ldterm's, which treated a byte at least, and where what it sends is kept ahead fewer than `STOP_BLOCKS` blocks of some kind are free.
 pub record StopsWithin (s : State ℕ) (free : Free) (name : QueueName) (bytes : ℕ) : Type 0 where
   pub place : name.place ≡ Ldterm
   pub some : 0 < bytes
-  pub few : IsOnTop s name → enough STOP_BLOCKS free ≡ false
+  pub few : IsKeptAhead name.way name.side s → enough STOP_BLOCKS free ≡ false
 
 -- A turn that moved something treated the first message of its queue whole, or stopped within it.
 abbrev pub MovesOn : State ℕ → Free → QueueName → Turn → Type 0

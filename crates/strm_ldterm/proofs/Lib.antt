@@ -40,6 +40,7 @@ pub mod Struck
 pub mod Treated
 pub mod RunsDone
 pub mod Marks
+pub mod Lanes
 pub mod Bytes
 pub mod Calls
 pub mod Freeing

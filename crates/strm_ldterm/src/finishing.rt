@@ -111,9 +111,11 @@ pub(crate) fn finish<B: Blocks>(ldterm: &mut Ldterm, store: &mut B, here: Spot) 
     ensures blocks { 0 < length (cells_left (ldterm_in (B.value store.old) ldterm.old)) →
         FreesNone (B.value store.old) (B.value store.new) }
 {
+    // Where the turn stops within its message it ends as well: the next one begins an echo of its own, and goes on with what is left.
     settle_echo(ldterm, store);
     return_work(ldterm, store);
     store.audit();
+    // Last, so that nothing is in hand here while it is delivered.
     let first = send_gathered(ldterm, store, here);
     ldterm.stage = Stage::Between;
     Outbox {

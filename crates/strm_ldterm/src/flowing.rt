@@ -1,19 +1,19 @@
 //! What bytes give that go out one after the other, as far as a buffer has room for it (termio(7I): "Output Modes").
 
-ghost use Rattle.std.specs.Prelude.{ℕ, ◌≡◌, ◌≤◌, ◌<◌, ◌+◌, [], ◌∷◌, ◌++◌, true, false, length, nat_le, not, take};
+ghost use Rattle.std.specs.Prelude.{ℕ, ◌≡◌, ◌≤◌, ◌<◌, ◌+◌, [], ◌∷◌, ◌++◌, true, length, nat_le, take};
 ghost use Rattle.std.specs.List.{AllByRecursion};
 ghost use Rattle.strm_types.specs.declared.rules.Fates.{Fates};
 ghost use Rattle.strm_types.specs.declared.spots.Spot.{Spot};
 ghost use Rattle.strm_types.specs.declared.termios.Termios.{Termios};
 ghost use Rattle.strm_types.specs.Cells.{plain};
 ghost use Rattle.strm_types.specs.Deliver.{tallied};
-ghost use Rattle.strm_types.specs.Echo.{is_control};
 ghost use Rattle.strm_types.specs.Output.{made_for, told_for};
 ghost use Rattle.strm_types.specs.OutputTurns.{output_dir};
 ghost use Rattle.strm_types.specs.Termios.{olcuc};
 ghost use Rattle.strm_ldterm.specs.Posting.{FlowsAs, bytes_given, is_printed};
 
 use crate::flushing::direction_at;
+use crate::graphic::{graphic_len, is_graphic};
 use crate::posts::{moved_on, post, raised};
 use arrayvec::ArrayVec;
 use bitflags::Flags;
@@ -25,8 +25,6 @@ pub(crate) const FLOW_MAX: usize = 256;
 // The most bytes that a byte gives, the spaces of a TAB.
 const GIVEN_MAX: usize = 8;
 
-const DELETE: u8 = 127;
-
 const SPACES: [u8; GIVEN_MAX] = [b' '; GIVEN_MAX];
 
 /// What bytes gave that went out, and the column behind them.
@@ -36,31 +34,11 @@ pub(crate) struct Flow {
     pub given: ArrayVec<u8, FLOW_MAX>,
 }
 
-// Whether a byte is no control byte.
-fn is_graphic(byte: u8) -> bool
-    ensures { result ≡ not (is_control byte) }
-{
-    b' ' <= byte && byte != DELETE
-}
-
 /// Whether a byte goes out as itself and moves the carriage on by a column: no control byte does, nor a lower-case letter under OLCUC.
 pub(crate) fn is_printed(termios: &Termios, byte: u8) -> bool
     ensures { result ≡ is_printed termios.now byte }
 {
     is_graphic(byte) && raised(termios, byte) == byte
-}
-
-// How many bytes at the front are no control bytes.
-fn graphic_len(bytes: &[u8]) -> usize
-    ensures within { result ≤ length bytes.now }
-    ensures graphic { AllByRecursion (λ b. is_control b ≡ false) (take result bytes.now) }
-{
-    for at in 0..bytes.len() {
-        if !is_graphic(bytes[at]) {
-            return at;
-        }
-    }
-    bytes.len()
 }
 
 // Whether lower-case letters go out as upper-case ones.

@@ -11,6 +11,7 @@ mod ending;
 mod finishing;
 mod flowing;
 mod flushing;
+mod graphic;
 mod growing;
 mod ldterm;
 mod lines;

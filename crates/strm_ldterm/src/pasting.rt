@@ -96,27 +96,20 @@ fn mark_keys(odd: &mut [bool; 256], termios: &Termios)
     }
 }
 
-// The bytes that aren't plain: those that may be keys, are taken as other ones, or are echoed as other ones. In raw mode without echo there
-// are none.
-fn odd_bytes(termios: &Termios) -> [bool; 256]
-    ensures { (b : ℕ) → slice_index_or result b true ≡ false → is_plain termios.now b ≡ true }
+// Marks the bytes that aren't plain: those that may be keys, are taken as other ones, or are echoed as other ones. In raw mode without echo
+// there are none.
+fn mark_odd(odd: &mut [bool; 256], termios: &Termios)
+    ensures { (b : ℕ) → slice_index_or odd.new b true ≡ false → is_plain termios.now b ≡ true }
 {
-    let mut odd = [false; 256];
     let echo = termios.lflag.contains(LocalModes::ECHO);
     let ends = turns_ends(termios);
-    mark(&mut odd, echo, 0, 32);
-    mark(&mut odd, echo, 127, 128);
-    mark(&mut odd, ends, 10, 11);
-    mark(&mut odd, ends, 13, 14);
-    mark(
-        &mut odd,
-        termios.iflag.contains(InputModes::ISTRIP),
-        128,
-        256,
-    );
-    mark(&mut odd, termios.iflag.contains(InputModes::IUCLC), 65, 91);
-    mark_keys(&mut odd, termios);
-    odd
+    mark(odd, echo, 0, 32);
+    mark(odd, echo, 127, 128);
+    mark(odd, ends, 10, 11);
+    mark(odd, ends, 13, 14);
+    mark(odd, termios.iflag.contains(InputModes::ISTRIP), 128, 256);
+    mark(odd, termios.iflag.contains(InputModes::IUCLC), 65, 91);
+    mark_keys(odd, termios);
 }
 
 /// How many bytes at the front aren't marked.
@@ -132,66 +125,68 @@ pub(crate) fn plain_len(odd: &[bool; 256], bytes: &[u8]) -> usize
     bytes.len()
 }
 
-// Takes bytes that aren't marked off the front of a message of data, as far as its first block that has some has them, and so many at
-// most: adjmsg(9F). The block is freed where it is empty then and another one stands behind it.
+// Takes bytes that aren't marked off the front of a message of data into a run, as far as its first block that has some has them, and so
+// many at most: adjmsg(9F). The block is freed where it is empty then and another one stands behind it.
 fn take_plain<B: Blocks>(
     store: &mut B,
     message: InHand,
     odd: &[bool; 256],
     most: usize,
-) -> (InHand, ArrayVec<u8, RUN_MAX>)
+    run: &mut ArrayVec<u8, RUN_MAX>,
+) -> InHand
     requires in_hand { IsInHand (B.value store.old) (token message) }
     requires is { IsData (B.value store.old) (token message) }
+    requires fresh { run.old.items ≡ [] }
     ensures became { let m = message_in (B.value store.old) (token message) in
-        Becomes (B.value store.old) (B.value store.new) (token message) (token result.0)
-        (left_of (drop (length result.1.items) (cells_of m)) m) }
+        Becomes (B.value store.old) (B.value store.new) (token message) (token result)
+        (left_of (drop (length run.new.items) (cells_of m)) m) }
     ensures front { let cells = cells_of (message_in (B.value store.old) (token message)) in
-        cells ≡ result.1.items ++ drop (length result.1.items) cells }
-    ensures plain { AllByRecursion (λ b. slice_index_or odd.now b true ≡ false) result.1.items }
-    ensures few { length result.1.items ≤ most }
-    ensures trimmed { IsFronted (B.value store.new) (token result.0) }
+        cells ≡ run.new.items ++ drop (length run.new.items) cells }
+    ensures plain { AllByRecursion (λ b. slice_index_or odd.now b true ≡ false) run.new.items }
+    ensures few { length run.new.items ≤ most }
+    ensures trimmed { IsFronted (B.value store.new) (token result) }
 {
     let message = skip_empty(store, message);
     store.audit();
     let bytes = store.bytes_at(&message, 0);
     let within = bytes.len().min(most);
     let taken = plain_len(odd, &bytes[..within]);
-    let mut run = ArrayVec::new();
     let Ok(()) = run.try_extend_from_slice(&bytes[..taken]) else {
         unreachable!()
     };
     store.trim_head(&message, 0, taken);
     store.audit();
-    (skip_empty(store, message), run)
+    skip_empty(store, message)
 }
 
-/// Takes bytes that aren't marked off the front of the message in work, as many as its first block has of them, and so many at most. A block
-/// that this empties is freed, unless it is the message's last.
+/// Takes bytes that aren't marked off the front of the message in work into a run, as many as its first block has of them, and so many at
+/// most. A block that this empties is freed, unless it is the message's last.
 pub(crate) fn take_front<B: Blocks>(
     ldterm: &mut Ldterm,
     store: &mut B,
     odd: &[bool; 256],
     most: usize,
-) -> ArrayVec<u8, RUN_MAX>
+    run: &mut ArrayVec<u8, RUN_MAX>,
+)
     requires held { IsHeld (B.value store.old) ldterm.old }
     requires kept { AreIn (B.value store.old) (λ _. 0) (keeps ldterm.old) }
+    requires fresh { run.old.items ≡ [] }
     ensures did { (f : Fates) → let s = B.value store.old in let p = ldterm_in s ldterm.old in
         Proceeds s (B.value store.new) ldterm.old ldterm.new 0 [] [] f f
-        (sends [] (with_left (drop (length result.items) (cells_left p)) p)) }
+        (sends [] (with_left (drop (length run.new.items) (cells_left p)) p)) }
     ensures front { let cells = cells_left (ldterm_in (B.value store.old) ldterm.old) in
-        cells ≡ result.items ++ drop (length result.items) cells }
-    ensures plain { AllByRecursion (λ b. slice_index_or odd.now b true ≡ false) result.items }
-    ensures few { length result.items ≤ most }
+        cells ≡ run.new.items ++ drop (length run.new.items) cells }
+    ensures plain { AllByRecursion (λ b. slice_index_or odd.now b true ≡ false) run.new.items }
+    ensures few { length run.new.items ≤ most }
     ensures trimmed { IfSome ldterm.new.in_work (λ m. IsFronted (B.value store.new) (token m)) }
 {
     let Some(message) = ldterm.in_work.take() else {
-        return ArrayVec::new();
+        return;
     };
     store.audit();
-    let (message, run) = take_plain(store, message, odd, most);
+    let message = take_plain(store, message, odd, most, run);
     store.audit();
     ldterm.in_work = Some(message);
-    run
 }
 
 /// How many bytes may be treated at once, as far as blocks go. A run takes two blocks of each kind at most, and so many are free that each
@@ -292,9 +287,11 @@ pub(crate) fn treat_run<B: Blocks>(
         (byte : ℕ) → byte < result.bytes → HasRoom (B.value store.old) (STOP_BLOCKS + blocks_grown p (bytes_on here byte p).state) }
     ensures many { HasRoom (B.value store.old) STOP_BLOCKS → HasRoom (B.value store.new) STOP_BLOCKS }
 {
-    let odd = odd_bytes(&ldterm.termios);
+    let mut odd = [false; 256];
+    mark_odd(&mut odd, &ldterm.termios);
     let most = run_room(ldterm, store);
-    let front = take_front(ldterm, store, &odd, most);
+    let mut front = ArrayVec::new();
+    take_front(ldterm, store, &odd, most, &mut front);
     let run = front.as_slice();
     if run.is_empty() {
         return Ran {

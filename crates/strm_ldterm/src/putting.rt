@@ -9,7 +9,7 @@ ghost use Rattle.strm_types.specs.Ldterms.{queued_at, sends, onward, flush_passe
 ghost use Rattle.strm_types.specs.Costs.{cost};
 ghost use Rattle.strm_types.specs.Flushing.{is_flush};
 ghost use Rattle.strm_types.specs.declared.spots.Note.TheVariants.{Room};
-ghost use Rattle.strm_types.specs.Message.{Message, is_high_priority};
+ghost use Rattle.strm_types.specs.Message.{Message, is_held, is_high_priority};
 ghost use Rattle.strm_types.specs.Ldterms.{waits_there};
 ghost use Rattle.strm_blocks.specs.Blocks.{IsInHand, in_hand, block_at, token};
 ghost use Rattle.strm_msg.specs.Messages.{IsChain};
@@ -64,9 +64,10 @@ fn wait_up<B: Blocks>(ldterm: &mut Ldterm, store: &mut B, message: InHand) -> Ac
     requires held { IsHeld (B.value store.old) ldterm.old }
     requires can_put { CanPut (B.value store.old) (token message) (keeps ldterm.old) }
     requires chain { IsChain (in_hand (B.value store.old) (token message)) }
-    ensures { (f : Fates) → let s = B.value store.old in
+    ensures does { (f : Fates) → let s = B.value store.old in
         Does s (B.value store.new) ldterm.old ldterm.new (token message) result f f
         (queued_at Up (message_in s (token message)) (ldterm_in s ldterm.old)) }
+    ensures blocks { FreesNone (B.value store.old) (B.value store.new) }
 {
     store.audit();
     let enables = enqueue(store, &mut ldterm.read_queue, message);
@@ -84,9 +85,10 @@ fn wait_before<B: Blocks>(ldterm: &mut Ldterm, store: &mut B, message: InHand) -
     requires low { is_high_priority (message_in (B.value store.old) (token message)).kind ≡ false }
     requires before { let s = B.value store.old in
         (is_some ldterm.old.echo && not (nat_lt 0 (message_in s (token message)).band)) ≡ false }
-    ensures { (f : Fates) → let s = B.value store.old in
+    ensures does { (f : Fates) → let s = B.value store.old in
         Does s (B.value store.new) ldterm.old ldterm.new (token message) result f f
         (queued_at Down (message_in s (token message)) (ldterm_in s ldterm.old)) }
+    ensures blocks { FreesNone (B.value store.old) (B.value store.new) }
 {
     store.audit();
     let enables = enqueue(store, &mut ldterm.write_queue, message);
@@ -102,9 +104,10 @@ fn wait_down<B: Blocks>(ldterm: &mut Ldterm, store: &mut B, message: InHand) -> 
     requires can_put { CanPut (B.value store.old) (token message) (keeps ldterm.old) }
     requires chain { IsChain (in_hand (B.value store.old) (token message)) }
     requires low { is_high_priority (message_in (B.value store.old) (token message)).kind ≡ false }
-    ensures { (f : Fates) → let s = B.value store.old in
+    ensures does { (f : Fates) → let s = B.value store.old in
         Does s (B.value store.new) ldterm.old ldterm.new (token message) result f f
         (queued_at Down (message_in s (token message)) (ldterm_in s ldterm.old)) }
+    ensures blocks { FreesNone (B.value store.old) (B.value store.new) }
 {
     store.audit();
     let band = store.band(&message);
@@ -149,9 +152,10 @@ fn wait<B: Blocks>(ldterm: &mut Ldterm, store: &mut B, way: Way, message: InHand
     requires can_put { CanPut (B.value store.old) (token message) (keeps ldterm.old) }
     requires chain { IsChain (in_hand (B.value store.old) (token message)) }
     requires low { is_high_priority (message_in (B.value store.old) (token message)).kind ≡ false }
-    ensures { (f : Fates) → let s = B.value store.old in
+    ensures does { (f : Fates) → let s = B.value store.old in
         Does s (B.value store.new) ldterm.old ldterm.new (token message) result f f
         (queued_at way (message_in s (token message)) (ldterm_in s ldterm.old)) }
+    ensures blocks { FreesNone (B.value store.old) (B.value store.new) }
 {
     match way {
         Way::Up => wait_up(ldterm, store, message),
@@ -226,8 +230,8 @@ fn is_flush(kind: MsgKind) -> bool
 /// queue, and on the way down with them an M_IOCTL of TCSETSW or TCSETSF. An M_FLUSH is obeyed and goes on, and all else goes on at once.
 /// Of an M_IOCACK on its way up that answers TCSETS, TCSETSW or TCSETSF the termios of 35 bytes is taken up first: with TCSETSF what waits
 /// to be read is flushed with the line, and an M_FLUSH goes up; the line goes up where lines are made no longer; and an M_SETOPTS tells the
-/// head its read mode. That takes two blocks of each kind at most, and all else none. The cost is a step for each block of the message, and
-/// for a flush for each on the queues.
+/// head its read mode. That takes two blocks of each kind at most, and all else none. An M_DATA or M_PROTO frees none. The cost is a step for
+/// each block of the message, and for a flush for each on the queues.
 pub fn put<B: Blocks>(
     ldterm: &mut Ldterm,
     store: &mut B,
@@ -241,9 +245,10 @@ pub fn put<B: Blocks>(
     requires room { HasRoom (B.value store.old) (cost here (message_in (B.value store.old) (token message))) }
     requires inside { 0 < here.at }
     requires small { here.at ≤ MODULES }
-    ensures { let s = B.value store.old in let m = message_in s (token message) in
+    ensures does { let s = B.value store.old in let m = message_in s (token message) in
         Puts s (B.value store.new) ldterm.old ldterm.new (token message) (cost here m) result told.old told.new
         (ldterm_puts here m (ldterm_in s ldterm.old)) }
+    ensures blocks { is_held (message_in (B.value store.old) (token message)).kind ≡ true → FreesNone (B.value store.old) (B.value store.new) }
 {
     store.audit();
     let kind = store.kind(&message, 0);

@@ -1,6 +1,6 @@
 -- A call that opens the slave is never refused by ERANGE.
 use Rattle.std.proofs.Common.{◌≡◌, ◌≢◌, ◌+◌, refl, sym, ap, ◌∙◌}
-use Rattle.std.specs.Prelude.{Bool, true, false, not, Option, None, Some}
+use Rattle.std.specs.Prelude.{Bool, true, false, not, Option, None, Some, Result, Ok}
 use Rattle.strm_types.specs.declared.events.Caller.{Caller}
 use Rattle.strm_types.specs.declared.events.Event.TheVariants.{OpenSlave}
 use Rattle.strm_types.specs.declared.refusals.Refusal.{Refusal}
@@ -37,3 +37,8 @@ never p caller =
 
 pub not_erange : (p : PairState) (caller : Caller) (z : Refusal) → call_refused p caller OpenSlave ≡ Some z → z ≢ Erange
 not_erange p caller z r same = let is : true ≡ false = sym (ap is_erange (r ∙ ap (λ (x : Refusal). Some x) same)) ∙ never p caller in absurd (cc)
+
+-- the value that a result is said to have
+module _ {A E : Type 0} {r : Result A E} {x : A} where
+  abbrev pub value_of : r ≡ Ok x → A
+  value_of is = x

@@ -60,3 +60,7 @@ IsCut lock v r = (v.lock ≡ lock) × (p : PairState) × (q : PairState) × (v.m
 -- the visit was made under this lock, and found a pair that it left as it was, as it doesn't open; it made no turn
 abbrev pub IsRefusedOpen : LockId → Visited → Refusal → Type 0
 IsRefusedOpen lock v z = (v.lock ≡ lock) × (p : PairState) × (v.met ≡ p ∷ p ∷ []) × IsSoundAt lock p × IsShut p z × (v.made ≡ None)
+
+-- the visit was made under this lock, found this pair and left it as it was; it made no turn
+abbrev pub IsLook : LockId → Visited → PairState → Type 0
+IsLook lock v p = (v.lock ≡ lock) × (v.met ≡ p ∷ p ∷ []) × IsSoundAt lock p × (v.made ≡ None)

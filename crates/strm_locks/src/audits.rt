@@ -35,7 +35,7 @@ pub struct Audit<P: Object> {
 
 impl<P: Object> Lock<P> {
     // What the pair in its slot tells. It stays.
-    fn look_held(&self, seat: &mut Place<P>) -> Settled
+    pub(crate) fn look_held(&self, seat: &mut Place<P>) -> Settled
         requires own { seat.old.table_id ≡ self.now.table }
         requires lock { HasPair seat.old }
         ensures same { IsSame seat.old seat.new × (seat.new.me.0 ≡ seat.old.me.0) }

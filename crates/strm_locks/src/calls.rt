@@ -12,6 +12,8 @@ ghost use Rattle.strm_locks.specs.Sounds.{IsSound, IsSoundAt};
 ghost use Rattle.strm_laws.specs.Pair.{PairState, new_pair, restarted};
 ghost use Rattle.strm_locks.specs.Turns.{Cuts, IsCut, IsRefusedOpen, IsRestart, IsVisit, MeetsPair, Visits};
 
+use crate::bell::Wakes;
+use crate::busy::Busy;
 use crate::end::{ALL_PARTS, End, StillShared};
 use crate::gate::{At, Gate, NoGate};
 use crate::held::{Made, Settled};
@@ -28,7 +30,7 @@ use strm_types::{Answer, Caller, Content, Event, NoMemory, Refusal, Side};
 impl<P: Object> Lock<P> {
     // What the holder of the lock does is done on the pair in its slot, which is lent in place.
 
-    fn call_held(
+    pub(crate) fn call_held(
         &self,
         seat: &mut Place<P>,
         caller: Caller,
@@ -45,7 +47,7 @@ impl<P: Object> Lock<P> {
         held.call_told(caller, event, out)
     }
 
-    fn open_held(
+    pub(crate) fn open_held(
         &self,
         seat: &mut Place<P>,
         out: &mut Content,
@@ -60,7 +62,7 @@ impl<P: Object> Lock<P> {
         held.open(out)
     }
 
-    fn turn_held(&self, seat: &mut Place<P>) -> Option<Made>
+    pub(crate) fn turn_held(&self, seat: &mut Place<P>) -> Option<Made>
         requires own { seat.old.table_id ≡ self.now.table }
         requires lock { HasPair seat.old }
         ensures same { IsSame seat.old seat.new × (seat.new.me.0 ≡ seat.old.me.0) }
@@ -71,7 +73,7 @@ impl<P: Object> Lock<P> {
         held.turn_first()
     }
 
-    fn restart_held(&self, seat: &mut Place<P>)
+    pub(crate) fn restart_held(&self, seat: &mut Place<P>)
         requires own { seat.old.table_id ≡ self.now.table }
         requires lock { HasPair seat.old }
         ensures same { IsSame seat.old seat.new × (seat.new.me.0 ≡ seat.old.me.0) }
@@ -82,7 +84,7 @@ impl<P: Object> Lock<P> {
         held.restart();
     }
 
-    fn cut_held(&self, seat: &mut Place<P>, alloc: Global) -> Result<Trace, NoMemory>
+    pub(crate) fn cut_held(&self, seat: &mut Place<P>, alloc: Global) -> Result<Trace, NoMemory>
         requires own { seat.old.table_id ≡ self.now.table }
         requires lock { HasPair seat.old }
         ensures same { IsSame seat.old seat.new × (seat.new.me.0 ≡ seat.old.me.0) }
@@ -93,7 +95,7 @@ impl<P: Object> Lock<P> {
         held.cut(alloc)
     }
 
-    fn close_held(&self, seat: &mut Place<P>) -> Settled
+    pub(crate) fn close_held(&self, seat: &mut Place<P>) -> Settled
         requires own { seat.old.table_id ≡ self.now.table }
         requires lock { HasPair seat.old }
         ensures same { IsSame seat.old seat.new × (seat.new.me.0 ≡ seat.old.me.0) }
@@ -109,40 +111,13 @@ impl<P: Object> Lock<P> {
     pub fn open<R: Wait>(&self, rt: &R) -> Result<End<P>, NotOpened<P>>
         ensures { MatchResult result (IsOpened self.now) (λ n. IsRefusedOpen self.now n.visit n.refusal) }
     {
-        let mut seat = self.sit();
-        let mut out = Content::new();
-        let (answer, told) = self.open_by(rt, &mut seat, &mut out);
-        match answer {
-            Ok(_) => Ok(End {
-                seat,
-                caller: Caller::of(Side::Master),
-                told,
-                parts: ALL_PARTS,
-            }),
-            Err(refusal) => {
-                let visit = Visit { seat, made: None };
-                Err(NotOpened { refusal, visit })
+        for _ in rt.forever() {
+            match self.try_open(&Wakes) {
+                Ok(opened) => return opened,
+                Err(Busy) => self.wait(rt),
             }
         }
-    }
-
-    // The same by a seat that was told nothing. It has all parts then, or nothing still; and no lock.
-    fn open_by<R: Wait>(
-        &self,
-        rt: &R,
-        seat: &mut Place<P>,
-        out: &mut Content,
-    ) -> (Result<Answer<u32>, Refusal>, Told)
-        requires own { seat.old.table_id ≡ self.now.table }
-        requires fresh { seat.old.me ≡ (fresh self.now.sizes, []) }
-        ensures same { IsSame seat.old seat.new }
-        ensures opened { (p : PairState) × (q : PairState) × IsSoundAt self.now p
-            × OpenedAs self.now.sizes p q out.new.items result.1 seat.new.me result.0 }
-    {
-        self.take(rt, seat);
-        let (answer, told) = self.open_held(seat, out);
-        self.give(seat);
-        (answer, told)
+        unreachable!()
     }
 
     /// Makes one call as the end does, with the bytes that it gives in `out`. The end was told of it then: its entry, with this caller, event
@@ -158,11 +133,13 @@ impl<P: Object> Lock<P> {
         requires { IsOf self.now end.old }
         ensures { Calls end.old (request event.now) out.old.items out.new.items result end.new }
     {
-        self.take(rt, &mut end.seat);
-        let (answer, more) = self.call_held(&mut end.seat, end.caller, event, out);
-        self.give(&mut end.seat);
-        end.told = end.told.plus(&more);
-        answer
+        for _ in rt.forever() {
+            match self.try_call(&Wakes, end, event, out) {
+                Ok(answer) => return answer,
+                Err(Busy) => self.wait(rt),
+            }
+        }
+        unreachable!()
     }
 
     /// Opens the slave by a call of an end: `open(2)` of the slave device. The end was told of that call; the new one calls as the slave, was
@@ -172,18 +149,17 @@ impl<P: Object> Lock<P> {
         requires { IsOf self.now end.old }
         ensures { CallsSlave (λ e. e) end.old result end.new }
     {
-        if end.parts == 1 {
-            return Err(Refusal::Erange);
+        for _ in rt.forever() {
+            match self.try_open_slave(&Wakes, end) {
+                Ok(opened) => return opened,
+                Err(Busy) => self.wait(rt),
+            }
         }
-        let mut out = Content::new();
-        match self.call(rt, end, &Event::OpenSlave, &mut out) {
-            Err(refusal) => Err(refusal),
-            Ok(_) => Ok(self.cut_slave(end)),
-        }
+        unreachable!()
     }
 
     // Cuts the slave's end off an end, which has two parts at least.
-    fn cut_slave(&self, end: &mut End<P>) -> End<P>
+    pub(crate) fn cut_slave(&self, end: &mut End<P>) -> End<P>
         requires own { IsOf self.now end.old }
         requires two { end.old.parts ≢ 1 }
         ensures first { end.new ≡ kept_end end.old }
@@ -269,28 +245,15 @@ impl<P: Object> Lock<P> {
             (λ c. (end.parts ≡ ALL_PARTS) × IsOf c.visit.lock end × IsSettled end c.settled c.visit.met)
             (λ back. (end.parts ≢ ALL_PARTS) × (back.1 ≡ end)) }
     {
-        if end.parts != ALL_PARTS {
-            return Err((StillShared, end));
+        let mut mine = end;
+        for _ in rt.forever() {
+            match self.try_settle(&Wakes, mine) {
+                Ok(settled) => return settled,
+                Err((Busy, back)) => mine = back,
+            }
+            self.wait(rt);
         }
-        let End { mut seat, .. } = end;
-        let settled = self.settle_by(rt, &mut seat);
-        let visit = Visit { seat, made: None };
-        Ok(Closed { settled, visit })
-    }
-
-    // The same by the seat of such an end, which has nothing since but what it met, and no lock.
-    fn settle_by<R: Wait>(&self, rt: &R, seat: &mut Place<P>) -> Settled
-        requires own { lock_of seat.old ≡ self.now }
-        requires all { IsSeated seat.old.me seat.old.me.0.told ALL_PARTS }
-        ensures same { IsSame seat.old seat.new }
-        ensures sizes { seat.new.me.0.sizes ≡ seat.old.me.0.sizes }
-        ensures settled { (p : PairState) × (p.limits ≡ seat.old.me.0.sizes) × IsAll seat.old.me.0.told seat.old.me.0.made p result
-            × (seat.new.me.0.met ≡ seat.old.me.0.met ++ p ∷ [] ++ new_pair p.limits ∷ []) }
-    {
-        self.take(rt, seat);
-        let settled = self.close_held(seat);
-        self.give_closed(seat);
-        settled
+        unreachable!()
     }
 
     /// Begins the pair's journal anew, at the state that it has: so no session ends for a full journal. No end is told of it, and the book keeps

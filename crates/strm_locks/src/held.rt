@@ -1,5 +1,6 @@
 //! What a lock holds: a pair with its book.
 
+ghost use Rattle.std.specs.Fn.{FnOnceReturnsAt};
 ghost use Rattle.std.specs.Prelude.{◌≡◌, ◌≢◌, length, MatchOption, IsOk, Err, IfOk};
 ghost use Rattle.strm_types.specs.declared.entries.Entry.TheVariants.{Called, Turned};
 ghost use Rattle.strm_types.specs.Events.{request};
@@ -208,6 +209,14 @@ impl<P: Object> Held<P> {
                 (Ok(granted), after.minus(&before))
             }
         }
+    }
+
+    // What a look answers of the pair.
+    pub(crate) fn seen<T, F: FnOnce(&P) -> T>(&self, look: F) -> T
+        requires { F.IsAlwaysCallable look }
+        ensures { (x : P) × (P.pair_of x ≡ self.now.pair) × FnOnceReturnsAt F.FnOnce look x result }
+    {
+        look(&self.pair)
     }
 
     // What the book has, and the ledgers of the pair.

@@ -3,20 +3,26 @@
 #![tactic(auto)]
 
 mod audits;
+mod bell;
+mod busy;
 mod calls;
 mod end;
 mod gate;
 mod held;
 mod lock;
+mod looks;
 mod object;
 mod rule;
 mod system;
 mod told;
+mod tries;
 mod view;
 mod visit;
 mod workers;
 
 pub use audits::Audit;
+pub use bell::{Bell, NoBell, Wakes};
+pub use busy::Busy;
 pub use end::{ALL_PARTS, End, StillShared};
 pub use gate::{Gate, NoGate};
 pub use held::{Held, Made, Settled};

@@ -1,11 +1,12 @@
 //! The lock of a pair: a table with a word, which is 1 while a seat has the pair, and one slot, in which the pair lies with its book
 //! while the word is 0. Each function but `new` is one kind of step.
 
-ghost use Rattle.std.specs.Prelude.{◌≡◌, ◌≤◌, [], ◌∷◌, IfOk};
+ghost use Rattle.std.specs.Prelude.{◌≡◌, ◌≤◌, [], ◌∷◌, IfOk, MatchBool};
 ghost use Rattle.strm_locks.specs.Books.{closed_book, Kept, Fits};
 ghost use Rattle.strm_locks.specs.Rules.{fresh, kept_half, split_half, joined, grown, leaving, closing};
 ghost use Rattle.strm_locks.specs.Shares.{IsFree, IsSame, HasLock, MayGive, lock_of};
 
+use crate::bell::{Bell, Wakes};
 use crate::end::ALL_PARTS;
 use crate::held::Held;
 use crate::object::Object;
@@ -73,16 +74,25 @@ impl<P: Object> Lock<P> {
         self.table.shared.load_new_seat::<Sit>(WORD).1
     }
 
-    // Takes the lock, and with it the pair. The word is tested and set in one step; where it was 1 the thread parks until it is given back.
+    // Tries the lock once, and has it and the pair where it was free; else nothing happened. The word is tested and set in one step.
+    pub(crate) fn try_take(&self, seat: &mut Place<P>) -> bool
+        requires own { lock_of seat.old ≡ self.now }
+        requires free { IsFree seat.old }
+        ensures same { IsSame seat.old seat.new }
+        ensures lock { MatchBool result ((k : Kept) × HasLock seat.old.me.0 k seat.new) (seat.new.me ≡ seat.old.me) }
+    {
+        self.table.shared.compare_exchange::<Take>(seat, WORD, 0, 1) == 0
+    }
+
+    // Takes the lock, and with it the pair: it is tried, and where it isn't free the thread parks until it is given back.
     pub(crate) fn take<R: Wait>(&self, rt: &R, seat: &mut Place<P>)
         requires own { lock_of seat.old ≡ self.now }
         requires free { IsFree seat.old }
         ensures same { IsSame seat.old seat.new }
         ensures lock { (k : Kept) × HasLock seat.old.me.0 k seat.new }
     {
-        let shared = &self.table.shared;
         for _ in rt.forever() {
-            if shared.compare_exchange::<Take>(seat, WORD, 0, 1) == 0 {
+            if self.try_take(seat) {
                 return;
             }
             self.wait(rt);
@@ -91,21 +101,21 @@ impl<P: Object> Lock<P> {
     }
 
     // Parks while the word is 1. It is noted before: who gives the lock back sees the note, or this thread sees the word at 0.
-    fn wait<R: Wait>(&self, rt: &R) {
+    pub(crate) fn wait<R: Wait>(&self, rt: &R) {
         self.waiting.fetch_add(1, Ordering::SeqCst);
         self.table.shared.park(rt, WORD, 1);
         self.waiting.fetch_sub(1, Ordering::SeqCst);
     }
 
     // Wakes one that waits, behind the store that gave the lock back.
-    fn wake(&self) {
+    pub(crate) fn wake(&self) {
         if self.waiting.load(Ordering::SeqCst) > 0 {
             self.table.shared.wake_one(WORD);
         }
     }
 
-    // Gives the pair and the lock back, and wakes one that waits. The seat was told what the book gained.
-    pub(crate) fn give(&self, seat: &mut Place<P>)
+    // Gives the pair and the lock back, and rings. The seat was told what the book gained.
+    pub(crate) fn give<B: Bell>(&self, bell: &B, seat: &mut Place<P>)
         requires own { seat.old.table_id ≡ self.now.table }
         requires held { seat.old.me.0.holds ≡ 1 }
         requires lock { (k : Kept) × (seat.old.me.1 ≡ (0, k) ∷ []) × MayGive seat.old.me.0 k.book × (k.pair.limits ≡ self.now.sizes) }
@@ -113,11 +123,11 @@ impl<P: Object> Lock<P> {
         ensures told { (k : Kept) → seat.old.me.1 ≡ (0, k) ∷ [] → seat.new.me ≡ (grown seat.old.me.0 seat.old.me.0.found k, []) }
     {
         self.table.shared.store::<Give>(seat, WORD, 0);
-        self.wake();
+        bell.ring(self);
     }
 
     // The same where the book was closed, by a seat that had all parts.
-    pub(crate) fn give_closed(&self, seat: &mut Place<P>)
+    pub(crate) fn give_closed<B: Bell>(&self, bell: &B, seat: &mut Place<P>)
         requires own { seat.old.table_id ≡ self.now.table }
         requires held { (seat.old.me.0.holds ≡ 1) × (seat.old.me.0.parts ≡ ALL_PARTS) }
         requires lock { (k : Kept) × (seat.old.me.1 ≡ (0, k) ∷ []) × (k.book ≡ closed_book) × (k.pair.limits ≡ self.now.sizes) }
@@ -125,11 +135,11 @@ impl<P: Object> Lock<P> {
         ensures met { (k : Kept) → seat.old.me.1 ≡ (0, k) ∷ [] → seat.new.me ≡ (closing seat.old.me.0 k.pair, []) }
     {
         self.table.shared.store::<Empty>(seat, WORD, 0);
-        self.wake();
+        bell.ring(self);
     }
 
     // The same at the end of a visit, where the book stayed: the seat was told nothing, and has met the pair that it leaves.
-    pub(crate) fn pass(&self, seat: &mut Place<P>)
+    pub(crate) fn pass_by<B: Bell>(&self, bell: &B, seat: &mut Place<P>)
         requires own { seat.old.table_id ≡ self.now.table }
         requires held { seat.old.me.0.holds ≡ 1 }
         requires lock { (k : Kept) × (seat.old.me.1 ≡ (0, k) ∷ []) × (k.book ≡ seat.old.me.0.found) × (k.pair.limits ≡ self.now.sizes) }
@@ -137,7 +147,18 @@ impl<P: Object> Lock<P> {
         ensures met { (k : Kept) → seat.old.me.1 ≡ (0, k) ∷ [] → seat.new.me ≡ (leaving seat.old.me.0 k.pair, []) }
     {
         self.table.shared.store::<Pass>(seat, WORD, 0);
-        self.wake();
+        bell.ring(self);
+    }
+
+    // The same, and a thread that waits is woken.
+    pub(crate) fn pass(&self, seat: &mut Place<P>)
+        requires own { seat.old.table_id ≡ self.now.table }
+        requires held { seat.old.me.0.holds ≡ 1 }
+        requires lock { (k : Kept) × (seat.old.me.1 ≡ (0, k) ∷ []) × (k.book ≡ seat.old.me.0.found) × (k.pair.limits ≡ self.now.sizes) }
+        ensures same { IsSame seat.old seat.new }
+        ensures met { (k : Kept) → seat.old.me.1 ≡ (0, k) ∷ [] → seat.new.me ≡ (leaving seat.old.me.0 k.pair, []) }
+    {
+        self.pass_by(&Wakes, seat);
     }
 
     // Cuts a seat in two: this one keeps what was told, and the second has half of the parts, rounded down.

@@ -10,6 +10,8 @@ ghost use Rattle.strm_locks.specs.Settles.{IsSettled};
 ghost use Rattle.strm_locks.specs.Systems.{IsOne, joined_ends, numbered};
 ghost use Rattle.strm_locks.specs.Turns.{IsCut, IsRefusedOpen, IsRestart, IsVisit};
 
+mod tries;
+
 use crate::end::{ALL_PARTS, End, StillShared};
 use crate::held::Held;
 use crate::lock::Lock;

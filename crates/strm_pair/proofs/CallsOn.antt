@@ -10,6 +10,7 @@ use Rattle.strm_types.specs.declared.answers.Turn.TheVariants.{Moved}
 use Rattle.strm_types.specs.declared.limits.TheConstants.{STOP_BLOCKS}
 use Rattle.strm_types.specs.declared.names.Place.TheVariants.{Driver}
 use Rattle.strm_types.specs.declared.names.QueueName.{QueueName}
+use Rattle.strm_types.specs.declared.names.Side.{Side}
 use Rattle.strm_types.specs.declared.names.Way.{Way}
 use Rattle.strm_types.specs.declared.names.Way.TheVariants.{Up, Down}
 use Rattle.strm_types.specs.declared.rules.Fates.{Fates}
@@ -18,7 +19,6 @@ use Rattle.strm_types.specs.Cells.{plain}
 use Rattle.strm_types.specs.Deliver.{Fate, tallied}
 use Rattle.strm_types.specs.Input.{input_begins, is_data, passes, stages, stages_done, to_treat, treats}
 use Rattle.strm_types.specs.Message.{Message, cells_of, size_of}
-use Rattle.strm_types.specs.Names.{is_open}
 use Rattle.strm_types.specs.OutputTurns.{Outgoing, output_serves, posted, unchanged}
 use Rattle.strm_types.specs.Queue.{first_size, left_with}
 use Rattle.strm_types.specs.Service.{Serving}
@@ -26,6 +26,7 @@ use Rattle.strm_types.specs.Termios.{opost}
 use Rattle.strm_laws.specs.Kept.{AreIdle}
 use Rattle.strm_types.specs.Ldterms.{Ldterm, Stage, Between, Begun, Answered}
 use Rattle.strm_laws.specs.ModuleTurns.{module_turn_ended, module_turned, moved_on}
+use Rattle.strm_laws.specs.Pair.{IsKeptAhead}
 use Rattle.strm_laws.specs.Refusals.{in_range}
 use Rattle.strm_laws.specs.Spares.{spare}
 use Rattle.strm_laws.specs.Stacked.{IsAtRest, Module, OfLdterm, OfPtem, OfPckt, module_serves}
@@ -36,11 +37,12 @@ use Rattle.strm_laws.specs.TurnOutcomes.{TurnOutcome}
 use Rattle.strm_laws.proofs.LdtermStops.{FullFirst}
 use Rattle.strm_laws.proofs.ModuleTurnCalls.{Reached, UnderWay, index-map, led-at, led-length, module-ends, moves-within, none_there, reached-last, reached-next, under_way}
 use Rattle.strm_laws.proofs.StackSpares.{range-spare}
+use Rattle.strm_laws.proofs.Staying.{kept-ahead}
 use Rattle.strm_blocks.specs.Blocks.{StoreValue}
 use Rattle.strm_frame.specs.Serves.{least_free, stop_at}
 use Rattle.strm_pair.specs.AnyModules.{turn_cost}
 use Rattle.strm_pair.specs.declared.calling.Call.{Call}
-use Rattle.strm_pair.specs.ModuleServed.{IsClear, LeavesFew, MayBook, StopsFew, TellsAs, TreatsAs, call_cost, call_units, stop_in}
+use Rattle.strm_pair.specs.ModuleServed.{LeavesFew, MayBook, StopsFew, TellsAs, TreatsAs, call_cost, call_units, stop_in}
 use Rattle.strm_pair.specs.ModuleTurned.{MayMove}
 use Rattle.strm_pair.proofs.ServeSteps.{module-goes}
 use Rattle.strm_pair.proofs.StopsFew.{led-same}
@@ -56,7 +58,7 @@ pub record GoOn (here : Spot) (bytes : ℕ) (s0 st : State ℕ) (f f' : Fates) :
   pub some : 0 < count
   pub left : spare s0 ≤ spare st + (3 * bytes + 33 * count)
   pub all : bytes_left here.way false (ldterm_of (module_at here s0)) ≤ bytes + bytes_left here.way true (ldterm_of (module_at here st))
-  pub opened : (stream here.side st).opened ≡ (stream here.side s0).opened
+  pub opened : (side : Side) → (stream side st).opened ≡ (stream side s0).opened
 
 -- They go on, or the turn is at its end.
 abbrev pub Along : Bool → Spot → ℕ → State ℕ → State ℕ → Fates → Fates → Type 0
@@ -86,7 +88,7 @@ Full p = FullFirst (ldterm_of p).read_queue.messages × FullFirst (ldterm_of p).
 pub record Since (here : Spot) (again : Bool) (bytes : ℕ) (s0 s : State ℕ) : Type 0 where
   pub all : bytes_left here.way false (ldterm_of (module_at here s0)) ≤ bytes + bytes_left here.way again (ldterm_of (module_at here s))
   pub full : again ≡ false → Full (module_at here s)
-  pub opened : (stream here.side s).opened ≡ (stream here.side s0).opened
+  pub opened : (side : Side) → (stream side s).opened ≡ (stream side s0).opened
 
 module _ (here : Spot) where
   none-in : (call : Call) → call.stopped ≡ false → stop_in call ≡ None
@@ -157,7 +159,7 @@ module _ (here : Spot) where
           some = omega arith;
           left = omega (arith, held, falls);
           all = omega (arith, since.all, on.all since.full);
-          opened = ap (λ v. (stream here.side v).opened) state ∙ (led-same here again (stop_in call) s).opened here.side ∙ since.opened;
+          opened = λ side. ap (λ v. (stream side v).opened) state ∙ (led-same here again (stop_in call) s).opened side ∙ since.opened side;
         }
 
     -- or it is at its end
@@ -259,10 +261,10 @@ module _ (here : Spot) where
     leaves-few : (bytes : ℕ) (s0 : State ℕ) (t : StoreValue) → Since here again bytes s0 s → LeavesFew here again call s t → StopsFew here (bytes + call.bytes) s0 t
     leaves-few bytes s0 t since few = at call.stopped refl few
       where
-        at : (stopped : Bool) → call.stopped ≡ stopped → OnTrue stopped (call.bytes < bytes_left here.way again (ldterm_of (module_at here s)) → IsClear here s → least_free t < STOP_BLOCKS)
+        at : (stopped : Bool) → call.stopped ≡ stopped → OnTrue stopped (call.bytes < bytes_left here.way again (ldterm_of (module_at here s)) → IsKeptAhead here.way here.side s → least_free t < STOP_BLOCKS)
             → StopsFew here (bytes + call.bytes) s0 t
-        at true is few = λ less clear. few (omega (arith, since.all, less)) (record { up = clear.up; top = clear.top; opened = ap is_open since.opened ∙ clear.opened })
-        at false is few = λ less clear. absurd (let all = went-all is in omega (arith, all, since.all, less))
+        at true is few = λ less ahead. few (omega (arith, since.all, less)) (kept-ahead here.way here.side s0 s since.opened ahead)
+        at false is few = λ less ahead. absurd (let all = went-all is in omega (arith, all, since.all, less))
 
   -- a first call that is the last one
   module _ (call : Call) (s : State ℕ) (tells : TellsAs here false call s) (low : here.at - 1 < length (stream here.side s).modules) (full : Full (module_at here s)) (over : call.again ≡ false) (none : call.bytes ≡ 0) where

@@ -18,7 +18,6 @@ pub mod PutSteps
 pub mod ModuleSteps
 pub mod NearestStays
 pub mod StopsFew
-pub mod HeadTakes
 pub mod ServeSteps
 pub mod CallsOn
 pub mod MovingOn

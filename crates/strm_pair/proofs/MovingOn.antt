@@ -23,7 +23,7 @@ use Rattle.strm_types.specs.ModuleQueues.{at_place, messages_at}
 use Rattle.strm_types.specs.Names.{is_open, other}
 use Rattle.strm_types.specs.Queue.{first_size}
 use Rattle.strm_laws.specs.ModuleTurns.{moved_by, place_named, whole_module}
-use Rattle.strm_laws.specs.Pair.{IsOnTop, MovesOn}
+use Rattle.strm_laws.specs.Pair.{IsKeptAhead, MovesOn}
 use Rattle.strm_laws.specs.Refusals.{Free, enough}
 use Rattle.strm_laws.specs.Stacked.{Module, module_queue}
 use Rattle.strm_laws.specs.State.{State, Stream, stream}
@@ -32,6 +32,7 @@ use Rattle.strm_laws.specs.TurnOutcomes.{TurnOutcome, stayed_put}
 use Rattle.strm_laws.specs.Turns.{driver_serves, driver_turned, is_stopped_across, moved_across, whole_at}
 use Rattle.strm_laws.proofs.LdtermStops.{FullFirst}
 use Rattle.strm_laws.proofs.ModuleTurnCalls.{first-left, none_there}
+use Rattle.strm_laws.proofs.Staying.{kept-ahead}
 use Rattle.strm_blocks.specs.Blocks.{Block, StoreValue, free_d, free_m, in_hand, list_at, token}
 use Rattle.strm_blocks.specs.declared.in_hand.InHand.{InHand}
 use Rattle.strm_msg.specs.Messages.{message_of}
@@ -44,7 +45,7 @@ use Rattle.strm_pair.specs.declared.modules.AnyModule.TheVariants as kinds
 use Rattle.strm_pair.specs.declared.streams.Streams.{Streams}
 use Rattle.strm_pair.specs.AnyModules.{module_in}
 use Rattle.strm_pair.specs.ModuleTurned.{MayMove}
-use Rattle.strm_pair.specs.ModuleServed.{IsClear, StopsFew}
+use Rattle.strm_pair.specs.ModuleServed.{StopsFew}
 use Rattle.strm_pair.specs.Pairs.{end_at, free_in, state_in}
 use Rattle.strm_pair.proofs.CallsOn.{Full}
 use Rattle.strm_pair.proofs.Sides.{modules-are}
@@ -120,12 +121,10 @@ serves-moves name here old begun t bytes may within some few place = at (nat_lt 
     low : here.at - 1 < length (stream here.side old).modules
     low = let inside = may.inside in let within = may.within in omega (arith, inside, within)
 
-    clear : IsOnTop old name → IsClear here begun
-    clear top = record {
-      up = ap (λ (h : Spot). h.way) may.named ∙ top.up;
-      top = (let same : Some here.at ≡ Some 1 = sym may.found ∙ top.top in cc);
-      opened = ap (λ v. is_open (stream here.side v).opened) may.stays ∙ ap (λ (h : Spot). is_open (stream h.side old).opened) may.named ∙ top.opened;
-    }
+    ahead : IsKeptAhead name.way name.side old → IsKeptAhead here.way here.side begun
+    ahead kept =
+        let there = subst (λ sd. IsKeptAhead name.way sd old) (sym (ap (λ (h : Spot). h.side) may.named)) kept in
+        subst (λ v. IsKeptAhead here.way here.side v) (sym may.stays) (subst (λ w. IsKeptAhead w here.side old) (sym (ap (λ (h : Spot). h.way) may.named)) there)
 
     at : (less : Bool) → nat_lt bytes left ≡ less → MovesOn old (free_in t) name (Moved bytes)
     at true is =
@@ -133,7 +132,7 @@ serves-moves name here old begun t bytes may within some few place = at (nat_lt 
         inr (record {
           place = place;
           some = positive bytes less some;
-          few = λ top. least-enough t (few less (clear top));
+          few = λ kept. least-enough t (few less (ahead kept));
         })
       where
         positive : (n : ℕ) → n < left → (n ≡ 0 → left ≡ 0) → 0 < n
@@ -148,7 +147,7 @@ serves-moves name here old begun t bytes may within some few place = at (nat_lt 
 pub moves-taken : (names : List QueueName) (s : State ℕ) (free : Free) (name : QueueName) (turn : Turn) → MovesOn (record s { enabled = names }) free name turn → MovesOn s free name turn
 moves-taken names s free name (Moved bytes) moves = elim moves [
   | inl whole ↦ inl whole
-  | inr within ↦ inr (record { place = within.place; some = within.some; few = λ top. within.few (record { up = top.up; top = top.top; opened = top.opened }) })
+  | inr within ↦ inr (record { place = within.place; some = within.some; few = λ kept. within.few (kept-ahead name.way name.side s (record s { enabled = names }) (λ side. refl) kept) })
 ]
 moves-taken names s free name Blocked moves = tt
 moves-taken names s free name Idle moves = tt

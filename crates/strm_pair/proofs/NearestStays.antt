@@ -9,6 +9,12 @@ use Rattle.strm_types.specs.declared.names.Way.{Way}
 use Rattle.strm_types.specs.declared.names.Way.TheVariants.{Up, Down}
 use Rattle.strm_types.specs.ModuleQueues.{first_place, has_queue, last_place, place_before}
 use Rattle.strm_types.specs.Names.{place_of}
+use Rattle.strm_types.specs.Service.{turn_ended}
+use Rattle.strm_types.specs.declared.names.Side.TheVariants.{Master, Slave}
+use Rattle.strm_types.specs.declared.spots.Spot.{Spot}
+use Rattle.strm_laws.specs.ModuleTurns.{queue_ended}
+use Rattle.strm_laws.specs.State.{State, stream, with_stream}
+use Rattle.strm_laws.proofs.StackStays.{queue-names}
 use Rattle.strm_laws.specs.Earlier.{before_among, before_at, before_by, places_of}
 use Rattle.strm_laws.specs.Stacked.{Module, OfLdterm, OfPtem, OfPckt, module_name, module_queue}
 use Rattle.strm_blocks.specs.Blocks.{StoreValue}
@@ -79,3 +85,9 @@ before-stays s t p q side way at same =
     ap (before_among side way at) (modules-are t q side)
     ∙ before-same side way at (modules_in t (end_at side q).stack) (modules_in s (end_at side p).stack) same
     ∙ ap (before_among side way at) (sym (modules-are s p side))
+
+-- behind the end of a turn of a module's queue
+pub before-ended : (side : Side) (way : Way) (at : ℕ) (here : Spot) (took : Bool) (st : State ℕ)
+    → before_at side way at (with_stream side (queue_ended here took (stream side st)) st) ≡ before_at side way at st
+before-ended Master way at here took st = before-same Master way at _ _ (queue-names here.way (turn_ended took) (here.at - 1) (stream Master st).modules)
+before-ended Slave way at here took st = before-same Slave way at _ _ (queue-names here.way (turn_ended took) (here.at - 1) (stream Slave st).modules)

@@ -36,6 +36,7 @@ use Rattle.strm_types.specs.Flushing.{asked_by, flush_bytes, flush_message}
 use Rattle.strm_types.specs.Heads.{head_put, is_doubled, obeyed, turned_round, waits_for_readers, Head}
 use Rattle.strm_types.specs.Message.{Message, cells_of, has_parts, is_held}
 use Rattle.strm_types.specs.Names.{direction_at, enable_some, is_open}
+use Rattle.strm_laws.specs.Pair.{IsKeptAhead}
 use Rattle.strm_laws.specs.Puts.{across_of, earlier_at, noted, passed_up, put_at_driver, put_at_head, put_at_module, put_behind, put_below, put_in}
 use Rattle.strm_types.specs.Far.{is_turned, turns_round}
 use Rattle.strm_types.specs.Reads.{is_there}
@@ -61,6 +62,7 @@ use Rattle.strm_laws.specs.StackCosts.{module_leaves, module_takes, stack_cost, 
 use Rattle.strm_pair.specs.Pairs.{state_in, AreBeside, Stays, kept_by}
 use Rattle.strm_pair.specs.Framing.{kept-parts, kept-with, same-state, same-beside}
 use Rattle.strm_pair.specs.PutBy.{PutAs, PutBy, CameBy}
+use Rattle.strm_pair.specs.Staying.{ComesToStand}
 use Rattle.strm_pair.proofs.PlaceCosts.{place-cost}
 use Rattle.strm_pair.proofs.PutsCost.{behind-stack, behind-takes, head-stack}
 
@@ -218,6 +220,14 @@ module _ (side : Side) (s t : StoreValue) (p : Streams) (h : heads.Head) (i : �
       open-is to.side to m st opened ∙ ap (λ sd. at_head sd st (head_put to m (stream sd st).head)) is ∙ ap (λ x. at_head side st (head_put to m x)) (head-is s p side) in
       subst (λ w. CameBy s t p q i (sent_down to down) f f' w) (sym here)
       (subst (λ x. CameBy s t p x i (sent_down to down) f f' (at_head side st Did)) (sym q_is) (came-at store can beside state notes sent told changes readable frees none))
+
+-- what comes to stand at a head comes to one that is open
+pub head-open : (to : Spot) (m : Message ℕ) (s : State ℕ) → to.at ≡ 0 → ComesToStand s to m → is_open (stream to.side s).opened ≡ true
+head-open to m s top is = at to.way is.below is.kept
+  where
+    at : (way : Way) → (way ≡ Down → 0 < to.at) → IsKeptAhead way to.side s → is_open (stream to.side s).opened ≡ true
+    at Up below kept = kept
+    at Down below kept = let some = below refl in absurd (omega (arith, some, top))
 
 -- a put at a driver, by what the driver does at its place
 abbrev at_driver : Side → ℕ → State ℕ → Acted ℕ (plain.Queue ℕ) → Took ℕ (State ℕ)

@@ -21,6 +21,7 @@ use Rattle.strm_types.specs.Input.{made_of}
 use Rattle.strm_types.specs.Ldterms.{Ldterm}
 use Rattle.strm_types.specs.ModuleQueues.{at_place}
 use Rattle.strm_types.specs.Modules.{act_among}
+use Rattle.strm_laws.specs.Pair.{IsKeptAhead}
 use Rattle.strm_laws.specs.Puts.{earlier_at, module_acted, noted, put_in}
 use Rattle.strm_laws.specs.Spares.{spare, spare_behind}
 use Rattle.strm_laws.specs.StackCosts.{stack_cost, stands_of}
@@ -44,8 +45,10 @@ use Rattle.strm_ldterm.specs.Turns.{needs}
 use Rattle.strm_pair.specs.AnyModules.{MayServe, turn_cost}
 use Rattle.strm_pair.specs.declared.calling.Call.{Call}
 use Rattle.strm_pair.specs.declared.streams.Streams.{Streams}
-use Rattle.strm_pair.specs.ModuleServed.{ActsAs, CallsAs, IsClear, IsKeptAll, LeavesFew, MayBook, StackServes, TellsAs, acts_in, between, call_of, call_units, next_cost, stop_in, waits_above, with_more}
+use Rattle.strm_pair.specs.ModuleServed.{ActsAs, CallsAs, IsKeptAll, LeavesFew, MayBook, StackServes, TellsAs, acts_in, between, call_of, call_units, next_cost, stop_in, with_more}
 use Rattle.strm_pair.specs.Pairs.{state_in, end_at, with_end, AreBeside, kept_by}
+use Rattle.strm_pair.specs.Staying.{ComesToStand}
+use Rattle.strm_frame.specs.Does.{StaysAlone}
 use Rattle.strm_queue.specs.Stored.{FreesNone}
 use Rattle.strm_ldterm.proofs.Flushed.{tallied-append}
 use Rattle.strm_ldterm.proofs.Freeing.{stays-few}
@@ -53,7 +56,7 @@ use Rattle.strm_ldterm.proofs.Spared.{call-few}
 use Rattle.strm_pair.specs.Framing.{kept-parts}
 use Rattle.strm_pair.proofs.ModuleSteps.{stack-acts, stack-modules}
 use Rattle.strm_pair.proofs.Sides.{modules-are}
-use Rattle.strm_pair.proofs.StopsFew.{stopped-waits}
+use Rattle.strm_pair.proofs.StopsFew.{stopped-stays}
 use Rattle.strm_pair.proofs.PlaceCosts.{once-stands, sent-most}
 use Rattle.strm_pair.specs.Stacks.{stack_keeps, Stack}
 use Rattle.strm_pair.specs.ModuleStacks.{stack-long}
@@ -278,18 +281,18 @@ module _ (r s : StoreValue) (o p : Streams) (here : Spot) (again : Bool) (call :
   }
 
   -- a call that stopped leaves few blocks free, where what it sent frees none
-  few-by : (t : StoreValue) → (waits_above (state_in s p) (parcels_in s sent_on) ≡ true → FreesNone s t) → LeavesFew here again call (state_in r o) t
+  few-by : (t : StoreValue) → (StaysAlone ComesToStand (state_in s p) (parcels_in s sent_on) → FreesNone s t) → LeavesFew here again call (state_in r o) t
   few-by t blocks = at call.stopped refl a.few
     where
       at : (stopped : Bool) → call.stopped ≡ stopped → OnTrue stopped (least_free s < STOP_BLOCKS)
-          → OnTrue stopped (call.bytes < bytes_left here.way again (ldterm_of (module_at here (state_in r o))) → IsClear here (state_in r o) → least_free t < STOP_BLOCKS)
-      at true is few = λ less clear.
+          → OnTrue stopped (call.bytes < bytes_left here.way again (ldterm_of (module_at here (state_in r o))) → IsKeptAhead here.way here.side (state_in r o) → least_free t < STOP_BLOCKS)
+      at true is few = λ less ahead.
           let w = acts_in here again call (state_in r o) in
-          let waits = stopped-waits here again call (state_in r o) a.itself low begins is less clear in
-          stays-few s t STOP_BLOCKS (blocks (subst (λ v. waits_above v (parcels_in s sent_on) ≡ true) (sym a.state) (subst (λ ps. waits_above w.state ps ≡ true) (sym a.sent) waits))) few
+          let stays = stopped-stays here again call (state_in r o) a.itself low begins is less ahead in
+          stays-few s t STOP_BLOCKS (blocks (subst (λ v. StaysAlone ComesToStand v (parcels_in s sent_on)) (sym a.state) (subst (λ ps. StaysAlone ComesToStand w.state ps) (sym a.sent) stays))) few
       at false is few = tt
 
-  pub calls-by : (t : StoreValue) (q : Streams) (f'' : Fates) → IsKeptAll r o → (waits_above (state_in s p) (parcels_in s sent_on) ≡ true → FreesNone s t)
+  pub calls-by : (t : StoreValue) (q : Streams) (f'' : Fates) → IsKeptAll r o → (StaysAlone ComesToStand (state_in s p) (parcels_in s sent_on) → FreesNone s t)
       → (let u = in_turn (carried (put_in plain) HOPS) (parcels_in s sent_on) (state_in s p) in f'' ≡ tallied u.gone f')
       → (let u = in_turn (carried (put_in plain) HOPS) (parcels_in s sent_on) (state_in s p) in state_in t q ≡ u.state)
       → AreBeside t q → Handles s t (λ i. times_sent i sent_on) (kept_by p) (kept_by q) (λ _. 0)

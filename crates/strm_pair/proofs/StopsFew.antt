@@ -1,8 +1,11 @@
--- What a call of a turn of a read queue sends that stops within its message was gathered, and waits at the head above. Calls open and close no side.
+-- What a call of a turn sends that stops within its message is one M_DATA, which comes to stand where it is kept ahead: what was gathered, or output. Calls
+-- open and close no side.
 use Rattle.std.proofs.Common.{ℕ, zero, suc, ◌≡◌, ◌<◌, ◌+◌, ◌-◌, ◌*◌, Bool, true, false, cond, List, [], ◌∷◌, ◌++◌, length, map, refl, sym, ap, subst, ◌∙◌, arith}
 use Rattle.std.proofs.lemmas.Bool.{false≢true}
-use Rattle.std.specs.Prelude.{◌&&◌, ◌==◌, slice_index_or, Option, Some, is_some}
+use Rattle.std.specs.Prelude.{◌&&◌, slice_index_or, Option, Some, is_some}
 use Rattle.std.specs.Bool.{OnTrue}
+use Rattle.strm_types.specs.declared.kinds.MsgKind.{MsgKind}
+use Rattle.strm_types.specs.declared.kinds.MsgKind.TheVariants.{Data}
 use Rattle.strm_types.specs.declared.names.Way.{Way}
 use Rattle.strm_types.specs.declared.names.Way.TheVariants.{Up, Down}
 use Rattle.strm_types.specs.declared.spots.Spot.{Spot}
@@ -11,13 +14,15 @@ use Rattle.strm_types.specs.Deliver.{Acted, Parcel}
 use Rattle.strm_types.specs.Input.{input_begins, is_data, made_of, next_stage, passes, stages, stages_done, treats}
 use Rattle.strm_types.specs.LdtermCalls.{Begins, bytes_left}
 use Rattle.strm_types.specs.LdtermServes.{ldterm_serves}
-use Rattle.strm_types.specs.Ldterms.{Ldterm}
-use Rattle.strm_types.specs.Message.{Message, data_message, is_held}
+use Rattle.strm_types.specs.Ldterms.{Ldterm, onward}
+use Rattle.strm_types.specs.Message.{Message, cells_of, data_message, is_held, size_of}
 use Rattle.strm_types.specs.Modules.{act_among}
-use Rattle.strm_types.specs.Names.{is_open}
+use Rattle.strm_types.specs.OutputTurns.{Outgoing, output_serves, posted, unchanged, with_given}
 use Rattle.strm_types.specs.Queue.{first_size, is_none_left, left_with}
 use Rattle.strm_types.specs.Service.{Serving}
+use Rattle.strm_types.specs.Termios.{opost}
 use Rattle.strm_types.specs.Typing.{gathered_up}
+use Rattle.strm_laws.specs.Pair.{IsKeptAhead}
 use Rattle.strm_laws.specs.Puts.{SameButMade, module_acted}
 use Rattle.strm_laws.specs.Stacked.{Module, OfLdterm, OfPtem, OfPckt, module_serves}
 use Rattle.strm_laws.specs.State.{State, stream}
@@ -25,10 +30,13 @@ use Rattle.strm_laws.specs.TurnCalls.{asks_on, called, ldterm_of, led, module_at
 use Rattle.strm_laws.proofs.ModuleTurnCalls.{none_there}
 use Rattle.strm_laws.proofs.PutParts.{acted-holds, sent-holds}
 use Rattle.strm_laws.proofs.PutsKeep.{same-itself, same-stays}
+use Rattle.strm_laws.proofs.Staying.{SentOn, kept-ahead}
+use Rattle.strm_frame.specs.Does.{StaysAlone}
 use Rattle.strm_frame.specs.Serves.{stop_at}
 use Rattle.strm_ldterm.proofs.Spending.{next-works}
 use Rattle.strm_pair.specs.declared.calling.Call.{Call}
-use Rattle.strm_pair.specs.ModuleServed.{IsClear, TellsAs, acts_in, stop_in, waits_above}
+use Rattle.strm_pair.specs.ModuleServed.{TellsAs, acts_in, stop_in}
+use Rattle.strm_pair.specs.Staying.{ComesToStand, sent-stays}
 
 module _ (here : Spot) where
   -- what goes up at the end of a turn was gathered
@@ -53,17 +61,38 @@ module _ (here : Spot) where
       at true over behind = behind over
       at false over behind = absurd (false≢true (sym over ∙ still))
 
-  -- it waits at the head, where that is right above
-  gathered-waits : here.at ≡ 1 → (s : State ℕ) → is_open (stream here.side s).opened ≡ true → (ps : List (Parcel ℕ)) → Gathered ps → waits_above s ps ≡ true
+  -- that is M_DATA, or nothing
+  gathered-on : here.way ≡ Up → (ps : List (Parcel ℕ)) → Gathered ps → SentOn here ps
   unfolding data_message is_held
-  gathered-waits top s opened ps g = subst (λ qs. waits_above s qs ≡ true) (sym g.1) (at g.0)
+  gathered-on up ps g = subst (λ qs. SentOn here qs) (sym g.1) (at g.0)
     where
-      up : (here.at - 1 == 0) ≡ true
-      up = ap (λ (n : ℕ). n - 1 == 0) top
+      at : (line : List ℕ) → SentOn here (gathered_up plain here line)
+      at [] = tt
+      at (c ∷ more) = (refl, refl, sym up, λ down. absurd (cc))
 
-      at : (line : List ℕ) → waits_above s (gathered_up plain here line) ≡ true
-      at [] = refl
-      at (c ∷ more) = ap (λ b. b && (is_open (stream here.side s).opened && true)) up ∙ ap (λ b. b && true) opened
+  -- and so is what goes down of a message that is output
+  both-true : (a b : Bool) → (a && b) ≡ true → a ≡ true
+  both-true true b is = refl
+  both-true false b is = absurd (false≢true is)
+
+  data-held : (kind : MsgKind) → is_data kind ≡ true → is_held kind ≡ true
+  unfolding is_held
+  data-held Data is = refl
+  data-held _ is = absurd (cc)
+
+  given-on : here.way ≡ Down → (m : Message ℕ) → is_held m.kind ≡ true → (given : List ℕ) → SentOn here (map (onward Down here) (with_given given m))
+  given-on down m held [] = tt
+  given-on down m held (c ∷ given) = (held, refl, sym down, λ is. omega arith)
+
+  output-on : here.way ≡ Down → (bytes : ℕ) (ms : List (Message ℕ)) (l : Ldterm ℕ) → let t = output_serves plain (record here { way = Down }) (Some bytes) 0 ms l in t.bytes < first_size ms → SentOn here t.acted.sent
+  output-on down bytes [] l less = tt
+  output-on down bytes (m ∷ rest) l less = at (is_data m.kind && opost l.termios) refl (cells_of m) refl less
+    where
+      at : (treated : Bool) → (is_data m.kind && opost l.termios) ≡ treated → (xs : List ℕ) → cells_of m ≡ xs
+          → let t = cond {A = Outgoing ℕ} treated (posted plain (record here { way = Down }) (Some bytes) 0 xs m l) (unchanged m l) in t.bytes < size_of m → SentOn here (map (onward Down here) t.messages)
+      at false is xs cells less = absurd (omega (arith, less))
+      at true is [] cells less = absurd (omega (arith, less))
+      at true is (x ∷ xs) cells less = given-on down m (data-held m.kind (both-true (is_data m.kind) (opost l.termios) is)) _
 
 -- so it is of a call that stops within its message
 module _ (here : Spot) (again : Bool) (bytes : ℕ) where
@@ -85,20 +114,24 @@ module _ (here : Spot) (again : Bool) (bytes : ℕ) where
           at true over less = stages-gathered up (3 * bytes - stages_done begun.stage) 0 begun refl over
           at false over less = let size = ap first_size is in absurd (omega (arith, less, size))
 
-  module-gathered : (way : Way) → way ≡ Up → (p : Module ℕ) → Begins way again (ldterm_of p) → let t = module_serves plain (record here { way = way }) 0 again (Some bytes) p in
-      t.again ≡ false → t.bytes < bytes_left way again (ldterm_of p) → Gathered here t.acted.sent
-  module-gathered Up is (OfLdterm l) begins over less = serves-gathered again l begins over less
-  module-gathered Up is (OfPtem p) begins over less = ([], refl)
-  module-gathered Up is (OfPckt p) begins over less = ([], refl)
-  module-gathered Down is p begins over less = absurd (cc)
+  module-on : (way : Way) → here.way ≡ way → (p : Module ℕ) → Begins way again (ldterm_of p) → let t = module_serves plain (record here { way = way }) 0 again (Some bytes) p in
+      t.again ≡ false → t.bytes < bytes_left way again (ldterm_of p) → SentOn here t.acted.sent
+  module-on Up is (OfLdterm l) begins over less = gathered-on here is (ldterm_serves plain up 0 again (Some bytes) l).acted.sent (serves-gathered again l begins over less)
+  module-on Down is (OfLdterm l) begins over less = by again less
+    where
+      by : (more : Bool) → let t = ldterm_serves plain (record here { way = Down }) 0 more (Some bytes) l in t.bytes < bytes_left Down more l → SentOn here t.acted.sent
+      by true less = output-on here is bytes l.write_queue.messages l less
+      by false less = output-on here is bytes l.write_queue.messages l less
+  module-on way is (OfPtem p) begins over less = tt
+  module-on way is (OfPckt p) begins over less = tt
 
-  among-gathered : here.way ≡ Up → (i : ℕ) (ps : List (Module ℕ)) → i < length ps → Begins here.way again (ldterm_of (slice_index_or ps i none_there))
+  among-on : (i : ℕ) (ps : List (Module ℕ)) → i < length ps → Begins here.way again (ldterm_of (slice_index_or ps i none_there))
       → slice_index_or (map (λ p. (module_serves plain here 0 again (Some bytes) p).again) ps) i false ≡ false
       → slice_index_or (map (λ p. (module_serves plain here 0 again (Some bytes) p).bytes) ps) i 0 < bytes_left here.way again (ldterm_of (slice_index_or ps i none_there))
-      → Gathered here (act_among (λ p. (module_serves plain here 0 again (Some bytes) p).acted) i ps).sent
-  among-gathered is i [] low begins over less = absurd (omega (arith, low))
-  among-gathered is zero (p ∷ ps) low begins over less = module-gathered here.way is p begins over less
-  among-gathered is (suc i) (p ∷ ps) low begins over less = among-gathered is i ps (omega (arith, low)) begins over less
+      → SentOn here (act_among (λ p. (module_serves plain here 0 again (Some bytes) p).acted) i ps).sent
+  among-on i [] low begins over less = absurd (omega (arith, low))
+  among-on zero (p ∷ ps) low begins over less = module-on here.way refl p begins over less
+  among-on (suc i) (p ∷ ps) low begins over less = among-on i ps (omega (arith, low)) begins over less
 
 -- which sides are open stays
 pub acted-same : (here : Spot) (again : Bool) (stop : Option ℕ) (s : State ℕ) → SameButMade s (module_acted here (called here again stop (stream here.side s).modules) s).state
@@ -112,15 +145,16 @@ led-same here again stop s =
     let w = module_acted here (called here again stop (stream here.side s).modules) s in
     sent-holds (SameButMade s) (same-stays s) plain w.sent w.state (acted-same here again stop s)
 
-pub stopped-waits : (here : Spot) (again : Bool) (call : Call) (s : State ℕ) → TellsAs here again call s → here.at - 1 < length (stream here.side s).modules → Begins here.way again (ldterm_of (module_at here s))
-    → call.stopped ≡ true → call.bytes < bytes_left here.way again (ldterm_of (module_at here s)) → IsClear here s → waits_above (acts_in here again call s).state (acts_in here again call s).sent ≡ true
-stopped-waits here again call s tells low begins is less clear =
+pub stopped-stays : (here : Spot) (again : Bool) (call : Call) (s : State ℕ) → TellsAs here again call s → here.at - 1 < length (stream here.side s).modules → Begins here.way again (ldterm_of (module_at here s))
+    → call.stopped ≡ true → call.bytes < bytes_left here.way again (ldterm_of (module_at here s)) → IsKeptAhead here.way here.side s → StaysAlone ComesToStand (acts_in here again call s).state (acts_in here again call s).sent
+stopped-stays here again call s tells low begins is less ahead =
     let ps = (stream here.side s).modules in
     let some : stop_in call ≡ Some call.bytes = ap (λ b. stop_at b call.bytes) is in
     let over : call.again ≡ false = subst (λ b. OnTrue b (call.again ≡ false)) is tells.over in
     let ends : asks_on here again (Some call.bytes) ps ≡ false = ap (λ o. asks_on here again o ps) (sym some) ∙ sym tells.asks ∙ over in
     let bytes : treated here again (Some call.bytes) ps ≡ call.bytes = ap (λ o. treated here again o ps) (sym some) ∙ sym tells.bytes in
-    let gathered = among-gathered here again call.bytes clear.up (here.at - 1) ps low begins ends (omega (arith, bytes, less)) in
-    let opened = ap is_open ((acted-same here again (Some call.bytes) s).opened here.side) ∙ clear.opened in
-    subst (λ o. waits_above (module_acted here (called here again o ps) s).state (module_acted here (called here again o ps) s).sent ≡ true) (sym some)
-    (gathered-waits here clear.top (module_acted here (called here again (Some call.bytes) ps) s).state opened (called here again (Some call.bytes) ps).sent gathered)
+    let on = among-on here again call.bytes (here.at - 1) ps low begins ends (omega (arith, bytes, less)) in
+    let behind = (module_acted here (called here again (Some call.bytes) ps) s).state in
+    let kept = kept-ahead here.way here.side s behind (acted-same here again (Some call.bytes) s).opened ahead in
+    subst (λ o. StaysAlone ComesToStand (module_acted here (called here again o ps) s).state (module_acted here (called here again o ps) s).sent) (sym some)
+    (sent-stays here behind (called here again (Some call.bytes) ps).sent on kept)

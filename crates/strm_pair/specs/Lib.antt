@@ -29,6 +29,7 @@ pub mod Writings
 pub mod Imaging
 pub mod Runs
 pub mod Standing
+pub mod Staying
 pub mod Placing
 pub mod Laying
 pub mod Restored

@@ -1,22 +1,20 @@
 -- What the calls of a turn of a module's queue did to the store, the streams and what has gone.
-use Rattle.std.specs.Prelude.{ℕ, ◌≡◌, ◌≤◌, ◌<◌, ◌+◌, ◌-◌, ◌*◌, ◌==◌, ◌%◌, ◌^◌, ◌&&◌, Bool, true, false, not, List, [], ◌∷◌, length, Option, HoldsAt}
+use Rattle.std.specs.Prelude.{ℕ, ◌≡◌, ◌≤◌, ◌<◌, ◌+◌, ◌-◌, ◌*◌, ◌==◌, ◌%◌, ◌^◌, Bool, true, false, not, List, length, Option, HoldsAt}
 use Rattle.std.specs.Bool.{OnTrue}
 use Rattle.strm_types.specs.declared.answers.Turn.TheVariants.{Moved}
 use Rattle.strm_types.specs.declared.books.Book.{Book}
 use Rattle.strm_types.specs.declared.both.Both.{Both}
 use Rattle.strm_types.specs.declared.limits.TheConstants.{STOP_BLOCKS}
 use Rattle.strm_types.specs.declared.names.QueueName.{QueueName}
-use Rattle.strm_types.specs.declared.names.Way.TheVariants.{Up}
 use Rattle.strm_types.specs.declared.rules.Fates.{Fates}
 use Rattle.strm_types.specs.declared.spots.Spot.{Spot}
 use Rattle.strm_types.specs.Books.{with_made}
 use Rattle.strm_types.specs.Cells.{plain}
-use Rattle.strm_types.specs.Deliver.{AreLower, Fate, Parcel, Took, tallied}
+use Rattle.strm_types.specs.Deliver.{AreLower, Fate, Took, tallied}
 use Rattle.strm_types.specs.Input.{made_of}
-use Rattle.strm_types.specs.Message.{is_held}
 use Rattle.strm_types.specs.ModuleQueues.{at_place}
-use Rattle.strm_types.specs.Names.{is_open}
 use Rattle.strm_laws.specs.ModuleTurns.{module_turn_ended, moved_on}
+use Rattle.strm_laws.specs.Pair.{IsKeptAhead}
 use Rattle.strm_types.specs.Far.{far}
 use Rattle.strm_laws.specs.Puts.{module_acted}
 use Rattle.strm_laws.specs.Spares.{spare}
@@ -94,23 +92,6 @@ pub record TellsAs (here : Spot) (again : Bool) (call : Call) (s : State ℕ) : 
   pub over : OnTrue call.stopped (call.again ≡ false)
   pub made : made_of (called here again (stop_in call) (stream here.side s).modules).gone ≤ most_made call.bytes
 
--- What is on its way is one M_DATA or M_PROTO that comes to the head of a side that is open: it waits there for readers.
-abbrev pub is_for_readers : State ℕ → List (Parcel ℕ) → Bool
-is_for_readers s [] = false
-is_for_readers s (p ∷ []) = (p.to.at == 0) && (is_open (stream p.to.side s).opened && is_held p.message.kind)
-is_for_readers s (p ∷ q ∷ ps) = false
-
--- it is that, or nothing is on its way
-abbrev pub waits_above : State ℕ → List (Parcel ℕ) → Bool
-waits_above s [] = true
-waits_above s (p ∷ ps) = is_for_readers s (p ∷ ps)
-
--- a turn of the read queue of the module on top of a stream whose side is open
-pub record IsClear (here : Spot) (s : State ℕ) : Type 0 where
-  pub up : here.way ≡ Up
-  pub top : here.at ≡ 1
-  pub opened : is_open (stream here.side s).opened ≡ true
-
 -- A stack of modules served a call at a place.
 pub record StackServes (old new : StoreValue) (x y : Stack) (here : Spot) (again : Bool) (served : Served) (told told' : Fates) : Type 0 where
   pub state : modules_in new y ≡ (called here again (stop_of served) (modules_in old x)).state
@@ -152,10 +133,10 @@ pub record ActsAs (old new : StoreValue) (p q : Streams) (here : Spot) (again : 
   pub room : HasRoom new (later_cost most_cost call.again (next_cost here (state_in new q)) (parcels_in new sent_on))
   pub pool : SamePool old new
 
--- A call that stopped left few blocks free, where what it sent waits right above it.
+-- A call that stopped left few blocks free, where what it sent is kept ahead.
 abbrev pub LeavesFew : Spot → Bool → Call → State ℕ → StoreValue → Type 0
 LeavesFew here again call s new =
-    OnTrue call.stopped (call.bytes < bytes_left here.way again (ldterm_of (module_at here s)) → IsClear here s → least_free new < STOP_BLOCKS)
+    OnTrue call.stopped (call.bytes < bytes_left here.way again (ldterm_of (module_at here s)) → IsKeptAhead here.way here.side s → least_free new < STOP_BLOCKS)
 
 -- A call did what it says, and what it sent is delivered.
 pub record CallsAs (old new : StoreValue) (p q : Streams) (here : Spot) (again : Bool) (call : Call) (told told' : Fates) : Type 0 where
@@ -170,9 +151,9 @@ pub record CallsAs (old new : StoreValue) (p q : Streams) (here : Spot) (again :
   pub left : spare (state_in old p) ≤ spare (state_in new q) + call_units call.bytes
   pub pool : SamePool old new
 
--- Calls that treated fewer bytes of a turn than its message has, as it began, stopped where few blocks are free.
+-- Calls that treated fewer bytes of a turn than its message has, as it began, stopped where few blocks are free, if what they sent is kept ahead.
 abbrev pub StopsFew : Spot → ℕ → State ℕ → StoreValue → Type 0
-StopsFew here bytes old new = bytes < bytes_left here.way false (ldterm_of (module_at here old)) → IsClear here old → least_free new < STOP_BLOCKS
+StopsFew here bytes old new = bytes < bytes_left here.way false (ldterm_of (module_at here old)) → IsKeptAhead here.way here.side old → least_free new < STOP_BLOCKS
 
 -- Calls treated so many bytes of a turn, one at least where the message has any, and it would end here. So much of the books was taken at most.
 pub record TreatsAs (here : Spot) (bytes : ℕ) (old new : State ℕ) (told told' : Fates) : Type 0 where

@@ -12,8 +12,8 @@ ghost use Rattle.strm_pair.specs.ModuleServed.{ActsAs, BookTakes, CallsAs, IsKep
 use crate::stacks::place_at;
 use crate::streams::Streams;
 use strm_blocks::Blocks;
-use strm_frame::Served;
-use strm_types::{Fates, Side, Spot};
+use strm_frame::{Served, deliver_all};
+use strm_types::{Fates, HOPS, Side, Spot};
 
 // How many bytes were made in each direction, modulo 2^64.
 #[derive(Clone, Copy)]
@@ -143,12 +143,12 @@ impl Streams {
             stopped: served.stopped,
             again: served.again,
         };
-        self.deliver_sent(store, served.acts.sent, told);
+        deliver_all(store, self, HOPS, served.acts.sent, told);
         call
     }
 
-    /// The calls of a turn, until one asks for no other: how many bytes they treated, one at least where the message has any. On top of an open
-    /// stream they leave some of it only where few blocks are free behind them.
+    /// The calls of a turn, until one asks for no other: how many bytes they treated, one at least where the message has any. Where what they send
+    /// is kept ahead they leave some of it only where few blocks are free behind them.
     pub(crate) fn call_on<B: Blocks>(
         &mut self,
         store: &mut B,

@@ -108,13 +108,17 @@ impl Streams {
         ensures leads { let s = B.value store.old in let is = closed_at side (state_in s self.old) in
             Leads s (B.value store.new) self.new told.old told.new is.state is.gone }
     {
+        // From the top: what is let go by a queue that is emptied is the next one's, which then goes, and its turn with it.
         self.clear_head(store, side, told);
         self.clear_modules(store, side, Rule::EndClosed, told);
         match side {
             Side::Master => {
+                // Behind the modules: nothing of the master's stream waits for its driver any more, but the slave's may for that one's.
                 self.clear_driver(store, Side::Master, told);
                 self.clear_driver(store, Side::Slave, told);
+                // A head becomes as new once nothing stands there.
                 self.end_side(store, Side::Master);
+                // The slave hears last that the master has gone.
                 self.hang_up();
                 Answer::Done
             }

@@ -130,9 +130,9 @@ impl Streams {
         }
     }
 
-    /// Does what a put says of the queues of a place of a side's stream, one note after the other. The nearest earlier queue is looked for
-    /// where a note asks for it, and else not.
-    pub(crate) fn note(&mut self, side: Side, place: Option<Place>, at: usize, notes: &[Note])
+    // Does what a put says of the queues of a place of a side's stream, one note after the other. The nearest earlier queue is looked for
+    // where a note asks for it, and else not.
+    fn note_each(&mut self, side: Side, place: Option<Place>, at: usize, notes: &[Note])
         ensures { (s : StoreValue) → self.new ≡ record self.old {
           enabled = noted side place (earlier_at side at (state_in s self.old)) notes.now self.old.enabled;
         } }
@@ -144,6 +144,18 @@ impl Streams {
             Note::Enable(way) => self.enabled.enable_found(queue_named(side, way, place)),
             Note::Room(way) => self.let_go(side, way, at, true),
         }
-        self.note(side, place, at, rest);
+        self.note_each(side, place, at, rest);
+    }
+
+    /// Does what a put says of the queues of a place of a side's stream, which mostly is nothing.
+    #[inline(always)]
+    pub(crate) fn note(&mut self, side: Side, place: Option<Place>, at: usize, notes: &[Note])
+        ensures { (s : StoreValue) → self.new ≡ record self.old {
+          enabled = noted side place (earlier_at side at (state_in s self.old)) notes.now self.old.enabled;
+        } }
+    {
+        if !notes.is_empty() {
+            self.note_each(side, place, at, notes);
+        }
     }
 }

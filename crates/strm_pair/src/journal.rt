@@ -36,17 +36,19 @@ impl Drop for Journal {
     }
 }
 
-// Adds bytes to a buffer that has room for them. Inlined, so that where there are none nothing is called.
+// Adds bytes to a buffer that has room for them. Inlined, so that where there are none nothing is called; a byte alone, as a key is written
+// and read, is stored in its place.
 #[inline(always)]
 fn append(buffer: &mut Vec<u8>, bytes: &[u8])
     requires { length buffer.old.items + length bytes.now ≤ vec_capacity buffer.old }
     ensures items { buffer.new.items ≡ buffer.old.items ++ bytes.now }
     ensures capacity { vec_capacity buffer.old ≤ vec_capacity buffer.new }
 {
-    if bytes.is_empty() {
-        return;
+    match bytes {
+        [] => {}
+        [byte] => buffer.push_reserved(*byte),
+        _ => buffer.extend_from_slice(bytes).unwrap(),
     }
-    buffer.extend_from_slice(bytes).unwrap();
 }
 
 // The number of a band is that of one that queues have: it is a byte. It does nothing.
@@ -67,14 +69,15 @@ fn is_within(event: &Event<&[u8]>)
     }
 }
 
-// The bytes of a call, in two parts. Inlined, so that where it is known to be a write or a read nothing asks for its kind again.
+// The bytes of a call, in two parts. Inlined, so that where its kind is known nothing asks for it again.
 #[inline(always)]
 fn parts_of<'a>(event: &Event<&'a [u8]>) -> (&'a [u8], &'a [u8])
     ensures { result.0.now ++ result.1.now ≡ payload_of (request event.now) }
 {
     match event {
         Event::Write { bytes } => (bytes, &[]),
-        Event::Read { .. } => (&[], &[]),
+        Event::Read { .. } | Event::Get { .. } => (&[], &[]),
+        Event::Ioctl { body, .. } => (body, &[]),
         _ => event.payload(),
     }
 }

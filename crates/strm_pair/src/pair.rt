@@ -5,7 +5,6 @@ ghost use Rattle.strm_types.specs.Events.{request, map_answer};
 ghost use Rattle.strm_types.specs.Cells.{Origin, plain, tagged};
 ghost use Rattle.strm_types.specs.declared.entries.Entry.TheVariants.{Called, Turned};
 ghost use Rattle.strm_laws.specs.Earlier.{modules_on};
-ghost use Rattle.strm_types.specs.declared.job_control.Verdict.TheVariants.{Allowed, Stopped};
 ghost use Rattle.strm_laws.specs.Based.{based};
 ghost use Rattle.strm_laws.specs.Pair.{new_pair, call_refused, call_verdict, queue_refused, AddsEntry, Stops};
 ghost use Rattle.strm_types.specs.Journal.{entries_in, entry_len, reply_in, answer_len};
@@ -39,8 +38,7 @@ use strm_blocks::Blocks;
 use strm_image::{IMAGE_BLOCK, IMAGE_FIXED};
 use strm_types::{
     Answer, Band, Caller, Config, Content, Dir, Entry, Event, Fates, LISTS, Ledger, NoMemory,
-    Place, QueueName, READ_MAX, ReadBytes, Refusal, Side, StopSignal, Turn, Verdict, turn_blocks,
-    unless,
+    Place, QueueName, READ_MAX, ReadBytes, Refusal, Side, Turn, Verdict, turn_blocks, unless,
 };
 
 /// A pair of a master and a slave, whose messages stand in a store of its own. Contracts see it as its plain state, its
@@ -317,6 +315,7 @@ impl<B: Blocks + Drop> Pair<B> {
     }
 
     // The refusal of a turn, if any.
+    #[inline(always)]
     pub(crate) fn turn_refusal(&self, name: QueueName) -> Option<Refusal>
         ensures { result ≡ queue_refused self.now name }
     {
@@ -351,65 +350,6 @@ impl<B: Blocks + Drop> Pair<B> {
         }
     }
 
-    // Enters a call that stops its caller.
-    fn stop(
-        &mut self,
-        caller: Caller,
-        event: &Event<&[u8]>,
-        signal: StopSignal,
-        out: &mut Content,
-    ) -> Answer<u32>
-        requires { call_verdict self.old caller (request event.now) ≡ Stopped signal }
-        ensures adds { AddsEntry self.old self.new (Called caller (request event.now) (reply_in result out.new.items)) }
-        ensures filled { answer_len result ≡ length out.new.items }
-        ensures parts { longest_part result ≤ READ_MAX }
-    {
-        self.store.audit();
-        out.clear();
-        let answer = Answer::Stop(signal);
-        self.journal.add_call(caller, event, answer, &[]);
-        answer
-    }
-
-    // Carries a call out, and enters it with its answer.
-    #[inline(always)]
-    fn perform(&mut self, caller: Caller, event: &Event<&[u8]>, out: &mut Content) -> Answer<u32>
-        requires { call_verdict self.old caller (request event.now) ≡ Allowed }
-        ensures adds { AddsEntry self.old self.new (Called caller (request event.now) (reply_in result out.new.items)) }
-        ensures filled { answer_len result ≡ length out.new.items }
-        ensures parts { longest_part result ≤ READ_MAX }
-    {
-        self.store.audit();
-        let told = &mut self.fates;
-        let answer = self
-            .streams
-            .carry_out(&mut self.store, caller, event, out, told);
-        self.journal.add_call(caller, event, answer, out.as_slice());
-        answer
-    }
-
-    // Makes a call as `call` says. Inlined, so that where the kind of the call is known nothing asks for it again.
-    #[inline(always)]
-    fn make(
-        &mut self,
-        caller: Caller,
-        event: &Event<&[u8]>,
-        out: &mut Content,
-    ) -> Result<Answer<u32>, Refusal>
-        ensures refused { MatchOption (call_refused self.old caller (request event.now)) (IsOk result)
-            (λ r. (result ≡ Err r) × ((self.new ≡ self.old) × (out.new ≡ out.old))) }
-        ensures adds { IfOk result (λ answer.
-            AddsEntry self.old self.new (Called caller (request event.now) (reply_in answer out.new.items))) }
-        ensures filled { IfOk result (λ answer. answer_len answer ≡ length out.new.items) }
-        ensures parts { IfOk result (λ answer. longest_part answer ≤ READ_MAX) }
-    {
-        match self.verdict(caller, event) {
-            Verdict::Refused(refusal) => Err(refusal),
-            Verdict::Stopped(signal) => Ok(self.stop(caller, event, signal, out)),
-            Verdict::Allowed => Ok(self.perform(caller, event, out)),
-        }
-    }
-
     /// Makes a call. It is refused for the first of: its side isn't open, or is hung up where the call sends something down
     /// (ENXIO); an argument is wrong (EINVAL); a book is full (ERANGE); the journal is full; too few blocks are free (ENOSR); its caller
     /// is in the background and may not be stopped (EIO); the state doesn't allow it (EAGAIN, EBADMSG, EINVAL). A refused call changes nothing, and `out` stays. Else the call is carried out, and the journal gains it with its answer;
@@ -433,7 +373,7 @@ impl<B: Blocks + Drop> Pair<B> {
         match event {
             Event::Write { bytes } => self.make(caller, &Event::Write { bytes }, out),
             Event::Read { n } => self.make(caller, &Event::Read { n: *n }, out),
-            _ => self.make(caller, event, out),
+            _ => self.call_apart(caller, event, out),
         }
     }
 
@@ -441,8 +381,8 @@ impl<B: Blocks + Drop> Pair<B> {
     /// full (ERANGE), the journal is full, or too few blocks of a kind are free (ENOSR): 8 for a driver's queue, 32 for a module's. It
     /// changes nothing then. Else the journal gains the turn with its answer.
     ///
-    /// A turn of ldterm's may stop within its message where fewer than 32 blocks are left, and its answer says how far it went: a byte at
-    /// least where the message has any, so that no turn moves nothing of it.
+    /// A turn of ldterm's may stop within its message, and only where fewer than 32 blocks of a kind are left behind it; once the master is closed
+    /// its driver frees output, and more may be. Its answer says how far it went: a byte at least where the message has any.
     /// The cost is that of one message. No memory is taken.
     pub fn turn(&mut self, name: QueueName) -> Result<Turn, Refusal>
         ensures refused { MatchOption (queue_refused self.old name) (IsOk result)
@@ -480,6 +420,7 @@ impl<B: Blocks + Drop> Pair<B> {
     }
 }
 
+mod making;
 mod polling;
 mod restoring;
 mod tracing;

@@ -3,6 +3,7 @@
 
 ghost use Rattle.std.specs.Prelude.{ℕ, ◌≡◌, ◌<◌, ◌≤◌, ◌&&◌, ◌==◌, true, false, if◌then◌else◌, Some};
 ghost use Rattle.strm_types.specs.declared.limits.TheConstants.{MODULES};
+ghost use Rattle.strm_types.specs.declared.names.Way.TheVariants as ways;
 ghost use Rattle.strm_types.specs.declared.names.Way.TheVariants.{Up};
 ghost use Rattle.strm_types.specs.Cells.{plain};
 ghost use Rattle.strm_laws.specs.Earlier.{modules_on};
@@ -14,6 +15,7 @@ ghost use Rattle.strm_types.specs.Far.{far};
 ghost use Rattle.strm_laws.specs.State.{stream};
 ghost use Rattle.strm_blocks.specs.Blocks.{in_hand, token};
 ghost use Rattle.strm_msg.specs.Messages.{IsChain};
+ghost use Rattle.strm_queue.specs.Stored.{FreesNone};
 ghost use Rattle.strm_frame.specs.Hands.{HasRoom, MayTake};
 ghost use Rattle.strm_frame.specs.Outboxes.{message_in, sent_of};
 ghost use Rattle.strm_types.specs.Reads.{is_there};
@@ -25,6 +27,7 @@ ghost use Rattle.strm_laws.specs.Spares.{module_packs, spare};
 ghost use Rattle.strm_laws.specs.StackCosts.{module_leaves, module_takes, stack_cost, stands_of};
 ghost use Rattle.strm_pair.specs.Effects.{MayPut};
 ghost use Rattle.strm_pair.specs.PutBy.{PutAs, PutBy, CameBy, StackTakes};
+ghost use Rattle.strm_pair.specs.Staying.{KeepsBlocks};
 
 use crate::calling::Made;
 use crate::stacks::place_at;
@@ -51,7 +54,8 @@ fn make_down<B: Blocks>(store: &mut B, down: Down) -> InHand
 fn send_down<B: Blocks>(store: &mut B, here: Spot, down: Option<Down>) -> Outbox
     requires room { HasRoom (B.value store.old) (if is_there down then 1 else 0) }
     requires top { here.at ≡ 0 }
-    ensures { Makes (B.value store.old) (B.value store.new) (if is_there down then 1 else 0) (sent_of result) (sent_down here down) }
+    ensures makes { Makes (B.value store.old) (B.value store.new) (if is_there down then 1 else 0) (sent_of result) (sent_down here down) }
+    ensures blocks { FreesNone (B.value store.old) (B.value store.new) }
 {
     let Some(down) = down else {
         return Outbox::none();
@@ -105,8 +109,8 @@ impl Streams {
         Outbox::none()
     }
 
-    /// A message that comes to the head of an open side. What is to go down comes back.
-    pub(crate) fn come<B: Blocks>(
+    // A message that comes to the head of an open side. What is to go down comes back.
+    fn come<B: Blocks>(
         &mut self,
         store: &mut B,
         to: Spot,
@@ -140,9 +144,10 @@ impl Streams {
         requires may { MayPut (B.value store.old) self.old (token message) }
         requires room { HasRoom (B.value store.old) (head_takes (message_in (B.value store.old) (token message))) }
         requires top { to.at ≡ 0 }
-        ensures { let s = B.value store.old in let m = message_in s (token message) in
+        ensures does { let s = B.value store.old in let m = message_in s (token message) in
             PutBy s (B.value store.new) self.old self.new (token message) (head_takes m)
             (sent_of result) told.old told.new (put_at_head to.side to m (state_in s self.old)) }
+        ensures blocks { KeepsBlocks (B.value store.old) (B.value store.new) self.old to (token message) }
     {
         if !self.end(to.side).opened.is_open() {
             return self.lose(store, to, message, told);
@@ -190,10 +195,11 @@ impl Streams {
             at_place (module_packs to m) 0 to.at (stream to.side st).modules ≤ spare st }
         requires inside { 0 < to.at }
         requires within { (s : StoreValue) → to.at ≤ modules_on to.side (state_in s self.old) }
-        ensures { let s = B.value store.old in let m = message_in s (token message) in let st = state_in s self.old in
+        ensures does { let s = B.value store.old in let m = message_in s (token message) in let st = state_in s self.old in
             let ms = (stream to.side st).modules in
             PutAs s (B.value store.new) self.old self.new (token message) (at_place (module_takes to m) 0 to.at ms)
             (at_place (module_leaves to m) 0 to.at ms) (sent_of result) told.old told.new (put_at_module plain to m st) }
+        ensures blocks { KeepsBlocks (B.value store.old) (B.value store.new) self.old to (token message) }
     {
         store.audit();
         let at = to.at as usize;
@@ -215,9 +221,10 @@ impl Streams {
     ) -> Outbox
         requires may { MayPut (B.value store.old) self.old (token message) }
         requires room { HasRoom (B.value store.old) (below_takes to.way (has_parts (message_in (B.value store.old) (token message))) true) }
-        ensures { let s = B.value store.old in let m = message_in s (token message) in
+        ensures does { let s = B.value store.old in let m = message_in s (token message) in
             PutBy s (B.value store.new) self.old self.new (token message) (below_takes to.way (has_parts m) true)
             (sent_of result) told.old told.new (put_at_driver to.side to m (state_in s self.old)) }
+        ensures blocks { to.way ≡ ways.Down → KeepsBlocks (B.value store.old) (B.value store.new) self.old to (token message) }
     {
         store.audit();
         let across = self.across(to.side);
@@ -263,9 +270,10 @@ impl Streams {
         requires room { let m = message_in (B.value store.old) (token message) in
             HasRoom (B.value store.old) (below_takes Up (has_parts m) (is_across to m)) }
         requires up { to.way ≡ Up }
-        ensures { let s = B.value store.old in let m = message_in s (token message) in
+        ensures does { let s = B.value store.old in let m = message_in s (token message) in
             PutBy s (B.value store.new) self.old self.new (token message) (below_takes Up (has_parts m) (is_across to m))
             (sent_of result) told.old told.new (put_behind Up to m (state_in s self.old)) }
+        ensures blocks { KeepsBlocks (B.value store.old) (B.value store.new) self.old to (token message) }
     {
         store.audit();
         if to.at as usize == MODULES + 1 && is_flush(store.kind(&message, 0)) {
@@ -285,10 +293,11 @@ impl Streams {
         requires may { MayPut (B.value store.old) self.old (token message) }
         requires room { let s = B.value store.old in let st = state_in s self.old in
             MayTake s (spare st) (stack_cost (stands_of st) to (message_in s (token message))) }
-        ensures { let s = B.value store.old in let m = message_in s (token message) in let st = state_in s self.old in
+        ensures does { let s = B.value store.old in let m = message_in s (token message) in let st = state_in s self.old in
             let is = put_in plain to m st in
             PutAs s (B.value store.new) self.old self.new (token message) (stack_cost (stands_of st) to m)
             (cost_of (stack_cost (stands_of st)) is.sent) (sent_of result) told.old told.new is }
+        ensures blocks { KeepsBlocks (B.value store.old) (B.value store.new) self.old to (token message) }
     {
         if to.at == 0 {
             return self.put_head(store, to, message, told);
@@ -308,6 +317,7 @@ impl<B: Blocks> Stations<B> for Streams {
     ghost use Rattle.strm_laws.specs.State.{State};
     ghost use Rattle.strm_pair.specs.Pairs.{state_in, AreBeside, kept_by};
     ghost use Rattle.strm_pair.specs.Framing.{costs-stay, streams-frame};
+    ghost use Rattle.strm_pair.specs.Staying.{ComesToStand, comes-on};
 
     ghost Plain = { State ℕ };
 
@@ -325,6 +335,8 @@ impl<B: Blocks> Stations<B> for Streams {
 
     ghost spare = { spare };
 
+    ghost stays = { ComesToStand };
+
     fn put_at(&mut self, store: &mut B, to: Spot, message: InHand, told: &mut Fates) -> Outbox {
         store.audit();
         self.put(store, to, message, told)
@@ -333,4 +345,6 @@ impl<B: Blocks> Stations<B> for Streams {
     ghost frame = { streams-frame };
 
     ghost cost_stays = { λ to m p. costs-stay to m p };
+
+    ghost stays_on = { λ to m p is. comes-on to m p is };
 }

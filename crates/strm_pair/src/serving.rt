@@ -115,11 +115,8 @@ impl Streams {
         ensures beside { AreBeside (B.value store.now) self.new }
         ensures keeps { (i : ℕ) → kept_by self.new i ≡ kept_by self.old i }
     {
-        let earlier = self.before(here.side, here.way, here.at as usize);
         let end = self.end_queue(store, here, took);
-        if end.room {
-            self.enabled.enable_found(earlier);
-        }
+        self.let_go(here.side, here.way, here.at as usize, end.room);
         self.enabled.enable_if(end.more, name);
     }
 

@@ -79,6 +79,7 @@ impl Streams {
             return Turn::Idle;
         };
         store.audit();
+        // Asked first: behind its delivery the message is another's, or gone.
         let size = message_size(store, &message);
         let above = side.other();
         let at = self.modules_on(above);
@@ -88,6 +89,7 @@ impl Streams {
             way: Way::Up,
         };
         self.deliver_alone(store, up, message, told);
+        // Behind the delivery: this queue, and the one that is let go, are enabled behind all that the message has enabled.
         self.end_turn(store, side, size);
         Turn::Moved(size as u32)
     }

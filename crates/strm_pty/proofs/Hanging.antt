@@ -24,7 +24,7 @@ use Rattle.strm_pty.specs.Does.{Swaps}
 use Rattle.strm_pty.specs.Packs.{Becomes}
 use Rattle.strm_pty.specs.Shares.{AreShared, BothCarry, Parts, SendsBoth}
 use Rattle.strm_pty.proofs.Doing.{can-of, chains-append, once-none, parcels-append, times-append}
-use Rattle.strm_pty.proofs.Packing.{joined-after, joined-is, shifts-joined}
+use Rattle.strm_pty.proofs.Packing.{joined-after, joined-is, joined-none, shifts-joined}
 
 data-true : (k : MsgKind) → k ≡ kinds.Data → is_data_kind k ≡ true
 unfolding is_data_kind
@@ -62,6 +62,7 @@ module _ (s t v : StoreValue) (i f : ℕ) (kind : MsgKind) (bytes : List ℕ) (i
       subst (λ w. Becomes s w i f (bare kind (bytes ++ bytes_of (in_hand s i)))) (sym now) (record {
         lists = ap (λ v. v.lists) copied.after;
         hands = shifts-joined s t i f b is st copied 0 kind;
+        blocks = λ held. joined-none s t i f b is st copied 0 kind;
         chain = subst IsChain (sym there) (headed-chain kind bytes copied.number (in_hand s i) plain);
         shows = ap message_of there ∙ headed-shown kind bytes copied.number (in_hand s i) plain;
       })

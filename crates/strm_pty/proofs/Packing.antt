@@ -1,5 +1,6 @@
 -- Puts at pckt, step by step.
 use Rattle.std.proofs.Common.{ℕ, zero, suc, ◌≡◌, ◌≢◌, ◌≤◌, ◌+◌, ◌==◌, Bool, true, false, cond, List, [], ◌∷◌, ◌++◌, length, refl, sym, ap, subst, ◌∙◌, arith}
+use Rattle.std.proofs.lemmas.Bool.{false≢true}
 use Rattle.std.proofs.lemmas.List.Sums.{sum_by-cons}
 use Rattle.strm_types.specs.declared.kinds.MsgKind.{MsgKind}
 use Rattle.strm_types.specs.declared.kinds.MsgKind.TheVariants as kinds
@@ -14,7 +15,7 @@ use Rattle.strm_types.specs.Flush.{is_data_kind}
 use Rattle.strm_types.specs.Flushing.{asked_by, is_flush}
 use Rattle.strm_types.specs.Kinds.{kind_number}
 use Rattle.strm_types.specs.Ldterms.{onward}
-use Rattle.strm_types.specs.Message.{Message}
+use Rattle.strm_types.specs.Message.{Message, is_held}
 use Rattle.strm_types.specs.Pckts.{Pckt, flush_passed, is_flush_passed, is_packed, is_stop_or_start, pckt_packs, writers_flush}
 use Rattle.strm_types.specs.Rules.{made_more}
 use Rattle.strm_types.proofs.MadeCells.{made-long}
@@ -27,6 +28,7 @@ use Rattle.strm_msg.proofs.Chains.{kind-is}
 use Rattle.strm_msg.proofs.Hands.{changed-in_hand, held-apart, held-chain, held-is, stays, stays-chain, times-replaced, dropped-changed}
 use Rattle.strm_msg.proofs.Making.{Made-one}
 use Rattle.strm_msg.proofs.Retyping.{retyped-length}
+use Rattle.strm_queue.specs.Stored.{FreesNone}
 use Rattle.strm_frame.specs.declared.modules.Acts.{Acts}
 use Rattle.strm_frame.specs.declared.parcels.Sent.{Sent}
 use Rattle.strm_frame.specs.Hands.{once, Shifts}
@@ -37,6 +39,19 @@ use Rattle.strm_pty.specs.Does.{Makes, Swaps}
 use Rattle.strm_pty.specs.Packs.{Becomes, Packs, packet_of}
 use Rattle.strm_pty.proofs.Doing.{can-of, swaps-both, times-held, times-one}
 use Rattle.strm_pty.proofs.Packed.{alone-chain, alone-shown, full-chain, full-shown}
+
+-- M_DATA and M_PROTO have a data part in their packet, and aren't M_FLUSH
+held-full : (kind : MsgKind) → is_held kind ≡ true → is_stop_or_start kind ≡ false
+unfolding is_held
+held-full kinds.Data is = refl
+held-full kinds.Proto is = refl
+held-full _ is = absurd (cc)
+
+held-alone : (kind : MsgKind) (bytes : List ℕ) → is_held kind ≡ true → is_flush_passed kind bytes ≡ false
+unfolding is_held
+held-alone kinds.Data bytes is = refl
+held-alone kinds.Proto bytes is = refl
+held-alone _ bytes is = absurd (cc)
 
 -- another kind leaves the data blocks
 names-retyped : (n : ℕ) (kind : MsgKind) (chain : List Block) (d : ℕ) → names_of d (retyped n kind chain) ≡ names_of d chain
@@ -135,6 +150,14 @@ module _ (s t : StoreValue) (i f : ℕ) (b : Block) (is : IsInHand s i) (st : Is
       pool = record { mblks = shifts-alone.pool.mblks; dblks = shifts-alone.pool.dblks };
     }
 
+    -- and none has become free
+    pub joined-none : FreesNone s joined
+    joined-none =
+        let made = Made-one copied in (
+          (let r = made.room_m in let m = free_m-is joined in let n = free_m-is t in let u = used-same in omega arith),
+          (let r = made.room_d in let d = free_d-same t joined refl references-same in omega arith),
+        )
+
     -- that is what the calls lead to
     pub joined-after : (u v : StoreValue) → u ≡ changed t i (retyped n kind (in_hand t i)) → v ≡ changed (dropped u i) f (in_hand u f ++ in_hand u i) → v ≡ joined
     joined-after u v typed linked =
@@ -162,6 +185,7 @@ module _ (s t : StoreValue) (i f : ℕ) (is : IsInHand s i) (one : IsChain (in_h
       subst (λ v. Becomes s v i f (packet_of here (message_in s i))) (sym freed) (record {
         lists = ap (λ v. v.lists) copied.after;
         hands = shifts-alone s t i f b is st copied;
+        blocks = λ held. absurd (false≢true (sym (held-full (message_in s i).kind held) ∙ ap is_stop_or_start (kind-is (in_hand s i) ∙ sym kind_is) ∙ stops));
         chain = subst IsChain (sym alone) (alone-chain (in_hand s i) one here copied.number);
         shows = ap message_of alone ∙ alone-shown (in_hand s i) one here copied.number (ap is_stop_or_start (sym kind_is) ∙ stops);
       })
@@ -186,6 +210,7 @@ module _ (s t : StoreValue) (i f : ℕ) (is : IsInHand s i) (one : IsChain (in_h
       subst (λ w. Becomes s w i f (packet_of here (message_in s i))) (sym (joined-after s t i f b is st copied n kinds.Data u v typed linked)) (record {
         lists = ap (λ v. v.lists) copied.after;
         hands = shifts-joined s t i f b is st copied n kinds.Data;
+        blocks = λ held. joined-none s t i f b is st copied n kinds.Data;
         chain = subst IsChain (sym all) (full-chain (in_hand s i) one here copied.number);
         shows = ap message_of all ∙ full-shown (in_hand s i) one here copied.number (ap is_stop_or_start (sym kind_is) ∙ other);
       })
@@ -254,7 +279,7 @@ module _ (kind : MsgKind) (bytes : List ℕ) (packed : is_packed kind ≡ true) 
 
 -- The packet is sent, alone or with what is passed of an M_FLUSH.
 module _ (s t : StoreValue) (i : ℕ) (here : Spot) (x : Sent) (acts : Acts) (f f' : Fates) (packed : is_packed (message_in s i).kind ≡ true)
-    (sends : Swaps s t i 1 (x ∷ []) (onward Up here (packet_of here (message_in s i)) ∷ [])) (none : acts.notes.items ≡ []) where
+    (sends : Swaps s t i 1 (x ∷ []) (onward Up here (packet_of here (message_in s i)) ∷ [])) (blocks : is_held (message_in s i).kind ≡ true → FreesNone s t) (none : acts.notes.items ≡ []) where
   abbrev m : Message ℕ
   m = message_in s i
 
@@ -270,6 +295,7 @@ module _ (s t : StoreValue) (i : ℕ) (here : Spot) (x : Sent) (acts : Acts) (f 
     told = told;
     swaps = swaps-as s t i 1 (packet_blocks m.kind m.plain) (x ∷ []) (sent_of acts.sent) (sent_with []) (sent_with (flush_passed here m.kind m.plain)) sends one
         (ap (λ b. sent_with (cond b (writers_flush here (asked_by m.plain) ∷ []) [])) (sym stays)) (takes-one m.kind m.plain packed stays);
+    blocks = blocks;
   }
 
   pub packs-two : (u : StoreValue) (y : Sent) → IsInHand s i → Makes t u 1 (y ∷ []) (writers_flush here (asked_by m.plain) ∷ []) → is_flush_passed m.kind m.plain ≡ true → sent_of acts.sent ≡ x ∷ y ∷ []
@@ -280,6 +306,7 @@ module _ (s t : StoreValue) (i : ℕ) (here : Spot) (x : Sent) (acts : Acts) (f 
     swaps = swaps-as s u i (1 + 1) (packet_blocks m.kind m.plain) (x ∷ y ∷ []) (sent_of acts.sent) (sent_with (writers_flush here (asked_by m.plain) ∷ [])) (sent_with (flush_passed here m.kind m.plain))
         (swaps-both s t u i 1 1 (x ∷ []) (y ∷ []) (sent_with []) (writers_flush here (asked_by m.plain) ∷ []) is sends makes) two
         (ap (λ b. sent_with (cond b (writers_flush here (asked_by m.plain) ∷ []) [])) (sym goes)) (takes-two m.kind m.plain packed goes);
+    blocks = λ held. absurd (false≢true (sym (held-alone m.kind m.plain held) ∙ goes));
   }
 
 -- the same in other words

@@ -1,14 +1,16 @@
 -- A put at a driver, by the kind of its message and the way that it goes.
 use Rattle.std.proofs.Common.{ℕ, ◌≡◌, true, false, refl, sym, ap, subst, ◌∙◌, arith}
 use Rattle.strm_types.specs.declared.kinds.MsgKind.{MsgKind}
+use Rattle.strm_types.specs.declared.kinds.MsgKind.TheVariants.{Data, Proto}
 use Rattle.strm_types.specs.declared.names.Side.{Side}
 use Rattle.strm_types.specs.declared.names.Way.TheVariants.{Up, Down}
 use Rattle.strm_types.specs.declared.rules.Fates.{Fates}
 use Rattle.strm_types.specs.declared.spots.Across.{Across}
 use Rattle.strm_types.specs.declared.spots.Spot.{Spot}
+use Rattle.strm_types.specs.Commands.{is_ioctl}
 use Rattle.strm_types.specs.Drivers.{taken_in, put_down, put_across, driver_put}
 use Rattle.strm_types.specs.Flush.{is_data_kind}
-use Rattle.strm_types.specs.Message.{Message, has_parts}
+use Rattle.strm_types.specs.Message.{Message, has_parts, is_held}
 use Rattle.strm_types.specs.Queue as plain
 use Rattle.strm_blocks.specs.Blocks.{StoreValue, in_hand, block_at}
 use Rattle.strm_msg.specs.Messages.{IsChain}
@@ -21,6 +23,23 @@ use Rattle.strm_frame.specs.Hands.{Shifts, Spends}
 use Rattle.strm_frame.specs.Outboxes.{message_in}
 use Rattle.strm_pty.specs.Does.{Does, driver_cost}
 use Rattle.strm_pty.proofs.Doing.{does-more}
+
+-- M_DATA and M_PROTO have parts
+pub held-data : (kind : MsgKind) → is_held kind ≡ true → is_data_kind kind ≡ true
+unfolding is_held is_data_kind
+held-data Data is = refl
+held-data Proto is = refl
+held-data _ is = absurd (cc)
+
+-- and none of them is an M_IOCTL
+held-other : (kind : MsgKind) → is_held kind ≡ true → is_ioctl kind ≡ true → ⊥
+unfolding is_held
+held-other Data is asks = absurd (cc)
+held-other Proto is asks = absurd (cc)
+held-other _ is asks = absurd (cc)
+
+pub held-passes : (s : StoreValue) (i : ℕ) (kind : MsgKind) → kind ≡ (block_at 0 (in_hand s i)).kind → is_held (message_in s i).kind ≡ true → is_ioctl kind ≡ true → ⊥
+held-passes s i kind is held asks = held-other (message_in s i).kind held (ap is_ioctl (kind-is (in_hand s i) ∙ sym is) ∙ asks)
 
 data-is : (side : Side) (across : Across) (here : Spot) (m : Message ℕ) (q : plain.Queue ℕ) → has_parts m ≡ true → driver_put side across here m q ≡ taken_in side across m q
 data-is side across here m q is = rw is refl

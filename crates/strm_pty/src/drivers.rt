@@ -1,6 +1,6 @@
 //! A put at a driver (put(9E), ptm(7D), pts(7D)).
 
-ghost use Rattle.std.specs.Prelude.{◌≡◌, ◌<◌, ◌≤◌, ◌+◌, false};
+ghost use Rattle.std.specs.Prelude.{◌≡◌, ◌<◌, ◌≤◌, ◌+◌, true, false};
 ghost use Rattle.strm_types.specs.declared.limits.TheConstants.{MODULES};
 ghost use Rattle.strm_types.specs.declared.names.Way.TheVariants.{Up, Down};
 ghost use Rattle.strm_types.specs.Deliver.{tallied};
@@ -8,7 +8,8 @@ ghost use Rattle.strm_types.specs.Drivers.{crosses, driver_put, put_down, put_ac
 ghost use Rattle.strm_types.specs.Flush.{is_data_kind};
 ghost use Rattle.strm_blocks.specs.Blocks.{IsInHand, in_hand, block_at, token};
 ghost use Rattle.strm_msg.specs.Messages.{IsChain};
-ghost use Rattle.strm_queue.specs.Stored.{queue_in, IsReady};
+ghost use Rattle.strm_types.specs.Message.{is_held};
+ghost use Rattle.strm_queue.specs.Stored.{queue_in, FreesNone, IsReady};
 ghost use Rattle.strm_frame.specs.Hands.{HasRoom, Hands, Spends, SamePool};
 ghost use Rattle.strm_frame.specs.Outboxes.{message_in, sent_of, times_sent, parcels_in, AreChains};
 ghost use Rattle.strm_pty.specs.Does.{Does, OnlyQueue, driver_cost};
@@ -112,10 +113,11 @@ fn put_any<B: Blocks>(
     requires room { HasRoom (B.value store.old) (driver_cost here.way kind) }
     requires inside { 0 < here.at }
     requires small { here.at ≤ MODULES + 1 }
-    ensures { let s = B.value store.old in
+    ensures does { let s = B.value store.old in
         Does s (B.value store.new) queue.old queue.new (token message) (driver_cost here.way kind) result
         told.old told.new
         (driver_put here.side across here (message_in s (token message)) (queue_in s queue.old)) }
+    ensures blocks { is_data_kind kind ≡ true → across.ended ≡ false → FreesNone (B.value store.old) (B.value store.new) }
 {
     if kind.is_data_kind() {
         return take_in(store, queue, across, here.side, message, told);
@@ -129,8 +131,8 @@ fn put_any<B: Blocks>(
 /// Puts a message in hand at the driver of `here.side`, which comes down to it, or up from the other side's driver,
 /// and says what it does: `put(9E)`. `queue` is the driver's own, and `across` tells of the other side.
 ///
-/// A message that crosses is queued, and from there it will go up the other side's stream. Once the master is
-/// closed it is freed, and its bytes are told as of the end that was closed. An M_FLUSH empties the driver's own
+/// A message that crosses is queued, and from there it will go up the other side's stream: no block is freed by an M_DATA
+/// or M_PROTO. Once the master is closed it is freed, and its bytes are told as of the end that was closed. An M_FLUSH empties the driver's own
 /// queue for FLUSHW and goes on to the readers across, and for FLUSHR it goes to the other driver. An M_IOCTL with
 /// a number other than 0 that nobody across can answer is answered with M_IOCNAK, EINVAL. All others are freed.
 ///
@@ -170,6 +172,8 @@ pub fn put<B: Blocks>(
         (λ i. times_sent i (sent_of result.sent)) }
     ensures spends { let s = B.value store.old in
         Spends s (B.value store.new) (driver_cost here.way (message_in s (token message)).kind) 0 }
+    ensures blocks { is_held (message_in (B.value store.old) (token message)).kind ≡ true → across.ended ≡ false →
+        FreesNone (B.value store.old) (B.value store.new) }
     ensures pool { SamePool (B.value store.old) (B.value store.new) }
 {
     store.audit();

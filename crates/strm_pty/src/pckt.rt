@@ -8,10 +8,12 @@ ghost use Rattle.strm_types.specs.Costs.{packet_blocks, pckt_takes};
 ghost use Rattle.strm_types.specs.Deliver.{tallied};
 ghost use Rattle.strm_types.specs.Flushing.{is_flush};
 ghost use Rattle.strm_types.specs.Ldterms.{onward};
+ghost use Rattle.strm_types.specs.Message.{is_held};
 ghost use Rattle.strm_types.specs.Pckts.{is_packed, is_stop_or_start, pckt_on_way, pckt_packs, pckt_passes, plain_packed, writers_flush};
 ghost use Rattle.strm_types.specs.declared.spots.Spot as spots;
 ghost use Rattle.strm_blocks.specs.Blocks.{IsInHand, in_hand, token};
 ghost use Rattle.strm_msg.specs.Messages.{IsChain};
+ghost use Rattle.strm_queue.specs.Stored.{FreesNone};
 ghost use Rattle.strm_frame.specs.Hands.{HasRoom};
 ghost use Rattle.strm_frame.specs.Outboxes.{message_in};
 ghost use Rattle.strm_pty.specs.Beside.{MayPass};
@@ -106,6 +108,7 @@ fn send_packet<B: Blocks>(store: &mut B, here: Spot, message: InHand, told: &mut
     requires room { HasRoom (B.value store.old) 1 }
     ensures swaps { let s = B.value store.old in Swaps s (B.value store.new) (token message) 1 (result ∷ [])
         (onward Up here (packet_of here (message_in s (token message))) ∷ []) }
+    ensures blocks { is_held (message_in (B.value store.old) (token message)).kind ≡ true → FreesNone (B.value store.old) (B.value store.new) }
     ensures told { told.new ≡ tallied (pckt_packs plain 0 here (message_in (B.value store.old) (token message))).gone told.old }
 {
     let made = count_made(store, &message);

@@ -1,6 +1,6 @@
 //! The module ptem: the ioctls of a terminal on a pseudoterminal (ptem(7M), termio(7I)).
 
-ghost use Rattle.std.specs.Prelude.{◌≡◌, ◌<◌, ◌≤◌, drop};
+ghost use Rattle.std.specs.Prelude.{◌≡◌, ◌<◌, ◌≤◌, drop, true};
 ghost use Rattle.strm_types.specs.declared.limits.TheConstants.{MODULES};
 ghost use Rattle.strm_types.specs.declared.names.Way.TheVariants.{Up, Down};
 ghost use Rattle.strm_types.specs.Acks.{payload};
@@ -10,8 +10,10 @@ ghost use Rattle.strm_types.specs.Ptems.{ptem_passes, ptem_puts, signal_told, te
 ghost use Rattle.strm_types.specs.Signals.{signal_in};
 ghost use Rattle.strm_types.specs.Termios.{read_termios, termios_bytes};
 ghost use Rattle.strm_types.specs.Winsizes.{read_winsize, winsize_bytes};
+ghost use Rattle.strm_types.specs.Message.{is_held};
 ghost use Rattle.strm_blocks.specs.Blocks.{IsInHand, in_hand, token};
 ghost use Rattle.strm_msg.specs.Messages.{IsChain};
+ghost use Rattle.strm_queue.specs.Stored.{FreesNone};
 ghost use Rattle.strm_frame.specs.Hands.{HasRoom};
 ghost use Rattle.strm_frame.specs.Outboxes.{message_in, sent_of};
 ghost use Rattle.strm_pty.specs.Beside.{MayAnswer, MayPass, Puts, ptem_in};
@@ -235,6 +237,7 @@ pub fn put<B: Blocks>(ptem: &mut Ptem, store: &mut B, here: Spot, message: InHan
     requires small { here.at ≤ MODULES }
     ensures does { Puts (B.value store.old) (B.value store.new) ptem.old ptem.new (token message) here result
         (ptem_puts here) }
+    ensures blocks { is_held (message_in (B.value store.old) (token message)).kind ≡ true → FreesNone (B.value store.old) (B.value store.new) }
     ensures shared { let s = B.value store.old in here.way ≡ Down → CanPart s (token message) →
         BothCarry (B.value store.new) (drop 1 (in_hand s (token message))) (sent_of result.sent) }
 {

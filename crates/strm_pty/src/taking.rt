@@ -1,10 +1,10 @@
 //! Messages that a driver keeps for the other side, or frees.
 
-ghost use Rattle.std.specs.Prelude.{◌≡◌, if◌then◌else◌, [], ◌∷◌};
+ghost use Rattle.std.specs.Prelude.{◌≡◌, if◌then◌else◌, [], ◌∷◌, false};
 ghost use Rattle.strm_types.specs.Drivers.{taken_in};
 ghost use Rattle.strm_blocks.specs.Blocks.{IsInHand, in_hand, token};
 ghost use Rattle.strm_msg.specs.Messages.{IsChain};
-ghost use Rattle.strm_queue.specs.Stored.{queue_in, IsReady};
+ghost use Rattle.strm_queue.specs.Stored.{queue_in, FreesNone, IsReady};
 ghost use Rattle.strm_frame.specs.Outboxes.{message_in, sent_of};
 ghost use Rattle.strm_pty.specs.Does.{Does, Swaps};
 
@@ -42,8 +42,8 @@ pub(crate) fn let_go<B: Blocks>(store: &mut B, message: InHand) -> Acts
     }
 }
 
-/// Puts a message on the driver's queue, from which it will go up the other side's stream. Once the master is closed it
-/// is freed, and its bytes are told.
+/// Puts a message on the driver's queue, from which it will go up the other side's stream, and no block is freed. Once the master is
+/// closed it is freed, and its bytes are told.
 pub(crate) fn take_in<B: Blocks>(
     store: &mut B,
     queue: &mut Queue,
@@ -55,9 +55,10 @@ pub(crate) fn take_in<B: Blocks>(
     requires ready { IsReady (B.value store.old) queue.old }
     requires in_hand { IsInHand (B.value store.old) (token message) }
     requires chain { IsChain (in_hand (B.value store.old) (token message)) }
-    ensures { let s = B.value store.old in
+    ensures does { let s = B.value store.old in
         Does s (B.value store.new) queue.old queue.new (token message) 0 result told.old told.new
         (taken_in side across (message_in s (token message)) (queue_in s queue.old)) }
+    ensures blocks { across.ended ≡ false → FreesNone (B.value store.old) (B.value store.new) }
 {
     if across.ended {
         told.tell(

@@ -108,6 +108,12 @@ pub write-enables-its-driver : written_twice.enabled ≡ driver_of Slave ∷ []
 unfolding carried chunk_count data_message rank_of band_of size_of cells_of is_high_priority
 write-enables-its-driver = refl
 
+-- where the master is closed, what the slave writes goes at once
+pub write-to-nobody-goes : (called plain (caller Slave) (Write (97 ∷ 98 ∷ [])) (pair (end Closed (queue [] []) (queue [] [])) (end Open (queue [] []) (queue [] (flow 9 2 false ∷ []))) [])).gone
+    ≡ Goes SlaveToMaster rules.EndClosed (97 ∷ 98 ∷ []) ∷ []
+unfolding carried chunk_count data_message rank_of band_of size_of cells_of is_high_priority
+write-to-nobody-goes = refl
+
 -- a write of band 0 enables no driver that is busy, but one that had an idle turn
 
 abbrev idle : TurnOutcome ℕ

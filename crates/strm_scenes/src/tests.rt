@@ -30,7 +30,7 @@ use std::process::Abort;
 use std::test::Fail;
 use strm_blocks::{Reserve, TableStore};
 use strm_raw::RawStore;
-use strm_script::{ScriptEnd, ScriptStatus, run_script};
+use strm_script::{Cause, ScriptEnd, ScriptStatus, Sink, Source, run_script};
 
 const WELL: ScriptEnd = ScriptEnd {
     status: ScriptStatus::Whole,
@@ -42,8 +42,18 @@ const MALFORMED: ScriptEnd = ScriptEnd {
     short: None,
 };
 
-const BROKEN: ScriptEnd = ScriptEnd {
-    status: ScriptStatus::Broken,
+const READ_FAILED: ScriptEnd = ScriptEnd {
+    status: ScriptStatus::Broken(Cause::Input),
+    short: None,
+};
+
+const WRITE_FAILED: ScriptEnd = ScriptEnd {
+    status: ScriptStatus::Broken(Cause::Output),
+    short: None,
+};
+
+const NO_MEMORY: ScriptEnd = ScriptEnd {
+    status: ScriptStatus::Broken(Cause::Memory),
     short: None,
 };
 
@@ -81,7 +91,7 @@ fn wrote(rt: &impl Abort, title: &str, number: usize, written: &[u8], wanted: &[
 
 // Runs a script over a store, and says how it ended.
 fn runs<B: Reserve, R: Read, W: Write>(alloc: Global, reader: &mut R, writer: &mut W) -> ScriptEnd {
-    run_script::<B, _, _>(alloc, reader, writer)
+    run_script::<B, _, _>(alloc, &mut Source::new(reader), &mut Sink::new(writer))
 }
 
 // Runs a script over a store and compares what it writes, its status and its first short line.

@@ -1,14 +1,14 @@
 -- What the engine's parts do, joined.
-use Rattle.std.proofs.Common.{◌≡◌, ℕ, suc, ◌≤◌, List, [], ◌∷◌, ◌++◌, length, None, Some, Result, Ok, Err, refl, sym, ap, ◌∙◌, append_assoc, append-nil, inl, inr, OnOk}
+use Rattle.std.proofs.Common.{◌≡◌, ℕ, suc, ◌≤◌, List, [], ◌∷◌, ◌++◌, length, None, Some, Result, Ok, Err, sym, ap, ◌∙◌, append_assoc, append-nil, inl, inr, OnOk}
 use Rattle.strm_script.specs.Script.{Command}
 use Rattle.strm_script.specs.ScriptReading.{reading, Malformed as MalformedLine, Spoken}
 use Rattle.strm_script.specs.ScriptAnswers.{printed_line, Wrong}
 use Rattle.strm_script.specs.Lines.{line_of}
-use Rattle.strm_script.specs.Sessions.{SessionValue, Took, Fails, Steps, Finishes, BreaksOff, EndsInput}
+use Rattle.strm_script.specs.Sessions.{SessionValue, Took, Fails, Steps, Takes, Finishes, EndsInput, TakesEnd}
 use Rattle.strm_script.specs.Steps.{pair_of, point_of, value_of, Refused, Obeyed, AnswersLine}
 use Rattle.strm_script.specs.declared.engine.Engine.{Engine}
 use Rattle.strm_script.specs.declared.engine.Stop.{Stop}
-use Rattle.strm_script.specs.declared.engine.Stop.TheVariants.{Malformed, Broken}
+use Rattle.strm_script.specs.declared.engine.Stop.TheVariants.{Malformed, NoMemory, TooLong}
 use Rattle.strm_script.proofs.Ways.{Goes-none, Goes-join, Ends-join, Ends-more, Breaks-none, Breaks-unsaid, Breaks-join, Breaks-more, goes_byte, goes_spoken, ends_malformed, ends_long, Says-none, Says-behind, Says-ended, Says-last, Shows-broken, Shows-last}
 
 -- nothing was done for want of memory
@@ -27,7 +27,8 @@ refused_line old new Malformed h line = record {
   ends = rw (h.0) (ends_malformed (point_of old) line);
   answers = h.1;
 }
-refused_line old new Broken h line = fails_none (value_of old) (value_of new) (10 ∷ []) h.0 h.1
+refused_line old new NoMemory h line = fails_none (value_of old) (value_of new) (10 ∷ []) h.0 h.1
+refused_line old new TooLong h line = absurd h
 
 -- so is one that goes beyond the limit
 pub refused_long : {B : Type 0} (old new : Engine B) (stop : Stop) (b : ℕ) → Refused old new stop → 4096 ≤ length old.line.items → (b ≡ 10 → ⊥)
@@ -38,7 +39,8 @@ refused_long old new Malformed b h long ne = record {
   ends = rw (h.0) (ends_long (point_of old) b long ne);
   answers = h.1;
 }
-refused_long old new Broken b h long ne = fails_none (value_of old) (value_of new) (b ∷ []) h.0 h.1
+refused_long old new NoMemory b h long ne = fails_none (value_of old) (value_of new) (b ∷ []) h.0 h.1
+refused_long old new TooLong b h long ne = absurd h
 
 -- a command is obeyed
 pub obeyed_line : {B : Type 0} (command : Command) (old new : Engine B) (r : Result (Unit {0}) Stop) → Obeyed command old new r → new.lines ≡ old.lines
@@ -49,7 +51,8 @@ obeyed_line command old new (Ok _) h lines line = record {
   answers = h.2;
 }
 obeyed_line command old new (Err Malformed) h lines line = absurd h
-obeyed_line command old new (Err Broken) h lines line =
+obeyed_line command old new (Err TooLong) h lines line = absurd h
+obeyed_line command old new (Err NoMemory) h lines line =
     elim h.0 [
       | inl same ↦ fails_none (value_of old) (value_of new) (10 ∷ []) same h.1
       | inr done ↦ record {
@@ -80,7 +83,8 @@ stop_join e m n i j k Malformed x y = record {
       (Ends-join e.point m.point i j x.text y.text n.point.short y.number x.goes y.ends);
   answers = y.answers ∙ ap (λ k. k ++ y.text) x.answers ∙ append_assoc e.answers x.text y.text;
 }
-stop_join e m n i j k Broken x y = record {
+stop_join e m n i j k TooLong x y = absurd y
+stop_join e m n i j k NoMemory x y = record {
   text = x.text ++ y.text;
   breaks = Breaks-more e.point (i ++ j) k (x.text ++ y.text) n.point.short
       (Breaks-join e.point m.point i j x.text y.text n.point.short x.goes y.breaks);
@@ -116,16 +120,34 @@ finished_last old new (Err Malformed) ne x fresh = (
     answers = x.answers;
   },
 )
-finished_last old new (Err Broken) ne x fresh = record {
+finished_last old new (Err TooLong) ne x fresh = absurd x
+finished_last old new (Err NoMemory) ne x fresh = record {
   text = x.text;
   shows = Shows-last old.point x.text new.point.short ne (Shows-broken old.point (10 ∷ []) [] x.text new.point.short x.breaks);
   answers = x.answers;
 }
 
--- the end of the input, where nothing was done
-pub breaks_none : (e : SessionValue) → BreaksOff e e
-breaks_none e = record {
-  text = [];
-  shows = Shows-broken e.point [] [] [] e.point.short (Breaks-none e.point [] e.point.short refl);
-  answers = sym (append-nil e.answers);
-}
+-- what the engine did is what a session did that isn't too long
+pub Steps-taken : (old new : SessionValue) (input : List ℕ) (r : Result (Unit {0}) Stop) → Steps old new input r → Takes old new input r
+Steps-taken old new input (Ok _) x = x
+Steps-taken old new input (Err Malformed) x = x
+Steps-taken old new input (Err NoMemory) x = x
+Steps-taken old new input (Err TooLong) x = absurd x
+
+pub Steps-short : (old new : SessionValue) (input : List ℕ) (r : Result (Unit {0}) Stop) → Steps old new input r → r ≡ Err TooLong → ⊥
+Steps-short old new input (Ok _) x e = cc
+Steps-short old new input (Err Malformed) x e = cc
+Steps-short old new input (Err NoMemory) x e = cc
+Steps-short old new input (Err TooLong) x e = x
+
+pub EndsInput-taken : (old new : SessionValue) (r : Result (Unit {0}) Stop) → EndsInput old new r → TakesEnd old new r
+EndsInput-taken old new (Ok _) x = x
+EndsInput-taken old new (Err Malformed) x = x
+EndsInput-taken old new (Err NoMemory) x = x
+EndsInput-taken old new (Err TooLong) x = absurd x
+
+pub EndsInput-short : (old new : SessionValue) (r : Result (Unit {0}) Stop) → EndsInput old new r → r ≡ Err TooLong → ⊥
+EndsInput-short old new (Ok _) x e = cc
+EndsInput-short old new (Err Malformed) x e = cc
+EndsInput-short old new (Err NoMemory) x e = cc
+EndsInput-short old new (Err TooLong) x e = x

@@ -77,7 +77,3 @@ pub Appends-slice : (w0 w1 w2 : Option (List ℕ)) (bytes : List ℕ) (n k : ℕ
     → Appends w1 w2 (take k (take (length bytes - n) (drop n bytes))) → Appends w0 w2 (take (n + k) bytes)
 Appends-slice w0 w1 w2 bytes n k h x y =
     Appends-more w0 w1 w2 bytes n k x (Appends-at w1 w2 _ _ (ap (take k) (take_rest bytes n)) y)
-
-pub Keeps-same : (a : Option (List ℕ)) → Keeps a a
-Keeps-same None = tt
-Keeps-same (Some xs) = refl

@@ -1,5 +1,5 @@
 -- A run of a script, from its points to its whole text.
-use Rattle.std.proofs.Common.{◌≡◌, ℕ, suc, Bool, true, List, [], ◌∷◌, ◌++◌, Option, None, Some, Ok, Err, refl, sym, ap, ◌∙◌, append_assoc, append-nil, inl, inr, subst, take}
+use Rattle.std.proofs.Common.{◌≡◌, ℕ, suc, ◌+◌, ◌-◌, ◌^◌, ◌≤◌, Bool, true, List, [], ◌∷◌, ◌++◌, length, Option, None, Some, Result, Ok, Err, refl, sym, ap, ◌∙◌, append_assoc, append-nil, inl, inr, subst, take, arith, length-append}
 use Rattle.std.proofs.lemmas.Bool.Decides.{eqb_tells}
 use Rattle.std.specs.Io.KnownBytes.{Appends, Keeps, Consumes, IsAtEnd}
 use Rattle.strm_script.specs.Script.{lines_of, begun_with}
@@ -11,11 +11,13 @@ use Rattle.strm_script.specs.Sessions.{SessionValue, fresh_session, Took, Steps,
 use Rattle.strm_script.specs.Steps.{point_of, value_of}
 use Rattle.strm_script.specs.Output.{Writes}
 use Rattle.strm_script.specs.Serving.{Serves, Ended, status_of}
-use Rattle.strm_script.specs.Runs.{Agrees, IsScript, IsRun}
+use Rattle.strm_script.specs.Runs.{Agrees, IsFor, IsScript, IsRun, AnswersLines}
 use Rattle.strm_script.proofs.PlainTexts.{told-same, told-front}
 use Rattle.strm_script.specs.declared.engine.Engine.{Engine}
 use Rattle.strm_script.specs.declared.engine.Stop.{Stop}
-use Rattle.strm_script.specs.declared.engine.Stop.TheVariants.{Malformed, Broken}
+use Rattle.strm_script.specs.declared.engine.Stop.TheVariants.{Malformed, NoMemory, TooLong}
+use Rattle.strm_script.specs.declared.script.Cause.{Cause}
+use Rattle.strm_script.specs.declared.script.Cause.TheVariants as causes
 use Rattle.strm_script.specs.declared.script.ScriptStatus.{ScriptStatus}
 use Rattle.strm_script.specs.declared.script.ScriptStatus.TheVariants as ends
 use Rattle.strm_script.proofs.Ways.{Goes-none, Goes-join, Ends-join, Breaks-join, Says-behind, Says-ended, Shows-broken, Shows-going, Shows-behind, Shows-less}
@@ -89,10 +91,11 @@ agrees account None bytes h = ap (λ (t : Told). t.text) (told-same 1 (lines_of 
 agrees account (Some n) bytes h = let x = told-front n 1 (lines_of bytes) account new_session h in (x.rest, x.text_is)
 
 -- the three ways in which a script ends
-script_cut : (bytes written : List ℕ) (short : Option ℕ) → Shows beginning bytes written short → IsScript ends.Broken short bytes written
-script_cut bytes written short x = record {
+script_cut : (cause : Cause) (bytes written : List ℕ) (short : Option ℕ) → IsFor cause bytes → Shows beginning bytes written short
+    → IsScript (ends.Broken cause) short bytes written
+script_cut cause bytes written short f x = record {
   account = x.events;
-  wrote = record { rest = x.unsaid; text = ap (λ (t : Told). t.text) (sym (told_begins x.events bytes)) ∙ x.text_is };
+  wrote = (record { rest = x.unsaid; text = ap (λ (t : Told). t.text) (sym (told_begins x.events bytes)) ∙ x.text_is }, f);
   first_short = sym x.short_is ∙ ap (λ (t : Told). t.short) (told_begins x.events bytes);
   plain = agrees x.events short bytes (ap (λ (t : Told). t.short) (sym (told_begins x.events bytes)) ∙ x.short_is);
 }
@@ -147,7 +150,7 @@ serves_first r w e x =
     }
 
 -- the answers are written
-pub serves_sent : {B : Type 0} (r0 r1 w0 w1 w2 : Option (List ℕ)) (e sent : Engine B) → Serves r0 r1 w0 w1 e → Writes w1 w2 e.answers.items true
+unfoldable pub serves_sent : {B : Type 0} (r0 r1 w0 w1 w2 : Option (List ℕ)) (e sent : Engine B) → Serves r0 r1 w0 w1 e → Writes w1 w2 e.answers.items true
     → point_of sent ≡ point_of e → sent.answers.items ≡ [] → Serves r0 r1 w0 w2 sent
 serves_sent r0 r1 w0 w1 w2 e sent x y point none = record {
   input = x.input;
@@ -163,29 +166,51 @@ serves_sent r0 r1 w0 w1 w2 e sent x y point none = record {
 
 -- they aren't, or not all of them
 pub serves_cut : {B : Type 0} (r0 r1 w0 w1 w2 : Option (List ℕ)) (e : Engine B) (well : Bool) (short : Option ℕ) → Serves r0 r1 w0 w1 e
-    → Writes w1 w2 e.answers.items well → short ≡ e.short → IsRun r0 w0 w2 ends.Broken short
+    → Writes w1 w2 e.answers.items well → short ≡ e.short → IsRun r0 w0 w2 (ends.Broken causes.Output) short
 serves_cut r0 r1 w0 w1 w2 e well short x y same =
-    run_by r0 r1 w0 w2 ends.Broken short x.input x.reads (λ rest left.
+    run_by r0 r1 w0 w2 (ends.Broken causes.Output) short x.input x.reads (λ rest left.
     let text : x.written ++ e.answers.items ≡ (x.written ++ y.front) ++ y.rest =
     ap (λ k. x.written ++ k) y.bytes_are ∙ sym (append_assoc x.written y.front y.rest) in (
       x.written ++ y.front,
       Appends-join w0 w1 w2 x.written y.front x.writes y.appends,
-      rw (same) (script_cut (x.input ++ rest) (x.written ++ y.front) e.short
+      rw (same) (script_cut causes.Output (x.input ++ rest) (x.written ++ y.front) e.short tt
           (Shows-going beginning (point_of e) x.input rest (x.written ++ y.front) y.rest (rw (sym text) x.goes))),
     ))
 
--- the reader failed
-pub serves_failed : {B : Type 0} (r0 r1 r2 w0 w1 : Option (List ℕ)) (e : Engine B) → Serves r0 r1 w0 w1 e → Keeps r1 r2 → IsRun r0 w0 w1 ends.Broken e.short
-serves_failed r0 r1 r2 w0 w1 e x k =
-    run_by r0 r1 w0 w1 ends.Broken e.short x.input x.reads (λ rest left. (
+-- it is broken off where all is written that was answered, or where it isn't
+pub serves_broken : {B : Type 0} (r0 r1 w0 w1 : Option (List ℕ)) (e : Engine B) (cause : Cause) (x : Serves r0 r1 w0 w1 e)
+    → ((rest : List ℕ) → IsFor cause (x.input ++ rest)) → IsRun r0 w0 w1 (ends.Broken cause) e.short
+serves_broken r0 r1 w0 w1 e cause x f =
+    run_by r0 r1 w0 w1 (ends.Broken cause) e.short x.input x.reads (λ rest left. (
       x.written,
       x.writes,
-      script_cut (x.input ++ rest) x.written e.short
+      script_cut cause (x.input ++ rest) x.written e.short (f rest)
           (Shows-going beginning (point_of e) x.input rest x.written e.answers.items x.goes),
     ))
 
+-- the reader failed
+pub serves_failed : {B : Type 0} (r0 r1 w0 w1 : Option (List ℕ)) (e : Engine B) → Serves r0 r1 w0 w1 e → IsRun r0 w0 w1 (ends.Broken causes.Input) e.short
+serves_failed r0 r1 w0 w1 e x = serves_broken r0 r1 w0 w1 e causes.Input x (λ rest. tt)
+
+-- and all is written that the lines say which were read
+pub serves_answered : {B : Type 0} (r0 r1 r2 w0 w1 : Option (List ℕ)) (e : Engine B) → Serves r0 r1 w0 w1 e → e.answers.items ≡ [] → Keeps r1 r2
+    → AnswersLines r0 r2 w0 w1
+serves_answered r0 r1 r2 w0 w1 e x none k = record {
+  input = x.input;
+  written = x.written;
+  point = point_of e;
+  reads = Consumes-kept r0 r1 r2 x.input x.reads k;
+  writes = x.writes;
+  goes = let text : x.written ++ e.answers.items ≡ x.written = ap (λ k. x.written ++ k) none ∙ append-nil x.written in rw (sym text) x.goes;
+}
+
+-- so many reads were made
+pub serves_long : {B : Type 0} (r0 r1 w0 w1 : Option (List ℕ)) (e : Engine B) (x : Serves r0 r1 w0 w1 e) → 2 ^ 32 - 1 ≤ length x.input
+    → IsRun r0 w0 w1 (ends.Broken causes.Length) e.short
+serves_long r0 r1 w0 w1 e x h = serves_broken r0 r1 w0 w1 e causes.Length x (λ rest. omega (arith, h, length-append x.input rest))
+
 -- more was read, and taken
-pub serves_took : {B : Type 0} (r0 r1 r2 w0 w1 : Option (List ℕ)) (e took : Engine B) (bytes : List ℕ) → Serves r0 r1 w0 w1 e → Consumes r1 r2 bytes → Took (value_of e) (value_of took) bytes
+unfoldable pub serves_took : {B : Type 0} (r0 r1 r2 w0 w1 : Option (List ℕ)) (e took : Engine B) (bytes : List ℕ) → Serves r0 r1 w0 w1 e → Consumes r1 r2 bytes → Took (value_of e) (value_of took) bytes
     → Serves r0 r2 w0 w1 took
 serves_took r0 r1 r2 w0 w1 e took bytes x read y = record {
   input = x.input ++ bytes;
@@ -217,32 +242,41 @@ Shows-said a bytes s t short fault x = record {
 }
 
 -- what is written of a script that comes to its end, by what the writer takes of the last answers
-outcome_cut : (w0 w1 w2 : Option (List ℕ)) (short : Option ℕ) (bytes written answers front rest : List ℕ)
+outcome_cut : (cause : Cause) (w0 w1 w2 : Option (List ℕ)) (short : Option ℕ) (bytes written answers front rest : List ℕ) → IsFor cause bytes
     → Shows beginning bytes (written ++ answers) short → Appends w0 w1 written → Appends w1 w2 front → answers ≡ front ++ rest
-    → Outcome w0 w2 ends.Broken short bytes
-outcome_cut w0 w1 w2 short bytes written answers front rest x before now e =
+    → Outcome w0 w2 (ends.Broken cause) short bytes
+outcome_cut cause w0 w1 w2 short bytes written answers front rest f x before now e =
     let text : written ++ answers ≡ (written ++ front) ++ rest = ap (λ k. written ++ k) e ∙ sym (append_assoc written front rest) in (
       written ++ front,
       Appends-join w0 w1 w2 written front before now,
-      script_cut bytes (written ++ front) short (Shows-less beginning bytes (written ++ front) rest short (rw (sym text) x)),
+      script_cut cause bytes (written ++ front) short f (Shows-less beginning bytes (written ++ front) rest short (rw (sym text) x)),
     )
 
 whole_text : (written answers front rest : List ℕ) → answers ≡ front ++ rest → rest ≡ [] → written ++ answers ≡ written ++ front
 whole_text written answers front rest e none = ap (λ k. written ++ k) (e ∙ ap (λ k. front ++ k) none ∙ append-nil front)
 
-outcome_whole : (w0 w1 w2 : Option (List ℕ)) (short : Option ℕ) (bytes written answers : List ℕ)
-    → Says beginning bytes (written ++ answers) short None → Appends w0 w1 written → Writes w1 w2 answers true → Outcome w0 w2 ends.Whole short bytes
-outcome_whole w0 w1 w2 short bytes written answers x before y = (
-  written ++ y.front,
-  Appends-join w0 w1 w2 written y.front before y.appends,
-  script_whole bytes (written ++ y.front) short (rw (sym (whole_text written answers y.front y.rest y.bytes_are (y.all refl))) x),
-)
+outcome_unsent : (w0 w1 w2 : Option (List ℕ)) (short fault : Option ℕ) (bytes written answers front rest : List ℕ)
+    → Says beginning bytes (written ++ answers) short fault → Appends w0 w1 written → Appends w1 w2 front → answers ≡ front ++ rest
+    → Outcome w0 w2 (ends.Broken causes.Output) short bytes
+outcome_unsent w0 w1 w2 short fault bytes written answers front rest x before now e =
+    outcome_cut causes.Output w0 w1 w2 short bytes written answers front rest tt
+    (Shows-said beginning bytes (written ++ answers) [] short fault (rw (append-nil (written ++ answers)) x)) before now e
+
+outcome_whole : (w0 w1 w2 : Option (List ℕ)) (status : ScriptStatus) (short : Option ℕ) (bytes written answers : List ℕ)
+    → Says beginning bytes (written ++ answers) short None → Appends w0 w1 written → Ended w1 w2 answers status ends.Whole → Outcome w0 w2 status short bytes
+outcome_whole w0 w1 w2 status short bytes written answers x before y = elim y.status_is [
+  | inl e ↦ rw (e) (outcome_unsent w0 w1 w2 short None bytes written answers y.front y.rest x before y.appends y.answers_are)
+  | inr e ↦ rw (e.0) (
+    written ++ y.front,
+    Appends-join w0 w1 w2 written y.front before y.appends,
+    script_whole bytes (written ++ y.front) short (rw (sym (whole_text written answers y.front y.rest y.answers_are e.1)) x),
+  )
+]
 
 outcome_faulty : (w0 w1 w2 : Option (List ℕ)) (status : ScriptStatus) (short : Option ℕ) (n : ℕ) (bytes written answers : List ℕ)
     → Says beginning bytes (written ++ answers) short (Some n) → Appends w0 w1 written → Ended w1 w2 answers status ends.Malformed → Outcome w0 w2 status short bytes
 outcome_faulty w0 w1 w2 status short n bytes written answers x before y = elim y.status_is [
-  | inl e ↦ rw (e) (outcome_cut w0 w1 w2 short bytes written answers y.front y.rest
-      (Shows-said beginning bytes (written ++ answers) [] short (Some n) (rw (append-nil (written ++ answers)) x)) before y.appends y.answers_are)
+  | inl e ↦ rw (e) (outcome_unsent w0 w1 w2 short (Some n) bytes written answers y.front y.rest x before y.appends y.answers_are)
   | inr e ↦ rw (e.0) (
     written ++ y.front,
     Appends-join w0 w1 w2 written y.front before y.appends,
@@ -251,10 +285,10 @@ outcome_faulty w0 w1 w2 status short n bytes written answers x before y = elim y
 ]
 
 outcome_broken : (w0 w1 w2 : Option (List ℕ)) (status : ScriptStatus) (short : Option ℕ) (bytes written answers : List ℕ)
-    → Shows beginning bytes (written ++ answers) short → Appends w0 w1 written → Ended w1 w2 answers status ends.Broken → Outcome w0 w2 status short bytes
+    → Shows beginning bytes (written ++ answers) short → Appends w0 w1 written → Ended w1 w2 answers status (ends.Broken causes.Memory) → Outcome w0 w2 status short bytes
 outcome_broken w0 w1 w2 status short bytes written answers x before y = elim y.status_is [
-  | inl e ↦ rw (e) (outcome_cut w0 w1 w2 short bytes written answers y.front y.rest x before y.appends y.answers_are)
-  | inr e ↦ rw (e.0) (outcome_cut w0 w1 w2 short bytes written answers y.front y.rest x before y.appends y.answers_are)
+  | inl e ↦ rw (e) (outcome_cut causes.Output w0 w1 w2 short bytes written answers y.front y.rest tt x before y.appends y.answers_are)
+  | inr e ↦ rw (e.0) (outcome_cut causes.Memory w0 w1 w2 short bytes written answers y.front y.rest tt x before y.appends y.answers_are)
 ]
 
 -- the answers of the last line, behind what was written
@@ -263,7 +297,7 @@ said_text written old new text e = append_assoc written old text ∙ ap (λ k. w
 
 -- a script that stops among bytes
 pub serves_stopped : {B : Type 0} (r0 r1 r2 w0 w1 w2 : Option (List ℕ)) (e done : Engine B) (bytes : List ℕ) (stop : Stop) (status : ScriptStatus) (short : Option ℕ)
-    → Serves r0 r1 w0 w1 e → Consumes r1 r2 bytes → Steps (value_of e) (value_of done) bytes (Err stop) → Ended w1 w2 done.answers.items status (status_of stop)
+    → Serves r0 r1 w0 w1 e → Consumes r1 r2 bytes → Steps (value_of e) (value_of done) bytes (Err stop) → Ended w1 w2 done.answers.items status (status_of (Err stop))
     → short ≡ done.short → IsRun r0 w0 w2 status short
 serves_stopped r0 r1 r2 w0 w1 w2 e done bytes Malformed status short x read y end same =
     run_by r0 r2 w0 w2 status short (x.input ++ bytes) (Consumes-join r0 r1 r2 x.input bytes x.reads read) (λ rest left.
@@ -271,7 +305,8 @@ serves_stopped r0 r1 r2 w0 w1 w2 e done bytes Malformed status short x read y en
     (Ends-join beginning (point_of e) x.input bytes (x.written ++ e.answers.items) y.text done.short y.number x.goes y.ends) in
     rw (same) (outcome_faulty w0 w1 w2 status done.short y.number ((x.input ++ bytes) ++ rest) x.written done.answers.items
     (rw (sym (said_text x.written e.answers.items done.answers.items y.text y.answers)) says) x.writes end))
-serves_stopped r0 r1 r2 w0 w1 w2 e done bytes Broken status short x read y end same =
+serves_stopped r0 r1 r2 w0 w1 w2 e done bytes TooLong status short x read y end same = absurd y
+serves_stopped r0 r1 r2 w0 w1 w2 e done bytes NoMemory status short x read y end same =
     run_by r0 r2 w0 w2 status short (x.input ++ bytes) (Consumes-join r0 r1 r2 x.input bytes x.reads read) (λ rest left.
     let shows = Shows-broken beginning (x.input ++ bytes) rest ((x.written ++ e.answers.items) ++ y.text) done.short
     (Breaks-join beginning (point_of e) x.input bytes (x.written ++ e.answers.items) y.text done.short x.goes y.breaks) in
@@ -289,40 +324,51 @@ finish_says r0 r1 w0 w1 e done fault x y =
     rw (sym (said_text x.written e.answers.items done.answers.items y.text y.answers))
     (Says-behind beginning (point_of e) x.input [] (x.written ++ e.answers.items) y.text done.short fault x.goes y.says)
 
--- a script whose input has ended, and whose last answers are sent or not
-pub serves_finished : {B : Type 0} (r0 r1 w0 w1 w2 : Option (List ℕ)) (e done : Engine B) (short : Option ℕ) → Serves r0 r1 w0 w1 e → IsAtEnd r1
-    → EndsInput (value_of e) (value_of done) (Ok tt) → Writes w1 w2 done.answers.items true → short ≡ done.short → IsRun r0 w0 w2 ends.Whole short
-serves_finished r0 r1 w0 w1 w2 e done short x none y sent same =
-    run_by r0 r1 w0 w2 ends.Whole short x.input x.reads (λ rest left.
+-- a script whose input has ended
+pub serves_ended : {B : Type 0} (r0 r1 w0 w1 w2 : Option (List ℕ)) (e done : Engine B) (r : Result (Unit {0}) Stop) (status : ScriptStatus) (short : Option ℕ)
+    → Serves r0 r1 w0 w1 e → IsAtEnd r1 → EndsInput (value_of e) (value_of done) r → Ended w1 w2 done.answers.items status (status_of r) → short ≡ done.short
+    → IsRun r0 w0 w2 status short
+serves_ended r0 r1 w0 w1 w2 e done (Ok _) status short x none y end same =
+    run_by r0 r1 w0 w2 status short x.input x.reads (λ rest left.
     rw (same, at_end r1 rest left none)
-    (outcome_whole w0 w1 w2 done.short (x.input ++ []) x.written done.answers.items (finish_says r0 r1 w0 w1 e done None x y) x.writes sent))
-
-pub serves_unsent : {B : Type 0} (r0 r1 w0 w1 w2 : Option (List ℕ)) (e done : Engine B) (well : Bool) (short : Option ℕ) → Serves r0 r1 w0 w1 e → IsAtEnd r1
-    → EndsInput (value_of e) (value_of done) (Ok tt) → Writes w1 w2 done.answers.items well → short ≡ done.short → IsRun r0 w0 w2 ends.Broken short
-serves_unsent r0 r1 w0 w1 w2 e done well short x none y sent same =
-    run_by r0 r1 w0 w2 ends.Broken short x.input x.reads (λ rest left.
-    rw (same, at_end r1 rest left none)
-    (outcome_cut w0 w1 w2 done.short (x.input ++ []) x.written done.answers.items sent.front sent.rest
-    (Shows-said beginning (x.input ++ []) (x.written ++ done.answers.items) [] done.short None
-    (rw (append-nil (x.written ++ done.answers.items)) (finish_says r0 r1 w0 w1 e done None x y)))
-    x.writes sent.appends sent.bytes_are))
-
-pub serves_ended : {B : Type 0} (r0 r1 w0 w1 w2 : Option (List ℕ)) (e done : Engine B) (stop : Stop) (status : ScriptStatus) (short : Option ℕ) → Serves r0 r1 w0 w1 e → IsAtEnd r1
-    → EndsInput (value_of e) (value_of done) (Err stop) → Ended w1 w2 done.answers.items status (status_of stop) → short ≡ done.short → IsRun r0 w0 w2 status short
-serves_ended r0 r1 w0 w1 w2 e done Malformed status short x none y end same =
+    (outcome_whole w0 w1 w2 status done.short (x.input ++ []) x.written done.answers.items (finish_says r0 r1 w0 w1 e done None x y) x.writes end))
+serves_ended r0 r1 w0 w1 w2 e done (Err Malformed) status short x none y end same =
     run_by r0 r1 w0 w2 status short x.input x.reads (λ rest left.
     rw (same, at_end r1 rest left none)
     (outcome_faulty w0 w1 w2 status done.short y.0 (x.input ++ []) x.written done.answers.items (finish_says r0 r1 w0 w1 e done (Some y.0) x y.1) x.writes end))
-serves_ended r0 r1 w0 w1 w2 e done Broken status short x none y end same =
+serves_ended r0 r1 w0 w1 w2 e done (Err NoMemory) status short x none y end same =
     run_by r0 r1 w0 w2 status short x.input x.reads (λ rest left.
     rw (same, at_end r1 rest left none)
     (outcome_broken w0 w1 w2 status done.short (x.input ++ []) x.written done.answers.items
     (rw (sym (said_text x.written e.answers.items done.answers.items y.text y.answers))
     (Shows-behind beginning (point_of e) x.input [] (x.written ++ e.answers.items) y.text done.short x.goes y.shows))
     x.writes end))
+serves_ended r0 r1 w0 w1 w2 e done (Err TooLong) status short x none y end same = absurd y
+
+-- how a script ended not all of whose last answers were sent
+pub ended_cut : (w0 w1 : Option (List ℕ)) (answers : List ℕ) (well : Bool) (good : ScriptStatus) → Writes w0 w1 answers well
+    → Ended w0 w1 answers (ends.Broken causes.Output) good
+ended_cut w0 w1 answers well good x = record { front = x.front; rest = x.rest; appends = x.appends; answers_are = x.bytes_are; status_is = inl refl }
 
 -- a read that gave nothing
 pub read_none : (r1 r2 : Option (List ℕ)) (n : ℕ) (bytes : List ℕ) → n ≡ 0 → Consumes r1 r2 (take n bytes) → Keeps r1 r2
 read_none None r2 n bytes e h = tt
 read_none (Some xs) None n bytes e h = absurd h
 read_none (Some xs) (Some ys) n bytes e h = sym (h ∙ ap (λ k. take k bytes ++ ys) e)
+
+-- a run on its way, of at least so many bytes
+pub record Serving {B : Type 0} (r0 r1 w0 w1 : Option (List ℕ)) (e : Engine B) (reads : ℕ) : Type 0 where
+  pub serves : Serves r0 r1 w0 w1 e
+  pub bytes : reads ≤ length serves.input
+
+pub serving_first : {B : Type 0} (r w : Option (List ℕ)) (e : Engine B) → value_of e ≡ fresh_session → Serving r r w w e 0
+serving_first r w e x = record { serves = serves_first r w e x; bytes = omega arith }
+
+pub serving_more : {B : Type 0} (r0 r1 r2 w0 w1 w2 : Option (List ℕ)) (e sent took : Engine B) (reads : ℕ) (bytes : List ℕ) → Serving r0 r1 w0 w1 e reads
+    → Writes w1 w2 e.answers.items true → point_of sent ≡ point_of e → sent.answers.items ≡ [] → Consumes r1 r2 bytes → 1 ≤ length bytes
+    → Took (value_of sent) (value_of took) bytes → Serving r0 r2 w0 w2 took (reads + 1)
+unfolding serves_sent serves_took
+serving_more r0 r1 r2 w0 w1 w2 e sent took reads bytes x y point none read some took_is = record {
+  serves = serves_took r0 r1 r2 w0 w2 sent took bytes (serves_sent r0 r1 w0 w1 w2 e sent x.serves y point none) read took_is;
+  bytes = omega (arith, x.bytes, some, length-append x.serves.input bytes);
+}

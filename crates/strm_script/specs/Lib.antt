@@ -13,6 +13,7 @@ pub mod Outcomes
 pub mod Points
 pub mod Sessions
 pub mod Steps
+pub mod Faults
 pub mod Output
 pub mod Runs
 pub mod Serving

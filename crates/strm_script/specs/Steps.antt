@@ -11,7 +11,7 @@ use Rattle.strm_script.specs.Sessions.{SessionValue, Refuses, Fails}
 use Rattle.strm_script.specs.declared.outcomes.Answered.{Answered}
 use Rattle.strm_script.specs.declared.engine.Engine.{Engine}
 use Rattle.strm_script.specs.declared.engine.Stop.{Stop}
-use Rattle.strm_script.specs.declared.engine.Stop.TheVariants.{Malformed, Broken}
+use Rattle.strm_script.specs.declared.engine.Stop.TheVariants.{Malformed, NoMemory, TooLong}
 
 -- the pair of the script
 abbrev pub pair_of : {B : Type 0} → Engine B → Option PlainPair
@@ -36,7 +36,8 @@ value_of e = record { point = point_of e; answers = e.answers.items }
 -- the engine has said that the next line is malformed, or had no memory for it
 abbrev pub Refused : {B : Type 0} → Engine B → Engine B → Stop → Type 0
 Refused old new Malformed = (new.short ≡ old.short) × (new.answers.items ≡ old.answers.items ++ printed_line (Wrong (suc old.lines)))
-Refused old new Broken = (new.short ≡ old.short) × (new.answers.items ≡ old.answers.items)
+Refused old new NoMemory = (new.short ≡ old.short) × (new.answers.items ≡ old.answers.items)
+Refused old new TooLong = ⊥
 
 -- a command led to an outcome
 pub record Obeys {B : Type 0} (command : Command) (old new : Engine B) (found : Answered) : Type 0 where
@@ -48,7 +49,8 @@ pub record Obeys {B : Type 0} (command : Command) (old new : Engine B) (found : 
 abbrev pub Obeyed : {B : Type 0} → Command → Engine B → Engine B → Result (Unit {0}) Stop → Type 0
 Obeyed command old new (Ok _) = (found : Answered) × Obeys command old new found × (new.answers.items ≡ old.answers.items ++ printed_line (line_of new.out.items found.line))
 Obeyed command old new (Err Malformed) = ⊥
-Obeyed command old new (Err Broken) = ((new.short ≡ old.short) ⊎ ((found : Answered) × Obeys command old new found)) × (new.answers.items ≡ old.answers.items)
+Obeyed command old new (Err TooLong) = ⊥
+Obeyed command old new (Err NoMemory) = ((new.short ≡ old.short) ⊎ ((found : Answered) × Obeys command old new found)) × (new.answers.items ≡ old.answers.items)
 
 -- the engine answered a line
 pub record Answers {B : Type 0} (old new : Engine B) : Type 0 where
@@ -60,4 +62,5 @@ pub record Answers {B : Type 0} (old new : Engine B) : Type 0 where
 abbrev pub AnswersLine : {B : Type 0} → Engine B → Engine B → Result (Unit {0}) Stop → Type 0
 AnswersLine old new (Ok _) = Answers old new
 AnswersLine old new (Err Malformed) = Refuses (value_of old) (value_of new) (10 ∷ [])
-AnswersLine old new (Err Broken) = Fails (value_of old) (value_of new) (10 ∷ [])
+AnswersLine old new (Err NoMemory) = Fails (value_of old) (value_of new) (10 ∷ [])
+AnswersLine old new (Err TooLong) = ⊥

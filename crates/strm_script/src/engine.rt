@@ -20,8 +20,10 @@ use strm_types::{Both, Caller, Content, Side};
 pub enum Stop {
     /// A line spells no command, or is longer than 4096 bytes; the last answer, `err line N`, says which.
     Malformed,
-    /// Memory was refused, or 2^59 lines have ended. Each answer is whole.
-    Broken,
+    /// Memory was refused. Each answer is whole.
+    NoMemory,
+    /// 2^59 lines have ended, or so many bytes are handed over at once. All is as it was.
+    TooLong,
 }
 
 /// A script on its way: its pair and who makes the calls on it, the line that is read, and the answers that aren't written yet.
@@ -96,7 +98,7 @@ impl<B: Reserve> Engine<B> {
         if say(alloc, &line, &[], &mut self.answers).is_ok() {
             Stop::Malformed
         } else {
-            Stop::Broken
+            Stop::NoMemory
         }
     }
 
@@ -108,7 +110,7 @@ impl<B: Reserve> Engine<B> {
     {
         let callers = self.callers;
         let Ok(answered) = answer(alloc, &mut self.pair, &callers, command, &mut self.out) else {
-            return Err(Stop::Broken);
+            return Err(Stop::NoMemory);
         };
         self.callers = callers_behind(callers, command);
         self.note(answered.short);
@@ -122,7 +124,7 @@ impl<B: Reserve> Engine<B> {
         {
             Ok(())
         } else {
-            Err(Stop::Broken)
+            Err(Stop::NoMemory)
         }
     }
 
@@ -133,7 +135,7 @@ impl<B: Reserve> Engine<B> {
         ensures lines { self.new.lines ≡ self.old.lines }
     {
         let Ok(found) = reading(alloc, self.line.as_slice()) else {
-            return Err(Stop::Broken);
+            return Err(Stop::NoMemory);
         };
         match found {
             Reading::Silent => Ok(()),
@@ -172,7 +174,7 @@ impl<B: Reserve> Engine<B> {
         if self.line.push(byte).is_ok() {
             Ok(())
         } else {
-            Err(Stop::Broken)
+            Err(Stop::NoMemory)
         }
     }
 

@@ -1,17 +1,32 @@
 //! A script from its first byte to its last answer.
 
-ghost use Rattle.std.specs.Prelude.{◌≡◌, ◌+◌, ◌<◌, ◌≤◌, ◌^◌, []};
-ghost use Rattle.strm_script.specs.Runs.{IsRun, exit_number};
+ghost use Rattle.std.specs.Prelude.{◌≡◌, ◌+◌, ◌<◌, ◌≤◌, ◌^◌, ◌||◌, not, false, []};
+ghost use Rattle.strm_script.specs.Faults.{source_failed, sink_failed};
+ghost use Rattle.strm_script.specs.Runs.{IsRun, AnswersRead, exit_number, is_input, is_output};
 ghost use Rattle.strm_script.specs.Output.{Writes};
 ghost use Rattle.strm_script.specs.Serving.{Serves, Ended, status_of};
 ghost use Rattle.strm_script.specs.Sessions.{fresh_session};
 ghost use Rattle.strm_script.specs.Steps.{point_of, value_of};
 
 use crate::engine::{Engine, Stop};
-use crate::output::send;
+use crate::sink::Sink;
+use crate::source::Source;
 use std::alloc::Global;
-use std::io::{ErrorKind, Read, Write};
+use std::io::{Read, Write};
 use strm_blocks::Reserve;
+
+/// Why a script ended before its input did, though each of its lines so far spells a command.
+#[derive(Clone, Copy, Debug, PartialEq)]
+pub enum Cause {
+    /// A read failed. The answers to all lines that were read are written.
+    Input,
+    /// A write or a flush failed.
+    Output,
+    /// Memory was refused.
+    Memory,
+    /// 2^32 - 1 reads were made.
+    Length,
+}
 
 /// How a run of a script ended.
 #[derive(Clone, Copy, Debug, PartialEq)]
@@ -20,8 +35,8 @@ pub enum ScriptStatus {
     Whole,
     /// A line spells no command, or is longer than 4096 bytes; the last answer, `err line N`, says which. Nothing behind it was carried out.
     Malformed,
-    /// The reader or the writer failed, memory was refused, or 2^32 - 1 reads were made.
-    Broken,
+    /// It was broken off.
+    Broken(Cause),
 }
 
 impl ScriptStatus {
@@ -32,7 +47,7 @@ impl ScriptStatus {
         match self {
             ScriptStatus::Whole => 0,
             ScriptStatus::Malformed => 1,
-            ScriptStatus::Broken => 2,
+            ScriptStatus::Broken(_) => 2,
         }
     }
 }
@@ -51,26 +66,37 @@ pub struct ScriptEnd {
 const CHUNK: usize = 4096;
 
 /// Writes the answers that aren't written yet; whether that went well.
-fn send_answers<B: Reserve, W: Write>(engine: &mut Engine<B>, writer: &mut W) -> bool
-    ensures sent { Writes (W.contents writer.old) (W.contents writer.new) engine.old.answers.items result }
+fn send_answers<B: Reserve, W: Write>(engine: &mut Engine<B>, sink: &mut Sink<W>) -> bool
+    ensures sent { Writes (W.contents sink.old.writer) (W.contents sink.new.writer) engine.old.answers.items result }
+    ensures failed { sink_failed sink.new ≡ (sink_failed sink.old || not result) }
     ensures point { point_of engine.new ≡ point_of engine.old }
     ensures none_left { engine.new.answers.items ≡ [] }
 {
-    let well = send(writer, engine.answers.as_slice());
+    let well = sink.send(engine.answers.as_slice());
     engine.answers.clear();
     well
 }
 
-/// The status of a script that stopped, once its answers are written.
-fn stopped<B: Reserve, W: Write>(stop: Stop, engine: &mut Engine<B>, writer: &mut W) -> ScriptStatus
-    ensures ended { Ended (W.contents writer.old) (W.contents writer.new) engine.old.answers.items
-        result (status_of stop) }
+/// The status of a script that came to its end or stopped, once its answers are written.
+fn closed<B: Reserve, W: Write>(
+    ended: Result<(), Stop>,
+    engine: &mut Engine<B>,
+    sink: &mut Sink<W>,
+) -> ScriptStatus
+    ensures ended { Ended (W.contents sink.old.writer) (W.contents sink.new.writer) engine.old.answers.items
+        result (status_of ended) }
+    ensures failed { sink_failed sink.new ≡ (sink_failed sink.old || is_output result) }
+    ensures input { is_input result ≡ false }
     ensures short { engine.new.short ≡ engine.old.short }
 {
-    let well = send_answers(engine, writer);
-    match stop {
-        Stop::Malformed if well => ScriptStatus::Malformed,
-        _ => ScriptStatus::Broken,
+    if !send_answers(engine, sink) {
+        return ScriptStatus::Broken(Cause::Output);
+    }
+    match ended {
+        Ok(()) => ScriptStatus::Whole,
+        Err(Stop::Malformed) => ScriptStatus::Malformed,
+        Err(Stop::NoMemory) => ScriptStatus::Broken(Cause::Memory),
+        Err(Stop::TooLong) => ScriptStatus::Broken(Cause::Length),
     }
 }
 
@@ -78,41 +104,33 @@ fn stopped<B: Reserve, W: Write>(stop: Stop, engine: &mut Engine<B>, writer: &mu
 fn serve<B: Reserve, R: Read, W: Write>(
     alloc: Global,
     engine: &mut Engine<B>,
-    reader: &mut R,
-    writer: &mut W,
+    source: &mut Source<R>,
+    sink: &mut Sink<W>,
 ) -> ScriptStatus
     requires { value_of engine.old ≡ fresh_session }
-    ensures { IsRun (R.remaining reader.old) (W.contents writer.old) (W.contents writer.new) result engine.new.short }
+    ensures run { IsRun (R.remaining source.old.reader) (W.contents sink.old.writer) (W.contents sink.new.writer)
+        result engine.new.short }
+    ensures input { source_failed source.new ≡ (source_failed source.old || is_input result) }
+    ensures output { sink_failed sink.new ≡ (sink_failed sink.old || is_output result) }
+    ensures answers { AnswersRead result (R.remaining source.old.reader) (R.remaining source.new.reader)
+        (W.contents sink.old.writer) (W.contents sink.new.writer) }
 {
     let mut chunk = [0u8; CHUNK];
     for turn in 0..u32::MAX {
-        if !send_answers(engine, writer) {
-            return ScriptStatus::Broken;
+        if !send_answers(engine, sink) {
+            return ScriptStatus::Broken(Cause::Output);
         }
-        match reader.read(&mut chunk) {
-            Ok(0) => match engine.finish(alloc) {
-                Ok(()) => {
-                    return if send_answers(engine, writer) {
-                        ScriptStatus::Whole
-                    } else {
-                        ScriptStatus::Broken
-                    };
-                }
-                Err(stop) => return stopped(stop, engine, writer),
-            },
-            Ok(n) => {
+        match source.read(&mut chunk) {
+            None => return ScriptStatus::Broken(Cause::Input),
+            Some(0) => return closed(engine.finish(alloc), engine, sink),
+            Some(n) => {
                 if let Err(stop) = engine.take(alloc, &chunk[..n]) {
-                    return stopped(stop, engine, writer);
-                }
-            }
-            Err(error) => {
-                if error.kind() != ErrorKind::Interrupted {
-                    return ScriptStatus::Broken;
+                    return closed(Err(stop), engine, sink);
                 }
             }
         }
     }
-    ScriptStatus::Broken
+    ScriptStatus::Broken(Cause::Length)
 }
 
 /// What a run came to, by its status and by where its engine stands.
@@ -132,17 +150,23 @@ fn end_of<B: Reserve>(status: ScriptStatus, engine: &Engine<B>) -> ScriptEnd
 ///
 /// It reads at most 4096 bytes at a time, 2^32 - 1 times at most, and writes and flushes the answers to them before it reads again; a read or a
 /// write that was interrupted is made again. Memory is taken for the pair where a line opens it, for a line, and for the answers to a read.
-/// `status` says how it ended: none of its faults is an `Err`, as what was written stands. A line costs what its command costs, and a step a
-/// byte.
+///
+/// `status` says how it ended: none of its faults is an `Err`, as what was written stands. It is `Broken(Cause::Input)` exactly where a read of
+/// `source` failed, and `Broken(Cause::Output)` exactly where a write or a flush of `sink` did; their errors stand there. A line costs what its
+/// command costs, and a step a byte.
 pub fn run_script<B: Reserve, R: Read, W: Write>(
     alloc: Global,
-    reader: &mut R,
-    writer: &mut W,
+    source: &mut Source<R>,
+    sink: &mut Sink<W>,
 ) -> ScriptEnd
-    ensures { IsRun (R.remaining reader.old) (W.contents writer.old) (W.contents writer.new)
+    ensures run { IsRun (R.remaining source.old.reader) (W.contents sink.old.writer) (W.contents sink.new.writer)
         result.status result.short }
+    ensures input { source_failed source.new ≡ (source_failed source.old || is_input result.status) }
+    ensures output { sink_failed sink.new ≡ (sink_failed sink.old || is_output result.status) }
+    ensures answers { AnswersRead result.status (R.remaining source.old.reader) (R.remaining source.new.reader)
+        (W.contents sink.old.writer) (W.contents sink.new.writer) }
 {
     let mut engine = Engine::<B>::new(alloc);
-    let status = serve(alloc, &mut engine, reader, writer);
+    let status = serve(alloc, &mut engine, source, sink);
     end_of(status, &engine)
 }

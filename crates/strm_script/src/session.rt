@@ -1,9 +1,10 @@
 //! A script that its user hands over piece by piece, line by line say.
 
-ghost use Rattle.std.specs.Prelude.{◌≡◌, [], option_map};
+ghost use Rattle.std.specs.Prelude.{◌≡◌, ◌≤◌, ◌^◌, ◌↔◌, max, Err, [], length, option_map};
 ghost use Rattle.std.specs.Option.{option_copied};
 ghost use Rattle.strm_script.specs.Plain.{plain};
-ghost use Rattle.strm_script.specs.Sessions.{Steps, EndsInput, fresh_session};
+ghost use Rattle.strm_script.specs.Sessions.{Takes, TakesEnd, fresh_session};
+ghost use Rattle.strm_script.specs.declared.engine.Stop.TheVariants.{TooLong};
 
 use crate::engine::{Engine, Stop};
 use std::alloc::Global;
@@ -44,24 +45,27 @@ impl<B: Reserve> Session<B> {
     /// Takes the next bytes of the script: a line, several, or a part of one. A line is answered where its LF is taken. What the answers say is
     /// the text that the definitions give for all bytes so far, for some account of which calls and turns the pool had enough blocks for.
     ///
-    /// It stops with `Malformed` at a line that spells no command, or is longer than 4096 bytes, once its answer `err line N` is kept, and with
-    /// `Broken` where memory is refused or 2^59 lines have ended, with whole answers. The script is over then: what a later call does isn't
-    /// said. A line costs what its command costs, and a step a byte.
+    /// It stops with `Malformed` at a line that spells no command, or is longer than 4096 bytes, once its answer `err line N` is kept; with
+    /// `NoMemory` where memory is refused, with whole answers; and with `TooLong` exactly where 2^59 lines have ended or so many bytes are handed
+    /// over, with all as it was. The script is over then: what a later call does isn't said. A line costs what its command costs, and a step a
+    /// byte.
     pub fn take(&mut self, alloc: Global, bytes: &[u8]) -> Result<(), Stop>
-        ensures { Steps self.old self.new bytes.now result }
+        ensures steps { Takes self.old self.new bytes.now result }
+        ensures limit { (result ≡ Err TooLong) ↔ (2 ^ 59 ≤ max self.old.point.lines (length bytes.now)) }
     {
-        if self.engine.lines >= LINES_MAX || bytes.len() as u64 >= LINES_MAX {
-            return Err(Stop::Broken);
+        if self.engine.lines.max(bytes.len() as u64) >= LINES_MAX {
+            return Err(Stop::TooLong);
         }
         self.engine.take(alloc, bytes)
     }
 
     /// Ends the input: the last line is answered, where it lacks its LF. It stops as `take` does. Nothing is to be taken behind it.
     pub fn finish(&mut self, alloc: Global) -> Result<(), Stop>
-        ensures { EndsInput self.old self.new result }
+        ensures ends { TakesEnd self.old self.new result }
+        ensures limit { (result ≡ Err TooLong) ↔ (2 ^ 59 ≤ self.old.point.lines) }
     {
         if self.engine.lines >= LINES_MAX {
-            return Err(Stop::Broken);
+            return Err(Stop::TooLong);
         }
         self.engine.finish(alloc)
     }

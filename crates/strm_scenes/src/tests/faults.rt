@@ -1,6 +1,6 @@
 //! Readers and writers that are slow, interrupted, or fail at a call, and scripts that they carry.
 
-use super::{BROKEN, FIRST_ANSWERS, FIRST_RUN, WELL, ends_as, runs, wrote};
+use super::{FIRST_ANSWERS, FIRST_RUN, READ_FAILED, WELL, WRITE_FAILED, ends_as, runs, wrote};
 use std::alloc::Global;
 use std::io::{self, Error, ErrorKind, Read, Write};
 use std::process::Abort;
@@ -140,7 +140,7 @@ fn a_reader_that_fails_leaves_the_answers_of_whole_lines(rt: HostRuntime) {
         };
         let mut written = Vec::new(rt.alloc());
         let ended = runs::<RawStore, _, _>(rt.alloc(), &mut reader, &mut written);
-        ends_as(&rt, "at call", calls, ended, BROKEN);
+        ends_as(&rt, "at call", calls, ended, READ_FAILED);
         wrote_whole_lines(&rt, calls, written.as_slice());
     }
 }
@@ -162,7 +162,7 @@ fn a_writer_that_fails_has_the_front_of_the_answers(rt: HostRuntime) {
             "at call",
             calls,
             ended,
-            if all { WELL } else { BROKEN },
+            if all { WELL } else { WRITE_FAILED },
         );
         let front = &FIRST_ANSWERS[..calls];
         wrote(&rt, "at call", calls, writer.written.as_slice(), front);
@@ -179,6 +179,6 @@ fn a_flush_that_fails_is_a_write_fault(rt: HostRuntime) {
         flushes: false,
     };
     let ended = runs::<RawStore, _, _>(rt.alloc(), &mut reader, &mut writer);
-    ends_as(&rt, "a flush", 0, ended, BROKEN);
+    ends_as(&rt, "a flush", 0, ended, WRITE_FAILED);
     wrote(&rt, "a flush", 0, writer.written.as_slice(), FIRST_ANSWERS);
 }

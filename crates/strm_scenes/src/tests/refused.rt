@@ -5,7 +5,7 @@ ghost use Rattle.std.specs.Prelude.{◌≡◌, [], IfOk, replicate};
 ghost use Rattle.strm_types.specs.declared.limits.TheConstants.{LISTS};
 
 use super::no_memory::{MOST_TAKEN, SIZES, all_memory, first_wrong};
-use super::{BROKEN, FIRST_ANSWERS, FIRST_RUN, WELL, ends_as, plays_over, runs, wrote};
+use super::{FIRST_ANSWERS, FIRST_RUN, NO_MEMORY, WELL, ends_as, plays_over, runs, wrote};
 use crate::trials::steps::{entries, store_of};
 use std::alloc::{AllocError, Global};
 use std::process::Abort;
@@ -125,7 +125,7 @@ fn answers(rt: &impl Abort, ended: ScriptEnd, written: &[u8], wanted: &[u8]) {
     if ended == WELL {
         wrote(rt, "a script", 1, written, wanted);
     } else {
-        ends_as(rt, "a script", 1, ended, BROKEN);
+        ends_as(rt, "a script", 1, ended, NO_MEMORY);
         assert!(rt; wanted.starts_with(written));
     }
 }
@@ -181,7 +181,7 @@ fn refuses_all<B: Reserve>(rt: &impl Abort, alloc: Global) -> Result<(), Fail> {
     assert_eq!(rt; store.free_blocks(), (SIZES.mblks, SIZES.dblks));
     let _ = pair_of(rt, alloc, store);
     image_of(rt, alloc, &pair);
-    ends_as(rt, "without memory", 1, ended, BROKEN);
+    ends_as(rt, "without memory", 1, ended, NO_MEMORY);
     answers(rt, ended, written.as_slice(), FIRST_ANSWERS);
     Ok(())
 }

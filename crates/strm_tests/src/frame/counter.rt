@@ -29,6 +29,8 @@ impl<B: Blocks> Stations<B> for Counter {
 
     ghost spare = { λ p. 0 };
 
+    ghost stays = { λ p to m. ⊥ };
+
     fn put_at(&mut self, store: &mut B, to: Spot, message: InHand, _told: &mut Fates) -> Outbox {
         store.audit();
         self.seen = self.seen.wrapping_add(1);
@@ -49,4 +51,6 @@ impl<B: Blocks> Stations<B> for Counter {
     ghost frame = { λ s t x same held. (refl, held) };
 
     ghost cost_stays = { λ to m p. refl };
+
+    ghost stays_on = { λ to m p stays. absurd stays };
 }

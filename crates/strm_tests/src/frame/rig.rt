@@ -223,6 +223,8 @@ impl<B: Blocks> Stations<B> for Rig {
 
     ghost spare = { λ p. 0 };
 
+    ghost stays = { λ p to m. ⊥ };
+
     fn put_at(&mut self, store: &mut B, to: Spot, message: InHand, told: &mut Fates) -> Outbox {
         store.audit();
         if is_end(to.at as usize) {
@@ -238,4 +240,6 @@ impl<B: Blocks> Stations<B> for Rig {
     ghost frame = { λ s t x same held. rig-frame (λ y. y.name) (λ y. y.queue) s t x.modules.modules.items same held };
 
     ghost cost_stays = { λ to m p. refl };
+
+    ghost stays_on = { λ to m p stays. absurd stays };
 }

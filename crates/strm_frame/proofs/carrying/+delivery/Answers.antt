@@ -5,6 +5,8 @@ use Rattle.strm_types.proofs.DeliveryHolds.{carried-holds}
 use Rattle.strm_frame.specs.Hands.{once, MayTake, Takes}
 use Rattle.strm_types.specs.Costs.{cost_of}
 use Rattle.strm_frame.specs.Outboxes.{message_in, sent_of, times_sent, parcels_in, parcel_in}
+use Rattle.strm_frame.specs.Does.{StaysAlone}
+use Rattle.strm_frame.proofs.Staying.{only-stays}
 use Rattle.strm_frame.proofs.Handing.{hands-on, lower-more, next-chain, next-chains, next-low, next-lower, next-room, next-takes, no-cost, next-parts, next-can, next-hands, next-same, no-more, no-parts, may-on, sent-in, still-sent, takes-on}
 use Rattle.strm_frame.proofs.Turns.{begins-state, begins-told, goes-state, goes-told, stops-state, stops-told}
 use Rattle.strm_frame.proofs.carrying.+delivery.Goals as goal
@@ -17,7 +19,7 @@ deliver-deliver_all-requires g t c κs within =
     let s0 = value c.args.store.now in
     let s = value c.put_at-sent.new.store in
     let m = message_in s0 (token c.args.message) in
-    let e = c.put_at-sent.ensures in
+    let e = c.put_at-sent.ensures.puts in
     let all = sent_of c.put_at-sent.result in
     let top = c.requires.low in
     let in_hand = sent-in s0 s (once (token c.args.message)) (λ i. times_sent i all) (w.keeps c.args.stations.now) (w.keeps c.put_at-sent.new.self) c.requires.can_put e.hands in
@@ -29,8 +31,8 @@ deliver-deliver_all-requires g t c κs within =
     let room = subst (λ cost. MayTake s (w.spare behind) (cost_of cost (parcels_in s all))) (sym same) left in
     (omega arith, (within.0, (within.1, (e.held, (in_hand, (e.chains, (low, room)))))))
 
-pub deliver-returns : goal.deliver-returns
-deliver-returns g t c =
+pub deliver-returns-clause-delivers : goal.deliver-returns-clause-delivers
+deliver-returns-clause-delivers g t c =
     let value = g.B.Blocks.value in
     let w = g.S.Stations in
     let s0 = value c.args.store.now in
@@ -38,8 +40,8 @@ deliver-returns g t c =
     let u = value c.deliver_all.new.store in
     let m = message_in s0 (token c.args.message) in
     let p : Parcel ℕ = record { to = c.args.to; message = m } in
-    let e = c.put_at-sent.ensures in
-    let f = c.deliver_all.ensures in
+    let e = c.put_at-sent.ensures.puts in
+    let f = c.deliver_all.ensures.delivers in
     let before = w.plain s0 c.args.stations.now in
     let behind = w.plain s c.put_at-sent.new.self in
     let after = w.plain u c.deliver_all.new.stations in
@@ -58,16 +60,35 @@ deliver-returns g t c =
       pool = record { mblks = f.pool.mblks ∙ e.pool.mblks; dblks = f.pool.dblks ∙ e.pool.dblks };
     }
 
+-- What stays is sent on as what stays.
+pub deliver-returns-clause-blocks : goal.deliver-returns-clause-blocks
+deliver-returns-clause-blocks g t c = λ stays.
+    let value = g.B.Blocks.value in
+    let w = g.S.Stations in
+    let s0 = value c.args.store.now in
+    let s = value c.put_at-sent.new.store in
+    let m = message_in s0 (token c.args.message) in
+    let e = c.put_at-sent.ensures in
+    let on = g.met.S.Stations.stays_on c.args.to m (w.plain s0 c.args.stations.now) stays in
+    let sent = parcels_in s (sent_of c.put_at-sent.result) in
+    let first = e.blocks stays in
+    let behind = subst (λ p. StaysAlone w.stays p sent) (sym e.puts.state) (subst (λ ps. StaysAlone w.stays (w.puts c.args.to m (w.plain s0 c.args.stations.now)).state ps) (sym e.puts.sent) on) in
+    let second = c.deliver_all.ensures.blocks behind in
+    (omega (arith, first.0, second.0), omega (arith, first.1, second.1))
+
+pub deliver-returns-then-is_empty-clause-blocks : goal.deliver-returns-then-is_empty-clause-blocks
+deliver-returns-then-is_empty-clause-blocks g t c = λ stays. c.put_at-sent.ensures.blocks stays
+
 -- Nothing is sent on, and all is done.
-pub deliver-returns-then-is_empty : goal.deliver-returns-then-is_empty
-deliver-returns-then-is_empty g t c =
+pub deliver-returns-then-is_empty-clause-delivers : goal.deliver-returns-then-is_empty-clause-delivers
+deliver-returns-then-is_empty-clause-delivers g t c =
     let value = g.B.Blocks.value in
     let w = g.S.Stations in
     let s0 = value c.args.store.now in
     let s = value c.put_at-sent.new.store in
     let m = message_in s0 (token c.args.message) in
     let p : Parcel ℕ = record { to = c.args.to; message = m } in
-    let e = c.put_at-sent.ensures in
+    let e = c.put_at-sent.ensures.puts in
     let before = w.plain s0 c.args.stations.now in
     let behind = w.plain s c.put_at-sent.new.self in
     let all = sent_of c.put_at-sent.result in
@@ -99,6 +120,7 @@ deliver_all-loop-next-init g t c =
       hands = record { counts = λ i. omega arith; others = λ i gone kept some. refl };
       costs = refl;
       takes = record { blocks = record { mblks = omega arith; dblks = omega arith }; spare = omega arith };
+      blocks = λ alone. (alone, (omega arith, omega arith));
       pool = record { mblks = refl; dblks = refl };
     }
 
@@ -120,7 +142,7 @@ deliver_all-loop-next-preserved g t c =
     let split = c.in-Some.ensures in
     let carry = carried w.puts c.args.hops in
     let parts = next-parts s0 s s' first k0 k k' x more all split c.audit.ensures c.requires.are_in i.hands in
-    let same = next-same s0 s s' first k0 k k' x more all split c.audit.ensures c.requires.are_in i.hands c.deliver.ensures.hands in
+    let same = next-same s0 s s' first k0 k k' x more all split c.audit.ensures c.requires.are_in i.hands c.deliver.ensures.delivers.hands in
     let before = w.plain s0 c.args.stations.now in
     let now = w.plain s c.loop-next.stations in
     let after = w.plain s' c.deliver.new.stations in
@@ -128,19 +150,24 @@ deliver_all-loop-next-preserved g t c =
     let most = cost_of cost (parcels_in s0 (sent_of c.args.sent)) in
     let parcel = parcel_in s x in
     let behind : w.cost after ≡ w.cost now =
-    ap w.cost c.deliver.ensures.state
+    ap w.cost c.deliver.ensures.delivers.state
     ∙ carried-holds (λ p. w.cost p ≡ w.cost now) w.puts (λ to m p is. g.met.S.Stations.cost_stays to m p ∙ is) c.args.hops parcel now refl in
     record {
-      state = goes-state carry (parcels_in s all) (parcels_in s more) (parcels_in s' more) (parcel_in s x) (w.plain s c.loop-next.stations) _ parts same c.deliver.ensures.state ∙ i.state;
-      told = goes-told carry (parcels_in s all) (parcels_in s more) (parcels_in s' more) (parcel_in s x) (w.plain s c.loop-next.stations) _ _ _ parts same c.deliver.ensures.state c.deliver.ensures.told ∙ i.told;
-      held = c.deliver.ensures.held;
-      chains = next-chains s0 s s' first k0 k k' x more all split c.audit.ensures c.requires.are_in i.hands c.deliver.ensures.hands i.chains;
-      lower = next-lower s0 s s' first k0 k k' x more all split c.audit.ensures c.requires.are_in i.hands c.deliver.ensures.hands w.height c.args.hops i.lower;
-      hands = next-hands s0 s s' first k0 k k' x more all split c.audit.ensures c.requires.are_in i.hands c.deliver.ensures.hands;
+      state = goes-state carry (parcels_in s all) (parcels_in s more) (parcels_in s' more) (parcel_in s x) (w.plain s c.loop-next.stations) _ parts same c.deliver.ensures.delivers.state ∙ i.state;
+      told = goes-told carry (parcels_in s all) (parcels_in s more) (parcels_in s' more) (parcel_in s x) (w.plain s c.loop-next.stations) _ _ _ parts same c.deliver.ensures.delivers.state c.deliver.ensures.delivers.told ∙ i.told;
+      held = c.deliver.ensures.delivers.held;
+      chains = next-chains s0 s s' first k0 k k' x more all split c.audit.ensures c.requires.are_in i.hands c.deliver.ensures.delivers.hands i.chains;
+      lower = next-lower s0 s s' first k0 k k' x more all split c.audit.ensures c.requires.are_in i.hands c.deliver.ensures.delivers.hands w.height c.args.hops i.lower;
+      hands = next-hands s0 s s' first k0 k k' x more all split c.audit.ensures c.requires.are_in i.hands c.deliver.ensures.delivers.hands;
       costs = behind ∙ i.costs;
-      takes = next-takes s0 s s' first k0 k k' x more all split c.audit.ensures c.requires.are_in i.hands c.deliver.ensures.hands cost most (w.spare before) (w.spare now) (w.spare after) i.takes
-          (subst (λ cost. Takes s s' (w.spare now) (w.spare after) (cost x.to (parcel_in s x).message) 0) i.costs c.deliver.ensures.takes);
-      pool = record { mblks = c.deliver.ensures.pool.mblks ∙ i.pool.mblks; dblks = c.deliver.ensures.pool.dblks ∙ i.pool.dblks };
+      takes = next-takes s0 s s' first k0 k k' x more all split c.audit.ensures c.requires.are_in i.hands c.deliver.ensures.delivers.hands cost most (w.spare before) (w.spare now) (w.spare after) i.takes
+          (subst (λ cost. Takes s s' (w.spare now) (w.spare after) (cost x.to (parcel_in s x).message) 0) i.costs c.deliver.ensures.delivers.takes);
+      blocks = λ alone.
+          let was = i.blocks alone in
+          let only = only-stays w.stays s s' now x more all split was.0 in
+          let none = c.deliver.ensures.blocks only.0 in
+          (only.1 after, (omega (arith, was.1.0, none.0), omega (arith, was.1.1, none.1)));
+      pool = record { mblks = c.deliver.ensures.delivers.pool.mblks ∙ i.pool.mblks; dblks = c.deliver.ensures.delivers.pool.dblks ∙ i.pool.dblks };
     }
 
 pub deliver_all-deliver-requires : goal.deliver_all-deliver-requires
@@ -166,8 +193,8 @@ deliver_all-deliver-requires g t c κs within =
     let low = next-low s0 s s first k0 k k x more all c.in-Some.ensures c.audit.ensures c.requires.are_in i.hands w.height c.args.hops i.lower in
     (omega arith, (within.0, (within.1, (i.held, (can, (chain, (low, room)))))))
 
-pub deliver_all-returns : goal.deliver_all-returns
-deliver_all-returns g t c =
+pub deliver_all-returns-clause-delivers : goal.deliver_all-returns-clause-delivers
+deliver_all-returns-clause-delivers g t c =
     let w = g.S.Stations in
     let s0 = g.B.Blocks.value c.args.store.now in
     let s = g.B.Blocks.value c.loop-next.store in
@@ -188,8 +215,8 @@ deliver_all-returns g t c =
       pool = i.pool;
     }
 
-pub deliver_all-returns-then-is_empty : goal.deliver_all-returns-then-is_empty
-deliver_all-returns-then-is_empty g t c =
+pub deliver_all-returns-then-is_empty-clause-delivers : goal.deliver_all-returns-then-is_empty-clause-delivers
+deliver_all-returns-then-is_empty-clause-delivers g t c =
     let w = g.S.Stations in
     let s = g.B.Blocks.value c.args.store.now in
     let sent = sent_of c.args.sent in
@@ -204,3 +231,9 @@ deliver_all-returns-then-is_empty g t c =
       takes = record { blocks = record { mblks = omega arith; dblks = omega arith }; spare = omega arith };
       pool = record { mblks = refl; dblks = refl };
     }
+
+pub deliver_all-returns-clause-blocks : goal.deliver_all-returns-clause-blocks
+deliver_all-returns-clause-blocks g t c = λ alone. (c.loop-next.invariant.blocks alone).1
+
+pub deliver_all-returns-then-is_empty-clause-blocks : goal.deliver_all-returns-then-is_empty-clause-blocks
+deliver_all-returns-then-is_empty-clause-blocks g t c = λ alone. (omega arith, omega arith)

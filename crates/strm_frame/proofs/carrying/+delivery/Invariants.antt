@@ -1,5 +1,7 @@
 use Rattle.std.proofs.Common.{◌≡◌, ◌+◌, ◌*◌, length}
 use Rattle.strm_types.specs.Deliver.{in_turn, carried, tallied, AreLower}
+use Rattle.strm_queue.specs.Stored.{FreesNone}
+use Rattle.strm_frame.specs.Does.{StaysAlone}
 use Rattle.strm_frame.specs.Hands.{Handles, SamePool, Takes}
 use Rattle.strm_types.specs.Costs.{cost_of}
 use Rattle.strm_frame.specs.Outboxes.{sent_of, times_sent, parcels_in, AreChains}
@@ -28,6 +30,8 @@ invariant-deliver_all-loop-next g l =
       costs : w.cost (w.plain (value l.store) l.stations) ≡ first;
       takes : Takes (value l.fn.store) (value l.store) (w.spare (w.plain (value l.fn.store) l.fn.stations)) (w.spare (w.plain (value l.store) l.stations))
           (cost_of first (parcels_in (value l.fn.store) (sent_of l.fn.sent))) (cost_of first (parcels_in (value l.store) (sent_of l.left)));
+      blocks : StaysAlone w.stays (w.plain (value l.fn.store) l.fn.stations) (parcels_in (value l.fn.store) (sent_of l.fn.sent))
+          → StaysAlone w.stays (w.plain (value l.store) l.stations) (parcels_in (value l.store) (sent_of l.left)) × FreesNone (value l.fn.store) (value l.store);
       pool : SamePool (value l.fn.store) (value l.store);
     }
 

@@ -47,5 +47,6 @@ returns-clause-does g c =
       hands = row-hands w.plain w.IsHeld w.owns w.keeps g.met.M.Module.frame s t (once n) x d y sent c.audit.ensures e.own e.hands e.pool xs i c.requires.within refl c.requires.held c.requires.can_put e.held;
       spends = subst (λ k. Spends s t k (slice_index_or (map (w.leaves c.args.to m) (map (w.plain s) xs)) i 0)) (said (w.takes c.args.to m))
           (subst (λ k. Spends s t (w.takes c.args.to m (w.plain s x)) k) (said (w.leaves c.args.to m)) e.spends);
+      blocks = e.blocks;
       pool = e.pool;
     }

@@ -37,115 +37,69 @@ returns-then-takes_none-clause-keeps g c = keeps-none (g.B.Blocks.value c.args.s
 pub gather-discarded-requires-clause-goes : goal.gather-discarded-requires-clause-goes
 gather-discarded-requires-clause-goes g c = takes-first c.args.control c.args.n (messages_on (g.B.Blocks.value c.args.store.now) c.args.queue.now.list) (sym c.takes_none.ensures ∙ c.if-takes_none.false)
 
-pub returns-then-went-clause-queue : goal.returns-then-went-clause-queue
-returns-then-went-clause-queue g c =
+pub returns-then-went : goal.returns-then-went
+returns-then-went g c =
     let s = g.B.Blocks.value c.args.store.now in
     let t = g.B.Blocks.value c.gather-discarded.new.store in
-    let k = c.args.queue.now.list in
-    let q = messages_on s k in
-    let d = head_draw c.args.read c.args.control c.args.n q in
-    let gathered = c.gather-discarded.ensures in
-    let given = ap length (gathered.given ∙ ap (λ xs. xs ++ d.given) c.requires.fresh) in
-    let dropped : length d.dropped ≡ c.missing-dropped.result = dropped-is c.args.read c.args.control c.args.n s t c.args.queue.now _ c.gather-discarded.new.queue c.droppable-before.result c.droppable-after.result c.len.result c.gather-discarded.result c.requires.ready gathered.keeps refl gathered.left c.droppable-before.ensures c.droppable-after.ensures (sym given ∙ sym c.len.ensures.value) gathered.discarded ∙ sym c.missing-dropped.ensures in
-    let gone : none_went d ≡ not c.went.result = c.went.ensures d (sym given ∙ sym c.len-3.ensures.value) (sym gathered.discarded) dropped in
-    let some = sym c.takes_none.ensures ∙ c.if-takes_none.false in
-    let left = queue-left s t c.args.queue.now c.gather-discarded.new.queue d.left (ap (messages_on t) gathered.keeps.list ∙ gathered.left) gathered.flags.flows (gathered.flags.want_read refl) gathered.flags.no_enable in
-    c.relieve.ensures.queue t gathered.keeps.ready ∙ ap relieved left ∙ sym (queue-some c.args.read c.args.control c.args.n (queue_in s c.args.queue.now) false some (gone ∙ ap not c.if-went.true))
-
-pub returns-then-went-clause-went : goal.returns-then-went-clause-went
-returns-then-went-clause-went g c =
-    let s = g.B.Blocks.value c.args.store.now in
-    let t = g.B.Blocks.value c.gather-discarded.new.store in
-    let k = c.args.queue.now.list in
-    let q = messages_on s k in
-    let d = head_draw c.args.read c.args.control c.args.n q in
-    let gathered = c.gather-discarded.ensures in
-    let given = ap length (gathered.given ∙ ap (λ xs. xs ++ d.given) c.requires.fresh) in
-    let dropped : length d.dropped ≡ c.missing-dropped.result = dropped-is c.args.read c.args.control c.args.n s t c.args.queue.now _ c.gather-discarded.new.queue c.droppable-before.result c.droppable-after.result c.len.result c.gather-discarded.result c.requires.ready gathered.keeps refl gathered.left c.droppable-before.ensures c.droppable-after.ensures (sym given ∙ sym c.len.ensures.value) gathered.discarded ∙ sym c.missing-dropped.ensures in
-    let gone : none_went d ≡ not c.went.result = c.went.ensures d (sym given ∙ sym c.len-3.ensures.value) (sym gathered.discarded) dropped in
-    let some = sym c.takes_none.ensures ∙ c.if-takes_none.false in
-    let left = queue-left s t c.args.queue.now c.gather-discarded.new.queue d.left (ap (messages_on t) gathered.keeps.list ∙ gathered.left) gathered.flags.flows (gathered.flags.want_read refl) gathered.flags.no_enable in
-    c.relieve.ensures.went t gathered.keeps.ready ∙ ap relieves left ∙ sym (goes-some c.args.read c.args.control c.args.n (queue_in s c.args.queue.now) false some (gone ∙ ap not c.if-went.true))
-
-pub returns-then-went-clause-told : goal.returns-then-went-clause-told
-returns-then-went-clause-told g c =
-    let s = g.B.Blocks.value c.args.store.now in
-    let t = g.B.Blocks.value c.gather-discarded.new.store in
-    let k = c.args.queue.now.list in
-    let q = messages_on s k in
-    let d = head_draw c.args.read c.args.control c.args.n q in
-    let gathered = c.gather-discarded.ensures in
-    let given = ap length (gathered.given ∙ ap (λ xs. xs ++ d.given) c.requires.fresh) in
-    let dropped : length d.dropped ≡ c.missing-dropped.result = dropped-is c.args.read c.args.control c.args.n s t c.args.queue.now _ c.gather-discarded.new.queue c.droppable-before.result c.droppable-after.result c.len.result c.gather-discarded.result c.requires.ready gathered.keeps refl gathered.left c.droppable-before.ensures c.droppable-after.ensures (sym given ∙ sym c.len.ensures.value) gathered.discarded ∙ sym c.missing-dropped.ensures in
-    c.tell.ensures d (sym given ∙ sym c.len-2.ensures.value) (sym gathered.discarded) dropped
-    ∙ told-some c.args.direction c.args.read c.args.control c.args.n q c.args.fates.now (sym c.takes_none.ensures ∙ c.if-takes_none.false)
-
-pub returns-then-went-clause-keeps : goal.returns-then-went-clause-keeps
-returns-then-went-clause-keeps g c =
-    let s = g.B.Blocks.value c.args.store.now in
-    let t = g.B.Blocks.value c.gather-discarded.new.store in
-    let q = c.args.queue.now in
+    let old = c.args.queue.now in
     let p = c.gather-discarded.new.queue in
-    keeps-counted s t q p c.relieve.new.queue (keeps-from s t q _ p refl c.gather-discarded.ensures.keeps) c.relieve.ensures.others.list
-    (c.relieve.ensures.counted (list_at t p.list) c.gather-discarded.ensures.keeps.ready.counted)
-
-pub returns-else-went-clause-queue : goal.returns-else-went-clause-queue
-returns-else-went-clause-queue g c =
-    let s = g.B.Blocks.value c.args.store.now in
-    let t = g.B.Blocks.value c.gather-discarded.new.store in
-    let k = c.args.queue.now.list in
-    let q = messages_on s k in
+    let q = messages_on s old.list in
     let d = head_draw c.args.read c.args.control c.args.n q in
     let gathered = c.gather-discarded.ensures in
-    let given = ap length (gathered.given ∙ ap (λ xs. xs ++ d.given) c.requires.fresh) in
-    let dropped : length d.dropped ≡ c.missing-dropped.result = dropped-is c.args.read c.args.control c.args.n s t c.args.queue.now _ c.gather-discarded.new.queue c.droppable-before.result c.droppable-after.result c.len.result c.gather-discarded.result c.requires.ready gathered.keeps refl gathered.left c.droppable-before.ensures c.droppable-after.ensures (sym given ∙ sym c.len.ensures.value) gathered.discarded ∙ sym c.missing-dropped.ensures in
-    let gone : none_went d ≡ not c.went.result = c.went.ensures d (sym given ∙ sym c.len-3.ensures.value) (sym gathered.discarded) dropped in
+    let given = gathered.given ∙ ap (λ xs. xs ++ d.given) c.requires.fresh in
+    let long = sym (ap length given) in
+    let dropped : length d.dropped ≡ c.missing-dropped.result =
+    dropped-is c.args.read c.args.control c.args.n s t old _ p c.droppable-before.result c.droppable-after.result c.len.result c.gather-discarded.result c.requires.ready gathered.keeps refl gathered.left c.droppable-before.ensures
+    c.droppable-after.ensures (long ∙ sym c.len.ensures.value) gathered.discarded ∙ sym c.missing-dropped.ensures in
+    let gone : none_went d ≡ not c.went.result = c.went.ensures d (long ∙ sym c.len-3.ensures.value) (sym gathered.discarded) dropped in
     let some = sym c.takes_none.ensures ∙ c.if-takes_none.false in
-    let left = queue-left s t c.args.queue.now c.gather-discarded.new.queue d.left (ap (messages_on t) gathered.keeps.list ∙ gathered.left) gathered.flags.flows (gathered.flags.want_read refl) gathered.flags.no_enable in
-    left ∙ sym (queue-some c.args.read c.args.control c.args.n (queue_in s c.args.queue.now) true some (gone ∙ ap not c.if-went.false))
+    let left = queue-left s t old p d.left (ap (messages_on t) gathered.keeps.list ∙ gathered.left) gathered.flags.flows (gathered.flags.want_read refl) gathered.flags.no_enable in
+    let keeps = keeps-from s t old _ p refl gathered.keeps in
+    record {
+      given = given;
+      most_given = omega (arith, gathered.most, ap length c.requires.fresh);
+      queue =
+          c.relieve.ensures.queue t gathered.keeps.ready ∙ ap relieved left
+          ∙ sym (queue-some c.args.read c.args.control c.args.n (queue_in s old) false some (gone ∙ ap not c.if-went.true));
+      went =
+          c.relieve.ensures.went t gathered.keeps.ready ∙ ap relieves left
+          ∙ sym (goes-some c.args.read c.args.control c.args.n (queue_in s old) false some (gone ∙ ap not c.if-went.true));
+      told =
+          c.tell.ensures d (long ∙ sym c.len-2.ensures.value) (sym gathered.discarded) dropped
+          ∙ told-some c.args.direction c.args.read c.args.control c.args.n q c.args.fates.now some;
+      frees = frees s t old p c.audit.ensures c.audit-2.ensures keeps gathered.leaves;
+      keeps = keeps-counted s t old p c.relieve.new.queue keeps c.relieve.ensures.others.list (c.relieve.ensures.counted (list_at t p.list) gathered.keeps.ready.counted);
+    }
 
-pub returns-else-went-clause-went : goal.returns-else-went-clause-went
-returns-else-went-clause-went g c =
+pub returns-else-went : goal.returns-else-went
+returns-else-went g c =
     let s = g.B.Blocks.value c.args.store.now in
     let t = g.B.Blocks.value c.gather-discarded.new.store in
-    let k = c.args.queue.now.list in
-    let q = messages_on s k in
+    let old = c.args.queue.now in
+    let p = c.gather-discarded.new.queue in
+    let q = messages_on s old.list in
     let d = head_draw c.args.read c.args.control c.args.n q in
     let gathered = c.gather-discarded.ensures in
-    let given = ap length (gathered.given ∙ ap (λ xs. xs ++ d.given) c.requires.fresh) in
-    let dropped : length d.dropped ≡ c.missing-dropped.result = dropped-is c.args.read c.args.control c.args.n s t c.args.queue.now _ c.gather-discarded.new.queue c.droppable-before.result c.droppable-after.result c.len.result c.gather-discarded.result c.requires.ready gathered.keeps refl gathered.left c.droppable-before.ensures c.droppable-after.ensures (sym given ∙ sym c.len.ensures.value) gathered.discarded ∙ sym c.missing-dropped.ensures in
-    let gone : none_went d ≡ not c.went.result = c.went.ensures d (sym given ∙ sym c.len-3.ensures.value) (sym gathered.discarded) dropped in
+    let given = gathered.given ∙ ap (λ xs. xs ++ d.given) c.requires.fresh in
+    let long = sym (ap length given) in
+    let dropped : length d.dropped ≡ c.missing-dropped.result =
+    dropped-is c.args.read c.args.control c.args.n s t old _ p c.droppable-before.result c.droppable-after.result c.len.result c.gather-discarded.result c.requires.ready gathered.keeps refl gathered.left c.droppable-before.ensures
+    c.droppable-after.ensures (long ∙ sym c.len.ensures.value) gathered.discarded ∙ sym c.missing-dropped.ensures in
+    let gone : none_went d ≡ not c.went.result = c.went.ensures d (long ∙ sym c.len-3.ensures.value) (sym gathered.discarded) dropped in
     let some = sym c.takes_none.ensures ∙ c.if-takes_none.false in
-    c.if-went.false ∙ sym (goes-some c.args.read c.args.control c.args.n (queue_in s c.args.queue.now) true some (gone ∙ ap not c.if-went.false))
-
-pub returns-else-went-clause-told : goal.returns-else-went-clause-told
-returns-else-went-clause-told g c =
-    let s = g.B.Blocks.value c.args.store.now in
-    let t = g.B.Blocks.value c.gather-discarded.new.store in
-    let k = c.args.queue.now.list in
-    let q = messages_on s k in
-    let d = head_draw c.args.read c.args.control c.args.n q in
-    let gathered = c.gather-discarded.ensures in
-    let given = ap length (gathered.given ∙ ap (λ xs. xs ++ d.given) c.requires.fresh) in
-    let dropped : length d.dropped ≡ c.missing-dropped.result = dropped-is c.args.read c.args.control c.args.n s t c.args.queue.now _ c.gather-discarded.new.queue c.droppable-before.result c.droppable-after.result c.len.result c.gather-discarded.result c.requires.ready gathered.keeps refl gathered.left c.droppable-before.ensures c.droppable-after.ensures (sym given ∙ sym c.len.ensures.value) gathered.discarded ∙ sym c.missing-dropped.ensures in
-    c.tell.ensures d (sym given ∙ sym c.len-2.ensures.value) (sym gathered.discarded) dropped
-    ∙ told-some c.args.direction c.args.read c.args.control c.args.n q c.args.fates.now (sym c.takes_none.ensures ∙ c.if-takes_none.false)
+    let left = queue-left s t old p d.left (ap (messages_on t) gathered.keeps.list ∙ gathered.left) gathered.flags.flows (gathered.flags.want_read refl) gathered.flags.no_enable in
+    let keeps = keeps-from s t old _ p refl gathered.keeps in
+    record {
+      given = given;
+      most_given = omega (arith, gathered.most, ap length c.requires.fresh);
+      queue = left ∙ sym (queue-some c.args.read c.args.control c.args.n (queue_in s old) true some (gone ∙ ap not c.if-went.false));
+      went = c.if-went.false ∙ sym (goes-some c.args.read c.args.control c.args.n (queue_in s old) true some (gone ∙ ap not c.if-went.false));
+      told =
+          c.tell.ensures d (long ∙ sym c.len-2.ensures.value) (sym gathered.discarded) dropped
+          ∙ told-some c.args.direction c.args.read c.args.control c.args.n q c.args.fates.now some;
+      frees = frees s t old p c.audit.ensures c.audit-2.ensures keeps gathered.leaves;
+      keeps = keeps;
+    }
 
 pub returns-then-takes_none-clause-frees : goal.returns-then-takes_none-clause-frees
 returns-then-takes_none-clause-frees g c = frees-none (g.B.Blocks.value c.args.store.now) c.args.queue.now.list
-
-pub returns-then-went-clause-frees : goal.returns-then-went-clause-frees
-returns-then-went-clause-frees g c =
-    let s = g.B.Blocks.value c.args.store.now in
-    let t = g.B.Blocks.value c.gather-discarded.new.store in
-    let q = c.args.queue.now in
-    let p = c.gather-discarded.new.queue in
-    frees s t q p c.audit.ensures c.audit-2.ensures (keeps-from s t q _ p refl c.gather-discarded.ensures.keeps) c.gather-discarded.ensures.leaves
-
-pub returns-else-went-clause-frees : goal.returns-else-went-clause-frees
-returns-else-went-clause-frees g c =
-    let s = g.B.Blocks.value c.args.store.now in
-    let t = g.B.Blocks.value c.gather-discarded.new.store in
-    let q = c.args.queue.now in
-    let p = c.gather-discarded.new.queue in
-    frees s t q p c.audit.ensures c.audit-2.ensures (keeps-from s t q _ p refl c.gather-discarded.ensures.keeps) c.gather-discarded.ensures.leaves

@@ -20,7 +20,7 @@ returns-clause-became g c =
     let n = c.plain_len-taken.result in
     let b = c.skip_empty-message.ensures.became in
     let run = c.try_extend_from_slice.new.self.items in
-    let items : run ≡ take n (block_at 0 (in_hand t j)).bytes = c.in-Ok.ensures.ok ∙ ap (λ l. l ++ take n c.bytes_at-bytes.result.now) c.new-run.ensures ∙ ap (take n) c.bytes_at-bytes.ensures.bytes in
+    let items : run ≡ take n (block_at 0 (in_hand t j)).bytes = c.in-Ok.ensures.ok ∙ ap (λ l. l ++ take n c.bytes_at-bytes.result.now) c.requires.fresh ∙ ap (take n) c.bytes_at-bytes.ensures.bytes in
     let v = g.B.Blocks.value c.skip_empty.new.store in
     let k = token c.skip_empty.result in
     let left = left_of (drop (length run) (cells_of (message_in s i))) (message_in s i) in
@@ -48,7 +48,7 @@ returns-clause-front g c =
     let n = c.plain_len-taken.result in
     let b = c.skip_empty-message.ensures.became in
     let run = c.try_extend_from_slice.new.self.items in
-    let items : run ≡ take n (block_at 0 (in_hand t j)).bytes = c.in-Ok.ensures.ok ∙ ap (λ l. l ++ take n c.bytes_at-bytes.result.now) c.new-run.ensures ∙ ap (take n) c.bytes_at-bytes.ensures.bytes in
+    let items : run ≡ take n (block_at 0 (in_hand t j)).bytes = c.in-Ok.ensures.ok ∙ ap (λ l. l ++ take n c.bytes_at-bytes.result.now) c.requires.fresh ∙ ap (take n) c.bytes_at-bytes.ensures.bytes in
     subst (λ (m : Message ℕ). cells_of m ≡ run ++ drop (length run) (cells_of m)) b.shows
     (subst (λ l. cells_of (message_in t j) ≡ l ++ drop (length l) (cells_of (message_in t j))) (sym items) (front-is t u j n c.skip_empty-message.ensures.in_hand b.is c.trim_head.ensures))
 
@@ -57,5 +57,5 @@ returns-clause-plain g c =
     let n = c.plain_len-taken.result in
     let bytes = c.bytes_at-bytes.result.now in
     let within : n ≤ c.min-within.result = omega (arith, c.plain_len-taken.ensures.within, length-take c.min-within.result bytes) in
-    let items : c.try_extend_from_slice.new.self.items ≡ take n bytes = c.in-Ok.ensures.ok ∙ ap (λ l. l ++ take n bytes) c.new-run.ensures in
+    let items : c.try_extend_from_slice.new.self.items ≡ take n bytes = c.in-Ok.ensures.ok ∙ ap (λ l. l ++ take n bytes) c.requires.fresh in
     subst (AllByRecursion (λ b. get_or c.args.odd.now b true ≡ false)) (take-twice n c.min-within.result bytes within ∙ sym items) c.plain_len-taken.ensures.plain

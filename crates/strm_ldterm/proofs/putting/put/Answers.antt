@@ -1,8 +1,15 @@
 -- By what becomes of the message.
-use Rattle.std.proofs.Common.{ℕ, sym, ap, subst, ◌∙◌, arith}
+use Rattle.std.proofs.Common.{ℕ, ◌≡◌, true, refl, sym, ap, subst, ◌∙◌, arith}
+use Rattle.std.specs.Prelude.{◌||◌}
+use Rattle.std.proofs.lemmas.Bool.{false≢true}
+use Rattle.strm_types.specs.declared.kinds.MsgKind.{MsgKind}
+use Rattle.strm_types.specs.declared.kinds.MsgKind.TheVariants.{Data, Proto}
+use Rattle.strm_types.specs.declared.names.Way.{Way}
 use Rattle.strm_types.specs.Costs.{cost}
 use Rattle.strm_types.specs.Flushing.{is_flush}
-use Rattle.strm_types.specs.Ldterms.{flush_passes, queued_at}
+use Rattle.strm_types.specs.LdtermPuts.{goes_behind, waits_on}
+use Rattle.strm_types.specs.Ldterms.{flush_passes, queued_at, waits_there}
+use Rattle.strm_types.specs.Message.{Message, is_held}
 use Rattle.strm_blocks.specs.Blocks.{in_hand, token}
 use Rattle.strm_msg.proofs.Chains.{kind-is}
 use Rattle.strm_frame.specs.Outboxes.{message_in}
@@ -24,8 +31,8 @@ waits_on-requires-clause-in_hand g c = can-in_hand _ _ _ c.audit.ensures c.requi
 pub wait-requires-clause-low : goal.wait-requires-clause-low
 wait-requires-clause-low g c = waits-low c.args.here.way (message_in (g.B.Blocks.value c.args.store.now) (token c.args.message)) (sym c.waits_on.ensures ∙ c.if-waits_on.true)
 
-pub returns-then-waits_on : goal.returns-then-waits_on
-returns-then-waits_on g c =
+pub returns-then-waits_on-clause-does : goal.returns-then-waits_on-clause-does
+returns-then-waits_on-clause-does g c =
     let s = g.B.Blocks.value c.args.store.now in
     let t = g.B.Blocks.value c.wait.new.store in
     let x = c.args.ldterm.now in
@@ -35,15 +42,15 @@ returns-then-waits_on g c =
     let m = message_in s i in
     let p = ldterm_in s x in
     subst (λ a. Puts s t x c.wait.new.ldterm i (cost here m) c.wait.result f f a) (sym (puts-wait here m p (sym c.waits_on.ensures ∙ c.if-waits_on.true)))
-    (does-puts s t x c.wait.new.ldterm i (cost here m) c.wait.result f f (queued_at here.way m p) (c.wait.ensures f) (let none = none-cost ℕ in omega arith))
+    (does-puts s t x c.wait.new.ldterm i (cost here m) c.wait.result f f (queued_at here.way m p) (c.wait.ensures.does f) (let none = none-cost ℕ in omega arith))
 
 pub pass_flush-requires-clause-kind : goal.pass_flush-requires-clause-kind
 pass_flush-requires-clause-kind g c =
     let chain = in_hand (g.B.Blocks.value c.args.store.now) (token c.args.message) in
     ap is_flush (kind-is chain ∙ sym c.kind-kind.ensures) ∙ sym c.is_flush.ensures ∙ c.if-is_flush.true
 
-pub returns-then-is_flush : goal.returns-then-is_flush
-returns-then-is_flush g c =
+pub returns-then-is_flush-clause-does : goal.returns-then-is_flush-clause-does
+returns-then-is_flush-clause-does g c =
     let s = g.B.Blocks.value c.args.store.now in
     let t = g.B.Blocks.value c.pass_flush.new.store in
     let x = c.args.ldterm.now in
@@ -56,8 +63,8 @@ returns-then-is_flush g c =
     subst (λ a. Puts s t x c.pass_flush.new.ldterm i (cost here m) c.pass_flush.result f c.pass_flush.new.told a) (sym (puts-flush here m p (sym c.waits_on.ensures ∙ c.if-waits_on.false) flush))
     (does-puts s t x c.pass_flush.new.ldterm i (cost here m) c.pass_flush.result f c.pass_flush.new.told (flush_passes here m p) c.pass_flush.ensures (flush-cost here m p c.requires.inside c.requires.small))
 
-pub returns : goal.returns
-returns g c =
+pub returns-clause-does : goal.returns-clause-does
+returns-clause-does g c =
     let s = g.B.Blocks.value c.args.store.now in
     let x = c.args.ldterm.now in
     let i = token c.args.message in
@@ -66,3 +73,24 @@ returns g c =
     let p = ldterm_in s x in
     let flush = ap is_flush (kind-is (in_hand s i) ∙ sym c.kind-kind.ensures) ∙ sym c.is_flush.ensures ∙ c.if-is_flush.false in
     subst (λ a. Puts s (g.B.Blocks.value c.pass.new.store) x c.pass.new.ldterm i (cost here m) c.pass.result c.args.told.now c.pass.new.told a) (sym (puts-pass here m p (sym c.waits_on.ensures ∙ c.if-waits_on.false) flush)) c.pass.ensures
+
+-- M_DATA and M_PROTO wait
+held-there : (kind : MsgKind) → is_held kind ≡ true → waits_there kind ≡ true
+unfolding is_held
+held-there Data held = refl
+held-there Proto held = refl
+held-there _ held = absurd (cc)
+
+held-waits : (way : Way) (m : Message ℕ) → is_held m.kind ≡ true → waits_on way m ≡ true
+held-waits way m held = ap (λ b. b || goes_behind way m) (held-there m.kind held)
+
+pub returns-then-waits_on-clause-blocks : goal.returns-then-waits_on-clause-blocks
+returns-then-waits_on-clause-blocks g c = λ held. c.wait.ensures.blocks
+
+pub returns-then-is_flush-clause-blocks : goal.returns-then-is_flush-clause-blocks
+returns-then-is_flush-clause-blocks g c = λ held.
+    absurd (false≢true (sym (sym c.waits_on.ensures ∙ c.if-waits_on.false) ∙ held-waits c.args.here.way (message_in (g.B.Blocks.value c.args.store.now) (token c.args.message)) held))
+
+pub returns-clause-blocks : goal.returns-clause-blocks
+returns-clause-blocks g c = λ held.
+    absurd (false≢true (sym (sym c.waits_on.ensures ∙ c.if-waits_on.false) ∙ held-waits c.args.here.way (message_in (g.B.Blocks.value c.args.store.now) (token c.args.message)) held))

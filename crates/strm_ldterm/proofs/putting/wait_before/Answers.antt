@@ -11,8 +11,8 @@ use Rattle.strm_blocks.specs.Blocks.{token}
 pub enqueue-enables-requires-clause-in_hand : goal.enqueue-enables-requires-clause-in_hand
 enqueue-enables-requires-clause-in_hand g c = can-in_hand _ _ _ c.audit.ensures c.requires.can_put
 
-pub returns : goal.returns
-returns g c = λ f.
+pub returns-clause-does : goal.returns-clause-does
+returns-clause-does g c = λ f.
     let e = c.enqueue-enables in
     let s = g.B.Blocks.value c.args.store.now in
     let x = c.args.ldterm.now in

@@ -28,8 +28,8 @@ wait_before-requires-clause-low g c =
     let same = still-chain (g.B.Blocks.value c.args.store.now) (g.B.Blocks.value c.settle_echo.new.store) c.args.ldterm.now c.settle_echo.new.ldterm (token c.args.message) c.audit.ensures c.requires.can_put c.settle_echo.ensures.alters in
     ap (λ chain. is_high_priority (message_of chain).kind) same ∙ c.requires.low
 
-pub returns-then-band-eq0 : goal.returns-then-band-eq0
-returns-then-band-eq0 g c = λ f.
+pub returns-then-band-eq0-clause-does : goal.returns-then-band-eq0-clause-does
+returns-then-band-eq0-clause-does g c = λ f.
     let s = g.B.Blocks.value c.args.store.now in
     let u = g.B.Blocks.value c.settle_echo.new.store in
     let x = c.args.ldterm.now in
@@ -38,7 +38,7 @@ returns-then-band-eq0 g c = λ f.
     let alters = c.settle_echo.ensures.alters in
     let same = still-chain s u x y i c.audit.ensures c.requires.can_put alters in
     let none : (message_in s i).band ≡ 0 = band-is (in_hand s i) ∙ sym c.band-band.ensures ∙ c.if-band-eq0.true in
-    alters-does s u x y i c.audit.ensures c.requires.can_put alters (g.B.Blocks.value c.wait_before.new.store) c.wait_before.new.ldterm c.wait_before.result f f _ _ (c.wait_before.ensures f)
+    alters-does s u x y i c.audit.ensures c.requires.can_put alters (g.B.Blocks.value c.wait_before.new.store) c.wait_before.new.ldterm c.wait_before.result f f _ _ (c.wait_before.ensures.does f)
     (ap (λ chain. queued_at Down (message_of chain) (ldterm_in u y)) same
     ∙ ap (λ (p : ldterms.Ldterm ℕ). queued_at Down (message_in s i) p) c.settle_echo.ensures.state
     ∙ echo-ends (message_in s i) (ldterm_in s x) none)
@@ -52,3 +52,9 @@ wait_before-requires-2-clause-before g c =
     let s = g.B.Blocks.value c.args.store.now in
     let i = token c.args.message in
     above (is_some c.args.ldterm.now.echo) (message_in s i).band (λ e. c.if-band-eq0.false (c.band-band.ensures ∙ sym (band-is (in_hand s i)) ∙ e))
+
+pub returns-then-band-eq0-clause-blocks : goal.returns-then-band-eq0-clause-blocks
+returns-then-band-eq0-clause-blocks g c =
+    let first = c.settle_echo.ensures.blocks in
+    let second = c.wait_before.ensures.blocks in
+    (omega (arith, first.0, second.0), omega (arith, first.1, second.1))

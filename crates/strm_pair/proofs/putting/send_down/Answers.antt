@@ -1,5 +1,5 @@
 -- What goes down is one message that was made, or none.
-use Rattle.std.proofs.Common.{◌+◌, cond, sym, ap, subst, ◌∙◌}
+use Rattle.std.proofs.Common.{◌+◌, cond, sym, ap, subst, ◌∙◌, arith}
 use Rattle.std.specs.Prelude.{None}
 use Rattle.strm_types.specs.declared.names.Way.TheVariants.{Down}
 use Rattle.strm_types.specs.Deliver.{toward}
@@ -12,14 +12,14 @@ use Rattle.strm_pty.proofs.Doing.{makes-none, makes-one}
 use Rattle.strm_pair.proofs.PutSteps.{down-plain}
 use Rattle.strm_pair.proofs.putting.send_down.Goals as goal
 
-pub returns-in_default : goal.returns-in_default
-returns-in_default g c =
+pub returns-in_default-clause-makes : goal.returns-in_default-clause-makes
+returns-in_default-clause-makes g c =
     let s = g.B.Blocks.value c.args.store.now in
     let made = sent_of c.none.result in
     subst (λ d. Makes s s (cond (is_there d) 1 0) made (sent_down c.args.here d)) (sym c.in_default.is) (makes-none s 0 made c.none.ensures)
 
-pub returns : goal.returns
-returns g c =
+pub returns-clause-makes : goal.returns-clause-makes
+returns-clause-makes g c =
     let s = g.B.Blocks.value c.args.store.now in
     let t = g.B.Blocks.value c.make_down-message.new.store in
     let made = sent_of c.one.result in
@@ -31,3 +31,11 @@ returns g c =
     (makes-one s t (record { to = record here { at = 1; way = Down }; message = c.make_down-message.result }) m.kind m.plain made
     (record { to = toward Down here; message = m }) c.make_down-message.ensures c.one.ensures
     (ap (λ n. record { to = record here { at = n + 1; way = Down }; message = plain }) (sym c.requires.top) ∙ ap (λ x. record { to = toward Down here; message = x }) (down-plain down)))
+
+pub returns-in_default-clause-blocks : goal.returns-in_default-clause-blocks
+returns-in_default-clause-blocks g c = (omega arith, omega arith)
+
+pub returns-clause-blocks : goal.returns-clause-blocks
+returns-clause-blocks g c =
+    let e = c.make_down-message.ensures in
+    (let m = e.room_m in omega arith, let d = e.room_d in omega arith)

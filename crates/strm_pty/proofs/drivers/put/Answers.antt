@@ -1,10 +1,11 @@
 -- The kind is that of the message.
-use Rattle.std.proofs.Common.{◌∙◌, sym, subst}
+use Rattle.std.proofs.Common.{◌∙◌, sym, ap, subst}
+use Rattle.strm_types.specs.Flush.{is_data_kind}
 use Rattle.strm_blocks.specs.Blocks.{in_hand, token}
 use Rattle.strm_frame.specs.Hands.{HasRoom, Spends}
 use Rattle.strm_msg.proofs.Chains.{kind-is}
 use Rattle.strm_pty.specs.Does.{driver_cost}
-use Rattle.strm_pty.proofs.Putting.{shifts-spends}
+use Rattle.strm_pty.proofs.Putting.{held-data, shifts-spends}
 use Rattle.strm_pty.proofs.drivers.put.Goals as goal
 
 pub put_any-requires-clause-room : goal.put_any-requires-clause-room
@@ -17,4 +18,9 @@ returns-clause-spends g c =
     let s = g.B.Blocks.value c.args.store.now in
     let t = g.B.Blocks.value c.put_any.new.store in
     subst (λ k. Spends s t (driver_cost c.args.here.way k) 0) (c.kind-kind.ensures ∙ sym (kind-is (in_hand s (token c.args.message))))
-    (shifts-spends s t _ _ (driver_cost c.args.here.way c.kind-kind.result) c.put_any.ensures.hands)
+    (shifts-spends s t _ _ (driver_cost c.args.here.way c.kind-kind.result) c.put_any.ensures.does.hands)
+
+pub returns-clause-blocks : goal.returns-clause-blocks
+returns-clause-blocks g c = λ held.
+    let s = g.B.Blocks.value c.args.store.now in
+    c.put_any.ensures.blocks (ap is_data_kind (c.kind-kind.ensures ∙ sym (kind-is (in_hand s (token c.args.message)))) ∙ held-data _ held)

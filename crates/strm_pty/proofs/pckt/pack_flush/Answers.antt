@@ -24,6 +24,6 @@ returns g c =
     let i = token c.args.message in
     let m = message_in s i in
     let asked = c.asked_of-asked.ensures.asked in
-    packs-two s t i c.args.here c.send_packet-packet.result _ c.args.told.now c.send_packet-packet.new.told (flush-packed m.kind c.requires.flush) c.send_packet-packet.ensures.swaps c.new-2.ensures
+    packs-two s t i c.args.here c.send_packet-packet.result _ c.args.told.now c.send_packet-packet.new.told (flush-packed m.kind c.requires.flush) c.send_packet-packet.ensures.swaps c.send_packet-packet.ensures.blocks c.new-2.ensures
     u c.pass_flush-flush.result c.requires.passes.held (subst (λ a. Makes t u 1 (c.pass_flush-flush.result ∷ []) (writers_flush c.args.here a ∷ [])) asked c.pass_flush-flush.ensures)
     (flush-goes m.kind m.plain c.requires.flush ∙ sym (ap (λ a. a.for_write) asked) ∙ not-false c.asked_of-asked.result.for_write c.if-not-asked.false) c.two.ensures c.send_packet-packet.ensures.told

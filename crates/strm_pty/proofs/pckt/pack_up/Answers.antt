@@ -16,4 +16,4 @@ returns g c =
     let m = message_in s i in
     let other = kind-test is_flush s i c.kind.result c.is_flush.result _ c.kind.ensures c.is_flush.ensures c.if-is_flush.false in
     packs-one s (g.B.Blocks.value c.send_packet-packet.new.store) i c.args.here c.send_packet-packet.result _ c.args.told.now c.send_packet-packet.new.told c.requires.packed
-    c.send_packet-packet.ensures.swaps c.new.ensures (others-stay m.kind m.plain other) c.one.ensures c.send_packet-packet.ensures.told
+    c.send_packet-packet.ensures.swaps c.send_packet-packet.ensures.blocks c.new.ensures (others-stay m.kind m.plain other) c.one.ensures c.send_packet-packet.ensures.told

@@ -1,5 +1,5 @@
 -- The message is sent on.
-use Rattle.std.proofs.Common.{refl}
+use Rattle.std.proofs.Common.{refl, arith}
 use Rattle.strm_pty.proofs.Packing.{passes-swaps}
 use Rattle.strm_pty.proofs.pckt.pass_on.Goals as goal
 
@@ -8,4 +8,5 @@ returns g c = record {
   notes = c.new.ensures;
   told = refl;
   swaps = passes-swaps (g.B.Blocks.value c.args.store.now) (record { to = c.toward.result; message = c.args.message }) _ c.args.here c.one.ensures c.toward.ensures c.requires.chain;
+  blocks = λ held. (omega arith, omega arith);
 }

@@ -23,3 +23,6 @@ returns-clause-told g c =
     let m = message_in (g.B.Blocks.value c.args.store.now) (token c.args.message) in
     told-made c.direction.result (direction_at Up here.side) c.count_made-made.result (plain_packed m) c.args.told.now c.tell_made.new.self c.tell_made.ensures
     (c.direction.ensures ∙ ap (λ way. direction_at way here.side) c.requires.goes) c.count_made-made.ensures
+
+pub returns-clause-blocks : goal.returns-clause-blocks
+returns-clause-blocks g c = λ held. (c.pack-message.ensures c.args.here).blocks held

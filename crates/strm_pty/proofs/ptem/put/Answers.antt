@@ -1,5 +1,5 @@
 -- By the kind, the header and the way.
-use Rattle.std.proofs.Common.{◌≡◌, sym, subst, ◌∙◌}
+use Rattle.std.proofs.Common.{◌≡◌, sym, subst, ◌∙◌, arith}
 use Rattle.std.specs.Prelude.{Some}
 use Rattle.strm_types.specs.Ioctls.{read_ioc}
 use Rattle.strm_types.specs.Costs.{cost}
@@ -7,6 +7,7 @@ use Rattle.strm_frame.specs.Outboxes.{message_in, sent_of}
 use Rattle.strm_pty.specs.Beside.{Answers, MayPass, ptem_in}
 use Rattle.strm_frame.proofs.Asked.{asked-is, asked-not, asked-plain}
 use Rattle.strm_pty.proofs.Carried.{lone-carries}
+use Rattle.strm_pty.proofs.Putting.{held-passes}
 use Rattle.strm_pty.proofs.Replied.{may-above, may-below, puts-above, puts-below, puts-other}
 use Rattle.strm_pty.proofs.ptem.put.Goals as goal
 use Rattle.strm_blocks.specs.Blocks.{token}
@@ -71,3 +72,19 @@ returns-in-Up-clause-shared g c = λ way can. absurd (let up = c.in-Up.is in cc)
 
 pub returns-in_default-clause-shared : goal.returns-in_default-clause-shared
 returns-in_default-clause-shared g c = λ way can. lone-carries (g.B.Blocks.value c.args.store.now) _ (sent_of c.pass_on-in_default.result.sent) _ c.pass_on-in_default.ensures.sent
+
+pub returns-then-not-is_ioctl-clause-blocks : goal.returns-then-not-is_ioctl-clause-blocks
+returns-then-not-is_ioctl-clause-blocks g c = λ held. (omega arith, omega arith)
+
+pub returns-in_default-clause-blocks : goal.returns-in_default-clause-blocks
+returns-in_default-clause-blocks g c = λ held. (omega arith, omega arith)
+
+pub returns-in-Down-clause-blocks : goal.returns-in-Down-clause-blocks
+returns-in-Down-clause-blocks g c = λ held.
+    let s = g.B.Blocks.value c.args.store.now in
+    absurd (held-passes s (token c.args.message) c.kind-kind.result c.kind-kind.ensures held (sym c.is_ioctl.ensures ∙ c.if-not-is_ioctl.false))
+
+pub returns-in-Up-clause-blocks : goal.returns-in-Up-clause-blocks
+returns-in-Up-clause-blocks g c = λ held.
+    let s = g.B.Blocks.value c.args.store.now in
+    absurd (held-passes s (token c.args.message) c.kind-kind.result c.kind-kind.ensures held (sym c.is_ioctl.ensures ∙ c.if-not-is_ioctl.false))

@@ -12,7 +12,7 @@ returns g c =
     let s = g.B.Blocks.value c.args.store.now in
     let m = message_in s (token c.args.message) in
     let p = ldterm_in s c.args.self.now in
-    let e = c.put.ensures in
+    let e = c.put.ensures.does in
     record {
       state = e.state;
       notes = e.notes;
@@ -24,5 +24,6 @@ returns g c =
       falls = subst (λ (ps : List (Parcel ℕ)). AreLower far (far c.args.here m) ps) (sym e.sent) (ldterm-lower c.args.here m c.requires.inside c.requires.small p);
       hands = e.hands;
       spends = e.spends;
+      blocks = c.put.ensures.blocks;
       pool = e.pool;
     }

@@ -16,14 +16,14 @@ use Rattle.strm_pair.proofs.PlaceCosts.{plain-few, puts-leave}
 use Rattle.strm_pair.proofs.putting.StreamsStations.put_at.Goals as goal
 use Rattle.strm_blocks.specs.Blocks.{token}
 
-pub returns : goal.returns
-returns g c =
+pub returns-clause-puts : goal.returns-clause-puts
+returns-clause-puts g c =
     let s = g.B.Blocks.value c.args.store.now in
     let i = token c.args.message in
     let m = message_in s i in
     let st = state_in s c.args.self.now in
     let each : Spot → Message ℕ → ℕ = stack_cost (stands_of st) in
-    let e = c.put.ensures in
+    let e = c.put.ensures.does in
     let sends = ap (cost_of each) e.sent in
     let leaves = puts-leave c.args.to m st (plain-few s i c.audit.ensures) in
     record {

@@ -7,8 +7,8 @@ use Rattle.strm_pair.specs.Pairs.{state_in}
 use Rattle.strm_pair.proofs.ServeSteps.{calls-by, calls-may}
 use Rattle.strm_pair.proofs.streams.Streams.call_module.Goals as goal
 
-pub deliver_sent-requires-clause-room : goal.deliver_sent-requires-clause-room
-deliver_sent-requires-clause-room g c =
+pub deliver_all-requires-clause-room : goal.deliver_all-requires-clause-room
+deliver_all-requires-clause-room g c =
     let st = state_in (g.B.Blocks.value c.args.store.now) c.args.self.now in
     let low : c.args.here.at - 1 < length (stream c.args.here.side st).modules = let inside = c.requires.may.inside in let within = c.requires.may.within in omega arith in
     calls-may (g.B.Blocks.value c.args.store.now) (g.B.Blocks.value c.act-served.new.store) c.args.self.now c.act-served.new.self c.args.here c.args.again
@@ -16,9 +16,9 @@ deliver_sent-requires-clause-room g c =
 
 pub returns : goal.returns
 returns g c =
-    let d = c.deliver_sent.ensures.delivers in
+    let d = c.deliver_all.ensures.delivers in
     let st = state_in (g.B.Blocks.value c.args.store.now) c.args.self.now in
     let low : c.args.here.at - 1 < length (stream c.args.here.side st).modules = let inside = c.requires.may.inside in let within = c.requires.may.within in omega arith in
     calls-by (g.B.Blocks.value c.args.store.now) (g.B.Blocks.value c.act-served.new.store) c.args.self.now c.act-served.new.self c.args.here c.args.again
     (call_of c.act-served.result) (sent_of c.act-served.result.acts.sent) c.args.told.now c.act-served.new.told c.requires.may.inside c.requires.may.begins low c.act-served.ensures
-    (g.B.Blocks.value c.deliver_sent.new.store) c.deliver_sent.new.self c.deliver_sent.new.told c.requires.may.hand c.deliver_sent.ensures.blocks d.told d.state d.held d.hands d.takes d.pool
+    (g.B.Blocks.value c.deliver_all.new.store) c.deliver_all.new.stations c.deliver_all.new.told c.requires.may.hand c.deliver_all.ensures.blocks d.told d.state d.held d.hands d.takes d.pool

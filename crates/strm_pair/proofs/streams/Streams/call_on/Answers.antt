@@ -24,7 +24,7 @@ loop-call-init g c =
     let low : here.at - 1 < length (stream here.side st0).modules = let inside = c.requires.inside in let within = c.requires.within in omega arith in
     let begins = first-begins here st0 c.requires.may.rests.idle low in
     let full = full-at here (g.B.Blocks.value c.args.store.now) c.args.self.now in
-    let since : Since here false 0 st0 st0 = record { all = omega arith; full = λ first. full; opened = refl } in
+    let since : Since here false 0 st0 st0 = record { all = omega arith; full = λ first. full; opened = λ side. refl } in
     let first = along here st0 false 0 [] st0 st (reached-first here st0 low begins) m.result e.itself e.state f f m.new.told refl e.tells e.left 0 (omega arith) (omega arith) since
     (λ over none. first-went here m.result st0 e.itself low full over (omega (arith, none)) (HasRoom (g.B.Blocks.value c.args.store.now) STOP_BLOCKS) c.requires.may.room e.some) m.result.again refl in
     record {

@@ -38,7 +38,7 @@ returns-clause-takes g c =
     let p = c.args.self.now in
     let m = message_of (in_hand s (token c.args.message)) in
     let most = stack-most (stands_of (state_in s p)) (once-stands s p c.requires.alone.beside) c.args.to m in
-    let takes = c.deliver.ensures.takes in
+    let takes = c.deliver.ensures.delivers.takes in
     record {
       blocks = record { mblks = omega (arith, takes.blocks.mblks, most); dblks = omega (arith, takes.blocks.dblks, most) };
       spare = omega (arith, takes.spare, most);
@@ -52,7 +52,7 @@ returns-clause-leads g c =
     let q = c.deliver.new.stations in
     let i = token c.args.message in
     let is = c.requires.alone in
-    let e = c.deliver.ensures in
+    let e = c.deliver.ensures.delivers in
     let idle = subst AreIdle (sym e.state) (delivered-idle plain c.args.to (message_of (in_hand s i)) (state_in s p) is.idle) in
     record {
       state = e.state;

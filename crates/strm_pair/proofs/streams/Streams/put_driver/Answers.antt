@@ -2,10 +2,12 @@
 use Rattle.std.proofs.Common.{ℕ, ◌≡◌, refl, ap, subst, ◌∙◌}
 use Rattle.std.specs.Prelude.{Some}
 use Rattle.strm_types.specs.declared.names.Place.TheVariants.{Driver}
+use Rattle.strm_types.specs.declared.spots.Across.{Across}
 use Rattle.strm_types.specs.Deliver.{Acted, tallied}
 use Rattle.strm_types.specs.Drivers.{driver_put}
 use Rattle.strm_types.specs.Queue.{Queue}
 use Rattle.strm_laws.specs.Earlier.{before_among}
+use Rattle.strm_laws.specs.Pair.{IsKeptAhead}
 use Rattle.strm_laws.specs.Puts.{earlier_at, noted}
 use Rattle.strm_frame.specs.Outboxes.{message_in, parcels_in, sent_of}
 use Rattle.strm_frame.proofs.Handing.{can-in_hand}
@@ -24,8 +26,8 @@ put-acts-requires-clause-in_hand g c = can-in_hand (g.B.Blocks.value c.args.stor
 pub put-acts-requires-clause-room : goal.put-acts-requires-clause-room
 put-acts-requires-clause-room g c = driver-room c.args.to.way (g.B.Blocks.value c.args.store.now) (token c.args.message) c.requires.may.chain c.requires.room
 
-pub returns : goal.returns
-returns g c =
+pub returns-clause-does : goal.returns-clause-does
+returns-clause-does g c =
     let s = g.B.Blocks.value c.args.store.now in
     let p = c.args.self.now in
     let side = c.args.to.side in
@@ -48,3 +50,8 @@ returns g c =
     (rw is at (c.note.ensures s)
     ∙ ap (λ ns. record (with_end side end p) { enabled = noted side (Some Driver) (earlier_at side at (state_in s (with_end side end p))) ns p.enabled }) c.as_slice.ensures.value
     ∙ ap (λ ms. record (with_end side end p) { enabled = noted side (Some Driver) (λ way. before_among side way at ms) acts.notes.items p.enabled }) (modules-behind s p side end refl))
+
+pub returns-clause-blocks : goal.returns-clause-blocks
+returns-clause-blocks g c = λ way is.
+    let st = state_in (g.B.Blocks.value c.args.store.now) c.args.self.now in
+    c.put-acts.ensures.blocks is.held (ap (λ (x : Across). x.ended) (c.across-across.ensures (g.B.Blocks.value c.args.store.now)) ∙ subst (λ w. IsKeptAhead w c.args.to.side st) way is.kept)

@@ -1,17 +1,20 @@
 -- What goes down is made behind the put.
-use Rattle.std.proofs.Common.{cond}
+use Rattle.std.proofs.Common.{ℕ, ◌≡◌, false, cond, sym, ap, ◌∙◌, arith}
+use Rattle.std.proofs.lemmas.Bool.{false≢true}
+use Rattle.strm_types.specs.Names.{is_open}
 use Rattle.strm_types.specs.Reads.{is_there}
 use Rattle.strm_head.specs.Heads.{sent_down}
 use Rattle.strm_frame.specs.Outboxes.{message_in, sent_of}
 use Rattle.strm_types.specs.Costs.{head_takes}
 use Rattle.strm_pair.specs.Pairs.{state_in}
 use Rattle.strm_laws.specs.Puts.{put_at_head}
-use Rattle.strm_pair.proofs.PutSteps.{came-put, down-takes}
+use Rattle.strm_laws.specs.State.{Stream, stream}
+use Rattle.strm_pair.proofs.PutSteps.{came-put, down-takes, head-open}
 use Rattle.strm_pair.proofs.streams.Streams.put_head.Goals as goal
 use Rattle.strm_blocks.specs.Blocks.{token}
 
-pub returns : goal.returns
-returns g c =
+pub returns-clause-does : goal.returns-clause-does
+returns-clause-does g c =
     let s = g.B.Blocks.value c.args.store.now in
     let p = c.args.self.now in
     let i = token c.args.message in
@@ -19,4 +22,18 @@ returns g c =
     let to = c.args.to in
     let down = c.come-down.result in
     came-put s (g.B.Blocks.value c.come-down.new.store) (g.B.Blocks.value c.send_down.new.store) p c.come-down.new.self i (cond (is_there down) 1 0) (head_takes m) (sent_down to down) (sent_of c.send_down.result)
-    c.args.told.now c.come-down.new.told (put_at_head to.side to m (state_in s p)) c.requires.may.can_put c.come-down.ensures c.send_down.ensures (down-takes to.side to m (state_in s p) down c.come-down.ensures.down_is)
+    c.args.told.now c.come-down.new.told (put_at_head to.side to m (state_in s p)) c.requires.may.can_put c.come-down.ensures c.send_down.ensures.makes (down-takes to.side to m (state_in s p) down c.come-down.ensures.down_is)
+
+pub returns-then-not-is_open-clause-blocks : goal.returns-then-not-is_open-clause-blocks
+returns-then-not-is_open-clause-blocks g c = λ is.
+    let s = g.B.Blocks.value c.args.store.now in
+    let st = state_in s c.args.self.now in
+    let to = c.args.to in
+    let closed : is_open (stream to.side st).opened ≡ false = sym (ap (λ (on : Stream ℕ). is_open on.opened) (c.end.ensures.stream s)) ∙ sym c.is_open.ensures ∙ c.if-not-is_open.true in
+    absurd (false≢true (sym closed ∙ head-open to (message_in s (token c.args.message)) st c.requires.top is))
+
+pub returns-clause-blocks : goal.returns-clause-blocks
+returns-clause-blocks g c = λ is.
+    let first = c.come-down.ensures.blocks is.held in
+    let second = c.send_down.ensures.blocks in
+    (omega (arith, first.0, second.0), omega (arith, first.1, second.1))

@@ -63,8 +63,8 @@ book_made-requires-clause-slave g c =
     let book = ap (λ (y : Streams). y.books.slave.made) (c.note.ensures s) ∙ ap (λ (y : Streams). y.books.slave.made) e.streams in
     λ some. (let fits = put-fits to m st small c.requires.books SlaveToMaster (omega (arith, some, made)) in omega (arith, made, book, fits))
 
-pub returns : goal.returns
-returns g c =
+pub returns-clause-does : goal.returns-clause-does
+returns-clause-does g c =
     let s = g.B.Blocks.value c.args.store.now in
     let i = token c.args.message in
     let p = c.args.self.now in
@@ -97,3 +97,6 @@ returns g c =
     (c.book_made.ensures
     ∙ ap (λ (z : Streams). record z { books = with_more a b z.books }) (c.note.ensures t ∙ ap (λ ns. record y { enabled = noted to.side place earlier ns y.enabled }) c.as_slice.ensures.value)
     ∙ ap at e.streams)
+
+pub returns-clause-blocks : goal.returns-clause-blocks
+returns-clause-blocks g c = λ is. c.put_on_stack-acts.ensures.takes.blocks is.held

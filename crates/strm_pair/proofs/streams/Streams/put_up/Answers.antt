@@ -1,5 +1,6 @@
 -- What was sent across is for the driver, and all else goes on.
 use Rattle.std.proofs.Common.{ℕ, ◌≡◌, Bool, true, false, cond, List, refl, sym, ap, subst, ◌∙◌, arith}
+use Rattle.std.proofs.lemmas.Bool.{false≢true}
 use Rattle.std.proofs.lemmas.Bool.Decides.{nat_tests}
 use Rattle.std.specs.Prelude.{◌&&◌, ◌==◌, not}
 use Rattle.strm_types.specs.declared.kinds.MsgKind.{MsgKind}
@@ -9,6 +10,7 @@ use Rattle.strm_types.specs.Flush.{is_data_kind}
 use Rattle.strm_types.specs.Flushing.{is_flush, is_bare_flush}
 use Rattle.strm_types.specs.Message.{has_parts}
 use Rattle.strm_laws.specs.Puts.{passed_up, put_at_driver}
+use Rattle.strm_laws.proofs.Staying.{no-flush}
 use Rattle.strm_blocks.specs.Blocks.{Block, block_at, in_hand, token}
 use Rattle.strm_msg.specs.Messages.{IsChain, message_of}
 use Rattle.strm_msg.proofs.Chains.{kind-is}
@@ -59,8 +61,8 @@ put_driver-requires-clause-room g c =
     let parts = has_parts (message_in s i) in
     subst (λ w. HasRoom s (below_takes w parts true)) (sym c.requires.up) (subst (λ b. HasRoom s (below_takes Up parts b)) across c.requires.room)
 
-pub returns-then-is_flush : goal.returns-then-is_flush
-returns-then-is_flush g c =
+pub returns-then-is_flush-clause-does : goal.returns-then-is_flush-clause-does
+returns-then-is_flush-clause-does g c =
     let s = g.B.Blocks.value c.args.store.now in
     let t = g.B.Blocks.value c.put_driver.new.store in
     let i = token c.args.message in
@@ -71,10 +73,10 @@ returns-then-is_flush g c =
     let across : is_across to m ≡ true = ap (λ b. b && (to.at == 4)) flush ∙ at-place c.args.to.at c.if-to.true in
     let sent = sent_of c.put_driver.result in
     subst (λ b. PutBy s t p c.put_driver.new.self i (cond b 1 0) sent c.args.told.now c.put_driver.new.told (cond b (put_at_driver to.side to m (state_in s p)) (passed_up to m (state_in s p)))) (sym across)
-    (subst (λ w. PutBy s t p c.put_driver.new.self i (below_takes w (has_parts m) true) sent c.args.told.now c.put_driver.new.told (put_at_driver to.side to m (state_in s p))) c.requires.up c.put_driver.ensures)
+    (subst (λ w. PutBy s t p c.put_driver.new.self i (below_takes w (has_parts m) true) sent c.args.told.now c.put_driver.new.told (put_at_driver to.side to m (state_in s p))) c.requires.up c.put_driver.ensures.does)
 
-pub returns : goal.returns
-returns g c =
+pub returns-clause-does : goal.returns-clause-does
+returns-clause-does g c =
     let s = g.B.Blocks.value c.args.store.now in
     let i = token c.args.message in
     let p = c.args.self.now in
@@ -89,3 +91,13 @@ returns g c =
       | else-to-via-else-to w ↦ ap (λ b. is_bare_flush m && b) (at-other to.at w.if-to.false) ∙ and-false (is_bare_flush m)
     ] in
     subst (λ b. PutBy s s p p i (cond b 1 0) sent f f (cond b (put_at_driver to.side to m (state_in s p)) (passed_up to m (state_in s p)))) (sym passes) (c.pass_up.ensures f)
+
+pub returns-then-is_flush-clause-blocks : goal.returns-then-is_flush-clause-blocks
+returns-then-is_flush-clause-blocks g c = λ is.
+    let i = token c.args.message in
+    let s = g.B.Blocks.value c.args.store.now in
+    let flush : is_flush (message_in s i).kind ≡ true = ap is_flush (kind-is (in_hand s i) ∙ sym c.kind.ensures) ∙ sym c.is_flush.ensures ∙ c.if-is_flush.true in
+    absurd (false≢true (sym (no-flush (message_in s i).kind is.held) ∙ flush))
+
+pub returns-clause-blocks : goal.returns-clause-blocks
+returns-clause-blocks g c = λ is. (omega arith, omega arith)

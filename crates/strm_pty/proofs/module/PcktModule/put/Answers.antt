@@ -26,5 +26,6 @@ returns g c =
       falls = packs-fall s t n here c.put.result _ _ c.requires.inside c.requires.small e;
       hands = packs-hands s t n here c.put.result _ _ c.requires.inside c.requires.small e;
       spends = packs-spends s t n here c.put.result _ _ c.requires.inside c.requires.small e;
+      blocks = e.blocks;
       pool = e.swaps.hands.pool;
     }

@@ -21,5 +21,6 @@ returns g c =
       falls = search rules;
       hands = e.hands;
       spends = e.spends;
+      blocks = c.put.ensures.blocks;
       pool = e.pool;
     }

@@ -1,5 +1,15 @@
-use Rattle.strm_script.proofs.EngineSteps.{breaks_none}
+use Rattle.std.proofs.Common.{arith, ap, subst}
+use Rattle.strm_script.specs.Sessions.{SessionValue, TakesEnd}
+use Rattle.strm_script.specs.Steps.{value_of}
+use Rattle.strm_script.proofs.EngineSteps.{EndsInput-taken, EndsInput-short}
 use Rattle.strm_script.proofs.session.Session.finish.Goals as goal
 
-pub returns-then-self-ge-LINES_MAX : goal.returns-then-self-ge-LINES_MAX
-returns-then-self-ge-LINES_MAX g c = breaks_none _
+pub returns-clause-ends : goal.returns-clause-ends
+returns-clause-ends g c =
+    subst (λ v. TakesEnd v (value_of c.finish.new.self) c.finish.result) c.self.view_is (EndsInput-taken _ _ _ c.finish.ensures)
+
+pub returns-clause-limit : goal.returns-clause-limit
+returns-clause-limit g c = (
+  λ e. absurd (EndsInput-short _ _ _ c.finish.ensures e),
+  λ h. absurd (omega (arith, ap (λ (v : SessionValue). v.point.lines) c.self.view_is)),
+)

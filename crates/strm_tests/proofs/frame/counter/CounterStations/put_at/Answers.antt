@@ -14,8 +14,8 @@ use Rattle.strm_blocks.specs.Blocks.{token}
 pub free-requires : goal.free-requires
 free-requires g c = can-in_hand _ _ _ c.audit.ensures c.requires.can_put
 
-pub returns-then-to-eq0 : goal.returns-then-to-eq0
-returns-then-to-eq0 g c =
+pub returns-then-to-eq0-clause-puts : goal.returns-then-to-eq0-clause-puts
+returns-then-to-eq0-clause-puts g c =
     let s = g.B.Blocks.value c.args.store.now in
     let n = token c.args.message in
     record {
@@ -30,8 +30,8 @@ returns-then-to-eq0 g c =
       pool = search rules;
     }
 
-pub returns : goal.returns
-returns g c =
+pub returns-clause-puts : goal.returns-clause-puts
+returns-clause-puts g c =
     let s = g.B.Blocks.value c.args.store.now in
     let next : Sent = record { to = record c.args.to { at = c.args.to.at - 1; way = Up }; message = c.args.message } in
     let some : 0 < c.args.to.at = grind (arith, nat_tests, c.if-to-eq0.false) in

@@ -23,6 +23,6 @@ returns g c =
     let xs = c.args.self.now.modules.modules.items in
     let ys = c.deliver.new.stations.modules.modules.items in
     record {
-      are = c.deliver.ensures.held;
-      hand = none-left s (g.B.Blocks.value c.deliver.new.store) n (in_hand s n) (all_of (λ y i. 0) xs) (all_of (λ y i. 0) ys) c.requires.alone (kept-none ys) c.deliver.ensures.hands;
+      are = c.deliver.ensures.delivers.held;
+      hand = none-left s (g.B.Blocks.value c.deliver.new.store) n (in_hand s n) (all_of (λ y i. 0) xs) (all_of (λ y i. 0) ys) c.requires.alone (kept-none ys) c.deliver.ensures.delivers.hands;
     }

@@ -72,9 +72,9 @@ returns g c =
     let ys = c.serve-served.new.self.modules.items in
     let zs = c.deliver.new.stations.modules.modules.items in
     let here : Spot = record { side = Slave; at = c.args.at; way = Down } in
-    let carried : Hands t u n (all_of (λ y i. 0) ys) (all_of (λ y i. 0) zs) (λ _. 0) = subst (λ (m : Stream toy.Stock). Hands t u n (all_of (λ y i. 0) m.modules.items) (all_of (λ y i. 0) zs) (λ _. 0)) c.note_all.ensures c.deliver.ensures.hands in
+    let carried : Hands t u n (all_of (λ y i. 0) ys) (all_of (λ y i. 0) zs) (λ _. 0) = subst (λ (m : Stream toy.Stock). Hands t u n (all_of (λ y i. 0) m.modules.items) (all_of (λ y i. 0) zs) (λ _. 0)) c.note_all.ensures c.deliver.ensures.delivers.hands in
     record {
-      are = c.deliver.ensures.held;
+      are = c.deliver.ensures.delivers.held;
       hand = sent-rest s t (all_of (λ y i. 0) xs) (all_of (λ y i. 0) ys) _ c.requires.rest.hand (kept-none xs) (kept-none ys) c.serve-served.ensures.does.hands c.in-Some.next _ c.in-Some.ensures
           here false (stop_of c.serve-served.result) _ (map (λ y. stock_in s y.name y.queue) xs) u (all_of (λ y i. 0) zs) c.serve-served.ensures.does.sent (kept-none zs) carried;
     }

@@ -15,8 +15,8 @@ use Rattle.strm_tests.proofs.frame.rig.RigStations.put_at.Goals as goal
 pub free-requires : goal.free-requires
 free-requires g c = can-in_hand _ _ _ c.audit.ensures c.requires.can_put
 
-pub returns-then-is_end : goal.returns-then-is_end
-returns-then-is_end g c =
+pub returns-then-is_end-clause-puts : goal.returns-then-is_end-clause-puts
+returns-then-is_end-clause-puts g c =
     let s = g.B.Blocks.value c.args.store.now in
     let n = token c.args.message in
     let xs = c.args.self.now.modules.modules.items in
@@ -45,8 +45,8 @@ put-acts-requires g c =
     let few : c.args.to.at ≤ length xs = omega (arith, inside, two) in
     (omega arith, (low, (few, (c.requires.held.held, (c.requires.can_put, (c.requires.chain, record { mblks = omega (arith, none); dblks = omega (arith, none) }))))))
 
-pub returns : goal.returns
-returns g c =
+pub returns-clause-puts : goal.returns-clause-puts
+returns-clause-puts g c =
     let xs = c.args.self.now.modules.modules.items in
     let s = g.B.Blocks.value c.args.store.now in
     let t = g.B.Blocks.value c.put-acts.new.store in

@@ -47,6 +47,7 @@ returns-then-stays g c =
       falls = none-lower _ far _ _ c.none.ensures;
       hands = none-hands _ _ (once n) (λ _. 0) (λ _. 0) _ c.none.ensures (joined-hands s _ n _ _ c.audit.ensures c.requires.can_put e.changes e.frees);
       spends = frees-spends _ _ _ e.frees;
+      blocks = λ held. e.blocks;
       pool = search rules;
     }
 
@@ -75,5 +76,6 @@ returns g c =
           (onward-falls kind here c.toward.result c.requires.inside c.requires.small (c.toward.ensures ∙ ap (λ w. toward w here) c.onward.ensures));
       hands = one-hands s next (λ _. 0) _ c.one.ensures;
       spends = record { mblks = omega arith; dblks = omega arith };
+      blocks = λ held. (omega arith, omega arith);
       pool = search rules;
     }

@@ -1,0 +1,74 @@
+-- Taking an entry of a stored journal.
+use Rattle.std.proofs.Common.{ℕ, zero, suc, ◌≡◌, ◌<◌, ◌≤◌, ◌+◌, List, [], ◌∷◌, ◌++◌, length, take, drop, refl, sym, ap, subst, ◌∙◌, arith, length-append}
+use Rattle.std.proofs.lemmas.Bool.{le-leb, lt-leb, ltb-true}
+use Rattle.std.proofs.lemmas.List.{drop_at, length-take-le}
+use Rattle.std.proofs.lemmas.Option.{slice_get_read}
+use Rattle.std.specs.Prelude.{Bool, true, false, Option, Some, None, nat_le, nat_lt, get_or, slice_get, sum_by}
+use Rattle.strm_types.specs.declared.entries.Entry.{Entry}
+use Rattle.strm_types.specs.Journal.{PlainEntry, entry_in, entry_len, entries_in, room_of, room_used}
+use Rattle.strm_laws.specs.Pair.{PairState}
+use Rattle.strm_handle.specs.Entries.{Enters, StandsAt, Taking, Takes, TakesAt, taken_where}
+use Rattle.strm_handle.proofs.StoredEntries.{StoredAt, of-own, room-stored, stored-at}
+
+none-at : (entries : List (Entry ℕ)) (bytes : List ℕ) (place : ℕ) → slice_get entries place ≡ None → slice_get (entries_in entries bytes) place ≡ None
+none-at [] bytes place is = refl
+none-at (e ∷ entries) bytes zero is = absurd (cc)
+none-at (e ∷ entries) bytes (suc place) is = none-at entries (drop (entry_len e) bytes) place is
+
+module _ (entries : List (Entry ℕ)) (bytes : List ℕ) (p : PairState) (old new : Taking) (n : ℕ) (stored : entries_in entries bytes ≡ p.journal) where
+  -- behind the last entry
+  pub takes-none : slice_get entries old.at.entry ≡ None → n ≡ 2 → new ≡ old → TakesAt p old new n
+  takes-none is told same =
+      let none : slice_get p.journal old.at.entry ≡ None = ap (λ es. slice_get es old.at.entry) (sym stored) ∙ none-at entries bytes old.at.entry is in
+      subst (λ (o : Option PlainEntry). Takes o (StandsAt old.at p) old new n) (sym none) (told, same)
+
+  -- an entry whose bytes stand at the cursor
+  pub takes-some : (s : Entry ℕ) → sum_by entry_len entries ≡ length bytes → slice_get entries old.at.entry ≡ Some s
+      → (old.at.byte + entry_len s ≤ length bytes → taken_where (nat_le (room_of (entry_in s (drop old.at.byte bytes))) (length old.out)) (entry_in s (drop old.at.byte bytes)) old new n)
+      → TakesAt p old new n
+  takes-some s lengths is so =
+      let from : ℕ = room_used (take old.at.entry (entries_in entries bytes)) in
+      let there : StoredAt entries bytes old.at.entry s from = stored-at entries bytes old.at.entry s lengths is in
+      let some : slice_get p.journal old.at.entry ≡ Some (entry_in s (drop from bytes)) = ap (λ es. slice_get es old.at.entry) (sym stored) ∙ there.is in
+      subst (λ (o : Option PlainEntry). Takes o (StandsAt old.at p) old new n) (sym some)
+      (λ stands. let same : old.at.byte ≡ from = stands ∙ ap (λ es. room_used (take old.at.entry es)) (sym stored) in
+      subst (λ k. taken_where (nat_le (room_of (entry_in s (drop k bytes))) (length old.out)) (entry_in s (drop k bytes)) old new n) same (so (omega (arith, there.within, same))))
+
+-- what a slice lends
+pub is-there : (entries : List (Entry ℕ)) (place : ℕ) (s : Entry ℕ) → true ≡ nat_lt place (length entries) → s ≡ get_or entries place s → slice_get entries place ≡ Some s
+is-there entries place s within is = slice_get_read entries (length entries) place s refl (ltb-true place (length entries) (sym within)) is
+
+-- no entry has more bytes than the journal
+pub stored-short : (entries : List (Entry ℕ)) (bytes : List ℕ) (place : ℕ) (s : Entry ℕ) → sum_by entry_len entries ≡ length bytes → slice_get entries place ≡ Some s → entry_len s ≤ length bytes
+stored-short entries bytes place s lengths is = let there = stored-at entries bytes place s lengths is in omega (arith, there.within)
+
+module _ (s : Entry ℕ) (bytes : List ℕ) (le : entry_len s ≤ length bytes) (old new : Taking) (n : ℕ) (reads : Enters new.told s)
+    (sum : new.told.brings + new.told.reply.bytes ≡ entry_len s) where
+  -- its bytes don't fit
+  pub asks-room : length old.out < entry_len s → new.out ≡ old.out → new.at ≡ old.at → n ≡ 1 → taken_where (nat_le (room_of (entry_in s bytes)) (length old.out)) (entry_in s bytes) old new n
+  asks-room small out at told =
+      let room : room_of (entry_in s bytes) ≡ entry_len s = room-stored s bytes le in
+      let no : nat_le (room_of (entry_in s bytes)) (length old.out) ≡ false = lt-leb (room_of (entry_in s bytes)) (length old.out) (omega (arith, room, small)) in
+      subst (λ (b : Bool). taken_where b (entry_in s bytes) old new n) (sym no)
+      (told, record { missing = bytes; told = reads bytes le; bytes = sum ∙ sym room; out = out; at = at })
+
+  -- they stand at the front of the buffer
+  pub takes-entry : entry_len s ≤ length old.out → new.out ≡ take (entry_len s) bytes ++ drop (entry_len s) old.out → new.at.entry ≡ old.at.entry + 1 → new.at.byte ≡ old.at.byte + entry_len s → n ≡ 0
+      → taken_where (nat_le (room_of (entry_in s bytes)) (length old.out)) (entry_in s bytes) old new n
+  takes-entry fits out entry byte told =
+      let room : room_of (entry_in s bytes) ≡ entry_len s = room-stored s bytes le in
+      let yes : nat_le (room_of (entry_in s bytes)) (length old.out) ≡ true = le-leb (room_of (entry_in s bytes)) (length old.out) (omega (arith, room, fits)) in
+      let own = length-take-le (entry_len s) bytes le in
+      let long : entry_len s ≤ length new.out = omega (arith, own, ap length out, length-append (take (entry_len s) bytes) (drop (entry_len s) old.out)) in
+      let same : entry_in s new.out ≡ entry_in s bytes = ap (λ bs. entry_in s bs) out ∙ of-own s bytes le (drop (entry_len s) old.out) in
+      let others : drop (entry_len s) new.out ≡ drop (entry_len s) old.out = ap (λ bs. drop (entry_len s) bs) out ∙ drop_at (take (entry_len s) bytes) (drop (entry_len s) old.out) (entry_len s) own in
+      subst (λ (b : Bool). taken_where b (entry_in s bytes) old new n) (sym yes) (
+        told,
+        record {
+          told = reads new.out long ∙ ap (λ e. Some e) same;
+          bytes = sum ∙ sym room;
+          others = rw room others;
+          entry = entry;
+          byte = rw room byte;
+        },
+      )

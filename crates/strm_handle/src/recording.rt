@@ -1,0 +1,72 @@
+//! The journal of a pair, entry by entry, and its beginning anew.
+
+ghost use Rattle.std.specs.Prelude.{◌≡◌};
+ghost use Rattle.strm_handle.specs.Entries.{NextEntry, TakesAt, taking};
+ghost use Rattle.strm_handle.specs.Outcomes.{Restarts};
+
+use crate::entries::{Cursor, Entered, numbers_of};
+use crate::handle::Handle;
+use crate::kept::{give, refused};
+use std::alloc::Global;
+use strm_pair::Pair;
+use strm_raw::RawStore;
+use strm_types::Refusal;
+
+// Takes the entry at a cursor.
+fn take_entry(pair: &Pair<RawStore>, at: &mut Cursor, told: &mut Entered, out: &mut [u8]) -> u32
+    ensures { TakesAt pair.now (taking at.old told.old out.old) (taking at.new told.new out.new) result }
+{
+    let recorded = pair.journal();
+    let kept = recorded.bytes.len();
+    let Some(entry) = recorded.entries.get(at.entry) else {
+        return refused(Refusal::Eagain);
+    };
+    let entry = numbers_of(entry);
+    let room = entry.brings + entry.reply.bytes;
+    // A cursor that stands at an entry has its bytes behind it.
+    if at.byte > kept || room > kept - at.byte {
+        return refused(Refusal::Einval);
+    }
+    *told = entry;
+    if room > out.len() {
+        return refused(Refusal::Einval);
+    }
+    let behind = at.byte + room;
+    give(&recorded.bytes[at.byte..behind], out);
+    *at = Cursor {
+        entry: at.entry + 1,
+        byte: behind,
+    };
+    0
+}
+
+/// Takes the entry at a cursor, which moves behind it. `out` has room for the bytes of its call and those of its answer.
+pub fn next_entry(
+    alloc: Global,
+    handle: &mut Handle,
+    at: &mut Cursor,
+    told: &mut Entered,
+    out: &mut [u8],
+) -> u32
+    ensures stays { handle.new.held.kept ≡ handle.old.held.kept }
+    ensures taken { NextEntry handle.old.held.kept (taking at.old told.old out.old) (taking at.new told.new out.new) result }
+{
+    let Some(kept) = handle.take(alloc) else {
+        return refused(Refusal::Einval);
+    };
+    let answered = take_entry(&kept.pair, at, told, out);
+    handle.put(kept);
+    answered
+}
+
+/// Begins the journal of a pair anew, in place. No memory is taken.
+pub fn restart(alloc: Global, handle: &mut Handle) -> u32
+    ensures { Restarts handle.old.held.kept handle.new.held.kept result }
+{
+    let Some(mut kept) = handle.take(alloc) else {
+        return refused(Refusal::Einval);
+    };
+    kept.as_mut().restart();
+    handle.put(kept);
+    0
+}

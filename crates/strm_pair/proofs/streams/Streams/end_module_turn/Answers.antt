@@ -1,0 +1,41 @@
+-- The nearest earlier queue is the one that it was before the turn ended, as the modules keep their names.
+use Rattle.std.proofs.Common.{ℕ, false, ap, ◌∙◌}
+use Rattle.strm_types.specs.ModuleQueues.{at_place}
+use Rattle.strm_types.specs.Names.{enable_if, enable_some}
+use Rattle.strm_types.specs.Service.{end_relieves, has_more}
+use Rattle.strm_laws.specs.Earlier.{before_at}
+use Rattle.strm_laws.specs.ModuleTurns.{queue_ended}
+use Rattle.strm_laws.specs.Stacked.{module_queue}
+use Rattle.strm_laws.specs.State.{State, stream, with_stream}
+use Rattle.strm_pair.specs.declared.streams.Streams.{Streams}
+use Rattle.strm_pair.specs.Pairs.{state_in}
+use Rattle.strm_pair.proofs.NearestStays.{before-ended}
+use Rattle.strm_pair.proofs.streams.Streams.end_module_turn.Goals as goal
+
+pub returns-clause-state : goal.returns-clause-state
+returns-clause-state g c =
+    let s = g.B.Blocks.value c.args.store.now in
+    let here = c.args.here in
+    let name = c.args.name in
+    let st = state_in s c.args.self.now in
+    let q = c.end_queue-end.new.self in
+    let e = c.end_queue-end.ensures in
+    let gone = c.let_go.ensures s in
+    let ms = (stream here.side st).modules in
+    let more = at_place (has_more module_queue here.way) false here.at ms in
+    let room = at_place (end_relieves module_queue c.args.took here.way) false here.at ms in
+    let ended = with_stream here.side (queue_ended here c.args.took (stream here.side st)) st in
+    ap (λ (x : Streams). record (state_in s x) { enabled = c.enable_if.new.self }) gone
+    ∙ ap (λ ns. record (state_in s q) { enabled = ns })
+    (c.enable_if.ensures
+    ∙ ap (λ b. enable_if b name c.let_go.new.self.enabled) e.more
+    ∙ ap (λ (x : Streams). enable_if more name x.enabled) gone
+    ∙ ap (λ b. enable_if more name (enable_some b (before_at here.side here.way here.at (state_in s q)) q.enabled)) e.room)
+    ∙ ap (λ (x : State ℕ). record x { enabled = enable_if more name (enable_some room (before_at here.side here.way here.at x) x.enabled) }) e.state
+    ∙ ap (λ n. record ended { enabled = enable_if more name (enable_some room n st.enabled) }) (before-ended here.side here.way here.at here c.args.took st)
+
+pub returns-clause-beside : goal.returns-clause-beside
+returns-clause-beside g c = rw (c.let_go.ensures (g.B.Blocks.value c.args.store.now)) c.end_queue-end.ensures.beside
+
+pub returns-clause-keeps : goal.returns-clause-keeps
+returns-clause-keeps g c = λ i. rw (c.let_go.ensures (g.B.Blocks.value c.args.store.now)) (c.end_queue-end.ensures.keeps i)

@@ -1,0 +1,46 @@
+-- Messages that come to stand on a queue of a pair with their blocks, so that none becomes free (put(9E), putq(9F)).
+use Rattle.std.specs.Prelude.{ℕ, ◌≡◌, ◌<◌, true, List, [], ◌∷◌}
+use Rattle.std.proofs.Common.{sym, subst}
+use Rattle.strm_types.specs.declared.names.Side.{Side}
+use Rattle.strm_types.specs.declared.names.Way.{Way}
+use Rattle.strm_types.specs.declared.names.Way.TheVariants.{Down}
+use Rattle.strm_types.specs.declared.spots.Spot.{Spot}
+use Rattle.strm_types.specs.Cells.{plain}
+use Rattle.strm_types.specs.Deliver.{Parcel}
+use Rattle.strm_types.specs.Message.{Message, is_held}
+use Rattle.strm_laws.specs.Pair.{IsKeptAhead}
+use Rattle.strm_laws.specs.Puts.{put_in}
+use Rattle.strm_laws.specs.State.{State}
+use Rattle.strm_laws.proofs.Staying.{SentOn, kept-ahead, puts-go, puts-same}
+use Rattle.strm_blocks.specs.Blocks.{StoreValue}
+use Rattle.strm_queue.specs.Stored.{FreesNone}
+use Rattle.strm_frame.specs.Does.{StaysAlone}
+use Rattle.strm_frame.specs.Outboxes.{message_in}
+use Rattle.strm_pair.specs.declared.streams.Streams.{Streams}
+use Rattle.strm_pair.specs.Pairs.{state_in}
+
+-- An M_DATA or M_PROTO that is put at a spot and is kept ahead: one that goes down is below the head.
+pub record ComesToStand (s : State ℕ) (to : Spot) (m : Message ℕ) : Type 0 where
+  pub held : is_held m.kind ≡ true
+  pub below : to.way ≡ Down → 0 < to.at
+  pub kept : IsKeptAhead to.way to.side s
+
+-- such a message frees no block
+abbrev pub KeepsBlocks : (old new : StoreValue) → Streams → Spot → ℕ → Type 0
+KeepsBlocks old new p to message = ComesToStand (state_in old p) to (message_in old message) → FreesNone old new
+
+-- What is sent on from a spot, where it is one such message or none, stays.
+pub sent-stays : (to : Spot) (s : State ℕ) (ps : List (Parcel ℕ)) → SentOn to ps → IsKeptAhead to.way to.side s → StaysAlone ComesToStand s ps
+sent-stays to s [] on kept = tt
+sent-stays to s (x ∷ []) on kept = record {
+  held = on.0;
+  below = on.3;
+  kept = subst (λ (w : Way). IsKeptAhead w x.to.side s) (sym on.2) (subst (λ (sd : Side). IsKeptAhead to.way sd s) (sym on.1) kept);
+}
+sent-stays to s (x ∷ y ∷ more) on kept = absurd on
+
+-- It waits there, or goes on as one.
+pub comes-on : (to : Spot) (m : Message ℕ) (s : State ℕ) → ComesToStand s to m → let t = put_in plain to m s in StaysAlone ComesToStand t.state t.sent
+comes-on to m s is =
+    let t = put_in plain to m s in
+    sent-stays to t.state t.sent (puts-go to m is.held s) (kept-ahead to.way to.side s t.state (puts-same to m s) is.kept)
