@@ -1,19 +1,18 @@
 -- What the ends of a round were told, call by call, and what is told where they settle.
-use Rattle.std.proofs.Common.{◌≡◌, ℕ, zero, suc, ◌+◌, ◌<◌, List, [], ◌∷◌, ◌++◌, length, refl, sym, ap, ◌∙◌, subst, arith, append_assoc}
-use Rattle.std.specs.Prelude.{All, Option, None, Some, Result, Ok, Err, IfOk, slice_get}
+use Rattle.std.proofs.Common.{◌≡◌, ℕ, zero, suc, ◌+◌, List, [], ◌∷◌, ◌++◌, length, refl, sym, ap, ◌∙◌, subst, arith}
+use Rattle.std.specs.Prelude.{Option, None, Some, Result, Ok, Err, IfOk, slice_get}
 use Rattle.strm_types.specs.declared.answers.Answer.{Answer}
 use Rattle.strm_types.specs.declared.entries.Entry.TheVariants.{Called}
 use Rattle.strm_types.specs.declared.events.Caller.{Caller}
 use Rattle.strm_types.specs.declared.events.Event.TheVariants.{OpenMaster, OpenSlave, Unlock}
 use Rattle.strm_types.specs.declared.names.Side.TheVariants.{Slave}
-use Rattle.strm_types.specs.Events.{Reply, Request}
+use Rattle.strm_types.specs.Events.{Request}
 use Rattle.strm_types.specs.JobControl.{caller_of}
 use Rattle.strm_types.specs.Journal.{PlainEntry, reply_in}
 use Rattle.strm_laws.specs.Pair.{PairState}
 use Rattle.strm_locks.specs.declared.held.Settled.{Settled}
-use Rattle.strm_locks.specs.declared.told.Told.{Told}
 use Rattle.strm_locks.specs.Books.{IsReordered, LockId, history_of, pick, plus, tally_of, told, weigh}
-use Rattle.strm_locks.specs.Ends.{Calls, Gains, IsOpened, Share, joined_end, kept_end, slave_end}
+use Rattle.strm_locks.specs.Ends.{Calls, IsOpened, Share, kept_end, slave_end}
 use Rattle.strm_locks.specs.Settles.{IsAll}
 use Rattle.strm_locks.specs.Shares.{entry_of, opener}
 use Rattle.strm_locks.specs.Systems.{IsOne, Numbered, Plan, numbered}

@@ -10,7 +10,7 @@ use Rattle.strm_types.specs.JobControl.{caller_of}
 use Rattle.strm_types.specs.Journal.{PlainEntry}
 use Rattle.strm_laws.specs.Pair.{PairState, new_pair}
 use Rattle.strm_locks.specs.declared.held.Settled.{Settled}
-use Rattle.strm_locks.specs.Books.{IsReordered, LockId, history_of, pick, tally_of, told, weigh}
+use Rattle.strm_locks.specs.Books.{IsReordered, history_of, pick, tally_of, told, weigh}
 use Rattle.strm_locks.specs.Ends.{Share, joined_end}
 use Rattle.strm_locks.specs.Settles.{IsSettled, ShowsPair}
 use Rattle.strm_locks.specs.Shares.{opener}

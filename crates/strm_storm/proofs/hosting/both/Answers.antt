@@ -1,4 +1,4 @@
-use Rattle.std.proofs.Common.{◌≡◌, ◌∙◌, length, ap, sym, arith, subst, length-append}
+use Rattle.std.proofs.Common.{◌∙◌, length, ap, sym, arith, subst, length-append}
 use Rattle.std.specs.Prelude.{All}
 use Rattle.std.proofs.lemmas.List.Elements.{All-append}
 use Rattle.strm_storm.specs.Rounds.{IsRoundOf}

@@ -13,5 +13,5 @@ returns-in-Count-eq3-clause-asks g c =
     let three : Answer ℕ = Count 3 in
     let is : c.in_ok-call.field-0 ≡ three = c.in-Count-eq3.is ∙ ap (λ (n : ℕ). let a : Answer ℕ = Count n in a) c.in-Count-eq3.field-0-test in
     let bytes : c.as_slice-bytes.result.now ≡ word = search rules in
-    let told = subst (λ xs. Calls c.args.end.now.end (Write xs) _ c.call.new.out.items (Ok c.in_ok-call.field-0) c.call.new.end.end) bytes c.in_ok-call.ensures.told in
-    asked_by c.args.end.now c.call.new.end (Write word) _ c.call.new.out.items three c.call.ensures.pair (subst (λ x. Calls c.args.end.now.end (Write word) _ c.call.new.out.items (Ok x) c.call.new.end.end) is told)
+    let told = subst (λ xs. Calls c.args.end.now.end (Write xs) c.new.result.items c.call.new.out.items (Ok c.in_ok-call.field-0) c.call.new.end.end) bytes c.in_ok-call.ensures.told in
+    asked_by c.args.end.now c.call.new.end (Write word) c.new.result.items c.call.new.out.items three c.call.ensures.pair (subst (λ x. Calls c.args.end.now.end (Write word) c.new.result.items c.call.new.out.items (Ok x) c.call.new.end.end) is told)
