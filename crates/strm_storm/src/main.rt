@@ -1,10 +1,13 @@
-//! Storms of calls: threads that call at random on the pairs of a system, while workers make the turns. Each line of standard input is a
-//! plan, and is answered by a line. The first that is none ends the program with status 1.
+//! Storms of calls: threads that call at random on the pairs of a system, while workers make the turns; and rounds at the pairs of a host. Each
+//! line of standard input is a plan, and is answered by a line. The first that is none ends the program with status 1.
 #![tactic(auto)]
 
+mod hosting;
 mod plans;
+mod rounds;
 
-use crate::plans::read_plan;
+use crate::hosting::serve;
+use crate::plans::{Asked, read_plan};
 use strm_system::{StormReport, storm};
 
 // How many calls were made, granted and refused ones.
@@ -20,14 +23,24 @@ fn main(rt: HostRuntime) -> anyhow::Result<()> {
     for line in rt.lines(rt.alloc()) {
         let line = line?;
         let words: Vec<&str> = line.split_whitespace().collect(rt.alloc())?;
-        let asked = read_plan(&words)?;
-        let report = storm(&rt, rt.alloc(), asked.plan);
+        let (plan, whole) = match read_plan(&words)? {
+            Asked::Storm { plan, whole } => (plan, whole),
+            Asked::Host(plan) => {
+                let report = serve(&rt, rt.alloc(), plan)?;
+                println!(rt;
+                    "{} pairs settled, {} refused",
+                    report.settled, report.refused
+                )?;
+                continue;
+            }
+        };
+        let report = storm(&rt, rt.alloc(), plan);
         let end = if report.settled {
             "settled"
         } else {
             "not settled"
         };
-        if asked.whole {
+        if whole {
             println!(rt;
                 "{} granted, refused by number {:?}, {end}",
                 report.calls, report.refused

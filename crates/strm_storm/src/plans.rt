@@ -1,6 +1,6 @@
 //! How a plan is read.
 
-ghost use Rattle.std.specs.Prelude.{◌<◌, length};
+ghost use Rattle.std.specs.Prelude.{◌<◌, ◌≤◌, length};
 
 use strm_system::StormPlan;
 use thiserror::Error;
@@ -8,9 +8,9 @@ use thiserror::Error;
 /// Why a line is no plan.
 #[derive(Clone, Copy, Debug, Error)]
 pub enum BadPlan {
-    #[error("a plan is: pairs threads calls seed, with the word report behind them or none")]
+    #[error("a plan is: pairs threads calls seed, with the word report behind them or none; or host pairs threads")]
     Words,
-    #[error("pairs are 1 to 64")]
+    #[error("pairs are 1 to 64, those of a host 1 to 65536")]
     Pairs,
     #[error("threads are 2 to 16")]
     Threads,
@@ -20,15 +20,45 @@ pub enum BadPlan {
     Seed,
 }
 
-/// A plan, and whether the whole report is asked for.
+/// A host of so many pairs, and how many threads open, write and settle them. It has 1 to 65,536 pairs, and 2 to 16 threads.
 #[derive(Clone, Copy)]
-pub struct Asked {
-    pub plan: StormPlan,
-    pub whole: bool,
+pub struct HostPlan {
+    pub pairs: u32,
+    pub threads: u32,
+    pub ghost some_pairs: { (1 ≤ pairs) × (pairs ≤ 65536) },
+    pub ghost some_threads: { (2 ≤ threads) × (threads ≤ 16) },
 }
 
-/// The plan that four words say, each a number, with the word `report` behind them or none.
+/// What a line asks for: a storm, and whether its whole report; or rounds of a host.
+#[derive(Clone, Copy)]
+pub enum Asked {
+    Storm { plan: StormPlan, whole: bool },
+    Host(HostPlan),
+}
+
+/// The plan that a line's words say.
 pub fn read_plan(words: &[&str]) -> Result<Asked, BadPlan> {
+    if words.len() == 3 && words[0] == "host" {
+        return read_host(words[1], words[2]);
+    }
+    read_storm(words)
+}
+
+// A host, by its two numbers.
+fn read_host(pairs: &str, threads: &str) -> Result<Asked, BadPlan> {
+    let pairs = number(pairs).ok_or(BadPlan::Pairs)?;
+    let threads = number(threads).ok_or(BadPlan::Threads)?;
+    if pairs == 0 || pairs > 65536 {
+        return Err(BadPlan::Pairs);
+    }
+    if threads < 2 || threads > 16 {
+        return Err(BadPlan::Threads);
+    }
+    Ok(Asked::Host(HostPlan { pairs, threads }))
+}
+
+// A storm: four numbers, with the word `report` behind them or none.
+fn read_storm(words: &[&str]) -> Result<Asked, BadPlan> {
     let whole = match words.len() {
         4 => false,
         5 if words[4] == "report" => true,
@@ -55,7 +85,7 @@ pub fn read_plan(words: &[&str]) -> Result<Asked, BadPlan> {
         calls,
         seed,
     };
-    Ok(Asked { plan, whole })
+    Ok(Asked::Storm { plan, whole })
 }
 
 // The number that a word spells.
