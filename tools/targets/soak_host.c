@@ -39,7 +39,7 @@ static size_t shown(void)
         if (e) break;
         n += r.bytes;
     }
-    if (!n && !(what & STRM_HOST_MOVED)) must(poll(&ready, 1, 10000) > 0, "nothing is shown for ten seconds");
+    if (!n && !(what & STRM_HOST_MOVED)) must(poll(&ready, 1, 120000) > 0, "nothing is shown for two minutes");
     return n;
 }
 
