@@ -1,5 +1,6 @@
-"""Sessions of a login server at once: sessions.py LOGIND NAME [SESSIONS [WRAPPER ..]], whose journals go into a new folder that begins with NAME. Each is a connection of telnet that says its window, types
-into its shell and sees what it shows; then the journal of each is made again. The status is 1 where anything isn't as it should be."""
+"""Sessions of a login server at once: sessions.py LOGIND NAME [SESSIONS [WRAPPER ..]], whose journals go into a new folder that begins with NAME.
+Each is a connection of telnet that says its window, types into its shell and sees what it shows; then the journal of each is made again. The status
+is 1 where anything isn't as it should be."""
 import os
 import pathlib
 import re
