@@ -6,7 +6,10 @@ from typing import NamedTuple
 
 BASH = ["bash", "--norc", "--noprofile", "-i"]
 # Waits till the job that was started last has stopped, or has ended, and bash knows it.
-STOPS = b"stops() { until grep -q '^State:.T' /proc/$!/status; do sleep .02; done; sleep .3; }; ends() { while [ -e /proc/$! ]; do sleep .02; done; }\r"
+STOPS = (
+    b"stops() { until grep -q '^State:.T' /proc/$!/status; do sleep .02; done; sleep .3; }; "
+    b"ends() { while [ -e /proc/$! ]; do sleep .02; done; }\r"
+)
 ASKS = 20.0
 
 

@@ -147,7 +147,8 @@ class Programs(unittest.TestCase):
     def test_by_hand(self):
         """interact between a pipe and a program."""
         code = "import sys; sys.path.insert(0, sys.argv[1]); from strm_expect import spawn; spawn('cat').interact(escape_character='q')"
-        done = subprocess.run([sys.executable, "-c", code, str(pathlib.Path(__file__).parents[1])], input=b"hi\rq", capture_output=True, timeout=LIMIT)
+        words = [sys.executable, "-c", code, str(pathlib.Path(__file__).parents[1])]
+        done = subprocess.run(words, input=b"hi\rq", capture_output=True, timeout=LIMIT)
         self.assertEqual((done.returncode, done.stdout[:4]), (0, b"hi\r\n"), done.stderr)
 
     def test_who_loops_is_broken_off(self):
