@@ -26,7 +26,7 @@ except ImportError as failure:
 LATE = 60  # seconds in which anything comes, on a machine with much else to do too
 LIMIT = 4 * LATE  # of what is expected to come sooner
 BASH = "bash --norc --noprofile -i"
-PLAIN = {"PS1": "$ ", "HISTFILE": "", "INPUTRC": "/dev/null", "LC_ALL": "C"}
+PLAIN = {"TERM": "xterm", "PS1": "$ ", "HISTFILE": "", "INPUTRC": "/dev/null", "LC_ALL": "C", "PROMPT_COMMAND": ""}
 
 
 @unittest.skipIf(MISSING, MISSING)
