@@ -127,7 +127,7 @@ PROGRAMS = {
     "joe": Program(["joe", "-asis", "text"], keys("a", "b", "c", "\x1b[B", "\x0b", "x"), 0.8, rb"\d\d?:\d\d"),
     "less": Program(["less", "-X", "long"], keys(" ", "G", "g", "/line 50\r", "n", "-N\r", (20, 70), "q"), 0.6),
     "more": Program(["more", "long"], keys(" ", "\r", "h", " ", "q"), 0.6),
-    "most": Program(["most", "long"], keys(" ", "b", "G", "q"), 0.6),
+    "most": Program(["most", "long"], keys(" ", "b", "G", "7\r", "q"), 0.6),
     "python": Program(
         [sys.executable, "-q", "-I"],
         [
