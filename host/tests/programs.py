@@ -79,7 +79,7 @@ PROGRAMS = {
             b"stty echo\r", b"cat\r", b"typed\r", b"\x1c",
             b"trap 'echo INT' INT; read x\r", b"\x03", b"\r", b"sh -c 'kill -TSTP $$; echo on'\r", b"fg\r", b"exit\r",
         ],
-        quiet=1.5,
+        quiet=3.0,
         hides=rb"\[1\] \d+",
     ),
     "dash": Program(
