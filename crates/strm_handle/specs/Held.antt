@@ -7,6 +7,7 @@ use denote.RawPtr.{Ptr}
 use Rattle.std.specs.Box.Ownership.{box_owns}
 use Rattle.std.specs.Global.{Global}
 use Rattle.std_heap.specs.contracts.GlobalAllocator.TheImpl.{ghosts}
+use Rattle.strm_image.specs.contracts.trace.Trace as trace
 use Rattle.strm_handle.specs.contracts.kept.Kept.{the_row}
 
 abbrev pub KeptValue : Type 0
@@ -23,3 +24,18 @@ IsOpen (Some kept) = Unit {0}
 
 abbrev pub kept_coded : Coded KeptValue
 kept_coded = coded_option the_row.coded
+
+-- the same of a trace
+abbrev pub TraceValue : Type 0
+TraceValue = Option trace.the_row.Denot
+
+abbrev pub trace_owns : Global → Ptr → TraceValue → Fml
+trace_owns alloc at None = ftrue
+trace_owns alloc at (Some kept) = box_owns (ghosts.dealloc_token alloc) trace.the_row at kept
+
+abbrev pub IsTraced : TraceValue → Type 0
+IsTraced None = ⊥
+IsTraced (Some kept) = Unit {0}
+
+abbrev pub trace_coded : Coded TraceValue
+trace_coded = coded_option trace.the_row.coded

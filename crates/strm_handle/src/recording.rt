@@ -1,6 +1,7 @@
 //! The journal of a pair, entry by entry, and its beginning anew.
 
-ghost use Rattle.std.specs.Prelude.{◌≡◌};
+ghost use Rattle.std.specs.Prelude.{◌≡◌, length, sum_by};
+ghost use Rattle.strm_types.specs.Journal.{entries_in, entry_len};
 ghost use Rattle.strm_handle.specs.Entries.{NextEntry, TakesAt, taking};
 ghost use Rattle.strm_handle.specs.Outcomes.{Restarts};
 
@@ -8,23 +9,26 @@ use crate::entries::{Cursor, Entered, numbers_of};
 use crate::handle::Handle;
 use crate::kept::{give, refused};
 use std::alloc::Global;
-use strm_pair::Pair;
-use strm_raw::RawStore;
-use strm_types::Refusal;
+use strm_types::{Entry, Refusal};
 
-// Takes the entry at a cursor.
-fn take_entry(pair: &Pair<RawStore>, at: &mut Cursor, told: &mut Entered, out: &mut [u8]) -> u32
-    ensures { TakesAt pair.now (taking at.old told.old out.old) (taking at.new told.new out.new) result }
+/// Takes the entry at a cursor of a journal: its entries, and their bytes in order.
+pub(crate) fn take_entry(
+    entries: &[Entry<u32>],
+    bytes: &[u8],
+    at: &mut Cursor,
+    told: &mut Entered,
+    out: &mut [u8],
+) -> u32
+    requires lengths { sum_by entry_len entries.now ≡ length bytes.now }
+    ensures { TakesAt (entries_in entries.now bytes.now) (taking at.old told.old out.old) (taking at.new told.new out.new) result }
 {
-    let recorded = pair.journal();
-    let kept = recorded.bytes.len();
-    let Some(entry) = recorded.entries.get(at.entry) else {
+    let Some(entry) = entries.get(at.entry) else {
         return refused(Refusal::Eagain);
     };
     let entry = numbers_of(entry);
     let room = entry.brings + entry.reply.bytes;
     // A cursor that stands at an entry has its bytes behind it.
-    if at.byte > kept || room > kept - at.byte {
+    if at.byte > bytes.len() || room > bytes.len() - at.byte {
         return refused(Refusal::Einval);
     }
     *told = entry;
@@ -32,7 +36,7 @@ fn take_entry(pair: &Pair<RawStore>, at: &mut Cursor, told: &mut Entered, out: &
         return refused(Refusal::Einval);
     }
     let behind = at.byte + room;
-    give(&recorded.bytes[at.byte..behind], out);
+    give(&bytes[at.byte..behind], out);
     *at = Cursor {
         entry: at.entry + 1,
         byte: behind,
@@ -54,7 +58,8 @@ pub fn next_entry(
     let Some(kept) = handle.take(alloc) else {
         return refused(Refusal::Einval);
     };
-    let answered = take_entry(&kept.pair, at, told, out);
+    let recorded = kept.pair.journal();
+    let answered = take_entry(recorded.entries, recorded.bytes, at, told, out);
     handle.put(kept);
     answered
 }

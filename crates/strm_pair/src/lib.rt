@@ -30,7 +30,7 @@ mod serving;
 mod stacks;
 mod streams;
 mod turning;
-mod wiping;
+pub mod wiping;
 mod writing;
 
 pub use pair::{Pair, Recorded};

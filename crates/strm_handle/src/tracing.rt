@@ -1,0 +1,111 @@
+//! Cutting a pair, and its trace behind a handle of its own.
+
+ghost use Rattle.std.specs.Prelude.{◌≡◌, None, false, is_some};
+ghost use Rattle.strm_handle.specs.Entries.{taking};
+ghost use Rattle.strm_handle.specs.Images.{ImageInto};
+ghost use Rattle.strm_handle.specs.Traces.{BaseOfTrace, Cuts, CutsPair, NextOfTrace};
+
+use crate::entries::{Cursor, Entered};
+use crate::handle::Handle;
+use crate::kept::{Kept, give, refused};
+use crate::recording::take_entry;
+use crate::trace_handle::{TraceHandle, TraceRoom};
+use std::alloc::Global;
+use strm_image::Trace;
+use strm_pair::wiping::{forget_all, give_back};
+use strm_types::{NoMemory, Refusal};
+
+// Cuts a pair. The memory of the handle's trace is taken first.
+fn cut_pair(alloc: Global, kept: &mut Kept, trace: &mut TraceHandle) -> u32
+    requires closed { is_some trace.old.held.kept ≡ false }
+    ensures { CutsPair kept.old kept.new trace.old.held.kept trace.new.held.kept result }
+{
+    let Ok(room) = TraceRoom::new(alloc) else {
+        return refused(Refusal::NoMemory);
+    };
+    match kept.cut(alloc) {
+        Ok(made) => {
+            room.put(made, trace);
+            0
+        }
+        Err(NoMemory) => refused(Refusal::NoMemory),
+    }
+}
+
+/// Cuts a pair: the base at which its journal begins and all that was entered since go behind the handle of a trace, and its journal begins
+/// anew. All memory is asked for first; where that is refused, the pair stays as it is.
+pub fn cut(alloc: Global, handle: &mut Handle, trace: &mut TraceHandle) -> u32
+    ensures { Cuts handle.old.held.kept handle.new.held.kept trace.old.held.kept trace.new.held.kept result }
+{
+    if trace.is_open() {
+        return refused(Refusal::Einval);
+    }
+    let Some(mut kept) = handle.take(alloc) else {
+        return refused(Refusal::Einval);
+    };
+    let cut = cut_pair(alloc, kept.as_mut(), trace);
+    handle.put(kept);
+    cut
+}
+
+/// Takes the entry at a cursor of a trace, which moves behind it. `out` has room for the bytes of its call and those of its answer.
+pub fn trace_next(
+    alloc: Global,
+    handle: &mut TraceHandle,
+    at: &mut Cursor,
+    told: &mut Entered,
+    out: &mut [u8],
+) -> u32
+    ensures stays { handle.new.held.kept ≡ handle.old.held.kept }
+    ensures taken { NextOfTrace handle.old.held.kept (taking at.old told.old out.old) (taking at.new told.new out.new) result }
+{
+    let Some(trace) = handle.take(alloc) else {
+        return refused(Refusal::Einval);
+    };
+    let entries = trace.entries.as_slice();
+    let answered = take_entry(entries, trace.bytes.as_slice(), at, told, out);
+    handle.put(trace);
+    answered
+}
+
+// Puts a text into a buffer that takes all of it.
+fn put_text(text: &[u8], out: &mut [u8], told: &mut usize) -> u32
+    ensures { ImageInto text.now told.new out.old out.new result }
+{
+    *told = text.len();
+    if text.len() > out.len() {
+        return refused(Refusal::Einval);
+    }
+    give(text, out);
+    0
+}
+
+/// Puts the image of a trace's base into a buffer, and tells how long it is, also where the buffer is too small.
+pub fn trace_base(alloc: Global, handle: &mut TraceHandle, out: &mut [u8], told: &mut usize) -> u32
+    ensures stays { handle.new.held.kept ≡ handle.old.held.kept }
+    ensures base { BaseOfTrace handle.old.held.kept told.old told.new out.old out.new result }
+{
+    let Some(trace) = handle.take(alloc) else {
+        return refused(Refusal::Einval);
+    };
+    let answered = put_text(trace.base.as_slice(), out, told);
+    handle.put(trace);
+    answered
+}
+
+/// Frees a trace, over whose bytes zeros are written, and closes its handle. A closed one stays so.
+pub fn trace_free(alloc: Global, handle: &mut TraceHandle)
+    ensures { handle.new.held.kept ≡ None }
+{
+    let Some(trace) = handle.take(alloc) else {
+        return;
+    };
+    let Trace {
+        base,
+        mut entries,
+        bytes,
+    } = Box::into_inner(trace);
+    give_back(base);
+    give_back(bytes);
+    forget_all(&mut entries);
+}
