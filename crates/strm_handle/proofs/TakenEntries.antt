@@ -6,7 +6,6 @@ use Rattle.std.proofs.lemmas.Option.{slice_get_read}
 use Rattle.std.specs.Prelude.{Bool, true, false, Option, Some, None, nat_le, nat_lt, get_or, slice_get, sum_by}
 use Rattle.strm_types.specs.declared.entries.Entry.{Entry}
 use Rattle.strm_types.specs.Journal.{PlainEntry, entry_in, entry_len, entries_in, room_of, room_used}
-use Rattle.strm_laws.specs.Pair.{PairState}
 use Rattle.strm_handle.specs.Entries.{Enters, StandsAt, Taking, Takes, TakesAt, taken_where}
 use Rattle.strm_handle.proofs.StoredEntries.{StoredAt, of-own, room-stored, stored-at}
 
@@ -15,24 +14,21 @@ none-at [] bytes place is = refl
 none-at (e ∷ entries) bytes zero is = absurd (cc)
 none-at (e ∷ entries) bytes (suc place) is = none-at entries (drop (entry_len e) bytes) place is
 
-module _ (entries : List (Entry ℕ)) (bytes : List ℕ) (p : PairState) (old new : Taking) (n : ℕ) (stored : entries_in entries bytes ≡ p.journal) where
+module _ (entries : List (Entry ℕ)) (bytes : List ℕ) (old new : Taking) (n : ℕ) where
   -- behind the last entry
-  pub takes-none : slice_get entries old.at.entry ≡ None → n ≡ 2 → new ≡ old → TakesAt p old new n
+  pub takes-none : slice_get entries old.at.entry ≡ None → n ≡ 2 → new ≡ old → TakesAt (entries_in entries bytes) old new n
   takes-none is told same =
-      let none : slice_get p.journal old.at.entry ≡ None = ap (λ es. slice_get es old.at.entry) (sym stored) ∙ none-at entries bytes old.at.entry is in
-      subst (λ (o : Option PlainEntry). Takes o (StandsAt old.at p) old new n) (sym none) (told, same)
+      subst (λ (o : Option PlainEntry). Takes o (StandsAt old.at (entries_in entries bytes)) old new n) (sym (none-at entries bytes old.at.entry is)) (told, same)
 
   -- an entry whose bytes stand at the cursor
   pub takes-some : (s : Entry ℕ) → sum_by entry_len entries ≡ length bytes → slice_get entries old.at.entry ≡ Some s
       → (old.at.byte + entry_len s ≤ length bytes → taken_where (nat_le (room_of (entry_in s (drop old.at.byte bytes))) (length old.out)) (entry_in s (drop old.at.byte bytes)) old new n)
-      → TakesAt p old new n
+      → TakesAt (entries_in entries bytes) old new n
   takes-some s lengths is so =
       let from : ℕ = room_used (take old.at.entry (entries_in entries bytes)) in
       let there : StoredAt entries bytes old.at.entry s from = stored-at entries bytes old.at.entry s lengths is in
-      let some : slice_get p.journal old.at.entry ≡ Some (entry_in s (drop from bytes)) = ap (λ es. slice_get es old.at.entry) (sym stored) ∙ there.is in
-      subst (λ (o : Option PlainEntry). Takes o (StandsAt old.at p) old new n) (sym some)
-      (λ stands. let same : old.at.byte ≡ from = stands ∙ ap (λ es. room_used (take old.at.entry es)) (sym stored) in
-      subst (λ k. taken_where (nat_le (room_of (entry_in s (drop k bytes))) (length old.out)) (entry_in s (drop k bytes)) old new n) same (so (omega (arith, there.within, same))))
+      subst (λ (o : Option PlainEntry). Takes o (StandsAt old.at (entries_in entries bytes)) old new n) (sym there.is)
+      (λ stands. subst (λ k. taken_where (nat_le (room_of (entry_in s (drop k bytes))) (length old.out)) (entry_in s (drop k bytes)) old new n) stands (so (omega (arith, there.within, stands))))
 
 -- what a slice lends
 pub is-there : (entries : List (Entry ℕ)) (place : ℕ) (s : Entry ℕ) → true ≡ nat_lt place (length entries) → s ≡ get_or entries place s → slice_get entries place ≡ Some s

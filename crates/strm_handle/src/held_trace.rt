@@ -1,7 +1,7 @@
 //! A trace behind a pointer.
 
 ghost use Rattle.std.specs.Prelude.{◌≡◌, None, Some};
-ghost use Rattle.strm_handle.specs.Held.{IsTraced, TraceValue, trace_coded, trace_owns};
+ghost use Rattle.strm_handle.specs.Held.{IsOpen, TraceValue, trace_coded, trace_owns};
 
 use crate::parts::Parts;
 use std::alloc::Global;
@@ -36,7 +36,7 @@ impl HeldTrace {
     }
 
     pub(crate) fn into_parts(self) -> Parts<Trace, Global>
-        requires { IsTraced self.kept }
+        requires { IsOpen self.kept }
         ensures { self.kept ≡ Some result.value }
     {
         let HeldTrace { ptr, alloc } = self;

@@ -8,6 +8,7 @@ ghost use Rattle.strm_types.specs.Numbers.{number_of};
 ghost use Rattle.strm_handle.specs.Kept.{is_full, is_held_back, made_at};
 ghost use Rattle.strm_handle.specs.Few.{FewAsked, FewBytes};
 ghost use Rattle.strm_handle.specs.Outcomes.{CallsAt, is_held, refused_before, refused_within, ask_refused, side_refused, turn_refused, Answers, AnswersAsk, AnswersSide, RunsQueues, Stay, Turns, TurnsFirst, no_bytes, number_told, run_refused, waits_told};
+ghost use Rattle.strm_handle.specs.Traces.{IsWhole};
 ghost use Rattle.strm_image.specs.Traces.{IsTrace};
 ghost use Rattle.strm_laws.specs.Pair.{new_pair, restarted};
 ghost use Rattle.strm_laws.specs.Refusals.{blocks_asked};
@@ -19,6 +20,7 @@ use crate::asks::Ask;
 use crate::numbers::{queue_of, side_of, went};
 use crate::replies::{Reply, Went};
 use crate::reserve::{has_blocks, has_many, sends};
+use crate::traces::copied;
 use std::alloc::Global;
 use std::marker::Model;
 use strm_image::Trace;
@@ -279,13 +281,15 @@ impl Kept {
         self.pair.restart();
     }
 
-    /// Hands out the base of the journal and all that was entered since, and begins the journal anew.
+    /// Hands out the base of the journal and all that was entered since, and begins the journal anew. The memory is asked for first.
     pub(crate) fn cut(&mut self, alloc: Global) -> Result<Trace, NoMemory>
-        ensures trace { IfOk result (λ t. IsTrace (self.old).pair t) }
+        ensures trace { IfOk result (λ t. IsTrace (self.old).pair t × IsWhole t) }
         ensures restarted { IfOk result (λ _. self.new ≡ record self.old { pair = restarted (self.old).pair }) }
         ensures stays { IfErr result (λ _. self.new ≡ self.old) }
     {
-        self.pair.cut(alloc)
+        let trace = copied(alloc, self.pair.journal())?;
+        self.pair.restart();
+        Ok(trace)
     }
 
     /// Makes the pair as new, so that no byte of a message, a line or the journal is left in its memory.

@@ -23,6 +23,7 @@ mod replies;
 mod reserve;
 mod restoring;
 mod trace_handle;
+mod traces;
 mod tracing;
 mod turning;
 

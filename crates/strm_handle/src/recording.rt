@@ -1,8 +1,7 @@
 //! The journal of a pair, entry by entry, and its beginning anew.
 
-ghost use Rattle.std.specs.Prelude.{◌≡◌, length, sum_by};
-ghost use Rattle.strm_types.specs.Journal.{entries_in, entry_len};
-ghost use Rattle.strm_handle.specs.Entries.{NextEntry, TakesAt, taking};
+ghost use Rattle.std.specs.Prelude.{◌≡◌, ◌+◌, nat_le};
+ghost use Rattle.strm_handle.specs.Entries.{NextEntry, TakesStored, taking};
 ghost use Rattle.strm_handle.specs.Outcomes.{Restarts};
 
 use crate::entries::{Cursor, Entered, numbers_of};
@@ -10,6 +9,16 @@ use crate::handle::Handle;
 use crate::kept::{give, refused};
 use std::alloc::Global;
 use strm_types::{Entry, Refusal};
+
+// Whether the bytes of an entry are there, of so many, behind a place.
+fn are_there(entry: &Entered, kept: usize, from: usize) -> bool
+    ensures { result ≡ nat_le (from + (entry.now.brings + entry.now.reply.bytes)) kept }
+{
+    if from > kept || entry.brings > kept - from {
+        return false;
+    }
+    entry.reply.bytes <= kept - from - entry.brings
+}
 
 /// Takes the entry at a cursor of a journal: its entries, and their bytes in order.
 pub(crate) fn take_entry(
@@ -19,18 +28,17 @@ pub(crate) fn take_entry(
     told: &mut Entered,
     out: &mut [u8],
 ) -> u32
-    requires lengths { sum_by entry_len entries.now ≡ length bytes.now }
-    ensures { TakesAt (entries_in entries.now bytes.now) (taking at.old told.old out.old) (taking at.new told.new out.new) result }
+    ensures { TakesStored entries.now bytes.now (taking at.old told.old out.old) (taking at.new told.new out.new) result }
 {
     let Some(entry) = entries.get(at.entry) else {
         return refused(Refusal::Eagain);
     };
     let entry = numbers_of(entry);
-    let room = entry.brings + entry.reply.bytes;
     // A cursor that stands at an entry has its bytes behind it.
-    if at.byte > bytes.len() || room > bytes.len() - at.byte {
+    if !are_there(&entry, bytes.len(), at.byte) {
         return refused(Refusal::Einval);
     }
+    let room = entry.brings + entry.reply.bytes;
     *told = entry;
     if room > out.len() {
         return refused(Refusal::Einval);

@@ -10,9 +10,8 @@ use crate::handle::Handle;
 use crate::kept::{Kept, give, refused};
 use crate::recording::take_entry;
 use crate::trace_handle::{TraceHandle, TraceRoom};
+use crate::traces::forget;
 use std::alloc::Global;
-use strm_image::Trace;
-use strm_pair::wiping::{forget_all, give_back};
 use strm_types::{NoMemory, Refusal};
 
 // Cuts a pair. The memory of the handle's trace is taken first.
@@ -100,12 +99,5 @@ pub fn trace_free(alloc: Global, handle: &mut TraceHandle)
     let Some(trace) = handle.take(alloc) else {
         return;
     };
-    let Trace {
-        base,
-        mut entries,
-        bytes,
-    } = Box::into_inner(trace);
-    give_back(base);
-    give_back(bytes);
-    forget_all(&mut entries);
+    forget(Box::into_inner(trace));
 }

@@ -1,8 +1,5 @@
 //! What a cut hands out.
 
-ghost use Rattle.std.specs.Prelude.{◌≡◌, length, sum_by};
-ghost use Rattle.strm_types.specs.Journal.{entry_len};
-
 use strm_types::Entry;
 
 /// What a cut of a pair hands out: the base at which its journal began, as an image of version 2, and all entries since, with their bytes in
@@ -13,5 +10,4 @@ pub struct Trace {
     pub base: Vec<u8>,
     pub entries: Vec<Entry<u32>>,
     pub bytes: Vec<u8>,
-    pub ghost lengths: { sum_by entry_len entries.items ≡ length bytes.items },
 }

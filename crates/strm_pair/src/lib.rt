@@ -30,7 +30,7 @@ mod serving;
 mod stacks;
 mod streams;
 mod turning;
-pub mod wiping;
+mod wiping;
 mod writing;
 
 pub use pair::{Pair, Recorded};

@@ -54,7 +54,7 @@ fn free(buffer: Vec<u8>)
 }
 
 /// Gives the memory of a buffer back. Zeros stand where its bytes were.
-pub fn give_back(buffer: Vec<u8>) {
+pub(crate) fn give_back(buffer: Vec<u8>) {
     let mut buffer = buffer;
     shorten(&mut buffer, 0);
     free(buffer);
@@ -79,7 +79,7 @@ fn forget(entries: &mut Vec<Entry<u32>>)
 }
 
 /// Takes all entries off, and keeps their memory, where nothing is told of them. The cost is a step for each.
-pub fn forget_all(entries: &mut Vec<Entry<u32>>)
+pub(crate) fn forget_all(entries: &mut Vec<Entry<u32>>)
     ensures items { entries.new.items ≡ [] }
     ensures capacity { vec_capacity entries.new ≡ vec_capacity entries.old }
 {
