@@ -1,6 +1,6 @@
 //! The journal of a pair, entry by entry, and its beginning anew.
 
-ghost use Rattle.std.specs.Prelude.{◌≡◌, ◌+◌, nat_le};
+ghost use Rattle.std.specs.Prelude.{◌≡◌, ◌+◌, ◌<◌, ◌≤◌, IfNone, IfSome};
 ghost use Rattle.strm_handle.specs.Entries.{NextEntry, TakesStored, taking};
 ghost use Rattle.strm_handle.specs.Outcomes.{Restarts};
 
@@ -10,14 +10,22 @@ use crate::kept::{give, refused};
 use std::alloc::Global;
 use strm_types::{Entry, Refusal};
 
-// Whether the bytes of an entry are there, of so many, behind a place.
-fn are_there(entry: &Entered, kept: usize, from: usize) -> bool
-    ensures { result ≡ nat_le (from + (entry.now.brings + entry.now.reply.bytes)) kept }
+// Where the bytes of an entry end that begin at a place, of so many. None: they aren't all there.
+fn end_of(entry: &Entered, from: usize, kept: usize) -> Option<usize>
+    ensures there { IfSome result (λ end. (end ≡ from + (entry.now.brings + entry.now.reply.bytes)) × (end ≤ kept)) }
+    ensures lacking { IfNone result (kept < from + (entry.now.brings + entry.now.reply.bytes)) }
 {
-    if from > kept || entry.brings > kept - from {
-        return false;
+    if from > kept {
+        return None;
     }
-    entry.reply.bytes <= kept - from - entry.brings
+    let left = kept - from;
+    if entry.brings > left {
+        return None;
+    }
+    if entry.reply.bytes > left - entry.brings {
+        return None;
+    }
+    Some(from + entry.brings + entry.reply.bytes)
 }
 
 /// Takes the entry at a cursor of a journal: its entries, and their bytes in order.
@@ -35,15 +43,13 @@ pub(crate) fn take_entry(
     };
     let entry = numbers_of(entry);
     // A cursor that stands at an entry has its bytes behind it.
-    if !are_there(&entry, bytes.len(), at.byte) {
+    let Some(behind) = end_of(&entry, at.byte, bytes.len()) else {
         return refused(Refusal::Einval);
-    }
-    let room = entry.brings + entry.reply.bytes;
+    };
     *told = entry;
-    if room > out.len() {
+    if behind - at.byte > out.len() {
         return refused(Refusal::Einval);
     }
-    let behind = at.byte + room;
     give(&bytes[at.byte..behind], out);
     *at = Cursor {
         entry: at.entry + 1,
