@@ -288,15 +288,14 @@ impl Kept {
         ensures stays { IfErr result (λ _. self.new ≡ self.old) }
     {
         let trace = copied(alloc, self.pair.journal())?;
-        self.pair.restart();
+        self.restart();
         Ok(trace)
     }
 
-    /// Makes the pair as new, so that no byte of a message, a line or the journal is left in its memory.
+    /// Makes the pair as new, so that no byte of a message, a line or the journal is left in its memory; none of an answer is.
     pub(crate) fn wipe(&mut self)
         ensures { self.new.pair ≡ new_pair self.old.pair.limits }
     {
-        self.answer.clear();
         self.pair.reset();
     }
 }
