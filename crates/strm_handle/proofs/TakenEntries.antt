@@ -6,7 +6,7 @@ use Rattle.std.proofs.lemmas.Option.{slice_get_read}
 use Rattle.std.specs.Prelude.{Bool, true, false, Option, Some, None, nat_le, nat_lt, get_or, slice_get, sum_by}
 use Rattle.strm_types.specs.declared.entries.Entry.{Entry}
 use Rattle.strm_types.specs.Journal.{PlainEntry, entry_in, entry_len, entries_in, room_of, room_used}
-use Rattle.strm_handle.specs.Entries.{AreWhole, Enters, StandsAt, Taking, Takes, TakesStored, taken_where}
+use Rattle.strm_handle.specs.Entries.{AreWhole, Enters, StandsAt, Taking, Takes, TakesAt, TakesStored, taken_where}
 use Rattle.strm_handle.proofs.StoredEntries.{StoredAt, of-own, room-stored, stored-at}
 
 none-at : (entries : List (Entry ℕ)) (bytes : List ℕ) (place : ℕ) → slice_get entries place ≡ None → slice_get (entries_in entries bytes) place ≡ None
@@ -49,6 +49,12 @@ module _ (entries : List (Entry ℕ)) (bytes : List ℕ) (old new : Taking) (n :
 pub takes-whole : (o : Option PlainEntry) (whole stands : Type 0) (old new : Taking) (n : ℕ) → whole → Takes o (whole × stands) old new n → Takes o stands old new n
 takes-whole None whole stands old new n is told = told
 takes-whole (Some e) whole stands old new n is told = λ given. told (is, given)
+
+pub takes-journal : (entries : List (Entry ℕ)) (bytes : List ℕ) (journal : List PlainEntry) (old new : Taking) (n : ℕ)
+    → entries_in entries bytes ≡ journal → sum_by entry_len entries ≡ length bytes → TakesStored entries bytes old new n → TakesAt journal old new n
+takes-journal entries bytes journal old new n is whole told =
+    subst (λ (es : List PlainEntry). TakesAt es old new n) is
+    (takes-whole (slice_get (entries_in entries bytes) old.at.entry) (AreWhole entries bytes) (StandsAt old.at (entries_in entries bytes)) old new n whole told)
 
 -- what a slice lends
 pub is-there : (entries : List (Entry ℕ)) (place : ℕ) (s : Entry ℕ) → true ≡ nat_lt place (length entries) → s ≡ get_or entries place s → slice_get entries place ≡ Some s

@@ -1,13 +1,15 @@
 //! The journal of a pair, entry by entry, and its beginning anew.
 
 ghost use Rattle.std.specs.Prelude.{◌≡◌, ◌+◌, ◌<◌, ◌≤◌, IfNone, IfSome};
-ghost use Rattle.strm_handle.specs.Entries.{NextEntry, TakesStored, taking};
+ghost use Rattle.strm_handle.specs.Entries.{NextEntry, TakesAt, TakesStored, taking};
 ghost use Rattle.strm_handle.specs.Outcomes.{Restarts};
 
 use crate::entries::{Cursor, Entered, numbers_of};
 use crate::handle::Handle;
 use crate::kept::{give, refused};
 use std::alloc::Global;
+use strm_pair::Pair;
+use strm_raw::RawStore;
 use strm_types::{Entry, Refusal};
 
 // Where the bytes of an entry end that begin at a place, of so many. None: they aren't all there.
@@ -58,6 +60,14 @@ pub(crate) fn take_entry(
     0
 }
 
+// Takes the entry at a cursor of a pair's journal.
+fn pair_entry(pair: &Pair<RawStore>, at: &mut Cursor, told: &mut Entered, out: &mut [u8]) -> u32
+    ensures { TakesAt (pair.now).journal (taking at.old told.old out.old) (taking at.new told.new out.new) result }
+{
+    let recorded = pair.journal();
+    take_entry(recorded.entries, recorded.bytes, at, told, out)
+}
+
 /// Takes the entry at a cursor, which moves behind it. `out` has room for the bytes of its call and those of its answer.
 pub fn next_entry(
     alloc: Global,
@@ -72,8 +82,7 @@ pub fn next_entry(
     let Some(kept) = handle.take(alloc) else {
         return refused(Refusal::Einval);
     };
-    let recorded = kept.pair.journal();
-    let answered = take_entry(recorded.entries, recorded.bytes, at, told, out);
+    let answered = pair_entry(&kept.pair, at, told, out);
     handle.put(kept);
     answered
 }

@@ -1,7 +1,7 @@
 //! Cutting a pair, and its trace behind a handle of its own.
 
 ghost use Rattle.std.specs.Prelude.{◌≡◌, None, false, is_some};
-ghost use Rattle.strm_handle.specs.Entries.{taking};
+ghost use Rattle.strm_handle.specs.Entries.{TakesStored, taking};
 ghost use Rattle.strm_handle.specs.Images.{ImageInto};
 ghost use Rattle.strm_handle.specs.Traces.{BaseOfTrace, Cuts, CutsPair, NextOfTrace};
 
@@ -12,6 +12,7 @@ use crate::recording::take_entry;
 use crate::trace_handle::{TraceHandle, TraceRoom};
 use crate::traces::forget;
 use std::alloc::Global;
+use strm_image::Trace;
 use strm_types::{NoMemory, Refusal};
 
 // Cuts a pair. The memory of the handle's trace is taken first.
@@ -47,6 +48,14 @@ pub fn cut(alloc: Global, handle: &mut Handle, trace: &mut TraceHandle) -> u32
     cut
 }
 
+// Takes the entry at a cursor of a trace.
+fn entry_of(trace: &Trace, at: &mut Cursor, told: &mut Entered, out: &mut [u8]) -> u32
+    ensures { TakesStored (trace.now).entries.items (trace.now).bytes.items (taking at.old told.old out.old) (taking at.new told.new out.new) result }
+{
+    let entries = trace.entries.as_slice();
+    take_entry(entries, trace.bytes.as_slice(), at, told, out)
+}
+
 /// Takes the entry at a cursor of a trace, which moves behind it. `out` has room for the bytes of its call and those of its answer.
 pub fn trace_next(
     alloc: Global,
@@ -61,8 +70,7 @@ pub fn trace_next(
     let Some(trace) = handle.take(alloc) else {
         return refused(Refusal::Einval);
     };
-    let entries = trace.entries.as_slice();
-    let answered = take_entry(entries, trace.bytes.as_slice(), at, told, out);
+    let answered = entry_of(trace.as_ref(), at, told, out);
     handle.put(trace);
     answered
 }
@@ -79,6 +87,13 @@ fn put_text(text: &[u8], out: &mut [u8], told: &mut usize) -> u32
     0
 }
 
+// Puts the base of a trace into a buffer.
+fn put_base(trace: &Trace, out: &mut [u8], told: &mut usize) -> u32
+    ensures { ImageInto (trace.now).base.items told.new out.old out.new result }
+{
+    put_text(trace.base.as_slice(), out, told)
+}
+
 /// Puts the image of a trace's base into a buffer, and tells how long it is, also where the buffer is too small.
 pub fn trace_base(alloc: Global, handle: &mut TraceHandle, out: &mut [u8], told: &mut usize) -> u32
     ensures stays { handle.new.held.kept ≡ handle.old.held.kept }
@@ -87,7 +102,7 @@ pub fn trace_base(alloc: Global, handle: &mut TraceHandle, out: &mut [u8], told:
     let Some(trace) = handle.take(alloc) else {
         return refused(Refusal::Einval);
     };
-    let answered = put_text(trace.base.as_slice(), out, told);
+    let answered = put_base(trace.as_ref(), out, told);
     handle.put(trace);
     answered
 }
