@@ -38,9 +38,9 @@ pub record IsKept (k : KeptPair) : Type 0 where
   pub anew : k.anew ≡ true → TakesAny k.pair.limits
 
 -- in memory: between calls no byte of an answer is there
-pub record IsHeld (k : KeptPair) (answer : List ℕ) : Type 0 where
+pub record IsHeld (k : KeptPair) (bytes : List ℕ) : Type 0 where
   pub kept : IsKept k
-  pub answer : answer ≡ []
+  pub answer : bytes ≡ []
 
 -- What is chosen for a pair that is made: 1 to 65536 blocks, of which no more are in reserve; a journal that begins anew takes any call.
 abbrev pub takes_any : Choices → Bool

@@ -20,7 +20,7 @@ fn copy_of<T: Copy>(alloc: Global, items: &[T]) -> Result<Vec<T>, NoMemory>
 
 /// Copies what a pair's journal holds.
 pub(crate) fn copied(alloc: Global, recorded: Recorded<'_>) -> Result<Trace, NoMemory>
-    ensures { IfOk result (λ t. Copies recorded t) }
+    ensures { IfOk result (λ t. Copies recorded.entry t) }
 {
     let entries = copy_of(alloc, recorded.entries)?;
     let base = copy_of(alloc, recorded.base)?;
