@@ -38,22 +38,40 @@ impl TraceHandle {
 
     /// Takes the trace out of a handle, which is closed then.
     #[tactic(auto, using(crate::proofs::Opens::closes, crate::proofs::Opens::opens))]
-    pub(crate) fn take(&mut self, alloc: Global) -> Option<Box<Trace, Global>>
-        ensures taken { option_map (λ trace. trace.value) result ≡ self.old.held.kept }
+    pub(crate) fn take(&mut self, alloc: Global) -> Option<Taken>
+        ensures taken { option_map (λ taken. taken.trace) result ≡ self.old.held.kept }
         ensures closed { self.new.held.kept ≡ None }
     {
         // As with a pair's, nothing is written to a closed one.
         if !self.is_open {
             return None;
         }
-        // A proof of this body knows what it names, and so what a trace is.
-        let _: Option<Trace> = None;
         let closed = TraceHandle {
             held: HeldTrace::closed(alloc, std::ptr::null_mut()),
             is_open: false,
         };
         let TraceHandle { held, .. } = std::mem::replace(self, closed);
-        Some(held.into_parts().into_box())
+        let mut room = held.into_parts().into_box();
+        let trace = std::mem::replace(room.as_mut(), nothing(alloc));
+        Some(Taken {
+            room: TraceRoom { room },
+            trace,
+        })
+    }
+}
+
+/// A trace that was taken out of its handle, and the memory in which it stood: it is put back, or forgotten.
+pub(crate) struct Taken {
+    pub(crate) room: TraceRoom,
+    pub(crate) trace: Trace,
+}
+
+// A trace of nothing.
+fn nothing(alloc: Global) -> Trace {
+    Trace {
+        base: Vec::new(alloc),
+        entries: Vec::new(alloc),
+        bytes: Vec::new(alloc),
     }
 }
 
@@ -66,12 +84,7 @@ pub struct TraceRoom {
 impl TraceRoom {
     /// Takes the memory of a handle's trace.
     pub fn new(alloc: Global) -> Result<TraceRoom, NoMemory> {
-        let empty = Trace {
-            base: Vec::new(alloc),
-            entries: Vec::new(alloc),
-            bytes: Vec::new(alloc),
-        };
-        match Box::new(alloc, empty) {
+        match Box::new(alloc, nothing(alloc)) {
             Ok(room) => Ok(TraceRoom { room }),
             Err(_) => Err(NoMemory),
         }

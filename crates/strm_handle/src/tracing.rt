@@ -9,7 +9,7 @@ use crate::entries::{Cursor, Entered};
 use crate::handle::Handle;
 use crate::kept::{Kept, give, refused};
 use crate::recording::take_entry;
-use crate::trace_handle::{TraceHandle, TraceRoom};
+use crate::trace_handle::{Taken, TraceHandle, TraceRoom};
 use crate::traces::forget;
 use std::alloc::Global;
 use strm_image::Trace;
@@ -67,11 +67,11 @@ pub fn trace_next(
     ensures stays { handle.new.held.kept ≡ handle.old.held.kept }
     ensures taken { NextOfTrace handle.old.held.kept (taking at.old told.old out.old) (taking at.new told.new out.new) result }
 {
-    let Some(trace) = handle.take(alloc) else {
+    let Some(Taken { room, trace }) = handle.take(alloc) else {
         return refused(Refusal::Einval);
     };
-    let answered = entry_of(trace.as_ref(), at, told, out);
-    handle.put(trace);
+    let answered = entry_of(&trace, at, told, out);
+    room.put(trace, handle);
     answered
 }
 
@@ -99,11 +99,11 @@ pub fn trace_base(alloc: Global, handle: &mut TraceHandle, out: &mut [u8], told:
     ensures stays { handle.new.held.kept ≡ handle.old.held.kept }
     ensures base { BaseOfTrace handle.old.held.kept told.old told.new out.old out.new result }
 {
-    let Some(trace) = handle.take(alloc) else {
+    let Some(Taken { room, trace }) = handle.take(alloc) else {
         return refused(Refusal::Einval);
     };
-    let answered = put_base(trace.as_ref(), out, told);
-    handle.put(trace);
+    let answered = put_base(&trace, out, told);
+    room.put(trace, handle);
     answered
 }
 
@@ -111,8 +111,9 @@ pub fn trace_base(alloc: Global, handle: &mut TraceHandle, out: &mut [u8], told:
 pub fn trace_free(alloc: Global, handle: &mut TraceHandle)
     ensures { handle.new.held.kept ≡ None }
 {
-    let Some(trace) = handle.take(alloc) else {
+    let Some(Taken { room, trace }) = handle.take(alloc) else {
         return;
     };
-    forget(Box::into_inner(trace));
+    forget(trace);
+    drop(room);
 }
