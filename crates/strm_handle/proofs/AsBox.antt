@@ -7,8 +7,8 @@ use Rattle.std_alloc.proofs.BoxSteps.Form.{Bx}
 use Rattle.std_heap.specs.contracts.Global as Heap
 use Rattle.std_heap.specs.contracts.GlobalAllocator.TheImpl.{ghosts, dict}
 use Rattle.std_heap.proofs.Global.TheLaws as heap
-use Rattle.strm_image.specs.contracts.trace.Trace as Trace
-use Rattle.strm_image.proofs.trace.Trace.TheLaws as trace
+use Rattle.strm_handle.specs.contracts.stored.Stored as Trace
+use Rattle.strm_handle.proofs.stored.Stored.TheLaws as trace
 use Rattle.strm_handle.specs.contracts.kept.Kept as Kept
 use Rattle.strm_handle.proofs.kept.Kept.TheLaws as kept
 use Rattle.strm_handle.specs.contracts.parts.Parts as Parts

@@ -7,7 +7,7 @@ use denote.RawPtr.{Ptr}
 use Rattle.std.specs.Box.Ownership.{box_owns}
 use Rattle.std.specs.Global.{Global}
 use Rattle.std_heap.specs.contracts.GlobalAllocator.TheImpl.{ghosts}
-use Rattle.strm_image.specs.contracts.trace.Trace as trace
+use Rattle.strm_handle.specs.contracts.stored.Stored as trace
 use Rattle.strm_handle.specs.contracts.kept.Kept.{the_row}
 
 abbrev pub KeptValue : Type 0

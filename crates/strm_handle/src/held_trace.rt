@@ -4,9 +4,9 @@ ghost use Rattle.std.specs.Prelude.{◌≡◌, None, Some};
 ghost use Rattle.strm_handle.specs.Held.{IsOpen, TraceValue, trace_coded, trace_owns};
 
 use crate::parts::Parts;
+use crate::stored::Stored;
 use std::alloc::Global;
 use std::marker::{Model, Send};
-use strm_image::Trace;
 
 /// A trace behind a pointer, or none, whatever the pointer says.
 #[repr(C)]
@@ -25,7 +25,7 @@ impl Model for HeldTrace {
 unsafe impl Send for HeldTrace {}
 
 impl HeldTrace {
-    pub(crate) fn of_parts(parts: Parts<Trace, Global>) -> HeldTrace
+    pub(crate) fn of_parts(parts: Parts<Stored, Global>) -> HeldTrace
         ensures { result.kept ≡ Some parts.value }
     {
         let Parts { ptr, alloc } = parts;
@@ -35,13 +35,13 @@ impl HeldTrace {
         }
     }
 
-    pub(crate) fn into_parts(self) -> Parts<Trace, Global>
+    pub(crate) fn into_parts(self) -> Parts<Stored, Global>
         requires { IsOpen self.kept }
         ensures { self.kept ≡ Some result.value }
     {
         let HeldTrace { ptr, alloc } = self;
         Parts {
-            ptr: ptr as *mut Trace,
+            ptr: ptr as *mut Stored,
             alloc,
         }
     }

@@ -22,6 +22,7 @@ mod recording;
 mod replies;
 mod reserve;
 mod restoring;
+mod stored;
 mod trace_handle;
 mod traces;
 mod tracing;

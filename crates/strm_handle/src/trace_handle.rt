@@ -5,6 +5,7 @@ ghost use Rattle.std.specs.Prelude.{◌≡◌, None, Some, false, is_some, optio
 use crate::handle::sent;
 use crate::held_trace::HeldTrace;
 use crate::parts::Parts;
+use crate::stored::Stored;
 use std::alloc::Global;
 use strm_image::Trace;
 use strm_types::NoMemory;
@@ -18,6 +19,18 @@ pub struct TraceHandle {
     pub ghost told: { is_some held.kept ≡ is_open },
 }
 
+// A handle without a trace.
+fn closed(alloc: Global) -> TraceHandle
+    ensures { result.held.kept ≡ None }
+{
+    // (the borrow checker wants the type of the pointer among the caller's own)
+    let nowhere: *mut u8 = std::ptr::null_mut();
+    TraceHandle {
+        held: HeldTrace::closed(alloc, nowhere),
+        is_open: false,
+    }
+}
+
 impl TraceHandle {
     /// Whether a trace is there.
     pub fn is_open(&self) -> bool
@@ -27,64 +40,45 @@ impl TraceHandle {
     }
 
     /// Puts a trace into a handle.
-    pub(crate) fn put(&mut self, trace: Box<Trace, Global>)
-        ensures { self.new.held.kept ≡ Some trace.value }
+    pub(crate) fn put(&mut self, stored: Box<Stored, Global>)
+        ensures { self.new.held.kept ≡ Some stored.value }
     {
         *self = sent(TraceHandle {
-            held: HeldTrace::of_parts(Parts::of(trace)),
+            held: HeldTrace::of_parts(Parts::of(stored)),
             is_open: true,
         });
     }
 
     /// Takes the trace out of a handle, which is closed then.
     #[tactic(auto, using(crate::proofs::Opens::closes, crate::proofs::Opens::opens))]
-    pub(crate) fn take(&mut self, alloc: Global) -> Option<Taken>
-        ensures taken { option_map (λ taken. taken.trace) result ≡ self.old.held.kept }
+    pub(crate) fn take(&mut self, alloc: Global) -> Option<Box<Stored, Global>>
+        ensures taken { option_map (λ stored. stored.value) result ≡ self.old.held.kept }
         ensures closed { self.new.held.kept ≡ None }
     {
         // As with a pair's, nothing is written to a closed one.
         if !self.is_open {
             return None;
         }
-        let closed = TraceHandle {
-            held: HeldTrace::closed(alloc, std::ptr::null_mut()),
-            is_open: false,
-        };
-        let TraceHandle { held, .. } = std::mem::replace(self, closed);
-        let mut room = held.into_parts().into_box();
-        let trace = std::mem::replace(room.as_mut(), nothing(alloc));
-        Some(Taken {
-            room: TraceRoom { room },
-            trace,
-        })
-    }
-}
-
-/// A trace that was taken out of its handle, and the memory in which it stood: it is put back, or forgotten.
-pub(crate) struct Taken {
-    pub(crate) room: TraceRoom,
-    pub(crate) trace: Trace,
-}
-
-// A trace of nothing.
-fn nothing(alloc: Global) -> Trace {
-    Trace {
-        base: Vec::new(alloc),
-        entries: Vec::new(alloc),
-        bytes: Vec::new(alloc),
+        let TraceHandle { held, .. } = std::mem::replace(self, closed(alloc));
+        Some(held.into_parts().into_box())
     }
 }
 
 /// Memory for a trace. It is taken before a cut, so that want of memory changes nothing.
 #[derive(Drop)]
 pub struct TraceRoom {
-    room: Box<Trace, Global>,
+    room: Box<Stored, Global>,
 }
 
 impl TraceRoom {
     /// Takes the memory of a handle's trace.
     pub fn new(alloc: Global) -> Result<TraceRoom, NoMemory> {
-        match Box::new(alloc, nothing(alloc)) {
+        let trace = Trace {
+            base: Vec::new(alloc),
+            entries: Vec::new(alloc),
+            bytes: Vec::new(alloc),
+        };
+        match Box::new(alloc, Stored { trace }) {
             Ok(room) => Ok(TraceRoom { room }),
             Err(_) => Err(NoMemory),
         }
@@ -96,7 +90,7 @@ impl TraceRoom {
         ensures { handle.new.held.kept ≡ Some trace }
     {
         let TraceRoom { mut room } = self;
-        *room = trace;
+        *room = Stored { trace };
         handle.put(room);
     }
 }

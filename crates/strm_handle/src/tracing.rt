@@ -9,7 +9,8 @@ use crate::entries::{Cursor, Entered};
 use crate::handle::Handle;
 use crate::kept::{Kept, give, refused};
 use crate::recording::take_entry;
-use crate::trace_handle::{Taken, TraceHandle, TraceRoom};
+use crate::stored::Stored;
+use crate::trace_handle::{TraceHandle, TraceRoom};
 use crate::traces::forget;
 use std::alloc::Global;
 use strm_image::Trace;
@@ -67,11 +68,11 @@ pub fn trace_next(
     ensures stays { handle.new.held.kept ≡ handle.old.held.kept }
     ensures taken { NextOfTrace handle.old.held.kept (taking at.old told.old out.old) (taking at.new told.new out.new) result }
 {
-    let Some(Taken { room, trace }) = handle.take(alloc) else {
+    let Some(stored) = handle.take(alloc) else {
         return refused(Refusal::Einval);
     };
-    let answered = entry_of(&trace, at, told, out);
-    room.put(trace, handle);
+    let answered = entry_of(&stored.trace, at, told, out);
+    handle.put(stored);
     answered
 }
 
@@ -99,11 +100,11 @@ pub fn trace_base(alloc: Global, handle: &mut TraceHandle, out: &mut [u8], told:
     ensures stays { handle.new.held.kept ≡ handle.old.held.kept }
     ensures base { BaseOfTrace handle.old.held.kept told.old told.new out.old out.new result }
 {
-    let Some(Taken { room, trace }) = handle.take(alloc) else {
+    let Some(stored) = handle.take(alloc) else {
         return refused(Refusal::Einval);
     };
-    let answered = put_base(&trace, out, told);
-    room.put(trace, handle);
+    let answered = put_base(&stored.trace, out, told);
+    handle.put(stored);
     answered
 }
 
@@ -111,9 +112,9 @@ pub fn trace_base(alloc: Global, handle: &mut TraceHandle, out: &mut [u8], told:
 pub fn trace_free(alloc: Global, handle: &mut TraceHandle)
     ensures { handle.new.held.kept ≡ None }
 {
-    let Some(Taken { room, trace }) = handle.take(alloc) else {
+    let Some(stored) = handle.take(alloc) else {
         return;
     };
+    let Stored { trace } = Box::into_inner(stored);
     forget(trace);
-    drop(room);
 }

@@ -12,9 +12,9 @@ use Rattle.std_alloc.proofs.SendSync.{lies, quiet}
 use Rattle.std.specs.Prelude.{None, Some}
 use Rattle.std.specs.Global.{Global}
 use Rattle.strm_handle.specs.Held.{TraceValue, trace_owns}
-use Rattle.strm_image.specs.contracts.trace.Trace as Trace
+use Rattle.strm_handle.specs.contracts.stored.Stored as Trace
 use Rattle.strm_handle.specs.contracts.held_trace.HeldTrace.{the_type, the_row}
-use Rattle.strm_image.proofs.trace.Trace.TheSendSync as trace
+use Rattle.strm_handle.proofs.stored.Stored.TheSendSync as trace
 
 owned : (alloc : Global) (p : Ptr) (k : TraceValue) → Keyless (trace_owns alloc p k)
 owned alloc p None = tt
