@@ -172,8 +172,8 @@ strm_refusal strm_end_open_slave(strm_end *end, strm_end **slave);
  * NO_MEMORY. */
 strm_refusal strm_end_split(strm_end *end, strm_end **second);
 
-/* Joins the second end to the first, which has the parts of both then, and what both were told; it calls as it did, and the second is gone. EINVAL:
- * they are of two pairs or of two systems, or one end twice. Both stay then. */
+/* Joins the second end to the first, which has the parts of both then, and what both were told; the second is gone. It calls as the end that opened
+ * the pair did, where that is one of them, else as the first did. EINVAL: they are of two pairs or of two systems, or one end twice. Both stay then. */
 strm_refusal strm_end_join(strm_end *first, strm_end *second);
 
 /* Settles the pair of an end that has all of it: *account has what its ends were told in all, which is what the pair's books say, and both ledgers.

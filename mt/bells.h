@@ -1,0 +1,73 @@
+/* Bells: words on which threads sleep, by futex(2), and the argument that no wake is lost.
+ *
+ * A bell is a word of 32 bits. Bit 0 says that a thread sleeps on it, or is about to; the others count how often it was rung. All steps are
+ * sequentially consistent, and so are those of a pair's lock (crates/strm_locks), so there is one order of all of them, in which each load gives what
+ * the last store before it left.
+ *
+ * WHO SLEEPS   sets bit 0 and keeps the word (bell_heard), then looks for what it waits for (it tries the lock; it asks under the lock what the side
+ *              is ready for; it seeks a pair with work), and sleeps while the word is what it kept (bell_sleeps). It looks again behind each sleep.
+ * WHO CHANGES  what others wait for makes the change, then reads the word (bell_rings). Where bit 0 is set it counts up, which clears the bit,
+ *              and wakes those that sleep.
+ *
+ * No wake is lost. Let a thread S keep the word v, look, and find nothing; let the change C that it waits for come behind that look. Then C's load
+ * of the word comes behind S's bell_heard. It finds v, or a word that was counted up since.
+ *   It finds v: bit 0 is set. The thread of C counts up, or finds that another did so between its load and its step. Either way the word is v no more,
+ *     and who counted up wakes behind it: S sleeps already and is woken, or bell_sleeps finds another word and returns.
+ *   It finds another word: somebody counted up behind S's bell_heard, and wakes behind it, as above.
+ * So S looks again behind C, or behind a count that came before C and behind S's last look: then it sets bit 0 anew before it looks, and the same holds
+ * of that look. (The count has 31 bits: 2^31 rings between a bell_heard and its sleep would go unnoticed.)
+ *
+ * Where one is woken of several (the lock, work), another may go on sleeping while bit 0 is clear. None is forgotten: who is woken sets bit 0 before it
+ * looks, and behind what it then does it rings as everybody does: behind its visit, if it got the lock; behind the work that it took, if more is
+ * there. If it finds nothing, the bit is set, and what it waits for comes with a ring.
+ *
+ * A pair has two bells. One is for its lock: it rings behind each visit, and wakes one of those that met it BUSY. The other is for its state: it
+ * rings behind a call that was granted, a run of turns, and a journal that begins anew, and wakes all. They are two since a refused call frees
+ * the lock and changes nothing: on one bell threads that look and find nothing would wake each other without end. */
+#ifndef STRM_MT_BELLS_H
+#define STRM_MT_BELLS_H
+
+#include <stdbool.h>
+#include <stdint.h>
+
+struct timespec;
+
+enum { BELL_ONE = 1, BELL_ALL = 0x7fffffff };
+
+/* How often a lock is tried before a thread sleeps: about as long as a call takes. */
+enum { BELL_TRIES = 24 };
+
+/* Says that the thread is about to sleep, and gives the word on which it will. */
+static inline uint32_t bell_heard(uint32_t *bell)
+{
+    return __atomic_fetch_or(bell, 1u, __ATOMIC_SEQ_CST) | 1u;
+}
+
+/* Sleeps while the word is `heard`, until a time of CLOCK_MONOTONIC, or without end where it is NULL. False where the time is over. */
+bool bell_sleeps(uint32_t *bell, uint32_t heard, const struct timespec *until);
+
+/* Counts up from this word, if it stands, and wakes so many. */
+void bell_wakes(uint32_t *bell, uint32_t word, int most);
+
+/* Behind a change: wakes so many of those that sleep, if any. */
+static inline void bell_rings(uint32_t *bell, int most)
+{
+    uint32_t word = __atomic_load_n(bell, __ATOMIC_SEQ_CST);
+    if (word & 1u) bell_wakes(bell, word, most);
+}
+
+/* Wakes all, also those that only think of sleeping. */
+void bell_tolls(uint32_t *bell);
+
+/* How patiently a thread waits for a lock that it found BUSY: it tries some times, and then sleeps between its tries. Zeroed at first. */
+typedef struct patience {
+    uint32_t tries, heard;
+} patience;
+
+void bell_waits(uint32_t *bell, patience *p);
+
+/* A lock of the library's own, for what it does beside the pairs: 0 free, 1 taken, 2 taken and slept on. It is held for some steps. */
+void latch_takes(uint32_t *latch);
+void latch_gives(uint32_t *latch);
+
+#endif

@@ -1,0 +1,408 @@
+/* Whether a wake is lost: threads that sleep, each woken by what another one does, round by round. Nothing else would wake them: where a wake is lost
+ * all of them sleep, and no round is made any more.
+ *
+ *     wakes KIND ROUNDS [STALL]      STALL: so many seconds without a round are a failure (120)
+ *
+ * echo: two ends of a pair send a byte to and fro. lock: eight ends call on one pair, each as fast as it can. pairs: bytes go to pairs at random of
+ * 4,096, which rest between, and 16 threads wait for them. descriptors: echo, by poll(2). answers: the master asks the window of a slave, whose ptem
+ * answers, and signals come up. hangups: a pair is opened, its slave waits, the master closes. turns: echo without workers, the turns made by a thread
+ * that sleeps until a side may be written to. All have a journal of 64 entries that begins anew. The last line is 'KIND: N rounds', with the time. */
+#define _GNU_SOURCE
+#include <poll.h>
+#include <pthread.h>
+#include <stdio.h>
+#include <stdlib.h>
+#include <strm_mt.h>
+#include <time.h>
+#include <unistd.h>
+
+enum { MANY = 4096, WAITERS = 16, CALLERS = 8 };
+
+static const strm_choices sizes = { 128, 64, 16384, 0, true };
+static unsigned long rounds, made, stall = 120;
+static strm_system *of;
+
+static void fails(const char *what, strm_refusal e)
+{
+    printf("%s: %s\n", what, strm_refusal_name(e));
+    exit(1);
+}
+
+static void must(strm_refusal e, const char *what)
+{
+    if (e) fails(what, e);
+}
+
+static void made_one(void)
+{
+    __atomic_fetch_add(&made, 1, __ATOMIC_RELAXED);
+}
+
+/* ------------------------------------------------------------------------------------------------------------- what the kinds have in common */
+
+typedef struct lane {
+    strm_end *master, *slave;
+} lane;
+
+/* A pair without modules, both sides open. */
+static lane opens(void)
+{
+    lane it;
+    uint32_t number;
+    must(strm_system_claim(of, &number), "claim");
+    must(strm_system_open(of, number, &it.master), "open");
+    must(strm_end_unlock(it.master), "unlock");
+    must(strm_end_open_slave(it.master, &it.slave), "open the slave");
+    return it;
+}
+
+/* Joins both ends and settles: whether what they were told is what the books say. The pair stays claimed. */
+static uint32_t settles(lane it)
+{
+    strm_account all;
+    strm_share share;
+    must(strm_end_join(it.master, it.slave), "join");
+    strm_end_told(it.master, &share);
+    must(strm_end_settle(it.master, &all), "settle");
+    if (all.told.written.from_master != all.ms.written || all.told.written.from_slave != all.sm.written) fails("the books say another sum", 0);
+    if (all.told.read.from_master != all.ms.gone[STRM_RULE_READ] || all.told.read.from_slave != all.sm.gone[STRM_RULE_READ])
+        fails("the books say another sum", 0);
+    return share.pair;
+}
+
+static void begins(size_t pairs, size_t workers)
+{
+    must(strm_system_new(&of, pairs, &sizes), "a system");
+    if (workers) must(strm_workers_start(of, workers), "workers");
+}
+
+static pthread_t starts(void *(*does)(void *), void *with)
+{
+    pthread_t thread;
+    if (pthread_create(&thread, NULL, does, with)) fails("no thread", 0);
+    return thread;
+}
+
+static void sends(strm_end *end)
+{
+    size_t taken;
+    must(strm_end_write_all(end, "x", 1, -1, &taken), "write");
+}
+
+static void takes(strm_end *end)
+{
+    uint8_t byte[1];
+    strm_reply r;
+    must(strm_end_read_wait(end, byte, 1, -1, &r), "read");
+    if (r.bytes != 1 || byte[0] != 'x') fails("another byte came", 0);
+}
+
+/* ------------------------------------------------------------------------------------------------------------- echo, turns */
+
+static void *echoes(void *at)
+{
+    strm_end *end = (strm_end *)at;
+    unsigned long i;
+    for (i = 0; i < rounds; i++) takes(end), sends(end);
+    return NULL;
+}
+
+static void plays(lane it)
+{
+    pthread_t other = starts(echoes, it.slave);
+    unsigned long i;
+    for (i = 0; i < rounds; i++) sends(it.master), takes(it.master), made_one();
+    pthread_join(other, NULL);
+}
+
+static void of_echo(void)
+{
+    lane it;
+    begins(1, 1);
+    it = opens();
+    plays(it);
+    settles(it);
+}
+
+/* Writers make no turns: a further end of each side sleeps until a byte is on its way, and makes them. It is woken for each change of the pair, and
+ * sleeps where it found nothing to do. */
+static void *turns(void *at)
+{
+    strm_end *end = (strm_end *)at;
+    struct pollfd ready = { strm_end_fd(end), POLLIN, 0 };
+    uint32_t bits;
+    size_t n;
+    for (;;) {
+        strm_refusal e = strm_end_ready(end, &bits);
+        if (e == STRM_ENXIO || (bits & STRM_HUNG_UP)) return NULL;
+        must(e, "look");
+        must(strm_system_run(of, 0, &n), "run");
+        if (n == 0 && poll(&ready, 1, -1) < 0) fails("poll", 0);
+    }
+}
+
+static void of_turns(void)
+{
+    lane it;
+    strm_end *turner;
+    pthread_t other;
+    strm_account all;
+    begins(1, 0);
+    it = opens();
+    must(strm_end_split(it.slave, &turner), "split");
+    other = starts(turns, turner);
+    plays(it);
+    must(strm_end_close(it.master), "close");
+    pthread_join(other, NULL);
+    must(strm_end_join(it.master, turner), "join");
+    must(strm_end_join(it.master, it.slave), "join");
+    must(strm_end_settle(it.master, &all), "settle");
+}
+
+/* ------------------------------------------------------------------------------------------------------------- lock */
+
+/* Calls that find what they ask for, or don't: each visit frees the lock, and some change nothing. */
+static void *calls(void *at)
+{
+    strm_end *end = (strm_end *)at;
+    unsigned long i, each = rounds / CALLERS + 1;
+    for (i = 0; i < each; i++) {
+        uint8_t some[64];
+        strm_reply r;
+        size_t messages, bytes;
+        strm_refusal e = strm_end_write(end, "abc", 3, &r);
+        if (e && e != STRM_EAGAIN && e != STRM_ENOSR) fails("write", e);
+        e = strm_end_read(end, some, sizeof some, &r);
+        if (e && e != STRM_EAGAIN) fails("read", e);
+        must(strm_end_nread(end, &messages, &bytes), "nread");
+        made_one();
+    }
+    return NULL;
+}
+
+static void of_lock(void)
+{
+    lane it;
+    strm_end *end[CALLERS];
+    pthread_t thread[CALLERS];
+    int i;
+    begins(1, 1);
+    it = opens();
+    for (i = 0; i < CALLERS; i++) must(strm_end_split(i % 2 ? it.master : it.slave, &end[i]), "split");
+    for (i = 0; i < CALLERS; i++) thread[i] = starts(calls, end[i]);
+    for (i = 0; i < CALLERS; i++) pthread_join(thread[i], NULL);
+    for (i = 0; i < CALLERS; i++) must(strm_end_join(it.master, end[i]), "join");
+    settles(it);
+}
+
+/* ------------------------------------------------------------------------------------------------------------- pairs */
+
+static lane many[MANY];
+
+static void *wanders(void *at)
+{
+    size_t mine = *(size_t *)at;
+    uint64_t state = mine + 1;
+    unsigned long i;
+    for (i = 0; i < rounds / WAITERS + 1; i++) {
+        lane *it;
+        state = state * 6364136223846793005u + 1442695040888963407u;
+        it = &many[(state >> 33) % (MANY / WAITERS) * WAITERS + mine];
+        sends(it->master);
+        takes(it->slave);
+        made_one();
+    }
+    return NULL;
+}
+
+static void of_pairs(void)
+{
+    pthread_t thread[WAITERS];
+    size_t mine[WAITERS], i;
+    begins(MANY, 4);
+    for (i = 0; i < MANY; i++) many[i] = opens();
+    for (i = 0; i < WAITERS; i++) mine[i] = i, thread[i] = starts(wanders, &mine[i]);
+    for (i = 0; i < WAITERS; i++) pthread_join(thread[i], NULL);
+    for (i = 0; i < MANY; i++) settles(many[i]);
+}
+
+/* ------------------------------------------------------------------------------------------------------------- descriptors */
+
+/* As takes, by poll(2): look, call until the call is EAGAIN, poll. */
+static void polls(strm_end *end)
+{
+    struct pollfd ready = { strm_end_fd(end), POLLIN, 0 };
+    for (;;) {
+        uint8_t byte[1];
+        uint32_t bits;
+        strm_reply r;
+        strm_refusal e;
+        must(strm_end_ready(end, &bits), "look");
+        e = strm_end_read(end, byte, 1, &r);
+        if (!e) return;
+        if (e != STRM_EAGAIN) fails("read", e);
+        if (poll(&ready, 1, -1) < 0) fails("poll", 0);
+    }
+}
+
+static void *polled(void *at)
+{
+    strm_end *end = (strm_end *)at;
+    unsigned long i;
+    for (i = 0; i < rounds; i++) polls(end), sends(end);
+    return NULL;
+}
+
+static void of_descriptors(void)
+{
+    lane it;
+    pthread_t other;
+    unsigned long i;
+    begins(1, 1);
+    it = opens();
+    other = starts(polled, it.slave);
+    for (i = 0; i < rounds; i++) sends(it.master), polls(it.master), made_one();
+    pthread_join(other, NULL);
+    settles(it);
+}
+
+/* ------------------------------------------------------------------------------------------------------------- answers */
+
+static void *signalled(void *at)
+{
+    strm_end *end = (strm_end *)at;
+    unsigned long i;
+    for (i = 0; i < rounds;) {
+        uint8_t numbers[32];
+        uint32_t ready;
+        size_t n;
+        must(strm_end_wait(end, STRM_HAS_SIGNALS, -1, &ready), "wait for a signal");
+        must(strm_end_signals(end, numbers, &n), "signals");
+        if (n) i++, sends(end);
+    }
+    return NULL;
+}
+
+static void of_answers(void)
+{
+    lane it;
+    pthread_t other;
+    strm_winsize size = { 24, 80, 0, 0 };
+    unsigned long i;
+    begins(1, 1);
+    must(strm_system_terminal(of, &it.master, &it.slave), "a terminal");
+    other = starts(signalled, it.slave);
+    for (i = 0; i < rounds; i++) {
+        strm_winsize told;
+        size.columns = (uint16_t)(80 + i % 2);
+        size.rows = (uint16_t)(1 + i % 1000);
+        must(strm_end_set_winsize(it.master, &size, -1), "set a window");
+        takes(it.master);
+        must(strm_end_get_winsize(it.master, &told, -1), "get a window");
+        if (told.columns != size.columns || told.rows != size.rows) fails("another window", 0);
+        made_one();
+    }
+    pthread_join(other, NULL);
+    settles(it);
+}
+
+/* ------------------------------------------------------------------------------------------------------------- hangups */
+
+typedef struct handed {
+    uint32_t given, taken; /* rounds */
+    strm_end *slave;
+    pthread_mutex_t lock;
+    pthread_cond_t more;
+} handed;
+
+/* Waits for input of slave after slave: it comes to an end. */
+static void *hung(void *at)
+{
+    handed *h = (handed *)at;
+    unsigned long i;
+    for (i = 0; i < rounds; i++) {
+        uint32_t ready;
+        strm_end *slave;
+        pthread_mutex_lock(&h->lock);
+        while (h->given == h->taken) pthread_cond_wait(&h->more, &h->lock);
+        slave = h->slave;
+        pthread_mutex_unlock(&h->lock);
+        must(strm_end_wait(slave, 0, -1, &ready), "wait for a hang-up");
+        if (!(ready & STRM_HUNG_UP)) fails("not hung up", 0);
+        pthread_mutex_lock(&h->lock);
+        h->taken++;
+        pthread_cond_broadcast(&h->more);
+        pthread_mutex_unlock(&h->lock);
+    }
+    return NULL;
+}
+
+static void of_hangups(void)
+{
+    handed h = { 0, 0, NULL, PTHREAD_MUTEX_INITIALIZER, PTHREAD_COND_INITIALIZER };
+    pthread_t other;
+    unsigned long i;
+    begins(2, 1);
+    other = starts(hung, &h);
+    for (i = 0; i < rounds; i++) {
+        lane it = opens();
+        pthread_mutex_lock(&h.lock);
+        h.slave = it.slave;
+        h.given++;
+        pthread_cond_broadcast(&h.more);
+        pthread_mutex_unlock(&h.lock);
+        if (i % 3) sched_yield(); /* sometimes the other one sleeps by then, sometimes it doesn't */
+        must(strm_end_close(it.master), "close");
+        pthread_mutex_lock(&h.lock);
+        while (h.taken != h.given) pthread_cond_wait(&h.more, &h.lock);
+        pthread_mutex_unlock(&h.lock);
+        must(strm_system_release(of, settles(it)), "release");
+        made_one();
+    }
+    pthread_join(other, NULL);
+}
+
+/* ------------------------------------------------------------------------------------------------------------- main */
+
+static void *watches(void *at)
+{
+    unsigned long last = 0, still = 0;
+    (void)at;
+    for (;;) {
+        unsigned long now;
+        sleep(1);
+        now = __atomic_load_n(&made, __ATOMIC_RELAXED);
+        still = now == last ? still + 1 : 0;
+        last = now;
+        if (still < stall) continue;
+        printf("A WAKE WAS LOST: no round in %lu seconds, behind %lu\n", stall, now);
+        fflush(stdout);
+        _exit(1);
+    }
+    return NULL;
+}
+
+int main(int count, char **words)
+{
+    static const struct { const char *name; void (*runs)(void); } kinds[] = {
+        { "echo", of_echo }, { "lock", of_lock }, { "pairs", of_pairs }, { "descriptors", of_descriptors },
+        { "answers", of_answers }, { "hangups", of_hangups }, { "turns", of_turns },
+    };
+    struct timespec from, to;
+    size_t i;
+    if (count > 3) stall = strtoul(words[3], NULL, 10);
+    for (i = 0; count > 2 && i < sizeof kinds / sizeof *kinds; i++) {
+        if (strcmp(words[1], kinds[i].name)) continue;
+        rounds = strtoul(words[2], NULL, 10);
+        starts(watches, NULL);
+        clock_gettime(CLOCK_MONOTONIC, &from);
+        kinds[i].runs();
+        clock_gettime(CLOCK_MONOTONIC, &to);
+        must(strm_system_free(of), "free");
+        printf("%s: %lu rounds, %.2f us each\n", words[1], made,
+            ((double)(to.tv_sec - from.tv_sec) * 1e6 + (double)(to.tv_nsec - from.tv_nsec) / 1e3) / (double)(made ? made : 1));
+        return 0;
+    }
+    fprintf(stderr, "wakes KIND ROUNDS [STALL]\n");
+    return 2;
+}
