@@ -1,5 +1,5 @@
-/* A server with threads: at each terminal one types, one is the shell, and one shows what the master is given. None waits in a loop: each sleeps until
- * its end may go on, and two workers make the turns. At the end the terminals are settled: what their ends were told is what the books say. */
+/* A server with threads: at each terminal one types, one is the shell, and one shows what the master is given. None waits in a loop: each sleeps
+ * until its end may go on, and two workers make the turns. At the end the terminals are settled: what their ends were told is what the books say. */
 #include <pthread.h>
 #include <stdio.h>
 #include <stdlib.h>

@@ -145,7 +145,8 @@ strm_refusal strm_system_terminal(strm_system *system, strm_end **master, strm_e
 strm_refusal strm_system_turn(strm_system *system, uint32_t pair, strm_visit *visit);
 
 /* Makes such turns until no queue is enabled, or a turn is refused, which it answers: ERANGE, JOURNAL_FULL, ENOSR. *turns is how many were made, also
- * then; EINVAL and NO_MEMORY made none. It makes RUN_MOST turns at most, and is EAGAIN where a queue is enabled behind them. */
+ * then; EINVAL and NO_MEMORY made none. It makes RUN_MOST turns at most, and is EAGAIN where a queue is enabled behind them. A journal that is to
+ * begin anew does so once an end of the pair calls, looks or waits, so that a turn by the number of a pair may be JOURNAL_FULL (strm_end_run). */
 strm_refusal strm_system_run(strm_system *system, uint32_t pair, size_t *turns);
 
 /* What was told of a pair so far, and its ledgers, of one moment under its lock. EINVAL: no such pair. NO_MEMORY. */
@@ -173,7 +174,8 @@ strm_refusal strm_end_open_slave(strm_end *end, strm_end **slave);
 strm_refusal strm_end_split(strm_end *end, strm_end **second);
 
 /* Joins the second end to the first, which has the parts of both then, and what both were told; the second is gone. It calls as the end that opened
- * the pair did, where that is one of them, else as the first did. EINVAL: they are of two pairs or of two systems, or one end twice. Both stay then. */
+ * the pair did, where that is one of them, else as the first did. EINVAL: they are of two pairs or of two systems, or one end twice. Both stay then.
+ * */
 strm_refusal strm_end_join(strm_end *first, strm_end *second);
 
 /* Settles the pair of an end that has all of it: *account has what its ends were told in all, which is what the pair's books say, and both ledgers.
@@ -195,6 +197,9 @@ void strm_end_set_group(strm_end *end, uint32_t group, bool ignores, bool orphan
 /* Makes a call by an end, as strm_call does: op, a, b and c of `ask` say which one, and the end its side and caller: side, group and bools aren't
  * looked at. Of a write the first WRITE_MOST bytes are brought. OP_OPEN_MASTER and OP_OPEN_SLAVE are EINVAL. */
 strm_refusal strm_end_call(strm_end *end, const strm_ask *ask, const void *bytes, size_t n, void *out, size_t room, strm_reply *reply);
+
+/* Makes turns of the end's pair, as strm_system_run does; a full journal begins anew where that was chosen. */
+strm_refusal strm_end_run(strm_end *end, size_t *turns);
 
 /* Begins the journal of the end's pair anew, as strm_restart does. */
 strm_refusal strm_end_restart(strm_end *end);

@@ -4,18 +4,19 @@
  * sequentially consistent, and so are those of a pair's lock (crates/strm_locks), so there is one order of all of them, in which each load gives what
  * the last store before it left.
  *
- * WHO SLEEPS   sets bit 0 and keeps the word (bell_heard), then looks for what it waits for (it tries the lock; it asks under the lock what the side
- *              is ready for; it seeks a pair with work), and sleeps while the word is what it kept (bell_sleeps). It looks again behind each sleep.
- * WHO CHANGES  what others wait for makes the change, then reads the word (bell_rings). Where bit 0 is set it counts up, which clears the bit,
- *              and wakes those that sleep.
+ * WHO SLEEPS   sets bit 0 and keeps the word (bell_heard), then looks for what it waits for (it tries the lock; it asks under the lock what the
+ *              side is ready for; it seeks a pair with work), and sleeps while the word is what it kept (bell_sleeps). Behind each sleep it does all
+ *              of this again.
+ * WHO CHANGES  what others wait for makes the change, then reads the word (bell_rings). Where bit 0 is set it counts up, which clears the bit, and
+ *              wakes those that sleep.
  *
  * No wake is lost. Let a thread S keep the word v, look, and find nothing; let the change C that it waits for come behind that look. Then C's load
  * of the word comes behind S's bell_heard. It finds v, or a word that was counted up since.
- *   It finds v: bit 0 is set. The thread of C counts up, or finds that another did so between its load and its step. Either way the word is v no more,
- *     and who counted up wakes behind it: S sleeps already and is woken, or bell_sleeps finds another word and returns.
+ *   It finds v: bit 0 is set. The thread of C counts up, or finds that another did so between its load and its step. Either way the word is v no
+ *     more, and who counted up wakes behind it: S sleeps already and is woken, or bell_sleeps finds another word and returns.
  *   It finds another word: somebody counted up behind S's bell_heard, and wakes behind it, as above.
- * So S looks again behind C, or behind a count that came before C and behind S's last look: then it sets bit 0 anew before it looks, and the same holds
- * of that look. (The count has 31 bits: 2^31 rings between a bell_heard and its sleep would go unnoticed.)
+ * So S sets bit 0 anew and looks again. If C stands behind that look too, as the ring was for something else, the same holds of it. (The count has 31
+ * bits: 2^31 rings between a bell_heard and its sleep would go unnoticed.)
  *
  * Where one is woken of several (the lock, work), another may go on sleeping while bit 0 is clear. None is forgotten: who is woken sets bit 0 before it
  * looks, and behind what it then does it rings as everybody does: behind its visit, if it got the lock; behind the work that it took, if more is

@@ -53,7 +53,7 @@ strm_refusal strm_end_open_slave(strm_end *end, strm_end **slave)
     if (!made) return STRM_NO_MEMORY;
     do {
         UNTIL_FREE(end->pair, e, strm_mt_open_slave(&end->seat->member, &made->seat->member));
-    } while (e == STRM_JOURNAL_FULL && end->system->anew && !end_restarts(end));
+    } while (e == STRM_JOURNAL_FULL && end->system->anew && !strm_end_restart(end));
     if (e) {
         end_gone(made, true);
         return e;
@@ -109,16 +109,10 @@ void strm_end_set_group(strm_end *end, uint32_t group, bool ignores, bool orphan
 
 /* ------------------------------------------------------------------------------------------------------------- calls */
 
-strm_refusal end_restarts(strm_end *end)
+strm_refusal strm_end_restart(strm_end *end)
 {
     strm_refusal e;
     UNTIL_FREE(end->pair, e, strm_mt_restart(&end->seat->member));
-    return e;
-}
-
-strm_refusal strm_end_restart(strm_end *end)
-{
-    strm_refusal e = end_restarts(end);
     if (!e) pair_changed(end->system, end->pair);
     return e;
 }
@@ -128,7 +122,7 @@ strm_refusal strm_end_call(strm_end *end, const strm_ask *ask, const void *bytes
     strm_refusal e;
     do {
         UNTIL_FREE(end->pair, e, strm_mt_call(&end->seat->member, ask, bytes, n, out, room, reply));
-    } while (e == STRM_JOURNAL_FULL && end->system->anew && !end_restarts(end));
+    } while (e == STRM_JOURNAL_FULL && end->system->anew && !strm_end_restart(end));
     /* (I_LOOK and I_NREAD leave all as it was) */
     if (!e && ask->op != STRM_OP_LOOK && ask->op != STRM_OP_NREAD) pair_changed(end->system, end->pair);
     return e;

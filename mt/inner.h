@@ -19,7 +19,7 @@ typedef struct pair {
     uint32_t freed;          /* the bell of its lock */
     uint32_t changed;        /* the bell of its state */
     uint32_t turns;          /* who makes its turns, of work.h */
-    uint32_t full;           /* 1: a worker found its journal full, and has no end by which it could begin it anew */
+    uint32_t full;           /* 1: who found its journal full had no end by which to begin it anew */
     uint32_t watched;        /* how many descriptors tell of it */
     uint32_t latch;          /* of the list of these */
     struct strm_end *watches;
@@ -74,11 +74,11 @@ void system_rises(strm_system *system, seat *taken);   /* gives it back */
 /* ends.c */
 strm_end *end_made(strm_system *system, seat *taken, uint32_t number, uint32_t side);
 void end_gone(strm_end *end, bool with_seat);
-strm_refusal end_restarts(strm_end *end);              /* and nothing else */
 
 /* waits.c */
 void pair_changed(strm_system *system, pair *changed); /* tells all who wait for its state, and workers */
 void pair_tells(pair *changed);                        /* tells all but workers */
+void pair_is_full(pair *full);                         /* who looks or waits by an end begins the journal anew */
 void end_unwatched(strm_end *end);                     /* closes its descriptor, if it has one */
 
 #endif

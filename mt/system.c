@@ -214,15 +214,15 @@ strm_refusal strm_system_terminal(strm_system *system, strm_end **master, strm_e
 
 /* ------------------------------------------------------------------------------------------------------------- visits */
 
-/* The same by a seat. */
+/* Makes a turn by a seat; a journal that is full is noted, where it is to begin anew. */
 static strm_refusal turns(strm_system *system, seat *by, uint32_t number, strm_visit *visit)
 {
     pair *at = &system->pair[number];
     strm_refusal e;
     UNTIL_FREE(at, e, strm_mt_turn(&by->member, number, visit));
     if (e || visit->queue == STRM_NO_QUEUE) return e;
-    if (visit->refusal == STRM_JOURNAL_FULL && system->anew) __atomic_store_n(&at->full, 1, __ATOMIC_SEQ_CST);
-    if (!visit->refusal || visit->refusal == STRM_JOURNAL_FULL) pair_tells(at);
+    if (visit->refusal == STRM_JOURNAL_FULL && system->anew) pair_is_full(at);
+    if (!visit->refusal) pair_tells(at);
     return STRM_OK;
 }
 
@@ -238,23 +238,40 @@ strm_refusal strm_system_turn(strm_system *system, uint32_t number, strm_visit *
     return e;
 }
 
+/* Makes turns by a seat until there are RUN_MOST. */
+static strm_refusal runs(strm_system *system, seat *by, uint32_t number, size_t *made)
+{
+    while (*made < STRM_RUN_MOST) {
+        strm_visit visit;
+        strm_refusal e = turns(system, by, number, &visit);
+        if (e || visit.queue == STRM_NO_QUEUE) return e;
+        if (visit.refusal) return visit.refusal;
+        ++*made;
+    }
+    return STRM_EAGAIN;
+}
+
 strm_refusal strm_system_run(strm_system *system, uint32_t number, size_t *made)
 {
-    strm_visit visit = { STRM_NO_QUEUE, STRM_OK, { 0, 0 } };
-    strm_refusal e = STRM_OK;
+    strm_refusal e;
     seat *by;
     *made = 0;
     if (number >= system->pairs) return STRM_EINVAL;
     by = system_sits(system);
     if (!by) return STRM_NO_MEMORY;
-    while (!e && *made < STRM_RUN_MOST) {
-        e = turns(system, by, number, &visit);
-        if (!e && visit.queue == STRM_NO_QUEUE) break;
-        if (!e) e = visit.refusal;
-        if (!e) ++*made;
-    }
+    e = runs(system, by, number, made);
     system_rises(system, by);
-    return !e && visit.queue != STRM_NO_QUEUE ? STRM_EAGAIN : e;
+    return e;
+}
+
+strm_refusal strm_end_run(strm_end *end, size_t *made)
+{
+    strm_refusal e;
+    *made = 0;
+    do {
+        e = runs(end->system, end->seat, end->number, made);
+    } while (e == STRM_JOURNAL_FULL && end->system->anew && !strm_end_restart(end));
+    return e;
 }
 
 strm_refusal strm_system_audit(strm_system *system, uint32_t number, strm_account *account)

@@ -25,6 +25,12 @@ void pair_tells(pair *changed)
     if (__atomic_load_n(&changed->watched, __ATOMIC_SEQ_CST)) tells_watches(changed);
 }
 
+void pair_is_full(pair *full)
+{
+    __atomic_store_n(&full->full, 1, __ATOMIC_SEQ_CST);
+    pair_tells(full);
+}
+
 void pair_changed(strm_system *system, pair *changed)
 {
     pair_tells(changed);
@@ -52,7 +58,7 @@ static void arms(strm_end *end)
     __atomic_store_n(&end->armed, 1, __ATOMIC_SEQ_CST);
 }
 
-/* A worker that finds the journal full has no end by which it could begin it anew. */
+/* Begins the journal anew that a worker found full. */
 static strm_refusal begins_full(strm_end *end)
 {
     if (!__atomic_load_n(&end->pair->full, __ATOMIC_SEQ_CST)) return STRM_OK;

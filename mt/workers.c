@@ -8,7 +8,7 @@
 /* So many turns a worker makes at a pair while another one waits. */
 enum { WORKER_TURNS = 64, WORKERS_MOST = 256 };
 
-/* Makes turns at a pair until no queue is enabled, or one can't be turned, or these are enough; whether it is to be gone on with. *moved: one was made. */
+/* Makes turns at a pair until no queue is enabled, one is refused, or these are enough: true where more are to be made. *moved: one was made. */
 static bool makes_turns(worker *w, pair *at, uint32_t number, bool *moved)
 {
     int turns;
@@ -19,10 +19,7 @@ static bool makes_turns(worker *w, pair *at, uint32_t number, bool *moved)
         if (e || visit.queue == STRM_NO_QUEUE) return false;
         if (visit.refusal) {
             /* it goes on behind the next call that is granted, or once an end begins the journal anew */
-            if (visit.refusal == STRM_JOURNAL_FULL && w->system->anew) {
-                __atomic_store_n(&at->full, 1, __ATOMIC_SEQ_CST);
-                *moved = true;
-            }
+            if (visit.refusal == STRM_JOURNAL_FULL && w->system->anew) pair_is_full(at);
             return false;
         }
         *moved = true;

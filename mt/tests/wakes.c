@@ -3,10 +3,15 @@
  *
  *     wakes KIND ROUNDS [STALL]      STALL: so many seconds without a round are a failure (120)
  *
- * echo: two ends of a pair send a byte to and fro. lock: eight ends call on one pair, each as fast as it can. pairs: bytes go to pairs at random of
- * 4,096, which rest between, and 16 threads wait for them. descriptors: echo, by poll(2). answers: the master asks the window of a slave, whose ptem
- * answers, and signals come up. hangups: a pair is opened, its slave waits, the master closes. turns: echo without workers, the turns made by a thread
- * that sleeps until a side may be written to. All have a journal of 64 entries that begins anew. The last line is 'KIND: N rounds', with the time. */
+ *   echo         two ends of a pair send a byte to and fro
+ *   lock         eight ends call on one pair, each as fast as it can
+ *   pairs        16 threads send a byte through one of 4,096 pairs at random, which rest between, and wait for it
+ *   descriptors  echo, by poll(2)
+ *   answers      the master sets a window, which ptem answers; the slave waits for the signal, and asks the window
+ *   hangups      a pair is opened, its slave waits, the master closes
+ *   turns        echo without workers: a thread makes the turns, which sleeps by poll(2) till the pair has changed
+ *
+ * All have a journal of 64 entries that begins anew. The last line is 'KIND: N rounds', with the time of each. */
 #define _GNU_SOURCE
 #include <poll.h>
 #include <pthread.h>
@@ -136,7 +141,7 @@ static void *turns(void *at)
         strm_refusal e = strm_end_ready(end, &bits);
         if (e == STRM_ENXIO || (bits & STRM_HUNG_UP)) return NULL;
         must(e, "look");
-        must(strm_system_run(of, 0, &n), "run");
+        must(strm_end_run(end, &n), "run");
         if (n == 0 && poll(&ready, 1, -1) < 0) fails("poll", 0);
     }
 }
@@ -268,17 +273,28 @@ static void of_descriptors(void)
 
 /* ------------------------------------------------------------------------------------------------------------- answers */
 
+static strm_winsize window_of(unsigned long round)
+{
+    strm_winsize size = { (uint16_t)(1 + round % 1000), (uint16_t)(80 + round % 2), 0, 0 };
+    return size;
+}
+
+/* Waits for each change of the window, asks its size, and says so. */
 static void *signalled(void *at)
 {
     strm_end *end = (strm_end *)at;
     unsigned long i;
-    for (i = 0; i < rounds;) {
+    for (i = 0; i < rounds; i++) {
+        strm_winsize wanted = window_of(i), told;
         uint8_t numbers[32];
         uint32_t ready;
         size_t n;
         must(strm_end_wait(end, STRM_HAS_SIGNALS, -1, &ready), "wait for a signal");
         must(strm_end_signals(end, numbers, &n), "signals");
-        if (n) i++, sends(end);
+        if (n != 1 || numbers[0] != STRM_SIGWINCH) fails("another signal", 0);
+        must(strm_end_get_winsize(end, &told, -1), "get a window");
+        if (told.rows != wanted.rows || told.columns != wanted.columns) fails("another window", 0);
+        sends(end);
     }
     return NULL;
 }
@@ -287,19 +303,14 @@ static void of_answers(void)
 {
     lane it;
     pthread_t other;
-    strm_winsize size = { 24, 80, 0, 0 };
     unsigned long i;
     begins(1, 1);
     must(strm_system_terminal(of, &it.master, &it.slave), "a terminal");
     other = starts(signalled, it.slave);
     for (i = 0; i < rounds; i++) {
-        strm_winsize told;
-        size.columns = (uint16_t)(80 + i % 2);
-        size.rows = (uint16_t)(1 + i % 1000);
+        strm_winsize size = window_of(i);
         must(strm_end_set_winsize(it.master, &size, -1), "set a window");
         takes(it.master);
-        must(strm_end_get_winsize(it.master, &told, -1), "get a window");
-        if (told.columns != size.columns || told.rows != size.rows) fails("another window", 0);
         made_one();
     }
     pthread_join(other, NULL);
