@@ -78,6 +78,8 @@ extern "C" {
 typedef struct strm_system strm_system;
 typedef struct strm_end strm_end;
 
+/* ------------------------------------------------------------------------------------------------------------- what is told */
+
 /* How many bytes, by the side that wrote them. */
 typedef struct strm_each {
     uint64_t from_master, from_slave;

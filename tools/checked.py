@@ -180,6 +180,21 @@ def linked_with(object_, name, source, *libraries):
     return kept(name, sum_of(object_, source.parent, ROOT / "include"), lambda part: subprocess.run(["cc", *flags, "-o", part, *every], check=True))
 
 
+def linked_threads(object_, name, source, flags=(), libraries=()):
+    """A program of a C file over include/strm_mt.h: with mt/, an object of strm_mt's exports, and libraries."""
+    warnings = ["-Wall", "-Wextra", "-Wconversion", "-pedantic", "-Werror"]
+
+    def make(part):
+        with tempfile.TemporaryDirectory() as room:
+            objects = []
+            for it in [source, *sorted((ROOT / "mt").glob("*.c"))]:
+                objects.append(f"{room}/{it.stem}.o")
+                subprocess.run(["cc", "-std=c99", "-g", "-O1", *warnings, *flags, f"-I{ROOT / 'include'}", "-c", it, "-o", objects[-1]], check=True)
+            every = [*objects, object_, kit() / "c/libos_c.a", kit() / "c/liblibc_c.a", *libraries, "-lpthread"]
+            subprocess.run(["cc", "-o", part, *every], check=True)
+    return kept(name, sum_of(object_, source, ROOT / "mt", ROOT / "include"), make)
+
+
 if __name__ == "__main__":
     if len(sys.argv) != 3:
         sys.exit(__doc__)
