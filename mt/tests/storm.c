@@ -1,5 +1,5 @@
-/* Storms: threads that make all calls at random at the pairs of a system, each by ends of its own, while workers make turns and others audit, split and
- * join. For a run-time library that looks for races, and for what must hold whatever comes between what.
+/* Storms: threads that make all calls at random at the pairs of a system, each by ends of its own, while workers make turns and others audit, split
+ * and join. For a run-time library that looks for races, and for what must hold whatever comes between what.
  *
  *     storm PAIRS THREADS CALLS SEED      THREADS: at each pair
  *

@@ -351,6 +351,7 @@ static void *hung(void *at)
 static void of_hangups(void)
 {
     handed h = { 0, 0, NULL, PTHREAD_MUTEX_INITIALIZER, PTHREAD_COND_INITIALIZER };
+    struct timespec little = { 0, 20000 };
     pthread_t other;
     unsigned long i;
     begins(2, 1);
@@ -362,7 +363,7 @@ static void of_hangups(void)
         h.given++;
         pthread_cond_broadcast(&h.more);
         pthread_mutex_unlock(&h.lock);
-        if (i % 3) sched_yield(); /* sometimes the other one sleeps by then, sometimes it doesn't */
+        if (i % 3 == 0) nanosleep(&little, NULL); /* the other one sleeps by then, mostly */
         must(strm_end_close(it.master), "close");
         pthread_mutex_lock(&h.lock);
         while (h.taken != h.given) pthread_cond_wait(&h.more, &h.lock);
