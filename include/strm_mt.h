@@ -217,10 +217,9 @@ strm_refusal strm_end_ready(strm_end *end, uint32_t *ready);
  * woken, and one of them finds what the other took: it waits again. */
 strm_refusal strm_end_wait(strm_end *end, uint32_t what, int timeout, uint32_t *ready);
 
-/* A descriptor for poll(2), POLLIN: an eventfd(2), the end's, made at the first call and closed with the end. It becomes readable where the state of
- * the pair has changed since this end looked (strm_end_ready, strm_end_wait), and is so at first; a look makes it unreadable, and nothing else does.
- * So look, call until the call is EAGAIN, then poll. It tells of each change, also of those that leave the side as it was. -1: the system gives none.
- * */
+/* A descriptor for poll(2), POLLIN: an eventfd(2), the end's, made at the first call and closed with the end. It becomes readable where the side may
+ * have become ready for more since this end looked (strm_end_ready, strm_end_wait), and is so at first; a look makes it unreadable, and nothing else
+ * does. So look, call until the call is EAGAIN, then poll. It may be readable, and the side as it was. -1: the system gives none. */
 int strm_end_fd(strm_end *end);
 
 /* ------------------------------------------------------------------------------------------------------------- helpers of ends, not proved */

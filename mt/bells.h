@@ -18,13 +18,14 @@
  * So S sets bit 0 anew and looks again. If C stands behind that look too, as the ring was for something else, the same holds of it. (The count has 31
  * bits: 2^31 rings between a bell_heard and its sleep would go unnoticed.)
  *
- * Where one is woken of several (the lock, work), another may go on sleeping while bit 0 is clear. None is forgotten: who is woken sets bit 0 before it
- * looks, and behind what it then does it rings as everybody does: behind its visit, if it got the lock; behind the work that it took, if more is
+ * Where one is woken of several (the lock, work), another may go on sleeping while bit 0 is clear. None is forgotten: who is woken sets bit 0 before
+ * it looks, and behind what it then does it rings as everybody does: behind its visit, if it got the lock; behind the work that it took, if more is
  * there. If it finds nothing, the bit is set, and what it waits for comes with a ring.
  *
- * A pair has two bells. One is for its lock: it rings behind each visit, and wakes one of those that met it BUSY. The other is for its state: it
- * rings behind a call that was granted, a run of turns, and a journal that begins anew, and wakes all. They are two since a refused call frees
- * the lock and changes nothing: on one bell threads that look and find nothing would wake each other without end. */
+ * A pair has a bell for its lock, which rings behind each visit and wakes one of those that met it BUSY, and two for its state, which ring behind
+ * what may make a side ready, and wake all: a run of turns, a journal that begins anew, and a call that was granted, unless it can't. On the one
+ * sleep those that don't wait for room to write; a read rings the other alone. Lock and state have bells of their own since a refused call frees the
+ * lock and changes nothing: on one bell threads that look and find nothing would wake each other without end. */
 #ifndef STRM_MT_BELLS_H
 #define STRM_MT_BELLS_H
 

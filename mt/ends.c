@@ -37,6 +37,13 @@ void strm_end_free(strm_end *end)
     end_gone(end, true);
 }
 
+/* Anything may have changed. */
+static void changed(strm_end *end)
+{
+    pair_tells(end->pair);
+    pair_works(end->system, end->pair);
+}
+
 /* An end of the same pair in a seat of its own, which has nothing in hand yet; NULL where there is no memory. */
 static strm_end *beside(const strm_end *end, uint32_t side)
 {
@@ -58,7 +65,7 @@ strm_refusal strm_end_open_slave(strm_end *end, strm_end **slave)
         end_gone(made, true);
         return e;
     }
-    pair_changed(end->system, end->pair);
+    changed(end);
     *slave = made;
     return STRM_OK;
 }
@@ -113,8 +120,35 @@ strm_refusal strm_end_restart(strm_end *end)
 {
     strm_refusal e;
     UNTIL_FREE(end->pair, e, strm_mt_restart(&end->seat->member));
-    if (!e) pair_changed(end->system, end->pair);
+    if (!e) changed(end);
     return e;
+}
+
+/* Behind a read: whether a worker would be woken to find no enabled queue, as mostly is so. */
+static bool is_at_rest(strm_end *end)
+{
+    strm_prospect told;
+    uint32_t e;
+    if (!work_sleeps(&end->system->work) || __atomic_load_n(&end->pair->turns, __ATOMIC_SEQ_CST) != AT_REST) return false;
+    e = strm_mt_ready(&end->seat->member, end->number, end->side, &told);
+    if (e == STRM_BUSY) return false;
+    bell_rings(&end->pair->freed, BELL_ONE);
+    return !e && told.queue == STRM_NO_QUEUE;
+}
+
+/* Tells those to whom a granted call may matter. By itself a write makes no side ready for anything, before a turn carries it; a read lets blocks
+ * go, for which a writer may wait; and what only looks, or takes what stood at the head, does neither (tried by mt/tests/rings.c). */
+static void rings(strm_end *end, uint32_t op)
+{
+    switch (op) {
+    case STRM_OP_LOOK: case STRM_OP_NREAD: case STRM_OP_SIGNALS: case STRM_OP_IOCTL_RESULT: return;
+    case STRM_OP_WRITE: case STRM_OP_PUT: pair_works(end->system, end->pair); return;
+    case STRM_OP_READ: case STRM_OP_GET:
+        pair_tells_room(end->pair);
+        if (!is_at_rest(end)) pair_works(end->system, end->pair);
+        return;
+    default: changed(end);
+    }
 }
 
 strm_refusal strm_end_call(strm_end *end, const strm_ask *ask, const void *bytes, size_t n, void *out, size_t room, strm_reply *reply)
@@ -123,7 +157,6 @@ strm_refusal strm_end_call(strm_end *end, const strm_ask *ask, const void *bytes
     do {
         UNTIL_FREE(end->pair, e, strm_mt_call(&end->seat->member, ask, bytes, n, out, room, reply));
     } while (e == STRM_JOURNAL_FULL && end->system->anew && !strm_end_restart(end));
-    /* (I_LOOK and I_NREAD leave all as it was) */
-    if (!e && ask->op != STRM_OP_LOOK && ask->op != STRM_OP_NREAD) pair_changed(end->system, end->pair);
+    if (!e) rings(end, ask->op);
     return e;
 }

@@ -165,7 +165,6 @@ strm_refusal strm_system_open(strm_system *system, uint32_t number, strm_end **m
         is_claimed(system, number, taken);
         return e;
     }
-    pair_changed(system, of);
     *master = made;
     return STRM_OK;
 }

@@ -6,6 +6,9 @@
 
 #include "inner.h"
 
+/* The two bells of a pair's state. */
+enum { FOR_INPUT, FOR_ROOM };
+
 /* ------------------------------------------------------------------------------------------------------------- who is told */
 
 /* Makes the descriptors readable of ends that have looked. */
@@ -19,10 +22,16 @@ static void tells_watches(pair *changed)
     latch_gives(&changed->latch);
 }
 
+void pair_tells_room(pair *changed)
+{
+    bell_rings(&changed->changed[FOR_ROOM], BELL_ALL);
+    if (__atomic_load_n(&changed->watched, __ATOMIC_SEQ_CST)) tells_watches(changed);
+}
+
 void pair_tells(pair *changed)
 {
-    bell_rings(&changed->changed, BELL_ALL);
-    if (__atomic_load_n(&changed->watched, __ATOMIC_SEQ_CST)) tells_watches(changed);
+    bell_rings(&changed->changed[FOR_INPUT], BELL_ALL);
+    pair_tells_room(changed);
 }
 
 void pair_is_full(pair *full)
@@ -31,10 +40,9 @@ void pair_is_full(pair *full)
     pair_tells(full);
 }
 
-void pair_changed(strm_system *system, pair *changed)
+void pair_works(strm_system *system, pair *of)
 {
-    pair_tells(changed);
-    if (work_called(&changed->turns)) work_adds(&system->work, (size_t)(changed - system->pair));
+    if (work_called(&of->turns)) work_adds(&system->work, (size_t)(of - system->pair));
 }
 
 /* ------------------------------------------------------------------------------------------------------------- looks */
@@ -93,15 +101,15 @@ strm_refusal strm_end_wait(strm_end *end, uint32_t what, int timeout, uint32_t *
 {
     struct timespec then;
     const struct timespec *until = NULL;
-    uint32_t heard = 0;
+    uint32_t heard = 0, *bell = &end->pair->changed[what & STRM_CAN_WRITE ? FOR_ROOM : FOR_INPUT];
     bool over = timeout == 0;
     for (;;) {
         strm_refusal e = strm_end_ready(end, ready);
         if (e || (*ready & (what | STRM_HUNG_UP))) return e;
         if (over) return STRM_EAGAIN;
         if (!heard) until = time_in(timeout, &then);
-        else over = !bell_sleeps(&end->pair->changed, heard, until);
-        heard = bell_heard(&end->pair->changed);
+        else over = !bell_sleeps(bell, heard, until);
+        heard = bell_heard(bell);
     }
 }
 

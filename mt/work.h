@@ -33,6 +33,12 @@ void work_adds(work *w, size_t pair);
 /* Takes a pair whose bit is set, the first from `from` on, and round; false where none is. */
 bool work_takes(work *w, size_t from, size_t *pair);
 
+/* Whether a worker sleeps, or is about to. */
+static inline bool work_sleeps(const work *w)
+{
+    return __atomic_load_n(&w->bell, __ATOMIC_SEQ_CST) & 1u;
+}
+
 /* Whether a bit is set. */
 bool work_waits(const work *w);
 

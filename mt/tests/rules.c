@@ -190,6 +190,7 @@ static void waits(void)
     strm_system *of = system_of(2, &anew);
     strm_end *master, *slave;
     struct pollfd fd;
+    strm_visit visit;
     strm_reply r;
     uint32_t ready = 77;
     uint8_t out[16];
@@ -203,7 +204,8 @@ static void waits(void)
     HOLDS(strm_end_wait(slave, STRM_CAN_READ, 1100, &ready) == STRM_EAGAIN && seconds() - from >= 1.09 && seconds() - from < 30);
     HOLDS(strm_end_read_wait(slave, out, sizeof out, 1, &r) == STRM_EAGAIN);
     HOLDS(strm_end_wait(slave, STRM_CAN_WRITE, -1, &ready) == STRM_OK && strm_end_wait(master, STRM_CAN_WRITE, 0, &ready) == STRM_OK);
-    HOLDS(strm_end_write(master, "a\r", 2, &r) == STRM_OK && poll(&fd, 1, 0) == 1);
+    HOLDS(strm_end_write(master, "a\r", 2, &r) == STRM_OK && poll(&fd, 1, 0) == 0);
+    HOLDS(strm_system_turn(of, 0, &visit) == STRM_OK && visit.went.moved == 2 && poll(&fd, 1, 0) == 1);
     HOLDS(strm_end_ready(slave, &ready) == STRM_OK && ready == STRM_CAN_WRITE && poll(&fd, 1, 0) == 0);
     HOLDS(strm_workers_start(of, 3) == STRM_OK && strm_workers_start(of, 1) == STRM_EINVAL);
     HOLDS(poll(&fd, 1, 60000) == 1 && strm_end_wait(slave, STRM_CAN_READ, 60000, &ready) == STRM_OK && (ready & STRM_CAN_READ));

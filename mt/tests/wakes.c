@@ -9,7 +9,7 @@
  *   descriptors  echo, by poll(2)
  *   answers      the master sets a window, which ptem answers; the slave waits for the signal, and asks the window
  *   hangups      a pair is opened, its slave waits, the master closes
- *   turns        echo without workers: a thread makes the turns, which sleeps by poll(2) till the pair has changed
+ *   turns        echo without workers: who writes makes the turns
  *
  * All have a journal of 64 entries that begins anew. The last line is 'KIND: N rounds', with the time of each. */
 #define _GNU_SOURCE
@@ -112,56 +112,46 @@ static void *echoes(void *at)
     return NULL;
 }
 
-static void plays(lane it)
-{
-    pthread_t other = starts(echoes, it.slave);
-    unsigned long i;
-    for (i = 0; i < rounds; i++) sends(it.master), takes(it.master), made_one();
-    pthread_join(other, NULL);
-}
-
 static void of_echo(void)
 {
     lane it;
+    pthread_t other;
+    unsigned long i;
     begins(1, 1);
     it = opens();
-    plays(it);
+    other = starts(echoes, it.slave);
+    for (i = 0; i < rounds; i++) sends(it.master), takes(it.master), made_one();
+    pthread_join(other, NULL);
     settles(it);
 }
 
-/* Writers make no turns: a further end of each side sleeps until a byte is on its way, and makes them. It is woken for each change of the pair, and
- * sleeps where it found nothing to do. */
-static void *turns(void *at)
+/* The same, and each makes the turns behind its own writes. */
+static void carries(strm_end *end)
+{
+    size_t n;
+    sends(end);
+    must(strm_end_run(end, &n), "run");
+}
+
+static void *carried(void *at)
 {
     strm_end *end = (strm_end *)at;
-    struct pollfd ready = { strm_end_fd(end), POLLIN, 0 };
-    uint32_t bits;
-    size_t n;
-    for (;;) {
-        strm_refusal e = strm_end_ready(end, &bits);
-        if (e == STRM_ENXIO || (bits & STRM_HUNG_UP)) return NULL;
-        must(e, "look");
-        must(strm_end_run(end, &n), "run");
-        if (n == 0 && poll(&ready, 1, -1) < 0) fails("poll", 0);
-    }
+    unsigned long i;
+    for (i = 0; i < rounds; i++) takes(end), carries(end);
+    return NULL;
 }
 
 static void of_turns(void)
 {
     lane it;
-    strm_end *turner;
     pthread_t other;
-    strm_account all;
+    unsigned long i;
     begins(1, 0);
     it = opens();
-    must(strm_end_split(it.slave, &turner), "split");
-    other = starts(turns, turner);
-    plays(it);
-    must(strm_end_close(it.master), "close");
+    other = starts(carried, it.slave);
+    for (i = 0; i < rounds; i++) carries(it.master), takes(it.master), made_one();
     pthread_join(other, NULL);
-    must(strm_end_join(it.master, turner), "join");
-    must(strm_end_join(it.master, it.slave), "join");
-    must(strm_end_settle(it.master, &all), "settle");
+    settles(it);
 }
 
 /* ------------------------------------------------------------------------------------------------------------- lock */
