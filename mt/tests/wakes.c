@@ -10,6 +10,7 @@
  *   answers      the master sets a window, which ptem answers; the slave waits for the signal, and asks the window
  *   hangups      a pair is opened, its slave waits, the master closes
  *   turns        echo without workers: who writes makes the turns
+ *   room         one end writes, the other reads, and the pair has blocks for four bytes on their way
  *
  * All have a journal of 64 entries that begins anew. The last line is 'KIND: N rounds', with the time of each. */
 #define _GNU_SOURCE
@@ -75,10 +76,15 @@ static uint32_t settles(lane it)
     return share.pair;
 }
 
+static void begins_with(size_t pairs, size_t workers, const strm_choices *of_each)
+{
+    must(strm_system_new(&of, pairs, of_each), "a system");
+    if (workers) must(strm_workers_start(of, workers), "workers");
+}
+
 static void begins(size_t pairs, size_t workers)
 {
-    must(strm_system_new(&of, pairs, &sizes), "a system");
-    if (workers) must(strm_workers_start(of, workers), "workers");
+    begins_with(pairs, workers, &sizes);
 }
 
 static pthread_t starts(void *(*does)(void *), void *with)
@@ -150,6 +156,31 @@ static void of_turns(void)
     it = opens();
     other = starts(carried, it.slave);
     for (i = 0; i < rounds; i++) carries(it.master), takes(it.master), made_one();
+    pthread_join(other, NULL);
+    settles(it);
+}
+
+/* ------------------------------------------------------------------------------------------------------------- room */
+
+static void *drains(void *at)
+{
+    strm_end *end = (strm_end *)at;
+    unsigned long i;
+    for (i = 0; i < rounds; i++) takes(end), made_one();
+    return NULL;
+}
+
+/* A write asks for 36 blocks, so the fifth waits until a byte is read; no turn comes behind that read. */
+static void of_room(void)
+{
+    strm_choices few = { 40, 64, 16384, 0, true };
+    lane it;
+    pthread_t other;
+    unsigned long i;
+    begins_with(1, 1, &few);
+    it = opens();
+    other = starts(drains, it.slave);
+    for (i = 0; i < rounds; i++) sends(it.master);
     pthread_join(other, NULL);
     settles(it);
 }
@@ -388,7 +419,7 @@ int main(int count, char **words)
 {
     static const struct { const char *name; void (*runs)(void); } kinds[] = {
         { "echo", of_echo }, { "lock", of_lock }, { "pairs", of_pairs }, { "descriptors", of_descriptors },
-        { "answers", of_answers }, { "hangups", of_hangups }, { "turns", of_turns },
+        { "answers", of_answers }, { "hangups", of_hangups }, { "turns", of_turns }, { "room", of_room },
     };
     struct timespec from, to;
     size_t i;
