@@ -143,7 +143,7 @@ static void rings(strm_end *end, uint32_t op)
     switch (op) {
     case STRM_OP_LOOK: case STRM_OP_NREAD: case STRM_OP_SIGNALS: case STRM_OP_IOCTL_RESULT: return;
     case STRM_OP_WRITE: case STRM_OP_PUT: pair_works(end->system, end->pair); return;
-    case STRM_OP_READ: case STRM_OP_GET:
+    case STRM_OP_READ:
         pair_tells_room(end->pair);
         if (!is_at_rest(end)) pair_works(end->system, end->pair);
         return;

@@ -2,7 +2,7 @@
  *
  *     rings CALLS [SEED]
  *
- * A write or a put makes no side ready for anything that it wasn't ready for before; a read or a get for nothing but a write; and what only looks or
+ * A write or a put makes no side ready for anything that it wasn't ready for before; a read for nothing but a write; and what only looks or
  * takes what stood at the head (I_LOOK, I_NREAD, signals, the answer of an ioctl) for nothing, and enables no queue. */
 #include <stdio.h>
 #include <stdlib.h>
@@ -51,7 +51,7 @@ static uint32_t may_set(uint32_t op)
 {
     switch (op) {
     case STRM_OP_LOOK: case STRM_OP_NREAD: case STRM_OP_SIGNALS: case STRM_OP_IOCTL_RESULT: case STRM_OP_WRITE: case STRM_OP_PUT: return 0;
-    case STRM_OP_READ: case STRM_OP_GET: return STRM_CAN_WRITE;
+    case STRM_OP_READ: return STRM_CAN_WRITE;
     default: return ~0u;
     }
 }
