@@ -114,7 +114,7 @@ static double of_baseline(const char *program, size_t threads, bool on_one)
     for (warm = 0; warm < 2; warm++) {
         char words[512];
         size_t pairs = on_one ? 1 : threads;
-        snprintf(words, sizeof words, "echo %zu %zu %lu %lu %d | %s pair >/dev/null", pairs, threads / pairs, rounds, rounds * threads * 4 + 64, warm,
+        snprintf(words, sizeof words, "echo %zu %zu %lu %zu %d | %s pair >/dev/null", pairs, threads / pairs, rounds, rounds * threads * 4 + 64, warm,
             program);
         took[warm] = now();
         if (system(words)) fails(program);

@@ -214,7 +214,7 @@ strm_refusal strm_system_terminal(strm_system *system, strm_end **master, strm_e
 /* ------------------------------------------------------------------------------------------------------------- visits */
 
 /* Makes a turn by a seat; a journal that is full is noted, where it is to begin anew. */
-static strm_refusal turns(strm_system *system, seat *by, uint32_t number, strm_visit *visit)
+static strm_refusal makes_turn(strm_system *system, seat *by, uint32_t number, strm_visit *visit)
 {
     pair *at = &system->pair[number];
     strm_refusal e;
@@ -232,7 +232,7 @@ strm_refusal strm_system_turn(strm_system *system, uint32_t number, strm_visit *
     if (number >= system->pairs) return STRM_EINVAL;
     by = system_sits(system);
     if (!by) return STRM_NO_MEMORY;
-    e = turns(system, by, number, visit);
+    e = makes_turn(system, by, number, visit);
     system_rises(system, by);
     return e;
 }
@@ -242,7 +242,7 @@ static strm_refusal runs(strm_system *system, seat *by, uint32_t number, size_t 
 {
     while (*made < STRM_RUN_MOST) {
         strm_visit visit;
-        strm_refusal e = turns(system, by, number, &visit);
+        strm_refusal e = makes_turn(system, by, number, &visit);
         if (e || visit.queue == STRM_NO_QUEUE) return e;
         if (visit.refusal) return visit.refusal;
         ++*made;

@@ -151,8 +151,10 @@ static bool keeps_output(terminal *t)
 {
     strm_termios modes;
     strm_refusal e = strm_end_tcgetattr(t->shell, &modes, -1);
-    modes.lflag |= STRM_NOFLSH;
-    if (!e) e = strm_end_tcsetattr(t->shell, STRM_TCSETSW, &modes, -1);
+    if (!e) {
+        modes.lflag |= STRM_NOFLSH;
+        e = strm_end_tcsetattr(t->shell, STRM_TCSETSW, &modes, -1);
+    }
     if (e && e != STRM_ENXIO) fails("set modes", e);
     return !e;
 }
