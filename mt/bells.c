@@ -12,7 +12,9 @@
 bool bell_sleeps(uint32_t *bell, uint32_t heard, const struct timespec *until)
 {
     /* (of the two kinds of waiting this one takes a time, and not how long) */
-    long slept = syscall(SYS_futex, bell, FUTEX_WAIT_BITSET_PRIVATE, heard, until, NULL, FUTEX_BITSET_MATCH_ANY);
+    long slept;
+    BELL_GAP();
+    slept = syscall(SYS_futex, bell, FUTEX_WAIT_BITSET_PRIVATE, heard, until, NULL, FUTEX_BITSET_MATCH_ANY);
     return slept == 0 || errno != ETIMEDOUT;
 }
 

@@ -39,9 +39,15 @@ enum { BELL_ONE = 1, BELL_ALL = 0x7fffffff };
 /* How often a lock is tried before a thread sleeps: about as long as a call takes. */
 enum { BELL_TRIES = 24 };
 
+/* Where something may come between: trials wait here now and then (tests/gaps.h). */
+#ifndef BELL_GAP
+#define BELL_GAP() ((void)0)
+#endif
+
 /* Says that the thread is about to sleep, and gives the word on which it will. */
 static inline uint32_t bell_heard(uint32_t *bell)
 {
+    BELL_GAP();
     return __atomic_fetch_or(bell, 1u, __ATOMIC_SEQ_CST) | 1u;
 }
 
@@ -54,7 +60,9 @@ void bell_wakes(uint32_t *bell, uint32_t word, int most);
 /* Behind a change: wakes so many of those that sleep, if any. */
 static inline void bell_rings(uint32_t *bell, int most)
 {
-    uint32_t word = __atomic_load_n(bell, __ATOMIC_SEQ_CST);
+    uint32_t word;
+    BELL_GAP();
+    word = __atomic_load_n(bell, __ATOMIC_SEQ_CST);
     if (word & 1u) bell_wakes(bell, word, most);
 }
 

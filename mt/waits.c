@@ -63,6 +63,7 @@ static void arms(strm_end *end)
     uint64_t count;
     if (end->fd < 0) return;
     (void)!read(end->fd, &count, sizeof count);
+    BELL_GAP();
     __atomic_store_n(&end->armed, 1, __ATOMIC_SEQ_CST);
 }
 

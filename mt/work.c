@@ -47,6 +47,7 @@ static bool clears(uint64_t *word, size_t from, size_t *at)
 static void tidies(work *w, size_t word)
 {
     if (__atomic_load_n(&w->low[word], __ATOMIC_SEQ_CST)) return;
+    BELL_GAP();
     __atomic_fetch_and(&w->top[word / 64], ~bit_of(word), __ATOMIC_SEQ_CST);
     if (__atomic_load_n(&w->low[word], __ATOMIC_SEQ_CST)) sets(w->top, word);
 }
@@ -95,6 +96,7 @@ bool work_called(uint32_t *turns)
 bool work_rests(uint32_t *turns)
 {
     uint32_t was = AT_WORK;
+    BELL_GAP();
     if (__atomic_compare_exchange_n(turns, &was, AT_REST, false, __ATOMIC_SEQ_CST, __ATOMIC_SEQ_CST)) return true;
     __atomic_store_n(turns, AT_WORK, __ATOMIC_SEQ_CST);
     return false;

@@ -189,10 +189,11 @@ def linked_threads(object_, name, source, flags=(), libraries=()):
             objects = []
             for it in [source, *sorted((ROOT / "mt").glob("*.c"))]:
                 objects.append(f"{room}/{it.stem}.o")
-                subprocess.run(["cc", "-std=c99", "-g", "-O1", *warnings, *flags, f"-I{ROOT / 'include'}", "-c", it, "-o", objects[-1]], check=True)
+                words = ["-std=c99", "-g", "-O1", *warnings, *flags, f"-I{ROOT / 'include'}"]
+                subprocess.run(["cc", *words, "-c", it, "-o", objects[-1]], check=True)
             every = [*objects, object_, kit() / "c/libos_c.a", kit() / "c/liblibc_c.a", *libraries, "-lpthread"]
             subprocess.run(["cc", "-o", part, *every], check=True)
-    return kept(name, sum_of(object_, source, ROOT / "mt", ROOT / "include"), make)
+    return kept(name, sum_of(object_, ROOT / "mt", ROOT / "include"), make)
 
 
 if __name__ == "__main__":

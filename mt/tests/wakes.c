@@ -11,6 +11,7 @@
  *   hangups      a pair is opened, its slave waits, the master closes
  *   turns        echo without workers: who writes makes the turns
  *   room         one end writes, the other reads, and the pair has blocks for four bytes on their way
+ *   flow         the same of 512 bytes each, which flow control holds back
  *
  * All have a journal of 64 entries that begins anew. The last line is 'KIND: N rounds', with the time of each. */
 #define _GNU_SOURCE
@@ -181,6 +182,37 @@ static void of_room(void)
     it = opens();
     other = starts(drains, it.slave);
     for (i = 0; i < rounds; i++) sends(it.master);
+    pthread_join(other, NULL);
+    settles(it);
+}
+
+/* ------------------------------------------------------------------------------------------------------------- flow */
+
+static void *floods(void *at)
+{
+    static const uint8_t piece[512];
+    unsigned long i;
+    size_t taken;
+    for (i = 0; i < rounds; i++) must(strm_end_write_all((strm_end *)at, piece, sizeof piece, -1, &taken), "write");
+    return NULL;
+}
+
+/* Each read empties the head, behind which a queue waits for room there: the read enables it again. */
+static void of_flow(void)
+{
+    lane it;
+    pthread_t other;
+    unsigned long came = 0;
+    begins(1, 1);
+    it = opens();
+    other = starts(floods, it.master);
+    while (came < rounds * 512) {
+        uint8_t some[4096];
+        strm_reply r;
+        must(strm_end_read_wait(it.slave, some, sizeof some, -1, &r), "read");
+        came += r.bytes;
+        made_one();
+    }
     pthread_join(other, NULL);
     settles(it);
 }
@@ -419,7 +451,7 @@ int main(int count, char **words)
 {
     static const struct { const char *name; void (*runs)(void); } kinds[] = {
         { "echo", of_echo }, { "lock", of_lock }, { "pairs", of_pairs }, { "descriptors", of_descriptors },
-        { "answers", of_answers }, { "hangups", of_hangups }, { "turns", of_turns }, { "room", of_room },
+        { "answers", of_answers }, { "hangups", of_hangups }, { "turns", of_turns }, { "room", of_room }, { "flow", of_flow },
     };
     struct timespec from, to;
     size_t i;
