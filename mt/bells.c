@@ -20,13 +20,19 @@ bool bell_sleeps(uint32_t *bell, uint32_t heard, const struct timespec *until)
 
 void bell_wakes(uint32_t *bell, uint32_t word, int most)
 {
-    if (__atomic_compare_exchange_n(bell, &word, word + 1, false, __ATOMIC_SEQ_CST, __ATOMIC_SEQ_CST))
+    uint32_t count = word / BELL_COUNTS;
+    /* (who is about to sleep may set bits meanwhile) */
+    while (word / BELL_COUNTS == count) {
+        uint32_t next = (count + 1) * BELL_COUNTS;
+        if (!__atomic_compare_exchange_n(bell, &word, next, false, __ATOMIC_SEQ_CST, __ATOMIC_SEQ_CST)) continue;
         syscall(SYS_futex, bell, FUTEX_WAKE_PRIVATE, most, NULL, NULL, 0);
+        return;
+    }
 }
 
 void bell_tolls(uint32_t *bell)
 {
-    __atomic_fetch_add(bell, 2, __ATOMIC_SEQ_CST);
+    __atomic_fetch_add(bell, BELL_COUNTS, __ATOMIC_SEQ_CST);
     syscall(SYS_futex, bell, FUTEX_WAKE_PRIVATE, BELL_ALL, NULL, NULL, 0);
 }
 

@@ -40,7 +40,7 @@ void strm_end_free(strm_end *end)
 /* Anything may have changed. */
 static void changed(strm_end *end)
 {
-    pair_tells(end->pair);
+    pair_changed(end->pair);
     pair_works(end->system, end->pair);
 }
 
@@ -136,15 +136,15 @@ static bool is_at_rest(strm_end *end)
     return !e && told.queue == STRM_NO_QUEUE;
 }
 
-/* Tells those to whom a granted call may matter. By itself a write makes no side ready for anything, before a turn carries it; a read lets blocks
- * go, for which a writer may wait; and what only looks, or takes what stood at the head, does neither (tried by mt/tests/rings.c). */
+/* Tells those to whom a granted call may matter. By itself a write makes no side ready for anything, before a turn carries it, and nor does what only
+ * looks, or takes what stood at the head (tried by mt/tests/rings.c). A read lets blocks go, for which a writer may wait. */
 static void rings(strm_end *end, uint32_t op)
 {
     switch (op) {
     case STRM_OP_LOOK: case STRM_OP_NREAD: case STRM_OP_SIGNALS: case STRM_OP_IOCTL_RESULT: return;
     case STRM_OP_WRITE: case STRM_OP_PUT: pair_works(end->system, end->pair); return;
-    case STRM_OP_READ:
-        pair_tells_room(end->pair);
+    case STRM_OP_READ: case STRM_OP_GET:
+        pair_moved(end->pair, end->seat, end->number);
         if (!is_at_rest(end)) pair_works(end->system, end->pair);
         return;
     default: changed(end);

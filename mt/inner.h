@@ -17,7 +17,7 @@ typedef struct seat {
 /* What the library has of a pair: a line of the cache. */
 typedef struct pair {
     uint32_t freed;          /* the bell of its lock */
-    uint32_t changed[2];     /* the bells of its state, for who waits for input and for who waits for room too */
+    uint32_t changed[2];     /* the bells of the state of its sides */
     uint32_t turns;          /* who makes its turns, of work.h */
     uint32_t full;           /* 1: who found its journal full had no end by which to begin it anew */
     uint32_t watched;        /* how many descriptors tell of it */
@@ -76,8 +76,8 @@ strm_end *end_made(strm_system *system, seat *taken, uint32_t number, uint32_t s
 void end_gone(strm_end *end, bool with_seat);
 
 /* waits.c */
-void pair_tells(pair *changed);                        /* tells all who wait for its state that it has changed */
-void pair_tells_room(pair *changed);                   /* tells those who wait for room: a read let blocks go */
+void pair_changed(pair *changed);                      /* tells all who wait for its state that it has changed */
+void pair_moved(pair *of, seat *by, uint32_t number);  /* tells those who wait for what a side is ready for now */
 void pair_works(strm_system *system, pair *of);        /* a queue may be enabled: a worker has to look */
 void pair_is_full(pair *full);                         /* who looks or waits by an end begins the journal anew */
 void end_unwatched(strm_end *end);                     /* closes its descriptor, if it has one */

@@ -221,7 +221,7 @@ static strm_refusal makes_turn(strm_system *system, seat *by, uint32_t number, s
     UNTIL_FREE(at, e, strm_mt_turn(&by->member, number, visit));
     if (e || visit->queue == STRM_NO_QUEUE) return e;
     if (visit->refusal == STRM_JOURNAL_FULL && system->anew) pair_is_full(at);
-    if (!visit->refusal) pair_tells(at);
+    if (!visit->refusal) pair_moved(at, by, number);
     return STRM_OK;
 }
 

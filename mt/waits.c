@@ -6,9 +6,6 @@
 
 #include "inner.h"
 
-/* The two bells of a pair's state. */
-enum { FOR_INPUT, FOR_ROOM };
-
 /* ------------------------------------------------------------------------------------------------------------- who is told */
 
 /* Makes the descriptors readable of ends that have looked. */
@@ -22,22 +19,39 @@ static void tells_watches(pair *changed)
     latch_gives(&changed->latch);
 }
 
-void pair_tells_room(pair *changed)
+void pair_changed(pair *changed)
 {
-    bell_rings(&changed->changed[FOR_ROOM], BELL_ALL);
+    bell_rings(&changed->changed[STRM_MASTER], BELL_ALL);
+    bell_rings(&changed->changed[STRM_SLAVE], BELL_ALL);
     if (__atomic_load_n(&changed->watched, __ATOMIC_SEQ_CST)) tells_watches(changed);
 }
 
-void pair_tells(pair *changed)
+/* Whether a side is ready for something of these; true where another thread has the lock, as that can't be told. */
+static bool is_ready(pair *of, seat *by, uint32_t number, uint32_t side, uint32_t wanted)
 {
-    bell_rings(&changed->changed[FOR_INPUT], BELL_ALL);
-    pair_tells_room(changed);
+    strm_prospect told;
+    uint32_t e = strm_mt_ready(&by->member, number, side, &told);
+    if (e == STRM_BUSY) return true;
+    bell_rings(&of->freed, BELL_ONE);
+    return e || (told.bits & wanted);
+}
+
+void pair_moved(pair *of, seat *by, uint32_t number)
+{
+    uint32_t side;
+    for (side = STRM_MASTER; side <= STRM_SLAVE; side++) {
+        uint32_t word;
+        BELL_GAP();
+        word = __atomic_load_n(&of->changed[side], __ATOMIC_SEQ_CST);
+        if ((word & 1u) && is_ready(of, by, number, side, bell_wanted(word))) bell_wakes(&of->changed[side], word, BELL_ALL);
+    }
+    if (__atomic_load_n(&of->watched, __ATOMIC_SEQ_CST)) tells_watches(of);
 }
 
 void pair_is_full(pair *full)
 {
     __atomic_store_n(&full->full, 1, __ATOMIC_SEQ_CST);
-    pair_tells(full);
+    pair_changed(full);
 }
 
 void pair_works(strm_system *system, pair *of)
@@ -102,7 +116,7 @@ strm_refusal strm_end_wait(strm_end *end, uint32_t what, int timeout, uint32_t *
 {
     struct timespec then;
     const struct timespec *until = NULL;
-    uint32_t heard = 0, *bell = &end->pair->changed[what & STRM_CAN_WRITE ? FOR_ROOM : FOR_INPUT];
+    uint32_t heard = 0, *bell = &end->pair->changed[end->side];
     bool over = timeout == 0;
     for (;;) {
         strm_refusal e = strm_end_ready(end, ready);
@@ -110,7 +124,7 @@ strm_refusal strm_end_wait(strm_end *end, uint32_t what, int timeout, uint32_t *
         if (over) return STRM_EAGAIN;
         if (!heard) until = time_in(timeout, &then);
         else over = !bell_sleeps(bell, heard, until);
-        heard = bell_heard(bell);
+        heard = bell_heard_for(bell, (what | STRM_HUNG_UP) & BELL_WANTS);
     }
 }
 

@@ -36,7 +36,7 @@ static void serves(worker *w, size_t number)
         goes_on = makes_turns(w, at, (uint32_t)number, &moved);
     } while (!goes_on && !work_rests(&at->turns));
     /* one ring for all of these turns, so that who waits finds the pair as they left it */
-    if (moved) pair_tells(at);
+    if (moved) pair_moved(at, w->seat, (uint32_t)number);
     if (goes_on) {
         __atomic_store_n(&at->turns, QUEUED, __ATOMIC_SEQ_CST);
         work_adds(&w->system->work, number);
