@@ -31,7 +31,7 @@ static void *types(void *at)
     return NULL;
 }
 
-/* Reads lines, answers each, and ends at the end of input: it closes its side, so that the master is hung up. */
+/* Reads lines and answers each, until the end of input. */
 static void *shell(void *at)
 {
     terminal *t = (terminal *)at;
@@ -44,11 +44,11 @@ static void *shell(void *at)
         if (r.bytes == 10 && memcmp(line, "make test\n", 10) == 0) t->lines++;
         must(strm_end_write_all(t->shell, "ok\n", 3, -1, &taken), "answer");
     }
-    must(strm_end_write_all(t->shell, "\5", 1, -1, &taken), "say goodbye");
+    must(strm_end_write_all(t->shell, "bye!", 4, -1, &taken), "say goodbye");
     return NULL;
 }
 
-/* Takes the echo and the answers, until the shell says goodbye. */
+/* Takes the echo and the answers, until the shell has said goodbye. */
 static void *shows(void *at)
 {
     terminal *t = (terminal *)at;
@@ -57,7 +57,7 @@ static void *shows(void *at)
     do {
         must(strm_end_read_wait(t->shows, text, sizeof text, -1, &r), "show");
         t->shown += r.bytes;
-    } while (text[r.bytes - 1] != 5);
+    } while (text[r.bytes - 1] != '!');
     return NULL;
 }
 
