@@ -1,10 +1,12 @@
 -- Calls of a C program's numbers, by the end in hand.
 use Rattle.std.specs.Prelude.{ℕ, ◌≡◌, ◌≤◌, nat_le, if◌then◌else◌, List, [], length, drop, Option, None, Some, Result, Ok, Err, MatchResult}
 use Rattle.strm_types.specs.declared.answers.Answer.{Answer}
-use Rattle.strm_types.specs.declared.events.Event.TheVariants.{OpenMaster, OpenSlave}
+use Rattle.strm_types.specs.declared.events.Event.TheVariants.{Ioctl, IoctlResult, OpenMaster, OpenSlave, Signals}
 use Rattle.strm_types.specs.declared.refusals.Refusal.TheVariants.{Einval}
 use Rattle.strm_types.specs.Events.{Request}
 use Rattle.strm_types.specs.Journal.{content_max, reply_in}
+use Rattle.strm_laws.specs.State.{State}
+use Rattle.strm_laws.specs.Within.{AreWithin}
 use Rattle.strm_locks.specs.Ends.{Calls, Share}
 use Rattle.strm_locks.specs.Systems.{Numbered}
 use Rattle.strm_handle.specs.declared.asks.Ask.{Ask}
@@ -42,15 +44,26 @@ pub record Told : Type 0 where
 abbrev pub told_of : (before out : List ℕ) (was reply : Reply) → Told
 told_of before out was reply = record { before = before; out = out; was = was; reply = reply }
 
--- The end is told of the call, whose answer the reply and the buffer tell; its bytes are in front, the reply counts them, and behind them the buffer stays.
+-- What a head keeps for its caller is no more than it may, where the call asks for that: signals that wait, and the answer of an ioctl.
+abbrev pub KeepsFew : Request → State ℕ → Type 0
+KeepsFew (Ioctl command body) s = AreWithin s
+KeepsFew (IoctlResult number) s = AreWithin s
+KeepsFew Signals s = AreWithin s
+KeepsFew _ s = Unit {0}
+
+-- the reply and the front of the buffer are the answer, whose bytes the reply counts
+pub record TellsAnswer (answer : Answer ℕ) (bytes : List ℕ) (t : Told) : Type 0 where
+  pub told : answer_in t.reply t.out ≡ Some (reply_in answer bytes)
+  pub count : t.reply.bytes ≡ length bytes
+
+-- The end is told of the call, whose answer the reply and the buffer tell; behind its bytes the buffer stays.
 pub record IsAnswered (a : Seated) (system : ℕ) (e : Numbered) (asked : Request) (t : Told) (b : Seated) : Type 0 where
   pub answer : Answer ℕ
   pub bytes : List ℕ
   pub share : Share
   pub calls : Calls e.end asked [] bytes (Ok answer) share
   pub left : b ≡ with_hold (End system (with_share share e)) a
-  pub told : answer_in t.reply t.out ≡ Some (reply_in answer bytes)
-  pub count : t.reply.bytes ≡ length bytes
+  pub told : KeepsFew asked calls.found.state → TellsAnswer answer bytes t
   pub fits : t.reply.bytes ≤ length t.before
   pub others : drop t.reply.bytes t.out ≡ drop t.reply.bytes t.before
 

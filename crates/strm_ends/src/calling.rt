@@ -1,7 +1,9 @@
 //! Calls of the end in hand.
 
-ghost use Rattle.std.specs.Prelude.{◌≡◌, length, option_map};
+ghost use Rattle.std.specs.Prelude.{◌≡◌, ◌≤◌, Some, drop, length, option_map};
 ghost use Rattle.strm_types.specs.Events.{request};
+ghost use Rattle.strm_types.specs.Journal.{answer_len, reply_in};
+ghost use Rattle.strm_handle.specs.Calls.{answer_in};
 ghost use Rattle.strm_handle.specs.Outcomes.{Stay};
 ghost use Rattle.strm_ends.specs.Calling.{CallsEnd, asked_by, told_of};
 ghost use Rattle.strm_ends.specs.Outcomes.{AtMember};
@@ -14,7 +16,7 @@ use crate::numbers::{NotDone, Outcome, not_done, number};
 use std::alloc::Global;
 use strm_handle::{Ask, Reply, brought, event_of, give, refused, replied};
 use strm_locks::{Busy, NoBell};
-use strm_types::{Event, Refusal};
+use strm_types::{Answer, Event, Refusal};
 
 // The call that an end makes by these numbers, where the buffer has room for its greatest answer.
 fn asked<'a>(ask: &Ask, bytes: &'a [u8], room: usize) -> Option<Event<&'a [u8]>>
@@ -28,6 +30,21 @@ fn asked<'a>(ask: &Ask, bytes: &'a [u8], room: usize) -> Option<Event<&'a [u8]>>
         return None;
     }
     Some(event)
+}
+
+// Tells an answer: its bytes are copied to the front of a buffer, which has room for them.
+fn tell(answer: &Answer<u32>, content: &[u8], out: &mut [u8]) -> Reply
+    requires { answer_len answer.now ≡ length content.now }
+    ensures told { length content.now ≤ length out.old → (answer_in result out.new ≡ Some (reply_in answer.now content.now)) × (result.bytes ≡ length content.now) }
+    ensures fits { result.bytes ≤ length out.old }
+    ensures others { drop result.bytes out.new ≡ drop result.bytes out.old }
+{
+    let bytes = content.len().min(out.len());
+    give(&content[..bytes], out);
+    Reply {
+        bytes,
+        ..replied(answer)
+    }
 }
 
 impl Member {
@@ -46,10 +63,9 @@ impl Member {
             Err(Busy) => Err(NotDone::Busy),
             Ok(Err(why)) => not_done(why),
             Ok(Ok(answer)) => {
-                give(self.answer.as_slice(), out);
+                *reply = tell(&answer, self.answer.as_slice(), out);
                 // What was read stands in the caller's buffer alone.
                 self.answer.clear();
-                *reply = replied(&answer);
                 Ok(())
             }
         }
