@@ -26,7 +26,7 @@
 enum { MANY = 4096, WAITERS = 16, CALLERS = 8 };
 
 static const strm_choices sizes = { 128, 64, 16384, 0, true };
-static unsigned long rounds, made, stall = 120;
+static unsigned long rounds, made, steps, stall = 120;
 static strm_system *of;
 
 static void fails(const char *what, strm_refusal e)
@@ -40,9 +40,15 @@ static void must(strm_refusal e, const char *what)
     if (e) fails(what, e);
 }
 
+static void steps_on(void)
+{
+    __atomic_fetch_add(&steps, 1, __ATOMIC_RELAXED);
+}
+
 static void made_one(void)
 {
     __atomic_fetch_add(&made, 1, __ATOMIC_RELAXED);
+    steps_on();
 }
 
 /* ------------------------------------------------------------------------------------------------------------- what the kinds have in common */
@@ -60,6 +66,7 @@ static lane opens(void)
     must(strm_system_open(of, number, &it.master), "open");
     must(strm_end_unlock(it.master), "unlock");
     must(strm_end_open_slave(it.master, &it.slave), "open the slave");
+    steps_on();
     return it;
 }
 
@@ -71,6 +78,7 @@ static uint32_t settles(lane it)
     must(strm_end_join(it.master, it.slave), "join");
     strm_end_told(it.master, &share);
     must(strm_end_settle(it.master, &all), "settle");
+    steps_on();
     if (all.told.written.from_master != all.ms.written || all.told.written.from_slave != all.sm.written) fails("the books say another sum", 0);
     if (all.told.read.from_master != all.ms.gone[STRM_RULE_READ] || all.told.read.from_slave != all.sm.gone[STRM_RULE_READ])
         fails("the books say another sum", 0);
@@ -286,21 +294,19 @@ static void of_pairs(void)
 
 /* ------------------------------------------------------------------------------------------------------------- descriptors */
 
-/* As takes, by poll(2): look, call until the call is EAGAIN, poll. */
+/* As takes, by poll(2): look, and poll where nothing is there to read. */
 static void polls(strm_end *end)
 {
     struct pollfd ready = { strm_end_fd(end), POLLIN, 0 };
+    uint8_t byte[1];
+    uint32_t bits;
+    strm_reply r;
     for (;;) {
-        uint8_t byte[1];
-        uint32_t bits;
-        strm_reply r;
-        strm_refusal e;
         must(strm_end_ready(end, &bits), "look");
-        e = strm_end_read(end, byte, 1, &r);
-        if (!e) return;
-        if (e != STRM_EAGAIN) fails("read", e);
+        if (bits & STRM_CAN_READ) break;
         if (poll(&ready, 1, -1) < 0) fails("poll", 0);
     }
+    must(strm_end_read(end, byte, 1, &r), "read");
 }
 
 static void *polled(void *at)
@@ -436,7 +442,7 @@ static void *watches(void *at)
     for (;;) {
         unsigned long now;
         sleep(1);
-        now = __atomic_load_n(&made, __ATOMIC_RELAXED);
+        now = __atomic_load_n(&steps, __ATOMIC_RELAXED);
         still = now == last ? still + 1 : 0;
         last = now;
         if (still < stall) continue;
