@@ -89,6 +89,9 @@ static void parts(void)
     strm_end *master, *slave, *second, *third, *many[70];
     strm_share share;
     strm_account all;
+    strm_reply r;
+    uint32_t ready;
+    size_t made;
     int n = 0, i;
     terminal(of, &master, &slave);
     terminal(of, &second, &third);
@@ -107,6 +110,10 @@ static void parts(void)
     HOLDS(strm_end_join(slave, master) == STRM_OK);
     strm_end_told(slave, &share);
     HOLDS(share.side == STRM_MASTER && share.parts == (uint64_t)1 << 63 && share.told.calls == 5);
+    /* it waits as the master, which has the echo of a line that isn't finished */
+    HOLDS(strm_end_write(slave, "x", 1, &r) == STRM_OK && strm_end_run(slave, &made) == STRM_OK);
+    HOLDS(strm_end_ready(slave, &ready) == STRM_OK && (ready & STRM_CAN_READ));
+    strm_end_told(slave, &share);
     HOLDS(strm_end_settle(slave, &all) == STRM_OK && memcmp(&all.told, &share.told, sizeof all.told) == 0);
     HOLDS(strm_system_free(of) == STRM_OK && strm_system_free(another) == STRM_OK);
 }
