@@ -228,6 +228,25 @@ static void waits(void)
     HOLDS(strm_system_free(of) == STRM_OK);
 }
 
+/* More turns than a worker makes at a pair at a time. */
+static void turns(void)
+{
+    strm_choices sizes = { 600, 4096, 262144, 0, false };
+    strm_system *of = system_of(1, &sizes);
+    strm_end *master, *slave;
+    uint8_t out[256];
+    strm_reply r;
+    uint32_t pair;
+    size_t came = 0, i;
+    HOLDS(strm_system_claim(of, &pair) == STRM_OK && strm_system_open(of, pair, &master) == STRM_OK && strm_end_unlock(master) == STRM_OK);
+    HOLDS(strm_end_open_slave(master, &slave) == STRM_OK);
+    for (i = 0; i < 200; i++) HOLDS(strm_end_write(master, "x", 1, &r) == STRM_OK);
+    HOLDS(strm_workers_start(of, 1) == STRM_OK);
+    for (; came < 200; came += r.bytes) HOLDS(strm_end_read_wait(slave, out, sizeof out, 60000, &r) == STRM_OK);
+    ends(master, slave);
+    HOLDS(strm_system_free(of) == STRM_OK);
+}
+
 int main(void)
 {
     systems();
@@ -235,6 +254,7 @@ int main(void)
     parts();
     calls();
     journals();
+    turns();
     waits();
     printf("%d things hold\n", held);
     return 0;
