@@ -344,7 +344,7 @@ static void *signalled(void *at)
     strm_end *end = (strm_end *)at;
     unsigned long i;
     for (i = 0; i < rounds; i++) {
-        strm_winsize wanted = window_of(i), told;
+        strm_winsize wanted = window_of(i), told = { 0, 0, 0, 0 };
         uint8_t numbers[32];
         uint32_t ready;
         size_t n;
