@@ -1,7 +1,7 @@
 #!/usr/bin/env python3
 """The code of a program as `rt try` compiles it, with a check at each index, sum, cast and access, for tools that try it. It proves nothing.
 
-    tools/checked.py CRATE OUT.ll      CRATE is a program of the repository, or strm_ffi, whose exports keep the names of include/strm.h
+    tools/checked.py CRATE OUT.ll      CRATE is a program of the repository, or a library (strm_ffi, strm_mt), whose exports keep their names
 
 It runs `rt try` in a copy of the kit that is made of links, whose clang keeps what it is given to compile, and ends it there. `rt try` takes
 programs alone: the library is made one in a copy, whose main names each export once. What was compiled is kept in out/trials by a sum of the sources.
@@ -18,7 +18,7 @@ import tempfile
 TOOLS = pathlib.Path(__file__).resolve().parent
 ROOT, OUT, SKIPPED = TOOLS.parent, TOOLS.parent / "out/trials", 77
 FLAGS = ["--target=x86_64-unknown-linux-gnu", "--no-default-config", "-fintegrated-cc1", "-mllvm", "-trap-unreachable"]
-LIBRARY = "strm_ffi"
+LIBRARIES = ("strm_ffi", "strm_mt")
 # A small module asks what this clang can do. Behind the program's own `rt try` has nothing more to do.
 KEEPS = """#!/bin/bash
 [ ! -f module.bc ] || [ "$(stat -c %s module.bc)" -lt 65536 ] || {{ cp module.bc {room}/; exit 1; }}
@@ -89,15 +89,15 @@ def argument(kind):
     return known.get(kind) or ("any(std::ptr::null_mut())" if kind.startswith("&") else "0")
 
 
-def as_program(tree):
+def as_program(tree, library):
     """Copies the crates, the library as a program; the names of its exports."""
     (tree / ".git").mkdir(parents=True)
     shutil.copy(ROOT / "HANDLES", tree)
-    (tree / "crates.txt").write_text((ROOT / "crates.txt").read_text().replace(f"{LIBRARY} staticlib:", f"{LIBRARY}:"))
+    (tree / "crates.txt").write_text((ROOT / "crates.txt").read_text().replace(f"{library} staticlib:", f"{library}:"))
     for part in ROOT.glob("crates/*/*"):
         if part.name in ("src", "specs", "proofs"):
             shutil.copytree(part, tree / "crates" / part.parent.name / part.name)
-    source = tree / "crates" / LIBRARY / "src"
+    source = tree / "crates" / library / "src"
     main, calls, names = (source / "lib.rt").read_text(), [], []
     for path in sorted(source.glob("*.rt")):
         for name, words in re.findall(r'^pub extern "C" fn (\w+)\s*\((.*?)\)(?= ->|\s*\n)', path.read_text(), re.S | re.M):
@@ -110,10 +110,10 @@ def as_program(tree):
     return names
 
 
-def exported(text, names):
+def exported(text, library, names):
     """The code with these functions under their C names."""
     for name in names:
-        found = re.findall(rf'^define [^\n]*@("{LIBRARY}::[^"\n]*::{name}")\(', text, re.M)
+        found = re.findall(rf'^define [^\n]*@("{library}::[^"\n]*::{name}")\(', text, re.M)
         if len(found) != 1:
             sys.exit(f"tools/checked.py: {len(found)} functions {name}")
         text = re.sub(rf"^define (?:internal |private |hidden |dso_local )*([^\n]*@){re.escape(found[0])}\(", rf"define \1{name}(", text, flags=re.M)
@@ -126,9 +126,9 @@ def compile_checked(crate, out):
         room = pathlib.Path(folder, "kit")
         linked(room)
         names, tree = [], ROOT
-        if crate == LIBRARY:
+        if crate in LIBRARIES:
             tree = pathlib.Path(folder, "tree")
-            names = as_program(tree)
+            names = as_program(tree, crate)
         where = {"cwd": tree / "crates" / crate, "env": {**os.environ, "PATH": f"{room / 'bin'}:{os.environ['PATH']}"}}
         how = {"stdin": subprocess.DEVNULL, "stdout": subprocess.PIPE, "stderr": subprocess.STDOUT, "text": True, "errors": "replace"}
         said = subprocess.run([os.environ.get("RT", "rt"), "try"], **where, **how)
@@ -136,7 +136,7 @@ def compile_checked(crate, out):
             sys.exit(f"{said.stdout}tools/checked.py: {crate} didn't compile")
         subprocess.run([*clang(), "-S", "-emit-llvm", "-O0", "-x", "ir", room / "module.bc", "-o", out], check=True)
     if names:
-        pathlib.Path(out).write_text(exported(pathlib.Path(out).read_text(), names))
+        pathlib.Path(out).write_text(exported(pathlib.Path(out).read_text(), crate, names))
 
 
 def kept(name, sum_, make):
@@ -178,6 +178,22 @@ def linked_with(object_, name, source, *libraries):
     flags = ["-std=gnu99", "-O1", "-Wall", "-Wextra", "-Wconversion", "-Werror", f"-I{ROOT / 'include'}"]
     every = [source, object_, kit() / "c/libos_c.a", kit() / "c/liblibc_c.a", *libraries]
     return kept(name, sum_of(object_, source.parent, ROOT / "include"), lambda part: subprocess.run(["cc", *flags, "-o", part, *every], check=True))
+
+
+def linked_threads(object_, name, source, flags=(), libraries=()):
+    """A program of a C file over include/strm_mt.h: with mt/, an object of strm_mt's exports, and libraries."""
+    warnings = ["-Wall", "-Wextra", "-Wconversion", "-pedantic", "-Werror"]
+
+    def make(part):
+        with tempfile.TemporaryDirectory() as room:
+            objects = []
+            for it in [source, *sorted((ROOT / "mt").glob("*.c"))]:
+                objects.append(f"{room}/{it.stem}.o")
+                words = ["-std=c99", "-g", "-O1", *warnings, *flags, f"-I{ROOT / 'include'}"]
+                subprocess.run(["cc", *words, "-c", it, "-o", objects[-1]], check=True)
+            every = [*objects, object_, kit() / "c/libos_c.a", kit() / "c/liblibc_c.a", *libraries, "-lpthread"]
+            subprocess.run(["cc", "-o", part, *every], check=True)
+    return kept(name, sum_of(object_, ROOT / "mt", ROOT / "include"), make)
 
 
 if __name__ == "__main__":

@@ -36,7 +36,7 @@ pub(crate) const fn nothing() -> Reply
 }
 
 /// The numbers of an answer, whose bytes stand in the caller's buffer.
-pub(crate) fn replied(answer: &Answer<u32>) -> Reply
+pub fn replied(answer: &Answer<u32>) -> Reply
     ensures bytes { result.bytes ≡ answer_len answer.now }
     ensures told { Replies result answer.now }
 {

@@ -52,7 +52,7 @@ fn parts_of<'a>(there: u32, control: u32, bytes: &'a [u8]) -> Option<LentParts<'
 }
 
 /// The call that numbers ask for, with the bytes that it brings; None where none is asked for.
-pub(crate) fn event_of<'a>(ask: &Ask, bytes: &'a [u8]) -> Option<Event<&'a [u8]>>
+pub fn event_of<'a>(ask: &Ask, bytes: &'a [u8]) -> Option<Event<&'a [u8]>>
     ensures { option_map (λ event. request event) result ≡ event_at ask.now bytes.now }
 {
     match ask.op {

@@ -23,8 +23,8 @@ fn first_bytes<'a>(bytes: &'a [u8]) -> &'a [u8]
     &bytes[..WRITE_MOST.min(bytes.len())]
 }
 
-// The bytes that a call brings: of a write no more than one brings.
-fn brought<'a>(ask: &Ask, bytes: &'a [u8]) -> &'a [u8]
+/// The bytes that a call brings: of a write no more than one brings.
+pub fn brought<'a>(ask: &Ask, bytes: &'a [u8]) -> &'a [u8]
     ensures { result.now ≡ brought ask.now bytes.now }
 {
     match ask.op {

@@ -53,7 +53,7 @@ impl Model for Kept {
 }
 
 /// The number that an export answers for a refusal.
-pub(crate) fn refused(refusal: Refusal) -> u32
+pub fn refused(refusal: Refusal) -> u32
     ensures { result ≡ number_of refusal }
 {
     u32::from(refusal.number())
@@ -70,7 +70,7 @@ fn told(stopped: Option<Refusal>) -> u32
 }
 
 /// Copies bytes to the front of a buffer.
-pub(crate) fn give(bytes: &[u8], out: &mut [u8])
+pub fn give(bytes: &[u8], out: &mut [u8])
     requires { length bytes.now ≤ length out.old }
     ensures { out.new ≡ bytes.now ++ drop (length bytes.now) out.old }
 {

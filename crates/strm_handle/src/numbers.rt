@@ -16,10 +16,10 @@ const HIGH: u32 = 256;
 const ANY: u32 = 257;
 
 /// The number that is no queue's.
-pub(crate) const NO_QUEUE: u32 = 12;
+pub const NO_QUEUE: u32 = 12;
 
 /// The side of a number.
-pub(crate) fn side_of(number: u32) -> Option<Side>
+pub fn side_of(number: u32) -> Option<Side>
     ensures { result ≡ codes.side_at number }
 {
     match number {
@@ -30,7 +30,7 @@ pub(crate) fn side_of(number: u32) -> Option<Side>
 }
 
 /// The number of a side.
-pub(crate) fn side_number(side: Side) -> u32
+pub fn side_number(side: Side) -> u32
     ensures { codes.side_at result ≡ Some side }
 {
     match side {
@@ -86,7 +86,7 @@ pub(crate) fn queue_of(number: u32) -> Option<QueueName>
 }
 
 /// The number of a queue.
-pub(crate) fn queue_number(name: QueueName) -> u32
+pub fn queue_number(name: QueueName) -> u32
     ensures name { codes.queue_at result ≡ Some name }
     ensures few { result < 12 }
 {
@@ -224,7 +224,7 @@ pub(crate) fn flush_number(what: FlushQueues) -> u32
 }
 
 /// The numbers of what a turn did.
-pub(crate) fn went(turn: Turn) -> Went
+pub fn went(turn: Turn) -> Went
     ensures { codes.turn_at result.kind result.moved ≡ Some turn }
 {
     match turn {

@@ -16,7 +16,7 @@ use strm_raw::RawStore;
 use strm_types::Refusal;
 
 /// How many blocks a write of the most bytes asks for.
-const WRITE_BLOCKS_MOST: usize = 36;
+pub const WRITE_BLOCKS_MOST: usize = 36;
 
 // A bit, where it is set.
 const fn bit(number: u32, is_set: bool) -> u32
@@ -26,8 +26,8 @@ const fn bit(number: u32, is_set: bool) -> u32
     if is_set { number } else { 0 }
 }
 
-// The bits of what a side is ready for, where a write finds its blocks, and isn't held back, or not.
-fn bits_of(ready: Ready, has_blocks: bool) -> u32
+/// The bits of what a side is ready for, where a write finds its blocks, and isn't held back, or not.
+pub fn bits_of(ready: Ready, has_blocks: bool) -> u32
     ensures { result ≡ bits_of ready has_blocks }
 {
     if !ready.opened {

@@ -32,7 +32,7 @@ pub(crate) fn has_many(pair: &Pair<RawStore>, side: Side) -> bool
 }
 
 /// Whether so many blocks of each kind are free, and others beside them.
-pub(crate) fn has_blocks(pair: &Pair<RawStore>, need: usize, beside: usize) -> bool
+pub fn has_blocks(pair: &Pair<RawStore>, need: usize, beside: usize) -> bool
     ensures { result ≡ enough (need + beside) pair.now.free }
 {
     let (mblks, dblks) = pair.free_blocks();

@@ -1,0 +1,3 @@
+pub mod AsBox
+pub mod Opens
+pub mod Places

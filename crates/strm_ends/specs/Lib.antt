@@ -1,0 +1,10 @@
+pub mod Calling
+pub mod Claiming
+pub mod Held
+pub mod Making
+pub mod Members
+pub mod Opening
+pub mod Outcomes
+pub mod Settling
+pub mod Sharing
+pub mod Visiting

@@ -1,0 +1,236 @@
+//! What an end is told, and how it is cut in two and joined.
+
+ghost use Rattle.std.specs.Prelude.{◌≡◌, ◌<◌, None, Some, IfOk, MatchResult};
+ghost use Rattle.strm_locks.specs.Systems.{Numbered};
+ghost use Rattle.strm_ends.specs.declared.hold.Hold.TheVariants.{End, Nothing};
+ghost use Rattle.strm_ends.specs.Members.{HasEnd, HasInHand};
+ghost use Rattle.strm_ends.specs.Outcomes.{AtMember, WithMade};
+ghost use Rattle.strm_ends.specs.Sharing.{AreTogether, Joins, JoinsMember, Shows, ShowsEnd, SplitsBy, SplitsEnd, joined_by, joined_holds, sums_told};
+
+use crate::accounts::{Share, Sides, Sums};
+use crate::handle::Handle;
+use crate::hold::{Hold, Object};
+use crate::making::beside;
+use crate::member::Member;
+use crate::numbers::{Outcome, not_done, number, pair_number};
+use std::alloc::Global;
+use std::mem::replace;
+use strm_handle::{refused, side_number};
+use strm_hosts::{Host, HostOpener};
+use strm_locks::{Each, PairEnd, Told};
+use strm_types::Refusal;
+
+// Bytes by side, as a C program is told them.
+fn sides(each: Each) -> Sides
+    ensures master { result.from_master ≡ each.from_master }
+    ensures slave { result.from_slave ≡ each.from_slave }
+{
+    Sides {
+        from_master: each.from_master,
+        from_slave: each.from_slave,
+    }
+}
+
+/// What was told, as a C program is told it.
+pub(crate) fn sums(told: &Told) -> Sums
+    ensures { sums_told result ≡ told.now }
+{
+    Sums {
+        calls: told.calls,
+        written: sides(told.written),
+        read: sides(told.read),
+    }
+}
+
+// An end, as a C program is told it.
+fn shown(system: u32, end: &PairEnd<Object>) -> Share
+    requires system { system < 1024 }
+    requires pair { end.now.pair < 64 }
+    ensures { Shows result system end.now }
+{
+    let told = end.end().told();
+    let caller = end.end().caller();
+    Share {
+        told: sums(&told),
+        parts: end.end().parts(),
+        pair: pair_number(system, end.pair()),
+        side: side_number(caller.side),
+        group: caller.group,
+        ignores: caller.ignores,
+        orphaned: caller.orphaned,
+    }
+}
+
+// Joins what two members of a host have in hand, where both are ends of one pair.
+fn join_holds(
+    host: &Host<Object>,
+    opener: &Option<HostOpener>,
+    first: Hold,
+    second: Hold,
+) -> Result<Hold, (Hold, Hold)>
+    requires first { HasInHand host.now opener.now first }
+    requires second { HasInHand host.now None second }
+    ensures joined { MatchResult result
+        (λ hold. joined_holds first second ≡ Some hold)
+        (λ back. (joined_holds first second ≡ None) × (back.0 ≡ first) × (back.1 ≡ second)) }
+    ensures hand { IfOk result (λ hold. HasInHand host.now opener.now hold) }
+{
+    match (first, second) {
+        (
+            Hold::End { system, end },
+            Hold::End {
+                system: there,
+                end: other,
+            },
+        ) => {
+            if system != there {
+                return Err((
+                    Hold::End { system, end },
+                    Hold::End {
+                        system: there,
+                        end: other,
+                    },
+                ));
+            }
+            match host.at(system).join_ends(end, other) {
+                Ok(end) => Ok(Hold::End { system, end }),
+                Err((end, other)) => Err((
+                    Hold::End { system, end },
+                    Hold::End { system, end: other },
+                )),
+            }
+        }
+        (first, second) => Err((first, second)),
+    }
+}
+
+impl Member {
+    // Joins the end in hand of another member of the host, which has nothing in hand then. False: they stay.
+    fn join(&mut self, other: &mut Member) -> bool
+        requires { self.old.host ≡ other.old.host }
+        ensures { JoinsMember (joined_by other.old.opener self.old.hold other.old.hold) self.old other.old result self.new other.new }
+    {
+        if other.opener.is_some() {
+            return false;
+        }
+        let first = replace(&mut self.hold, Hold::Nothing);
+        let second = replace(&mut other.hold, Hold::Nothing);
+        match join_holds(&self.host, &self.opener, first, second) {
+            Ok(hold) => {
+                self.hold = hold;
+                true
+            }
+            Err((first, second)) => {
+                self.hold = first;
+                other.hold = second;
+                false
+            }
+        }
+    }
+
+    // What the end in hand is told.
+    fn told(&self, share: &mut Share) -> Outcome
+        ensures { ShowsEnd share.old share.new self.now result self.now }
+    {
+        match &self.hold {
+            Hold::End { system, end } => {
+                *share = shown(*system, end);
+                Ok(())
+            }
+            _ => not_done(Refusal::Einval),
+        }
+    }
+
+    // Cuts an end in two, as nothing is in hand; the first is in hand then.
+    fn split_by(
+        &mut self,
+        alloc: Global,
+        system: u32,
+        end: PairEnd<Object>,
+        made: &mut Handle,
+    ) -> Outcome
+        requires end { HasEnd self.old.host self.old.opener system end }
+        requires empty { self.old.hold ≡ Nothing }
+        requires closed { made.old.held.kept ≡ None }
+        ensures { SplitsBy self.old system end made.new.held.kept result self.new }
+    {
+        let Some(mut second) = beside(alloc, &self.host) else {
+            self.hold = Hold::End { system, end };
+            return not_done(Refusal::NoMemory);
+        };
+        match self.host.at(system).split_end(end) {
+            Ok((end, other)) => {
+                self.hold = Hold::End { system, end };
+                second.as_mut().have(Hold::End { system, end: other });
+                made.put(second);
+                Ok(())
+            }
+            Err(end) => {
+                self.hold = Hold::End { system, end };
+                not_done(Refusal::Erange)
+            }
+        }
+    }
+
+    // Cuts the end in hand in two.
+    fn split(&mut self, alloc: Global, made: &mut Handle) -> Outcome
+        requires { made.old.held.kept ≡ None }
+        ensures { SplitsEnd self.old made.new.held.kept result self.new }
+    {
+        match replace(&mut self.hold, Hold::Nothing) {
+            Hold::End { system, end } => self.split_by(alloc, system, end, made),
+            other => {
+                self.hold = other;
+                not_done(Refusal::Einval)
+            }
+        }
+    }
+}
+
+/// What the end in hand was told, its parts and its pair, and whom it calls as.
+pub fn told(alloc: Global, handle: &mut Handle, share: &mut Share) -> u32
+    ensures { AtMember (share.new ≡ share.old) (ShowsEnd share.old share.new) handle.old.held.kept handle.new.held.kept result }
+{
+    let Some(member) = handle.take(alloc) else {
+        return refused(Refusal::Einval);
+    };
+    let outcome = member.as_ref().told(share);
+    handle.put(member);
+    number(outcome)
+}
+
+/// Joins the end in hand of a second member of the same host to that of the first; both ends are of one pair. The second member is closed then.
+pub fn join(alloc: Global, handle: &mut Handle, other: &mut Handle) -> u32
+    requires { AreTogether handle.old.held.kept other.old.held.kept }
+    ensures { Joins handle.old.held.kept other.old.held.kept handle.new.held.kept other.new.held.kept result }
+{
+    let Some(mut first) = handle.take(alloc) else {
+        return refused(Refusal::Einval);
+    };
+    let Some(mut second) = other.take(alloc) else {
+        handle.put(first);
+        return refused(Refusal::Einval);
+    };
+    let joined = first.as_mut().join(second.as_mut());
+    handle.put(first);
+    if joined {
+        return 0;
+    }
+    other.put(second);
+    refused(Refusal::Einval)
+}
+
+/// Cuts the end in hand in two: the second, with half of the parts, is in hand of a member that is made in a closed handle, and has no opener.
+pub fn split(alloc: Global, handle: &mut Handle, made: &mut Handle) -> u32
+    ensures { WithMade SplitsEnd handle.old.held.kept handle.new.held.kept made.old.held.kept made.new.held.kept result }
+{
+    if made.is_open() {
+        return refused(Refusal::Einval);
+    }
+    let Some(mut member) = handle.take(alloc) else {
+        return refused(Refusal::Einval);
+    };
+    let outcome = member.as_mut().split(alloc, made);
+    handle.put(member);
+    number(outcome)
+}
