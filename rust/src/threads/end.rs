@@ -86,6 +86,13 @@ impl Shared {
 
 /// What a thread has of a pair: it calls as one side, and is told what its own calls were, wrote and read.
 ///
+/// It may go to another thread, and isn't shared by two:
+///
+/// ```compile_fail,E0277
+/// fn is_shared<T: Sync>() {}
+/// is_shared::<strm::threads::End>();
+/// ```
+///
 /// The end that opens a pair has all of it. [`End::open_slave`] and [`End::split`] cut a part off for another thread, [`End::join`] puts two together,
 /// and who has all of a pair again settles it ([`End::settle`]).
 ///
