@@ -139,7 +139,8 @@ class System:
         return name and Turn(name, ("idle", "blocked", "moved")[visit.went.kind], visit.went.moved)
 
     def run(self, pair):
-        """Makes such turns until none is enabled: how many. EAGAIN behind RUN_MOST of them."""
+        """Makes such turns until none is enabled: how many. EAGAIN behind RUN_MOST of them. A journal begins anew by an end alone (End.run), so here it may
+        be JournalFull."""
         turns = ctypes.c_size_t()
         done(self.library.system_run(self._at, pair, ctypes.addressof(turns)), "run")
         return turns.value
@@ -163,9 +164,6 @@ class _Shared:
     def adds(self, at, side, timeout=None):
         self.live[at] = self.sides[at] = side
         return End(self, at, side, timeout)
-
-    def run(self):
-        self.library.system_run(self.memory.at, self.number, ctypes.addressof(ctypes.c_size_t()))
 
     def leaves(self, at, side):
         """An end is about to go: whether it is the last of its side, and the other side has one."""
@@ -304,7 +302,7 @@ class End(Calls):
             self._shared.goes(at)
 
     def _closes(self, linger):
-        self._shared.run()
+        self._runs()
         end, self.timeout = time.monotonic() + linger, 0.0
         self.caller = NOBODY
         while self.side == SLAVE and time.monotonic() < end:
@@ -319,7 +317,7 @@ class End(Calls):
             self.close()
         except Refused:
             pass
-        self._shared.run()
+        self._runs()
 
     def told(self):
         """What the end is: a Share."""
@@ -336,6 +334,12 @@ class End(Calls):
     def caller(self, caller):
         self._caller = Caller(*caller)
         self._makes("set_group", *self._caller)
+
+    def run(self):
+        """Makes turns of the pair until no queue is enabled: how many. A full journal begins anew where that was chosen."""
+        turns = ctypes.c_size_t()
+        done(self._makes("run", ctypes.addressof(turns)), "run")
+        return turns.value
 
     def restart(self):
         """Begins the journal of the pair anew."""

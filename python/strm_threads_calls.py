@@ -175,7 +175,7 @@ class Calls:
         unanswered = self._shared.unanswered
         while True:
             if turns:
-                self._shared.run()
+                self._runs()
             try:
                 told = self.call("ioctl_result", unanswered[side])
                 del unanswered[side]
@@ -186,6 +186,13 @@ class Calls:
                     raise
             if not self.wait(Ready.HAS_ANSWER, self.timeout) & Ready.HAS_ANSWER:
                 raise Refused(REFUSALS.index("ENXIO"), "ioctl")  # hung up, and no answer is to come
+
+    def _runs(self):
+        """Makes turns, for who closes a side: there may be no worker."""
+        try:
+            self.run()
+        except Refused:
+            pass
 
     def _drains(self, turns):
         # A command that sets modes goes behind the output. It brings none, so it sets none, and is answered with M_IOCNAK.

@@ -99,6 +99,7 @@ def prototypes():
         ("end_told", None, (pointer, pointer)),
         ("end_set_group", None, (pointer, number, bit, bit)),
         ("end_call", number, (pointer, pointer, ctypes.c_char_p, size, pointer, size, pointer)),
+        ("end_run", number, (pointer, pointer)),
         ("end_restart", number, (pointer,)),
         ("end_ready", number, (pointer, pointer)),
         ("end_wait", number, (pointer, number, whole, pointer)),

@@ -87,7 +87,8 @@ class Threads(unittest.TestCase):
             reader.read(9)
         self.assertEqual(over.exception.__cause__.name, "EAGAIN")
         self.assertEqual(master.write(b"x\r"), 2)
-        self.assertGreater(system.run(master.pair), 0)
+        self.assertGreater(master.run(), 0)
+        self.assertEqual(system.run(master.pair), 0)
         self.assertEqual(reader.read(9), b"x\n")
 
     def test_who_sleeps_is_woken(self):

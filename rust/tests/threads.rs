@@ -87,7 +87,7 @@ fn a_wait_has_a_time_out() -> Outcome {
     let inside = error.get_ref().and_then(|inside| inside.downcast_ref::<Refused>());
     assert_eq!(inside, Some(&Refused::Call(Refusal::Eagain)));
     assert_eq!(master.write(b"x\r")?, 2);
-    assert!(system.run(master.pair())? > 0);
+    assert!(master.run()? > 0 && system.run(master.pair())? == 0);
     assert_eq!(slave.read(&mut [0; 9])?, 2);
     assert_eq!((slave.read(&mut [])?, Writer::from(master).write(&[])?), (0, 0));
     Ok(())

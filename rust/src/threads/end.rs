@@ -228,6 +228,14 @@ impl End {
         unsafe { ffi::strm_end_set_group(self.at, group, ignores, orphaned) }
     }
 
+    /// Makes turns of the end's pair until no queue is enabled, as [`System::run`](super::System::run) does; a full journal begins anew where that was
+    /// chosen.
+    pub fn run(&mut self) -> Result<usize, Refused> {
+        let mut turns = 0;
+        // SAFETY: the end is this one's alone, and what is told has a place.
+        told(unsafe { ffi::strm_end_run(self.at, &mut turns) }).map(|()| turns)
+    }
+
     /// Begins the journal of the end's pair anew.
     pub fn restart(&mut self) -> Result<(), Refused> {
         // SAFETY: the end is this one's alone.
@@ -265,9 +273,9 @@ impl End {
     }
 
     // Makes turns, for who closes a side: there may be no worker.
-    pub(super) fn runs(&self) {
+    pub(super) fn runs(&mut self) {
         if self.lingers {
-            let _ = self.shared.system.runs(self.shared.number);
+            let _ = self.run();
         }
     }
 

@@ -76,6 +76,7 @@ extern "C" {
     pub fn strm_end_told(end: *const End, share: *mut Share);
     pub fn strm_end_set_group(end: *mut End, group: u32, ignores: bool, orphaned: bool);
     pub fn strm_end_call(end: *mut End, ask: *const Ask, bytes: *const u8, n: usize, out: *mut u8, room: usize, reply: *mut Reply) -> u32;
+    pub fn strm_end_run(end: *mut End, turns: *mut usize) -> u32;
     pub fn strm_end_restart(end: *mut End) -> u32;
     pub fn strm_end_ready(end: *mut End, ready: *mut u32) -> u32;
     pub fn strm_end_wait(end: *mut End, what: u32, timeout: i32, ready: *mut u32) -> u32;

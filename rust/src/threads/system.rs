@@ -36,12 +36,6 @@ impl Inner {
         let refused = unsafe { ffi::strm_system_release(self.at, pair) };
         debug_assert_eq!(refused, 0);
     }
-
-    pub(super) fn runs(&self, pair: u32) -> Result<usize, Refused> {
-        let mut turns = 0;
-        // SAFETY: what is told has a place.
-        told(unsafe { ffi::strm_system_run(self.at, pair, &mut turns) }).map(|()| turns)
-    }
 }
 
 impl Drop for Inner {
@@ -103,9 +97,12 @@ impl System {
     }
 
     /// Makes such turns until no queue is enabled: how many were made. A turn that is refused ends it, by ERANGE, JournalFull or ENOSR. It makes
-    /// [`RUN_MOST`](crate::RUN_MOST) turns at most, and is EAGAIN where a queue is enabled behind them. What was made stays made.
+    /// [`RUN_MOST`](crate::RUN_MOST) turns at most, and is EAGAIN where a queue is enabled behind them. What was made stays made. A journal begins anew by
+    /// an end alone ([`End::run`]), so here it may be JournalFull.
     pub fn run(&self, pair: usize) -> Result<usize, Refused> {
-        self.inner.runs(number(pair)?)
+        let mut turns = 0;
+        // SAFETY: what is told has a place.
+        told(unsafe { ffi::strm_system_run(self.inner.at, number(pair)?, &mut turns) }).map(|()| turns)
     }
 
     /// What was told of a pair so far, and its ledgers, of one moment under its lock. EINVAL: no such pair. NoMemory.
