@@ -221,6 +221,15 @@ class Threads(unittest.TestCase):
         system.release(0)
         self.refused("EINVAL", system.open, 0)
 
+    def test_ends_that_threads_free_at_once(self):
+        system = self.system(workers=1)
+        with ThreadPoolExecutor(4) as pool:
+            for round_ in range(50):
+                master, slave = system.terminal()
+                ends = [master, slave, master.split(), slave.split()]
+                list(pool.map(lambda at: ends[at].free(), [(at + round_) % 4 for at in range(4)]))
+        self.assertEqual(system.claim(), 0)
+
     def test_a_hang_up_is_the_end_of_input(self):
         master, slave = self.system(workers=1).terminal()
         reader, writer = slave.into_halves()

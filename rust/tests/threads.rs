@@ -232,6 +232,23 @@ fn a_pair_of_dropped_ends_is_free_again() -> Outcome {
 }
 
 #[test]
+fn ends_that_threads_drop_at_once() -> Outcome {
+    let system = System::new(2, &TERMINALS)?;
+    let _workers = system.start_workers(1)?;
+    for round in 0..200 {
+        let (mut master, mut slave) = system.terminal()?;
+        assert_eq!(master.write(b"x\r")?, 2);
+        let mut ends = vec![master.split()?, slave.split()?, master, slave];
+        ends.rotate_left(round % 4);
+        let drops: Vec<_> = ends.into_iter().map(|end| thread::spawn(move || drop(end))).collect();
+        assert!(drops.into_iter().all(|each| each.join().is_ok()));
+    }
+    let claims = [system.claim()?, system.claim()?];
+    assert_eq!(claims.map(|claim| claim.pair()), [0, 1]);
+    Ok(())
+}
+
+#[test]
 fn a_hang_up_is_the_end_of_input() -> Outcome {
     let system = System::new(1, &TERMINALS)?;
     let (mut master, slave) = system.terminal()?;
