@@ -363,12 +363,10 @@ fn a_slave_that_is_dropped_waits_for_its_output() -> Outcome {
     let system = System::new(1, &TERMINALS)?;
     let _workers = system.start_workers(1)?;
     let (master, mut slave) = system.terminal()?;
-    let mut written = 0;
     slave.timeout = SHORT;
-    while let Ok(taken) = slave.write_wait(&[b'x'; 1000]) {
-        written += taken;
-    }
-    assert_eq!((written > 5120, refusal(slave.drain())), (true, Some(Refusal::Eagain)));
+    let written = slave.write_all(&[b'x'; 20_000])?;
+    assert!(5120 < written && written < 20_000);
+    assert_eq!((refusal(slave.write_all(b"x")), refusal(slave.drain())), (Some(Refusal::Eagain), Some(Refusal::Eagain)));
     let reads = thread::spawn(move || {
         thread::sleep(Duration::from_millis(50));
         let mut got = Vec::new();

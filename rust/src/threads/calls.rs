@@ -112,6 +112,20 @@ impl End {
         }
     }
 
+    /// write(2) of all bytes, which sleeps where there is no room: how many were taken, which are fewer where the time of [`End::timeout`] is over behind
+    /// some of them.
+    pub fn write_all(&mut self, bytes: &[u8]) -> Result<usize, Refused> {
+        let mut taken = 0;
+        while taken < bytes.len() {
+            match self.write_wait(&bytes[taken..]) {
+                Ok(more) => taken += more,
+                Err(refused) if refused.would_wait() && taken > 0 => break,
+                Err(refused) => return Err(refused),
+            }
+        }
+        Ok(taken)
+    }
+
     /// read(2) that sleeps until a byte, the end of input or a message that no read gives is there. EAGAIN: the time of [`End::timeout`] is over.
     pub fn read_wait(&mut self, out: &mut [u8]) -> Result<usize, Refused> {
         let mut ready = Ready(Ready::CAN_READ);
