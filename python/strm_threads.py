@@ -23,6 +23,7 @@ import ctypes
 import errno
 import io
 import math
+import os
 import threading
 import time
 from collections import deque
@@ -42,14 +43,15 @@ class _Memory:
     """A system of the library's, freed with the last of all that was made of it."""
 
     def __init__(self, library, pairs, choices):
-        self.library, self.at, made = library, None, ctypes.c_void_p()
+        self.library, self.at, self.process, made = library, None, os.getpid(), ctypes.c_void_p()
         blocks, entries, bytes_, reserve, anew = choices
         chosen = Chosen(blocks, entries, bytes_, reserve, anew)
         done(library.system_new(ctypes.addressof(made), pairs, ctypes.addressof(chosen)), "system_new")
         self.at = made.value
 
     def __del__(self):
-        if self.at is not None:
+        # (a forked child has neither the workers nor who has a lock)
+        if self.at is not None and self.process == os.getpid():
             self.library.system_free(self.at)
 
 
@@ -217,7 +219,7 @@ class End(Calls):
         self.free()
 
     def __del__(self):
-        if getattr(self, "_at", None) is not None:
+        if getattr(self, "_at", None) is not None and self._shared.memory.process == os.getpid():
             self.free(linger=0)
 
     def __reduce_ex__(self, _):
@@ -290,7 +292,7 @@ class End(Calls):
 
     def free(self, linger=LINGER):
         """Gives the end up. The last one of a side closes it, behind what it wrote: for so many seconds at most it waits until that has left the slave's
-        modules. The last one of a pair gives it back to its system."""
+        modules, unless the side was closed before. The last one of a pair gives it back to its system."""
         if self._at is None:
             return
         with self._use:

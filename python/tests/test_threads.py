@@ -3,6 +3,7 @@ import _thread
 import copy
 import gc
 import io
+import os
 import select
 import signal
 import threading
@@ -40,6 +41,17 @@ class Threads(unittest.TestCase):
         self.assertEqual(tuple(told.read), tuple(it.gone.get("read", 0) for it in books))
         self.assertTrue(account.ms.balance and account.sm.balance)
         return account
+
+    def floods(self, end):
+        """Writes until nothing goes on, as nobody reads: how many bytes were taken."""
+        written = 0
+        while True:
+            try:
+                written += end.write(b"x" * 1000)
+            except Refused as refusal:
+                self.assertTrue(refusal.would_wait)
+                if not end.run():
+                    return written
 
     def started(self, function, *arguments):
         """A future of a thread."""
@@ -143,10 +155,9 @@ class Threads(unittest.TestCase):
             self.assertEqual(system.claim(), 0)
 
     def test_a_writer_whose_time_is_over_says_how_much_it_wrote(self):
-        _master, slave = self.system(workers=1).terminal()
+        _master, slave = self.system().terminal()
         slave.timeout = 0.02
-        written = Writer(slave).write(b"x" * 100_000)
-        self.assertTrue(5120 < written < 100_000)
+        self.assertIn(Writer(slave).write(b"x" * 100_000), range(1, 100_000))
         self.refused("EAGAIN", slave.read)  # a file that is gone leaves its end
 
     def test_a_split_and_a_join(self):
@@ -244,13 +255,43 @@ class Threads(unittest.TestCase):
         self.assertIn(Ready.HUNG_UP, writer.end.ready())
 
     def test_what_a_freed_slave_wrote_is_read_to_its_end(self):
-        master, slave = self.system(workers=1).terminal()
-        slave.timeout, written = 0.02, 0
-        written = slave.write_all(b"x" * 20_000)
+        system = self.system()
+        master, slave = system.terminal()
+        written = self.floods(slave)
+        system.start_workers(1)
+        slave.timeout = 0.02
         self.refused("EAGAIN", slave.drain)
         reading = self.started(lambda: time.sleep(0.05) or Reader(master).readall())
         slave.free()
         self.assertEqual(len(reading.result()), written)
+
+    def test_who_closes_does_not_linger(self):
+        system = self.system(2)
+        for closes in (lambda end: (end.close(), end.free()), lambda end: end.free(linger=0)):
+            master, slave = system.terminal()
+            written, began = self.floods(slave), time.monotonic()
+            closes(slave)
+            self.assertLess(time.monotonic() - began, 5)
+            system.start_workers(1)
+            read = len(Reader(master).readall())
+            system.stop_workers()
+            self.assertTrue(5000 < read < written)  # what stood in the modules is gone
+            self.assertGreater(self.agrees(master.settle()).sm.gone["end-closed"], 0)
+
+    def test_a_forked_child_leaves_all(self):
+        system = System(1, workers=1)
+        ends = system.terminal()
+        child = os.fork()
+        if not child:
+            del system, ends
+            gc.collect()
+            os._exit(7)
+        end = time.monotonic() + 10
+        while os.waitpid(child, os.WNOHANG) == (0, 0):
+            self.assertLess(time.monotonic(), end)
+            time.sleep(0.01)
+        self.agrees(ends[0].join(ends[1]).settle())
+        system.free()
 
     def test_a_system_is_there_until_its_ends_are_gone(self):
         system = System(1, workers=1)

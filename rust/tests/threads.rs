@@ -30,6 +30,19 @@ fn agrees(account: &Account) {
     assert!(ms.balance() && sm.balance());
 }
 
+// Writes until nothing goes on, as nobody reads: how many bytes were taken.
+fn floods(end: &mut End) -> Result<usize, Refused> {
+    let mut written = 0;
+    loop {
+        match end.write(&[b'x'; 1000]) {
+            Ok(taken) => written += taken,
+            Err(refused) if refused.would_wait() && end.run()? == 0 => return Ok(written),
+            Err(refused) if refused.would_wait() => {}
+            Err(refused) => return Err(refused),
+        }
+    }
+}
+
 fn pattern(length: u32) -> Vec<u8> {
     (0..length).map(|number| b'0' + (number % 10) as u8).collect()
 }
@@ -361,11 +374,10 @@ fn messages_and_modules_of_an_end() -> Outcome {
 #[test]
 fn a_slave_that_is_dropped_waits_for_its_output() -> Outcome {
     let system = System::new(1, &TERMINALS)?;
-    let _workers = system.start_workers(1)?;
     let (master, mut slave) = system.terminal()?;
+    let written = floods(&mut slave)?;
+    let _workers = system.start_workers(1)?;
     slave.timeout = SHORT;
-    let written = slave.write_all(&[b'x'; 20_000])?;
-    assert!(5120 < written && written < 20_000);
     assert_eq!((refusal(slave.write_all(b"x")), refusal(slave.drain())), (Some(Refusal::Eagain), Some(Refusal::Eagain)));
     let reads = thread::spawn(move || {
         thread::sleep(Duration::from_millis(50));
@@ -374,6 +386,27 @@ fn a_slave_that_is_dropped_waits_for_its_output() -> Outcome {
     });
     drop(slave);
     assert_eq!(reads.join().expect("it ends")?, written);
+    Ok(())
+}
+
+#[test]
+fn who_closes_does_not_linger() -> Outcome {
+    let system = System::new(1, &TERMINALS)?;
+    let (master, mut slave) = system.terminal()?;
+    slave.timeout = SHORT;
+    assert!((1..20_000).contains(&slave.write_all(&[b'x'; 20_000])?)); // no more behind the time
+    let written = slave.told().told.written.from_slave as usize + floods(&mut slave)?;
+    let began = Instant::now();
+    slave.close()?;
+    drop(slave);
+    assert!(began.elapsed() < Duration::from_secs(5));
+    let _workers = system.start_workers(1)?;
+    let mut got = Vec::new();
+    let mut master = Reader::from(master);
+    assert!(master.read_to_end(&mut got)? < written); // what stood in the modules is gone
+    let account = master.into_end().settle()?;
+    agrees(&account);
+    assert!(account.sm.gone[17] > 0); // end-closed
     Ok(())
 }
 

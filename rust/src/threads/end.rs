@@ -96,8 +96,9 @@ impl Shared {
 /// The end that opens a pair has all of it. [`End::open_slave`] and [`End::split`] cut a part off for another thread, [`End::join`] puts two together,
 /// and who has all of a pair again settles it ([`End::settle`]).
 ///
-/// Dropped, the last end of a side closes it, behind what it wrote ([`LINGER`]): the other side reads that, and then the end of input. The parts of ends
-/// that were dropped, and what these were told, are settled with the rest; where all were dropped the pair is free for another claim.
+/// Dropped, the last end of a side closes it, behind what it wrote ([`LINGER`]; at once where [`End::close`] did before): the other side reads that, and then
+/// the end of input. The parts of ends that were dropped, and what these were told, are settled with the rest; where all were dropped the pair is
+/// free for another claim.
 pub struct End {
     // Null: it is gone, and its parts with it.
     pub(super) at: *mut ffi::End,
