@@ -22,6 +22,7 @@ An end that is freed (`free`, the end of a `with`, or where nothing names it) is
 import ctypes
 import errno
 import io
+import itertools
 import math
 import os
 import threading
@@ -160,27 +161,28 @@ class _Shared:
 
     def __init__(self, memory, number):
         self.memory, self.library, self.number = memory, memory.library, number
-        self.live, self.sides, self.freed, self.last = {}, {}, deque(), threading.Lock()
+        self.keys, self.live, self.sides, self.freed, self.last = itertools.count(), {}, {}, deque(), threading.Lock()
         self.ioctl, self.asks, self.unanswered = threading.Condition(), set(), {}
 
     def adds(self, at, side, timeout=None):
-        self.live[at] = self.sides[at] = side
-        return End(self, at, side, timeout)
+        key = next(self.keys)  # (the address of an end that is gone may be another one's)
+        self.live[key] = self.sides[key] = side
+        return End(self, at, key, side, timeout)
 
-    def leaves(self, at, side):
+    def leaves(self, key, side):
         """An end is about to go: whether it is the last of its side, and the other side has one."""
-        self.sides.pop(at, None)
+        self.sides.pop(key, None)
         left = list(self.sides.values())
         return side not in left and bool(left)
 
-    def goes(self, at):
+    def goes(self, key, at):
         """An end is gone. The last one settles the pair, which is released then."""
         self.freed.append(at)
-        self.live.pop(at, None)
+        self.live.pop(key, None)
         if not self.live and self.last.acquire(False):
-            first = self.freed.popleft()
+            first, told = self.freed.popleft(), Settled()
             self.gathers(first)
-            if not self.library.end_settle(first, ctypes.addressof(Settled())):
+            if not self.library.end_settle(first, ctypes.addressof(told)):
                 self.library.system_release(self.memory.at, self.number)
 
     def gathers(self, at):
@@ -207,8 +209,8 @@ class End(Calls):
     """What a thread has of a pair: it calls as one side, and is told what its own calls were, wrote and read. `timeout` is how many seconds each of its
     sleeps lasts at most; None has no end."""
 
-    def __init__(self, shared, at, side, timeout):
-        self._shared, self._at, self.side, self.pair, self.timeout = shared, at, side, shared.number, timeout
+    def __init__(self, shared, at, key, side, timeout):
+        self._shared, self._at, self._key, self.side, self.pair, self.timeout = shared, at, key, side, shared.number, timeout
         self._library, self._use, self._room, self._caller = shared.library, _Use(), None, NOBODY
         self._ask, self._reply, self._ready = Ask(), Reply(), ctypes.c_uint32()
 
@@ -266,9 +268,9 @@ class End(Calls):
             raise Refused(EINVAL, "join")
         with self._use, second._use:
             done(self._library.end_join(self._address, second._address), "join")
-            gone, second._at = second._at, None
-            self._shared.sides.pop(gone, None)
-            self._shared.live.pop(gone, None)
+            second._at = None
+            self._shared.sides.pop(second._key, None)
+            self._shared.live.pop(second._key, None)
             self._looks()
         return self
 
@@ -288,7 +290,7 @@ class End(Calls):
         """Behind a join, by which the end may call as the other side."""
         part = Part()
         self._library.end_told(self._at, ctypes.addressof(part))
-        self.side = self._shared.live[self._at] = self._shared.sides[self._at] = Side(part.side)
+        self.side = self._shared.live[self._key] = self._shared.sides[self._key] = Side(part.side)
 
     def free(self, linger=LINGER):
         """Gives the end up. The last one of a side closes it, behind what it wrote: for so many seconds at most it waits until that has left the slave's
@@ -296,12 +298,12 @@ class End(Calls):
         if self._at is None:
             return
         with self._use:
-            heard = self._shared.leaves(self._address, self.side)
+            heard = self._shared.leaves(self._key, self.side)
         if heard:
             self._closes(linger)
         with self._use:
             at, self._at = self._address, None
-            self._shared.goes(at)
+            self._shared.goes(self._key, at)
 
     def _closes(self, linger):
         self._runs()
