@@ -9,6 +9,7 @@ import signal
 import threading
 import time
 import unittest
+import warnings
 from concurrent.futures import ThreadPoolExecutor
 
 from strm_words import MASTER, SLAVE, Caller, Choices, Nak, Ready, Refused, Signal, Stopped, Turn
@@ -281,7 +282,9 @@ class Threads(unittest.TestCase):
     def test_a_forked_child_leaves_all(self):
         system = System(1, workers=1)
         ends = system.terminal()
-        child = os.fork()
+        with warnings.catch_warnings():
+            warnings.simplefilter("ignore", DeprecationWarning)  # (of a fork beside threads)
+            child = os.fork()
         if not child:
             del system, ends
             gc.collect()
