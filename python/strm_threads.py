@@ -12,12 +12,13 @@
         typing.join()
         master.join(slave).settle()               # the Account: what both ends were told is what the pair's books say
 
-An end is what a thread has of a pair, and is used by one thread at a time: RuntimeError where a second one calls meanwhile. `split`, `into_halves` and
-`open_slave` make further ones. Calls by an end return at once, and raise Refused as those of strm.Pair; `wait`, `read_wait`, `write_all`, `drain`, ioctls
-and the files Reader and Writer sleep, for `timeout` seconds at most where that isn't None. Ctrl-C ends a sleep of the main thread.
+An end is what a thread has of a pair, and is used by one thread at a time: RuntimeError where a second one calls meanwhile. `split`, `into_halves`
+and `open_slave` make further ones. Calls by an end return at once, and raise Refused as those of strm.Pair; `wait`, `read_wait`, `write_all`,
+`drain`, ioctls and the files Reader and Writer sleep, for `timeout` seconds at most where that isn't None. Ctrl-C ends a sleep of the main thread.
 
 An end that is freed (`free`, the end of a `with`, or where nothing names it) isn't lost: the last one of a side closes that, behind what it wrote
-(where nothing names it, at once), and the last one of a pair gives it back to its system. The library is found by STRM_MT_LIBRARY, else beside libstrm: `tools/library_mt PREFIX` lays it out.
+(where nothing names it, at once), and the last one of a pair gives it back to its system. The library is found by STRM_MT_LIBRARY, else beside
+libstrm: `tools/library_mt PREFIX` lays it out.
 """
 import ctypes
 import errno
@@ -57,8 +58,8 @@ class _Memory:
 
 
 class System:
-    """1 to 65536 pairs that threads share, each of these Choices, and so many workers, which make turns wherever a queue is enabled and sleep where none
-    is. EINVAL: a number isn't one of these, or a reserve is asked for.
+    """1 to 65536 pairs that threads share, each of these Choices, and so many workers, which make turns wherever a queue is enabled and sleep where
+    none is. EINVAL: a number isn't one of these, or a reserve is asked for.
 
     It is used by any threads at once. `free`, or the end of a `with`, stops the workers; its memory goes with the last end."""
 
@@ -142,8 +143,8 @@ class System:
         return name and Turn(name, ("idle", "blocked", "moved")[visit.went.kind], visit.went.moved)
 
     def run(self, pair):
-        """Makes such turns until none is enabled: how many. EAGAIN behind RUN_MOST of them. A journal begins anew by an end alone (End.run), so here it may
-        be JournalFull."""
+        """Makes such turns until none is enabled: how many. EAGAIN behind RUN_MOST of them. A journal begins anew by an end alone (End.run), so here
+        it may be JournalFull."""
         turns = ctypes.c_size_t()
         done(self.library.system_run(self._at, pair, ctypes.addressof(turns)), "run")
         return turns.value
@@ -206,8 +207,8 @@ class _Use:
 
 
 class End(Calls):
-    """What a thread has of a pair: it calls as one side, and is told what its own calls were, wrote and read. `timeout` is how many seconds each of its
-    sleeps lasts at most; None has no end."""
+    """What a thread has of a pair: it calls as one side, and is told what its own calls were, wrote and read. `timeout` is how many seconds each of
+    its sleeps lasts at most; None has no end."""
 
     def __init__(self, shared, at, key, side, timeout):
         self._shared, self._at, self._key, self.side, self.pair, self.timeout = shared, at, key, side, shared.number, timeout
@@ -262,8 +263,8 @@ class End(Calls):
         return Reader(self), Writer(second)
 
     def join(self, second):
-        """Joins a second end to this one, which has the parts of both and what both were told, and is given. It calls as the end that opened the pair did,
-        where that is one of them, else as this one did. EINVAL: they are of two pairs; both stay."""
+        """Joins a second end to this one, which has the parts of both and what both were told, and is given. It calls as the end that opened the
+        pair did, where that is one of them, else as this one did. EINVAL: they are of two pairs; both stay."""
         if second is self:
             raise Refused(EINVAL, "join")
         with self._use, second._use:
@@ -293,8 +294,8 @@ class End(Calls):
         self.side = self._shared.live[self._key] = self._shared.sides[self._key] = Side(part.side)
 
     def free(self, linger=LINGER):
-        """Gives the end up. The last one of a side closes it, behind what it wrote: for so many seconds at most it waits until that has left the slave's
-        modules, unless the side was closed before. The last one of a pair gives it back to its system."""
+        """Gives the end up. The last one of a side closes it, behind what it wrote: for so many seconds at most it waits until that has left the
+        slave's modules, unless the side was closed before. The last one of a pair gives it back to its system."""
         if self._at is None:
             return
         with self._use:
@@ -357,8 +358,8 @@ class End(Calls):
         return Ready(self._ready.value)
 
     def wait(self, what=Ready.CAN_READ, timeout=None):
-        """Sleeps until the side is ready for something of `what`, or is hung up: all that it is ready for. EAGAIN: so many seconds are over. ENXIO: the
-        side isn't open, or was closed meanwhile by another end."""
+        """Sleeps until the side is ready for something of `what`, or is hung up: all that it is ready for. EAGAIN: so many seconds are over. ENXIO:
+        the side isn't open, or was closed meanwhile by another end."""
         end = None if timeout is None else time.monotonic() + timeout
         in_slices = threading.current_thread() is threading.main_thread()
         while True:
@@ -371,16 +372,16 @@ class End(Calls):
                 return Ready(self._ready.value)
 
     def fileno(self):
-        """A descriptor for select or poll, closed with the end: readable where the pair's state has changed since this end looked (ready, wait). NoMemory:
-        the system gives none."""
+        """A descriptor for select or poll, closed with the end: readable where the side may have become ready for more since this end looked (ready,
+        wait). NoMemory: the system gives none."""
         number = self._makes("fd")
         done(NO_MEMORY if number < 0 else 0, "fd")
         return number
 
 
 class _File(io.RawIOBase):
-    """An end as a file; `end` has all other calls. A time-out of the end that is over is a TimeoutError, other refusals are OSErrors whose __cause__ is the
-    Refused or Stopped. Where it is closed its end is freed; a file that nothing names leaves it."""
+    """An end as a file; `end` has all other calls. A time-out of the end that is over is a TimeoutError, other refusals are OSErrors whose __cause__
+    is the Refused or Stopped. Where it is closed its end is freed; a file that nothing names leaves it."""
 
     def __init__(self, end):
         super().__init__()

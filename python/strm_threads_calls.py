@@ -7,8 +7,8 @@ from strm_words import *
 
 
 class Calls:
-    """Calls return at once, and are refused with EAGAIN where they would have to wait. Those that wait say so: `timeout` is how many seconds each of their
-    sleeps lasts at most, and EAGAIN that it is over."""
+    """Calls return at once, and are refused with EAGAIN where they would have to wait. Those that wait say so: `timeout` is how many seconds each of
+    their sleeps lasts at most, and EAGAIN that it is over."""
 
     def call(self, op, a=0, b=0, c=0, data=b""):
         """Makes any call as the end's side, as strm.Pair.call does, and gives its Answer, "stopped" and "nak" too."""
@@ -120,7 +120,8 @@ class Calls:
         return self._reads(self.read_into, room, 0)
 
     def write_all(self, data):
-        """write(2) of all of the bytes, which sleeps where there is no room: how many were taken, which are fewer where the time is over behind some."""
+        """write(2) of all of the bytes, which sleeps where there is no room: how many were taken, which are fewer where the time is over behind
+        some."""
         data, taken = memoryview(data).cast("B"), 0
         while taken < len(data):
             try:
@@ -139,9 +140,9 @@ class Calls:
     # ------------------------------------------------------------------------------------------------------------- ioctl
 
     def ioctl(self, command, body=b""):
-        """I_STR, which sleeps until it is answered, as workers make the turns: the bytes of its answer. `command` is a name of COMMANDS or a number. An
-        ioctl of another end of the side is waited for first. Nak: it was answered so. EAGAIN: the time is over, and its answer is nobody's. ENXIO: the
-        side was closed meanwhile."""
+        """I_STR, which sleeps until it is answered, as workers make the turns: the bytes of its answer. `command` is a name of COMMANDS or a number.
+        An ioctl of another end of the side is waited for first. Nak: it was answered so. EAGAIN: the time is over, and its answer is nobody's.
+        ENXIO: the side was closed meanwhile."""
         number = COMMANDS.get(command, command)
         if not isinstance(number, int):
             raise Refused(EINVAL, "ioctl")

@@ -1,6 +1,6 @@
-//! Finds libstrm, and libstrm_mt for the feature `threads`: in the folder that STRM_LIB_DIR names, else in lib/ beside this file (a release's crate has it), else where pkg-config says, else
-//! in ~/.local/lib and /usr/local/lib. The archive is linked where there is one; with STRM_SHARED=1 the shared object is, which the loader has to
-//! find when a program runs.
+//! Finds libstrm, and libstrm_mt for the feature `threads`: in the folder that STRM_LIB_DIR names, else in lib/ beside this file (a release's crate
+//! has it), else where pkg-config says, else in ~/.local/lib and /usr/local/lib. The archive is linked where there is one; with STRM_SHARED=1 the
+//! shared object is, which the loader has to find when a program runs.
 use std::path::{Path, PathBuf};
 use std::process::Command;
 use std::{env, fs};

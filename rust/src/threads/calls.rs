@@ -112,8 +112,8 @@ impl End {
         }
     }
 
-    /// write(2) of all bytes, which sleeps where there is no room: how many were taken, which are fewer where the time of [`End::timeout`] is over behind
-    /// some of them.
+    /// write(2) of all bytes, which sleeps where there is no room: how many were taken, which are fewer where the time of [`End::timeout`] is over
+    /// behind some of them.
     pub fn write_all(&mut self, bytes: &[u8]) -> Result<usize, Refused> {
         let mut taken = 0;
         while taken < bytes.len() {
@@ -174,8 +174,8 @@ impl End {
         }
     }
 
-    /// I_STR, which sleeps until it is answered, as workers make the turns: the bytes of its answer. An ioctl of another end of the side is waited for
-    /// first. `Nak`: it was answered so. EAGAIN: the time of [`End::timeout`] is over, and its answer is nobody's; who wants that later asks by
+    /// I_STR, which sleeps until it is answered, as workers make the turns: the bytes of its answer. An ioctl of another end of the side is waited
+    /// for first. `Nak`: it was answered so. EAGAIN: the time of [`End::timeout`] is over, and its answer is nobody's; who wants that later asks by
     /// `call` with `Event::Ioctl`, and takes it by `ioctl_result`. ENXIO: the side was closed meanwhile.
     pub fn ioctl(&mut self, command: Command, body: &[u8]) -> Result<Vec<u8>, Refused> {
         let shared = Arc::clone(&self.shared);

@@ -93,12 +93,12 @@ impl Shared {
 /// is_shared::<strm::threads::End>();
 /// ```
 ///
-/// The end that opens a pair has all of it. [`End::open_slave`] and [`End::split`] cut a part off for another thread, [`End::join`] puts two together,
-/// and who has all of a pair again settles it ([`End::settle`]).
+/// The end that opens a pair has all of it. [`End::open_slave`] and [`End::split`] cut a part off for another thread, [`End::join`] puts two
+/// together, and who has all of a pair again settles it ([`End::settle`]).
 ///
-/// Dropped, the last end of a side closes it, behind what it wrote ([`LINGER`]; at once where [`End::close`] did before): the other side reads that, and then
-/// the end of input. The parts of ends that were dropped, and what these were told, are settled with the rest; where all were dropped the pair is
-/// free for another claim.
+/// Dropped, the last end of a side closes it, behind what it wrote ([`LINGER`]; at once where [`End::close`] did before): the other side reads that,
+/// and then the end of input. The parts of ends that were dropped, and what these were told, are settled with the rest; where all were dropped the
+/// pair is free for another claim.
 pub struct End {
     // Null: it is gone, and its parts with it.
     pub(super) at: *mut ffi::End,
@@ -164,8 +164,8 @@ impl End {
         }
     }
 
-    /// Joins a second end to this one: it has the parts of both, and what both were told. It calls as the end that opened the pair did, where that is one
-    /// of them, else as this one did. No side is closed by it. EINVAL: they are of two pairs. Both come back then, in their order.
+    /// Joins a second end to this one: it has the parts of both, and what both were told. It calls as the end that opened the pair did, where that is
+    /// one of them, else as this one did. No side is closed by it. EINVAL: they are of two pairs. Both come back then, in their order.
     pub fn join(mut self, mut second: End) -> Result<End, Kept<(End, End)>> {
         // SAFETY: each end is its owner's alone.
         if let Err(refused) = told(unsafe { ffi::strm_end_join(self.at, second.at) }) {
@@ -181,8 +181,8 @@ impl End {
         Ok(self)
     }
 
-    /// Settles the pair, of which no other end is left: what its ends were told in all, also those that were dropped, which is what the pair's books say,
-    /// and both ledgers. The pair is free for another claim. StillShared: another end is left. This one comes back then.
+    /// Settles the pair, of which no other end is left: what its ends were told in all, also those that were dropped, which is what the pair's books
+    /// say, and both ledgers. The pair is free for another claim. StillShared: another end is left. This one comes back then.
     pub fn settle(mut self) -> Result<Account, Kept<End>> {
         let mut account = ffi::Account::default();
         let shared = Arc::clone(&self.shared);
@@ -229,8 +229,8 @@ impl End {
         unsafe { ffi::strm_end_set_group(self.at, group, ignores, orphaned) }
     }
 
-    /// Makes turns of the end's pair until no queue is enabled, as [`System::run`](super::System::run) does; a full journal begins anew where that was
-    /// chosen.
+    /// Makes turns of the end's pair until no queue is enabled, as [`System::run`](super::System::run) does; a full journal begins anew where that
+    /// was chosen.
     pub fn run(&mut self) -> Result<usize, Refused> {
         let mut turns = 0;
         // SAFETY: the end is this one's alone, and what is told has a place.
@@ -262,9 +262,9 @@ impl End {
         Ok(Ready(ready))
     }
 
-    /// A descriptor for poll(2), of which the end is the owner. It becomes readable where the state of the pair has changed since this end looked
-    /// ([`End::ready`], [`End::wait`]), and is so at first; a look makes it unreadable. So look, call until a call is EAGAIN, then poll. NoMemory: the
-    /// system gives none.
+    /// A descriptor for poll(2), of which the end is the owner. It becomes readable where the side may have become ready for more since this end looked
+    /// ([`End::ready`], [`End::wait`]), and is so at first; a look makes it unreadable. So look, call until a call is EAGAIN, then poll. NoMemory:
+    /// the system gives none.
     pub fn as_fd(&self) -> io::Result<BorrowedFd<'_>> {
         match self.as_raw_fd() {
             -1 => Err(Refused::Call(Refusal::NoMemory).into()),

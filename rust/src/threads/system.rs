@@ -53,8 +53,8 @@ pub struct System {
 }
 
 impl System {
-    /// A system of 1 to 65,536 pairs that nobody opened, each of what is chosen: [`TERMINALS`] where nothing else is wanted. EINVAL: a number isn't one
-    /// of these, or blocks in reserve are asked for, which these pairs haven't. NoMemory.
+    /// A system of 1 to 65,536 pairs that nobody opened, each of what is chosen: [`TERMINALS`] where nothing else is wanted. EINVAL: a number isn't
+    /// one of these, or blocks in reserve are asked for, which these pairs haven't. NoMemory.
     pub fn new(pairs: usize, choices: &Choices) -> Result<System, Refused> {
         let mut at = ptr::null_mut();
         // SAFETY: what is told has a place.
@@ -86,8 +86,8 @@ impl System {
         Ok(unsafe { End::terminal(&self.inner, master, slave) })
     }
 
-    /// Makes the turn of the queue of a pair that was enabled first: which one it was, and what it did. `None`: none is enabled. EINVAL: no such pair.
-    /// NoMemory, and what the turn is refused for.
+    /// Makes the turn of the queue of a pair that was enabled first: which one it was, and what it did. `None`: none is enabled. EINVAL: no such
+    /// pair. NoMemory, and what the turn is refused for.
     pub fn turn(&self, pair: usize) -> Result<Option<(Queue, Turn)>, Refused> {
         let mut visit = ffi::Visit::default();
         // SAFETY: what is told has a place.
@@ -97,8 +97,8 @@ impl System {
     }
 
     /// Makes such turns until no queue is enabled: how many were made. A turn that is refused ends it, by ERANGE, JournalFull or ENOSR. It makes
-    /// [`RUN_MOST`](crate::RUN_MOST) turns at most, and is EAGAIN where a queue is enabled behind them. What was made stays made. A journal begins anew by
-    /// an end alone ([`End::run`]), so here it may be JournalFull.
+    /// [`RUN_MOST`](crate::RUN_MOST) turns at most, and is EAGAIN where a queue is enabled behind them. What was made stays made. A journal begins
+    /// anew by an end alone ([`End::run`]), so here it may be JournalFull.
     pub fn run(&self, pair: usize) -> Result<usize, Refused> {
         let mut turns = 0;
         // SAFETY: what is told has a place.
