@@ -27,17 +27,17 @@ def shell(slave):
     while line := slave.read_wait():
         lines += line == b"make test\n"
         slave.write_all(b"ok\n")
-    slave.write_all(b"\x05")  # goodbye
+    slave.write_all(b"bye!")
     return lines
 
 
 def shows(master):
-    """Takes the echo and the answers, until the shell says goodbye: how many bytes."""
+    """Takes the echo and the answers, until the shell has said goodbye: how many bytes."""
     shown = 0
     while True:
         text = master.read_wait()
         shown += len(text)
-        if text.endswith(b"\x05"):
+        if text.endswith(b"!"):
             return shown
 
 

@@ -31,17 +31,17 @@ fn shell(slave: End) -> io::Result<(End, usize)> {
         lines += usize::from(&line[..n] == b"make test\n");
         writer.write_all(b"ok\n")?;
     }
-    writer.write_all(b"\x05")?; // goodbye
+    writer.write_all(b"bye!")?;
     Ok((writer.into_end().join(reader.into_end())?, lines))
 }
 
-/// Takes the echo and the answers, until the shell says goodbye: how many bytes.
+/// Takes the echo and the answers, until the shell has said goodbye: how many bytes.
 fn shows(master: End) -> io::Result<(End, usize)> {
     let (mut screen, mut text, mut shown) = (Reader::from(master), [0; 4096], 0);
     loop {
         let n = screen.read(&mut text)?;
         shown += n;
-        if text[n - 1] == 5 {
+        if text[n - 1] == b'!' {
             return Ok((screen.into_end(), shown));
         }
     }
