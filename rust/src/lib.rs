@@ -23,6 +23,8 @@
 //!
 //! A [`Pair`] may move to another thread (`Send`), and each call takes it alone (`&mut self`). All memory is taken where a pair is made; beside
 //! that, calls that give a `Vec` take its bytes. include/strm.h is the manual of each call, and has the same names.
+//!
+//! With the feature `threads` there are pairs that threads share, and ends that sleep: the module `threads`, over libstrm_mt.
 #![deny(missing_docs, missing_debug_implementations, clippy::undocumented_unsafe_blocks)]
 
 mod call;
@@ -35,6 +37,8 @@ mod pair;
 mod refused;
 mod sizes;
 pub mod termios;
+#[cfg(feature = "threads")]
+pub mod threads;
 mod turn;
 
 pub use call::{Answer, Call, Caller, Event, Message};

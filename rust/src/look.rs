@@ -117,6 +117,11 @@ pub struct Room {
 }
 
 impl Books {
+    pub(crate) fn of(books: ffi::Books) -> Books {
+        let ffi::Books { written, made, queued, inlined, gone } = books;
+        Books { written, made, queued, inlined, gone }
+    }
+
     /// Whether each byte has one place: written + made = queued + inlined + the sum of gone.
     pub fn balance(&self) -> bool {
         self.written + self.made == self.queued + self.inlined + self.gone.iter().sum::<u64>()
@@ -145,8 +150,7 @@ impl Pair {
         let mut books = ffi::Books::default();
         // SAFETY: what is told has a place.
         told(unsafe { ffi::strm_ledger(&mut self.handle, side as u32, &mut books) })?;
-        let ffi::Books { written, made, queued, inlined, gone } = books;
-        Ok(Books { written, made, queued, inlined, gone })
+        Ok(Books::of(books))
     }
 
     /// What a side is ready for. It is a look, and turns come first, as only they bring anything.

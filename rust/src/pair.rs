@@ -288,12 +288,12 @@ impl Drop for Pair {
     }
 }
 
-fn chosen(choices: Choices) -> ffi::Choices {
+pub(crate) fn chosen(choices: Choices) -> ffi::Choices {
     let Sizes { blocks, entries, bytes } = choices.sizes;
     ffi::Choices { blocks, entries, bytes, reserve: choices.reserve, anew: choices.anew }
 }
 
-fn given(answer: Answer) -> Result<Vec<u8>, Refused> {
+pub(crate) fn given(answer: Answer) -> Result<Vec<u8>, Refused> {
     match answer {
         Answer::Bytes(bytes) => Ok(bytes),
         Answer::Done => Ok(Vec::new()),
@@ -302,7 +302,7 @@ fn given(answer: Answer) -> Result<Vec<u8>, Refused> {
     }
 }
 
-fn not_stopped(reply: &Reply) -> Result<(), Refused> {
+pub(crate) fn not_stopped(reply: &Reply) -> Result<(), Refused> {
     match Answer::of(reply, &[]) {
         Some(Answer::Stopped(signal)) => Err(Refused::Stopped(signal)),
         _ => Ok(()),
@@ -310,6 +310,6 @@ fn not_stopped(reply: &Reply) -> Result<(), Refused> {
 }
 
 // An answer of another kind than the call has: no library of this version gives one.
-fn unmeant(_: &Answer) -> Refused {
+pub(crate) fn unmeant(_: &Answer) -> Refused {
     Refused::Call(Refusal::Einval)
 }

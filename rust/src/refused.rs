@@ -21,8 +21,12 @@ pub enum Refusal {
     Erange,
     /// The journal has no room for the call and its longest answer.
     JournalFull,
+    /// No pair is free for a claim.
+    NoMinor,
     /// No memory was given.
     NoMemory,
+    /// Another end has a part of the pair.
+    StillShared,
     /// The caller is in the background, and may not be stopped.
     Eio,
     /// A number that this crate doesn't know.
@@ -30,7 +34,7 @@ pub enum Refusal {
 }
 
 impl Refusal {
-    const NAMED: [(u32, Refusal, &'static str); 9] = [
+    const NAMED: [(u32, Refusal, &'static str); 11] = [
         (1, Refusal::Einval, "EINVAL"),
         (2, Refusal::Eagain, "EAGAIN"),
         (3, Refusal::Enxio, "ENXIO"),
@@ -38,7 +42,9 @@ impl Refusal {
         (5, Refusal::Enosr, "ENOSR"),
         (6, Refusal::Erange, "ERANGE"),
         (7, Refusal::JournalFull, "JournalFull"),
+        (8, Refusal::NoMinor, "NoMinor"),
         (9, Refusal::NoMemory, "NoMemory"),
+        (10, Refusal::StillShared, "StillShared"),
         (11, Refusal::Eio, "EIO"),
     ];
 
@@ -69,7 +75,9 @@ impl Refusal {
             Refusal::Enosr => "too few blocks are free",
             Refusal::Erange => "a size or a number is beyond its limit",
             Refusal::JournalFull => "the journal has no room for the call",
+            Refusal::NoMinor => "no pair is free",
             Refusal::NoMemory => "no memory was given",
+            Refusal::StillShared => "another end has a part of the pair",
             Refusal::Eio => "the caller is in the background, and may not be stopped",
             Refusal::Other(_) => "refused for a reason that this crate doesn't know",
         }

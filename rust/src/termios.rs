@@ -38,7 +38,7 @@ pub enum When {
 }
 
 impl When {
-    fn command(self) -> Command {
+    pub(crate) fn command(self) -> Command {
         match self {
             When::Now => Command::TCSETS,
             When::Drain => Command::TCSETSW,
