@@ -1,7 +1,7 @@
 """What a line of a body, or a few, may become by one slip: for tools/mutants.
 
 Kinds: a comparison turned, two operators exchanged, a condition turned (so its branches are swapped), a branch left out, two arms swapped, a constant
-or a number one off, two arguments or two fields of a literal exchanged, a variant (a refusal, say) exchanged with another of its type, a call left out
+or a number one off, two arguments or two fields of one type exchanged, a variant (a refusal, say) exchanged with another of its type, a call left out
 or made twice, a field not written, an early return.
 """
 import glob
