@@ -28,7 +28,7 @@ RETURNED = [(r"bool", ["false", "true"]), (r"(?:u8|u16|u32|u64|usize)", ["0"]), 
 
 
 def bodies(lines):
-    """(the first and the last line of a body, without its braces, and what the function returns) of each function, counted from 0."""
+    """(the first and the last line of a body, without its braces, counted from 0, and the text up to it) of each function."""
     start = None
     for at, line in enumerate(lines):
         indent = re.match(r" *", line)[0]
@@ -37,10 +37,13 @@ def bodies(lines):
         elif start and start[2] is None and line == f"{start[0]}{{":
             start[2] = at + 1
         elif start and start[2] is not None and line == f"{start[0]}}}":
-            head = "\n".join(lines[start[1]:start[2]])
-            returned = re.search(r"\) -> ([^{\n]+?)(?: where\b.*)?(?: \{)?$", head, re.M)
-            yield start[2], at - 1, returned[1].strip() if returned else ""
+            yield start[2], at - 1, "\n".join(lines[start[1]:start[2]])
             start = None
+
+
+def returned_by(head):
+    found = re.search(r"\) -> ([^{\n]+?)(?: where\b.*)?(?: \{)?$", head, re.M)
+    return found[1].strip() if found else ""
 
 
 def ghosts(lines):
@@ -165,7 +168,7 @@ def pairs(one, other, known):
         yield "argument", [other, one]
 
 
-def slips_of(lines, at, known, returned):
+def slips_of(lines, at, known, head):
     """(kind, how many lines it takes the place of, the new lines) of each slip that begins on a line."""
     line = lines[at]
     if PASSED.search(line):
@@ -173,7 +176,7 @@ def slips_of(lines, at, known, returned):
     for kind, new in (*operators(line), *values(line, known)):
         if new != line:
             yield kind, 1, [new]
-    for kind, new in (*statements(line), *returns(line, returned)):
+    for kind, new in (*statements(line), *returns(line, returned_by(head))):
         yield kind, 1, new
     if at + 1 < len(lines) and not PASSED.search(lines[at + 1]):
         for kind, new in pairs(line, lines[at + 1], known):
