@@ -141,7 +141,7 @@ static int cut(strm_pair *p)
     strm_reply r;
     size_t length = 0, others = 0;
     if (strm_write(p, STRM_SLAVE, "$ ", 2, &r) || strm_run(p)) return 1;
-    if (strm_read(p, STRM_MASTER, image, sizeof image, &r) || strm_image(p, image, sizeof image, &length)) return 1;
+    if (strm_read(p, STRM_MASTER, room, 256, &r) || strm_image(p, image, sizeof image, &length)) return 1;
     printf("%s", strm_refusal_name(strm_cut(p, &t)));
     printf(" %s", strm_refusal_name(strm_cut(p, &t)));
     printf(" %s\n", strm_refusal_name(strm_next_entry(p, &at, &entry, room, sizeof room)));

@@ -6,6 +6,7 @@ import unittest
 
 import strm
 from strm import HIGH, MASTER, SLAVE, WRITE_MOST, Caller, Message, Nak, Pair, Refused, Signal, Stopped, Turn
+from strm_cursor import Cursor
 
 
 class Terminals(unittest.TestCase):
