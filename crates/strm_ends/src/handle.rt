@@ -4,9 +4,9 @@ ghost use Rattle.std.specs.Prelude.{◌≡◌, None, Some, is_some, option_map};
 
 use crate::held::Held;
 use crate::member::Member;
+use crate::parts::Parts;
 use std::alloc::Global;
 use std::marker::Send;
-use strm_handle::Parts;
 
 /// A member as a C program holds it, in place: it never looks behind the pointer, and all zeros is a closed one.
 #[repr(C)]
@@ -22,6 +22,16 @@ fn sent<T: Send>(value: T) -> T
     ensures { result ≡ value }
 {
     value
+}
+
+// A handle without a member.
+fn closed(alloc: Global) -> Handle
+    ensures { result.held.kept ≡ None }
+{
+    Handle {
+        held: Held::closed(alloc, std::ptr::null_mut()),
+        is_open: false,
+    }
 }
 
 impl Handle {
@@ -52,11 +62,7 @@ impl Handle {
         if !self.is_open {
             return None;
         }
-        let closed = Handle {
-            held: Held::closed(alloc, std::ptr::null_mut()),
-            is_open: false,
-        };
-        let Handle { held, .. } = std::mem::replace(self, closed);
+        let Handle { held, .. } = std::mem::replace(self, closed(alloc));
         Some(held.into_parts().into_box())
     }
 }
