@@ -11,7 +11,7 @@ use Rattle.std_heap.specs.contracts.GlobalAllocator.TheImpl.{ghosts, dict}
 use Rattle.std_heap.proofs.Global.TheLaws as heap
 use Rattle.strm_ends.specs.contracts.member.Member as Member
 use Rattle.strm_ends.proofs.member.Member.TheLaws as member
-use Rattle.strm_handle.specs.contracts.parts.Parts as Parts
+use Rattle.strm_ends.specs.contracts.parts.Parts as Parts
 use Rattle.strm_ends.specs.contracts.held.Held as Held
 
 abbrev pub E : Bx

@@ -1,3 +1,5 @@
 pub mod AsBox
+pub mod AtMembers
+pub mod Firsts
 pub mod Opens
 pub mod Places

@@ -11,11 +11,11 @@ use Rattle.strm_ends.specs.Members.{Seated, seated}
 use Rattle.strm_ends.specs.Outcomes.{Outcome, Refuses}
 
 -- The opener claims the first minor that it finds free: it is in hand, and the number of its pair is told.
-pub record IsClaimed (a : Seated) (opener : List Holding) (told : ℕ) (b : Seated) : Type 0 where
+pub record IsClaimed (a : Seated) (opener : List Holding) (number : ℕ) (b : Seated) : Type 0 where
   pub minor : HostMinor
   pub behind : List Holding
   pub claimed : Claims a.host opener minor.system minor.minor behind
-  pub told : told ≡ minor.system * 64 + minor.minor
+  pub told : number ≡ minor.system * 64 + minor.minor
   pub left : b ≡ seated a.host (Some behind) (Minor minor)
 
 -- It finds each taken, at its own try: nothing is in hand.

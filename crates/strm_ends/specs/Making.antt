@@ -18,10 +18,10 @@ abbrev pub sizes_of : (blocks entries bytes : ℕ) → Config
 sizes_of blocks entries bytes = record { mblks = blocks; dblks = blocks; journal_events = entries; journal_bytes = bytes }
 
 -- The first member of a new host: it has an opener that holds no minor, and nothing in hand.
-pub record IsFirst (pairs : ℕ) (sizes : Config) (m : Seated) : Type 0 where
+pub record IsFirst (pairs : ℕ) (config : Config) (m : Seated) : Type 0 where
   pub count : IsCount pairs
-  pub sizes : AreSizes sizes
-  pub laid : IsLaid pairs sizes m.host
+  pub sizes : AreSizes config
+  pub laid : IsLaid pairs config m.host
   pub is : m ≡ seated m.host (Some (all_opening m.host)) Nothing
 
 -- It is made of a closed handle: EINVAL for an open one, and where the numbers are none of a host's, and it alone; else NO_MEMORY.

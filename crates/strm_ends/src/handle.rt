@@ -4,9 +4,9 @@ ghost use Rattle.std.specs.Prelude.{◌≡◌, None, Some, is_some, option_map};
 
 use crate::held::Held;
 use crate::member::Member;
+use crate::parts::Parts;
 use std::alloc::Global;
 use std::marker::Send;
-use strm_handle::Parts;
 
 /// A member as a C program holds it, in place: it never looks behind the pointer, and all zeros is a closed one.
 #[repr(C)]
@@ -52,8 +52,9 @@ impl Handle {
         if !self.is_open {
             return None;
         }
+        let nowhere: *mut u8 = std::ptr::null_mut();
         let closed = Handle {
-            held: Held::closed(alloc, std::ptr::null_mut()),
+            held: Held::closed(alloc, nowhere),
             is_open: false,
         };
         let Handle { held, .. } = std::mem::replace(self, closed);

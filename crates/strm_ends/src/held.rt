@@ -4,9 +4,9 @@ ghost use Rattle.std.specs.Prelude.{◌≡◌, None, Some};
 ghost use Rattle.strm_ends.specs.Held.{held_owns, kept_coded, KeptValue, IsOpen};
 
 use crate::member::Member;
+use crate::parts::Parts;
 use std::alloc::Global;
 use std::marker::{Model, Send};
-use strm_handle::Parts;
 
 /// A member behind a pointer, or none, whatever the pointer says.
 #[repr(C)]

@@ -12,6 +12,7 @@ mod making;
 mod member;
 mod numbers;
 mod opening;
+mod parts;
 mod settling;
 mod sharing;
 mod visiting;

@@ -33,7 +33,7 @@ pub(crate) fn number(outcome: Outcome) -> u32
 
 /// A refusal, as an outcome.
 pub(crate) fn not_done(why: Refusal) -> Outcome
-    ensures { result ≡ Err (Refused why) }
+    ensures { result ≡ Err (NotDone.Refused why) }
 {
     Err(NotDone::Refused(why))
 }

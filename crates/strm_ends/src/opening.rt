@@ -63,10 +63,10 @@ impl Member {
         mut end: PairEnd<Object>,
         made: &mut Handle,
     ) -> Outcome
-        requires end { HasEnd self.old.host self.old.opener system end.entry }
+        requires end { HasEnd self.old.host self.old.opener system end }
         requires empty { self.old.hold ≡ Nothing }
         requires closed { made.old.held.kept ≡ None }
-        ensures { OpensSlaveBy self.old system end.entry made.new.held.kept result self.new }
+        ensures { OpensSlaveBy self.old system end made.new.held.kept result self.new }
     {
         let Some(mut second) = beside(alloc, &self.host) else {
             self.hold = Hold::End { system, end };

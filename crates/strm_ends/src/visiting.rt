@@ -1,6 +1,6 @@
 //! Visits to any pair of the host: turns, looks and audits.
 
-ghost use Rattle.std.specs.Prelude.{◌≡◌, ◌≤◌, ◌/◌, ◌%◌, None, Some, IfNone, IfSome, slice_get};
+ghost use Rattle.std.specs.Prelude.{◌≡◌, ◌<◌, ◌≤◌, None, IfNone, IfSome, length, slice_get};
 ghost use Rattle.strm_laws.specs.Refusals.{enough};
 ghost use Rattle.strm_locks.specs.Systems.{Plan};
 ghost use Rattle.strm_pair.specs.Readiness.{readiness};

@@ -1,0 +1,11 @@
+use Rattle.std.proofs.Common.{◌≡◌}
+use Rattle.std.specs.Prelude.{Some}
+use Rattle.strm_ends.specs.Sharing.{ShowsEnd}
+use Rattle.strm_ends.proofs.AtMembers.{at_member}
+use Rattle.strm_ends.proofs.sharing.told.Goals as goal
+
+pub returns : goal.returns
+returns c =
+    let before : c.args.handle.now.held.kept ≡ Some c.as_ref.result.now = cc (c.in-Some.ensures.taken, c.as_ref.ensures.value) in
+    let behind : c.put.new.self.held.kept ≡ Some c.as_ref.result.now = (cc) in
+    at_member (c.told-outcome.new.share ≡ c.args.share.now) (ShowsEnd c.args.share.now c.told-outcome.new.share) c.args.handle.now.held.kept c.put.new.self.held.kept c.as_ref.result.now c.as_ref.result.now c.told-outcome.result c.number.result before behind c.number.ensures c.told-outcome.ensures
