@@ -24,16 +24,6 @@ fn sent<T: Send>(value: T) -> T
     value
 }
 
-// A handle without a member.
-fn closed(alloc: Global) -> Handle
-    ensures { result.held.kept ≡ None }
-{
-    Handle {
-        held: Held::closed(alloc, std::ptr::null_mut()),
-        is_open: false,
-    }
-}
-
 impl Handle {
     /// Whether a member is there.
     pub(crate) fn is_open(&self) -> bool
@@ -62,7 +52,12 @@ impl Handle {
         if !self.is_open {
             return None;
         }
-        let Handle { held, .. } = std::mem::replace(self, closed(alloc));
+        let nowhere: *mut u8 = std::ptr::null_mut();
+        let closed = Handle {
+            held: Held::closed(alloc, nowhere),
+            is_open: false,
+        };
+        let Handle { held, .. } = std::mem::replace(self, closed);
         Some(held.into_parts().into_box())
     }
 }
