@@ -1,5 +1,5 @@
 -- Calls of a C program's numbers, by the end in hand.
-use Rattle.std.specs.Prelude.{ℕ, ◌≡◌, ◌≤◌, nat_le, if◌then◌else◌, List, [], length, drop, Option, None, Some, Result, Ok, Err, MatchResult}
+use Rattle.std.specs.Prelude.{ℕ, ◌≡◌, ◌≤◌, nat_le, if◌then◌else◌, List, [], length, drop, Option, None, Some, Ok, Err, MatchResult}
 use Rattle.strm_types.specs.declared.answers.Answer.{Answer}
 use Rattle.strm_types.specs.declared.events.Event.TheVariants.{Ioctl, IoctlResult, OpenMaster, OpenSlave, Signals}
 use Rattle.strm_types.specs.declared.refusals.Refusal.TheVariants.{Einval}
