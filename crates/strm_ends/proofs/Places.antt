@@ -1,5 +1,5 @@
 -- Where a pair of a host is found.
-use Rattle.std.proofs.Common.{◌≡◌, ℕ, zero, suc, ◌<◌, ◌+◌, ◌*◌, List, [], ◌∷◌, length, refl, sym, ap, ◌∙◌, subst, arith}
+use Rattle.std.proofs.Common.{◌≡◌, ℕ, zero, suc, ◌<◌, List, [], ◌∷◌, length, refl, sym, ap, ◌∙◌, arith}
 use Rattle.std.specs.Prelude.{Option, None, Some, IsSome, option_and_then, slice_get}
 use Rattle.strm_locks.specs.Books.{LockId}
 use Rattle.strm_locks.specs.Systems.{Plan}

@@ -1,5 +1,5 @@
 -- Calls of a C program's numbers, by the end in hand.
-use Rattle.std.specs.Prelude.{ℕ, ◌≡◌, ◌≤◌, nat_le, if◌then◌else◌, List, [], length, drop, Option, None, Some, Result, Ok, Err, MatchResult}
+use Rattle.std.specs.Prelude.{ℕ, ◌≡◌, ◌≤◌, nat_le, if◌then◌else◌, List, [], length, drop, Option, None, Some, Ok, Err, MatchResult}
 use Rattle.strm_types.specs.declared.answers.Answer.{Answer}
 use Rattle.strm_types.specs.declared.events.Event.TheVariants.{Ioctl, IoctlResult, OpenMaster, OpenSlave, Signals}
 use Rattle.strm_types.specs.declared.refusals.Refusal.TheVariants.{Einval}
@@ -22,7 +22,7 @@ use Rattle.strm_ends.specs.Opening.{with_hold, with_share}
 use Rattle.strm_ends.specs.Outcomes.{Outcome, Refuses}
 
 -- A call that an end makes by its numbers: none that opens a side, as those give ends, and none whose greatest answer doesn't fit the buffer.
-abbrev fitting : ℕ → Request → Option Request
+abbrev pub fitting : ℕ → Request → Option Request
 fitting room asked = if nat_le (content_max asked) room then Some asked else None
 
 abbrev pub plain : ℕ → Option Request → Option Request

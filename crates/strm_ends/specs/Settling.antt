@@ -1,5 +1,5 @@
 -- A pair that is settled by the end in hand, and one whose journal begins anew.
-use Rattle.std.specs.Prelude.{ℕ, ◌≡◌, ◌≢◌, ◌⊎◌, Option, None, Some, Result, Ok, Err, MatchResult}
+use Rattle.std.specs.Prelude.{ℕ, ◌≡◌, ◌≢◌, ◌⊎◌, None, Some, MatchResult}
 use Rattle.strm_types.specs.declared.refusals.Refusal.TheVariants.{Einval, StillShared}
 use Rattle.strm_hosts.specs.declared.opener.HostMinor.{HostMinor}
 use Rattle.strm_locks.specs.declared.end.TheConstants.{ALL_PARTS}

@@ -1,5 +1,5 @@
 -- What an end is told, how it is cut in two and joined, and for whom it calls.
-use Rattle.std.specs.Prelude.{ℕ, ◌≡◌, ◌≢◌, ◌⊎◌, ◌+◌, ◌*◌, ◌&&◌, ◌==◌, Bool, true, false, if◌then◌else◌, List, Option, None, Some, Result, Ok, Err, MatchResult}
+use Rattle.std.specs.Prelude.{ℕ, ◌≡◌, ◌≢◌, ◌⊎◌, ◌+◌, ◌*◌, ◌&&◌, ◌==◌, Bool, true, false, if◌then◌else◌, List, Option, None, Some, Ok, MatchResult}
 use Rattle.strm_types.specs.declared.refusals.Refusal.TheVariants.{Einval, Erange, NoMemory}
 use Rattle.strm_minors.specs.Openers.{Holding}
 use Rattle.strm_locks.specs.declared.told.Told.{Told}
@@ -12,7 +12,7 @@ use Rattle.strm_ends.specs.declared.accounts.Sums.{Sums}
 use Rattle.strm_ends.specs.declared.hold.Hold.{Hold}
 use Rattle.strm_ends.specs.declared.hold.Hold.TheVariants.{Nothing, Minor, End}
 use Rattle.strm_ends.specs.declared.numbers.NotDone.{NotDone}
-use Rattle.strm_ends.specs.declared.numbers.NotDone.TheVariants.{Busy, Refused}
+use Rattle.strm_ends.specs.declared.numbers.NotDone.TheVariants.{Refused}
 use Rattle.strm_ends.specs.Members.{Seated, seated}
 use Rattle.strm_ends.specs.Opening.{with_hold, with_share}
 use Rattle.strm_ends.specs.Outcomes.{Outcome, Refuses}

@@ -12,7 +12,6 @@ use Rattle.strm_locks.specs.declared.held.Made.{Made}
 use Rattle.strm_locks.specs.Audits.{IsAudited}
 use Rattle.strm_locks.specs.Books.{LockId}
 use Rattle.strm_locks.specs.Turns.{IsLook, IsVisit, Visited}
-use Rattle.strm_handle.specs.declared.replies.Went.{Went}
 use Rattle.strm_handle.specs.Numbers.{queue_at, side_at, turn_at}
 use Rattle.strm_handle.specs.Ready.{bits_of}
 use Rattle.strm_ends.specs.declared.accounts.Account.{Account}

@@ -134,6 +134,10 @@ impl Member {
     {
         match &self.hold {
             Hold::End { system, end } => {
+                // The end is of the host, and no system has more than 64 pairs.
+                let pairs = self.host.at(*system).pairs();
+                let is_there = end.pair() < pairs;
+                prove!(is_there);
                 *share = shown(*system, end);
                 Ok(())
             }
