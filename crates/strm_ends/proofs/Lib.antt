@@ -3,3 +3,4 @@ pub mod AtMembers
 pub mod Firsts
 pub mod Opens
 pub mod Places
+pub mod Slaves
