@@ -50,7 +50,8 @@ groups_where (End system e) group ignores orphaned a r b =
 abbrev pub Groups : (group : ℕ) (ignores orphaned : Bool) → Seated → Outcome → Seated → Type 0
 Groups group ignores orphaned a r b = groups_where a.hold group ignores orphaned a r b
 
--- The end is cut in two: it keeps what it was told, and the minor, if it has it; the second one, with half of the parts, is in hand of the made member.
+-- The end is cut in two: it keeps what it was told, and the minor, if it has it; the second one, with half of the parts, is in hand of the made
+-- member.
 pub record IsCut (a : Seated) (system : ℕ) (e : Numbered) (given : Option Seated) (b : Seated) : Type 0 where
   pub parts : e.end.parts ≢ 1
   pub left : b ≡ with_hold (End system (with_share (kept_end e.end) e)) a

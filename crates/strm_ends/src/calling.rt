@@ -35,7 +35,8 @@ fn asked<'a>(ask: &Ask, bytes: &'a [u8], room: usize) -> Option<Event<&'a [u8]>>
 // Tells an answer: its bytes are copied to the front of a buffer, which has room for them.
 fn tell(answer: &Answer<u32>, content: &[u8], out: &mut [u8]) -> Reply
     requires { answer_len answer.now ≡ length content.now }
-    ensures told { length content.now ≤ length out.old → (answer_in result out.new ≡ Some (reply_in answer.now content.now)) × (result.bytes ≡ length content.now) }
+    ensures told { length content.now ≤ length out.old →
+        (answer_in result out.new ≡ Some (reply_in answer.now content.now)) × (result.bytes ≡ length content.now) }
     ensures fits { result.bytes ≤ length out.old }
     ensures others { drop result.bytes out.new ≡ drop result.bytes out.old }
 {
@@ -104,8 +105,8 @@ pub fn call(
     number(outcome)
 }
 
-/// Sets who makes the later calls of the end in hand: a process of this group, 0 for none; whether it ignores or blocks SIGTTIN and SIGTTOU; and whether
-/// its group is orphaned.
+/// Sets who makes the later calls of the end in hand: a process of this group, 0 for none; whether it ignores or blocks SIGTTIN and SIGTTOU; and
+/// whether its group is orphaned.
 pub fn set_group(
     alloc: Global,
     handle: &mut Handle,

@@ -26,8 +26,8 @@ pub extern "C" fn strm_mt_call(
     strm_ends::call(alloc, handle, ask, bytes, out, reply)
 }
 
-/// Sets who makes the later calls of the end in hand: a process of this group, 0 for none; whether it ignores or blocks SIGTTIN and SIGTTOU; and whether
-/// its group is orphaned.
+/// Sets who makes the later calls of the end in hand: a process of this group, 0 for none; whether it ignores or blocks SIGTTIN and SIGTTOU; and
+/// whether its group is orphaned.
 #[unsafe(no_mangle)]
 pub extern "C" fn strm_mt_group(
     alloc: Global,

@@ -15,8 +15,8 @@ pub extern "C" fn strm_mt_open(alloc: Global, handle: &mut Handle) -> u32
     strm_ends::open(alloc, handle)
 }
 
-/// Opens the slave by a call of the end in hand (open(2) of the slave device): its end is in hand of a member that is made in a closed handle, and has
-/// no opener.
+/// Opens the slave by a call of the end in hand (open(2) of the slave device): its end is in hand of a member that is made in a closed handle, and
+/// has no opener.
 #[unsafe(no_mangle)]
 pub extern "C" fn strm_mt_open_slave(alloc: Global, handle: &mut Handle, made: &mut Handle) -> u32
     ensures { WithMade OpensSlave handle.old.held.kept handle.new.held.kept made.old.held.kept made.new.held.kept result }
