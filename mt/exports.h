@@ -5,8 +5,8 @@
  * A member is what one thread has of a host: it shares the host's memory with the other members, and has its own opener of minors, or none, and one
  * thing in hand: nothing, a minor that it claimed, or an end of a pair. It is used by one thread at a time, and may be handed from one thread to
  * another (behind a lock, a thread's start or its join, or a sequentially consistent atomic). Members of one host may be used at once.
- * All zeros is a closed member. The library keeps no pointer of the caller's, calls nothing back, has no state but the members, and waits for
- * nothing: where another thread has the lock of the pair the answer is STRM_BUSY, and nothing was done and nothing told.
+ * All zeros is a closed member, and a closed trace. The library keeps no pointer of the caller's, calls nothing back, has no state but members and
+ * traces, and waits for nothing: where another thread has the lock of the pair the answer is STRM_BUSY, and nothing was done and nothing told.
  *
  * Each function answers 0, the number of a refusal (strm.h), or STRM_BUSY. One that isn't 0 has changed nothing: neither members nor what the
  * caller's pointers lead to. STRM_EINVAL comes first (a closed member, something else in hand than is asked for, numbers that name nothing), then
@@ -101,9 +101,22 @@ uint32_t strm_mt_ready(strm_member *member, uint32_t pair, uint32_t side, strm_p
 /* What was told of a pair in all so far, and its ledgers. EINVAL: closed, no such pair. BUSY. */
 uint32_t strm_mt_audit(strm_member *member, uint32_t pair, strm_account *told);
 
-/* Hands out a trace of the pair of the end in hand, its base and all entries since, in a closed trace, and begins the journal anew. EINVAL: no end is
- * in hand, the trace isn't closed. BUSY. NO_MEMORY: the pair stays. (LAST TO COME; strm_trace is the handle of strm.h or exports.h once it is there)
- * uint32_t strm_mt_cut(strm_member *member, strm_trace *trace); */
+/* Cuts the pair of the end in hand: its base and all that was entered since go into a closed trace, and its journal begins anew. The member stays,
+ * and what its end was told. EINVAL: the trace is open; no end is in hand. NO_MEMORY, before the lock is asked for or behind it, and BUSY: pair and
+ * trace stay. */
+uint32_t strm_mt_cut(strm_member *member, strm_trace *trace);
+
+/* Takes the entry at a cursor of a trace, which moves behind it, as strm_next_entry does of a pair; a cursor begins zeroed. A trace belongs to no
+ * member, and takes no lock: never BUSY. EINVAL: the trace is closed; or `room` is below the bytes of the entry, which is told then, and how many
+ * they are. EAGAIN behind the last entry. */
+uint32_t strm_mt_trace_next(strm_trace *trace, strm_cursor *at, strm_entry *entry, void *bytes, size_t room);
+
+/* Puts the image of a trace's base into a buffer, as strm_image does that of a pair, and tells its length. EINVAL: the trace is closed; or the
+ * buffer is too small: the length is told then, and the buffer stays. Never BUSY. */
+uint32_t strm_mt_trace_base(strm_trace *trace, void *out, size_t room, size_t *length);
+
+/* Gives the memory of a trace back, zeros over its bytes and its base, and closes it. A closed one stays so. */
+void strm_mt_trace_free(strm_trace *trace);
 
 /* Closes a member and drops what it has: a minor or an end that is in hand is lost with it (the pair never settles then). The memory of the host goes
  * with its last member. A closed one stays so. */

@@ -1,6 +1,8 @@
 -- What is done at an open member is done at its handle.
 use Rattle.std.proofs.Common.{ℕ, ◌≡◌, sym, subst}
 use Rattle.std.specs.Prelude.{Option, None, Some}
+use Rattle.strm_image.specs.declared.trace.Trace.{Trace}
+use Rattle.strm_ends.specs.Cutting.{CutsEnd, WithTrace}
 use Rattle.strm_ends.specs.Members.{Seated}
 use Rattle.strm_ends.specs.Outcomes.{AtMember, Outcome, WithMade, number_told}
 
@@ -13,3 +15,9 @@ pub with_made : (done : Seated → Option Seated → Outcome → Seated → Type
     → made ≡ None → was ≡ Some a → is ≡ Some b → n ≡ number_told r → done a given r b → WithMade done was is made given n
 with_made done was is made given a b r n none before behind told did =
     subst (λ (o : Option Seated). WithMade done was is o given n) (sym none) (at_member (given ≡ None) (λ x y z. done x given y z) was is a b r n before behind told did)
+
+pub with_trace : (was is : Option Seated) (old given : Option Trace) (a b : Seated) (r : Outcome) (n : ℕ)
+    → old ≡ None → was ≡ Some a → is ≡ Some b → n ≡ number_told r → CutsEnd a given r b → WithTrace was is old given n
+with_trace was is old given a b r n none before behind told did =
+    subst (λ (o : Option Trace). WithTrace was is o given n) (sym none)
+    (at_member (given ≡ None) (λ x y z. CutsEnd x given y z) was is a b r n before behind told did)

@@ -1,5 +1,6 @@
 pub mod AsBox
 pub mod AtMembers
+pub mod Cuts
 pub mod FewBytes
 pub mod Firsts
 pub mod JoinsAt

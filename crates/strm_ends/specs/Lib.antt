@@ -1,5 +1,6 @@
 pub mod Calling
 pub mod Claiming
+pub mod Cutting
 pub mod Held
 pub mod Making
 pub mod Members

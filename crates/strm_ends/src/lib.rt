@@ -5,6 +5,7 @@
 mod accounts;
 mod calling;
 mod claiming;
+mod cutting;
 mod handle;
 mod held;
 mod hold;
@@ -20,6 +21,7 @@ mod visiting;
 pub use accounts::{Account, Prospect, Share, Sides, Sums, Visit};
 pub use calling::{call, set_group};
 pub use claiming::{claim, release};
+pub use cutting::cut;
 pub use handle::Handle;
 pub use held::Held;
 pub use making::{free, make, seat, sizes};

@@ -7,4 +7,5 @@ mod making;
 mod opening;
 mod settling;
 mod sharing;
+mod tracing;
 mod visiting;

@@ -19,7 +19,12 @@ pub extern "C" fn strm_mt_make(
 ) -> u32
     ensures { Makes pairs (sizes_of blocks entries bytes) handle.old.held.kept handle.new.held.kept result }
 {
-    strm_ends::make(alloc, handle, pairs, strm_ends::sizes(blocks, entries, bytes))
+    strm_ends::make(
+        alloc,
+        handle,
+        pairs,
+        strm_ends::sizes(blocks, entries, bytes),
+    )
 }
 
 /// Makes a further member of a member's host, with an opener of its own and nothing in hand, in a closed handle.
