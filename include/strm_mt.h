@@ -44,27 +44,29 @@
  *
  * OWNERSHIP
  *   strm_system_new takes all memory that the pairs will use, and touches none before it is used. Beside it each claimed pair and each end has some
- *   hundred bytes, and a claimed pair of a large system 16 for each 64 of its pairs. No call on a pair takes memory. The library keeps no pointer of
- *   the caller's behind a call, and calls nothing back.
+ *   hundred bytes, and a claimed pair of a large system 16 for each 64 of its pairs. No call on a pair takes memory but strm_end_cut, for its
+ *   trace; strm_end_trace_free gives it back. The library keeps no pointer of the caller's behind a call, and calls nothing back.
  *   It asks the system for memory (malloc), futex(2) and the clock, for threads where workers are started, and for eventfd(2) where strm_end_fd is
  *   called. It sets no signal handler.
  *
  * THREADS AND SIGNALS
  *   A system is used by any threads at once. An end is used by one thread at a time, and may be handed from one to another behind a lock, a thread's
- *   start or its join; two ends are independent, also those of one side of one pair. No function is called in a signal handler, nor in the forked
- *   child of a process with threads. A signal that a handler takes goes by a sleep: it sleeps on.
+ *   start or its join; two ends are independent, also those of one side of one pair. A trace is used so too, and is independent of the end that cut
+ *   it, of its pair and of its system, also when these are gone. No function is called in a signal handler, nor in the forked child of a process with
+ *   threads. A signal that a handler takes goes by a sleep: it sleeps on.
  *
  * WHAT A CALLER OWES (nothing checks it)
  *   Systems and ends are those that these functions made, and none is used that was freed, joined as the second, or settled. Two threads don't use
- *   one end at once. Pointers lead to as much memory as their length says, and don't overlap where one is written to; one beside a length of 0 may be
- *   NULL, no other. A bool is 0 or 1.
+ *   one end at once, nor one trace, which is closed (STRM_CLOSED) or was made by strm_end_cut, and isn't copied and then used or freed twice. Its
+ *   cursor was zeroed, and only strm_end_trace_next moved it. Pointers lead to as much memory as their length says, and don't overlap where one is
+ *   written to; one beside a length of 0 may be NULL, no other. A bool is 0 or 1.
  *
  * WHAT STAYS
  *   STRM_VERSION of strm.h is the version of this library too, and its rules are those of strm.h.
  *
- * PROVED: what a call, a visit, a settling and an audit do and tell under the lock, and that none waits, by the contracts of crates/strm_mt; so a
- * wait that answers 'ready' saw it under the lock. NOT PROVED: all that waits and wakes, mt/ and the inline functions of this file: that no wake is
- * lost is argued in mt/bells.h, and tried (tools/wakes).
+ * PROVED: what a call, a visit, a cut, a settling and an audit do and tell under the lock, and that none waits, by the contracts of crates/strm_mt;
+ * so a wait that answers 'ready' saw it under the lock. NOT PROVED: all that waits and wakes, mt/ and the inline functions of this file: that no wake
+ * is lost is argued in mt/bells.h, and tried (tools/wakes).
  */
 #ifndef STRM_MT_H
 #define STRM_MT_H
@@ -205,6 +207,19 @@ strm_refusal strm_end_run(strm_end *end, size_t *turns);
 
 /* Begins the journal of the end's pair anew, as strm_restart does. */
 strm_refusal strm_end_restart(strm_end *end);
+
+/* Cuts the end's pair, as strm_cut does: its journal, the calls of all ends and all turns in the order in which they were made, goes into a trace
+ * that was closed, and is empty behind it. So calls and turns go on that it was too full for. Where the system begins full journals anew (`anew`) a
+ * trace has what was entered since that happened last; else no entry is lost between two cuts. The end isn't told of a cut, which is no entry.
+ * EINVAL: the trace is open. NO_MEMORY: malloc gave none for the copies. Pair and trace stay then. */
+strm_refusal strm_end_cut(strm_end *end, strm_trace *trace);
+
+/* strm_trace_next, strm_trace_base and strm_trace_free of a trace that strm_end_cut made: takes the entry at a cursor, which begins zeroed; puts the
+ * image of its base, of which strm_restore makes a pair, into a buffer; gives its memory back and closes it. Where libstrm of the same version is
+ * linked too, its functions take such a trace as well. No lock is waited for. */
+strm_refusal strm_end_trace_next(strm_trace *trace, strm_cursor *at, strm_entry *entry, void *bytes, size_t room);
+strm_refusal strm_end_trace_base(strm_trace *trace, void *out, size_t room, size_t *length);
+void strm_end_trace_free(strm_trace *trace);
 
 /* ------------------------------------------------------------------------------------------------------------- waiting */
 

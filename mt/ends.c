@@ -124,6 +124,33 @@ strm_refusal strm_end_restart(strm_end *end)
     return e;
 }
 
+/* What a worker noted of a full journal is true no more behind a cut: who looked would drop what is entered since. */
+strm_refusal strm_end_cut(strm_end *end, strm_trace *trace)
+{
+    strm_refusal e;
+    bool was_full = __atomic_exchange_n(&end->pair->full, 0, __ATOMIC_SEQ_CST) != 0;
+    BELL_GAP();
+    UNTIL_FREE(end->pair, e, strm_mt_cut(&end->seat->member, trace));
+    if (!e) changed(end);
+    else if (was_full) pair_is_full(end->pair);
+    return e;
+}
+
+strm_refusal strm_end_trace_next(strm_trace *trace, strm_cursor *at, strm_entry *entry, void *bytes, size_t room)
+{
+    return strm_mt_trace_next(trace, at, entry, bytes, room);
+}
+
+strm_refusal strm_end_trace_base(strm_trace *trace, void *out, size_t room, size_t *length)
+{
+    return strm_mt_trace_base(trace, out, room, length);
+}
+
+void strm_end_trace_free(strm_trace *trace)
+{
+    strm_mt_trace_free(trace);
+}
+
 /* Behind a read: whether a worker would be woken to find no enabled queue, as mostly is so. */
 static bool is_at_rest(strm_end *end)
 {

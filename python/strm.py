@@ -421,17 +421,13 @@ class Pair:
         """Hands out the Trace of the pair, the image at which its journal began and the entries since, and begins the journal anew."""
         for hook in self.before_restart:
             hook(self)
-        trace = Handle()
-        at = ctypes.addressof(trace)
-        refused = self.library.cut(self._at, at)
-        if refused:
-            raise Refused(refused, "cut")
-        self.restarts += 1
-        try:
-            cursor = Cursor.of_trace(self, at)
-            return Trace(_text(self.library.trace_base, at, "cut"), list(iter(cursor.next, None)))
-        finally:
-            self.library.trace_free(at)
+
+        def cut(trace):
+            refused = self.library.cut(self._at, trace)
+            self.restarts += not refused
+            return refused
+
+        return _traced(cut, self.library.trace_base, self.library.trace_next, self.library.trace_free)
 
     def next_entry(self, cursor):
         """The entry at a cursor, which moves behind it; None where all were taken."""
@@ -468,6 +464,19 @@ def _text(function, at, name):
         if length.value <= room:
             raise Refused(refused, name)
         room = length.value
+
+
+def _traced(cut, base, take, free):
+    """The Trace that `cut` puts behind a closed handle, by its library's functions: of the base, of the next entry, and that which frees it."""
+    trace = Handle()
+    at = ctypes.addressof(trace)
+    refused = cut(at)
+    if refused:
+        raise Refused(refused, "cut")
+    try:
+        return Trace(_text(base, at, "cut"), list(iter(Cursor.of_trace(take, at).next, None)))
+    finally:
+        free(at)
 
 
 def _turn(queue, went):

@@ -20,14 +20,14 @@ class Cursor:
         self._begin(pair, pair.library.next_entry, pair._at)
 
     @classmethod
-    def of_trace(cls, pair, trace):
-        """A place in what a cut of a pair handed out, behind a handle at an address."""
+    def of_trace(cls, take, trace):
+        """A place in what a cut handed out, behind a handle at an address, of which a function of its library takes the entries."""
         made = cls.__new__(cls)
-        made._begin(pair, pair.library.trace_next, trace)
+        made._begin(None, take, trace)
         return made
 
     def _begin(self, pair, take, at):
-        self._restarts, self._take, self._at = pair.restarts, take, at
+        self._restarts, self._take, self._at = pair and pair.restarts, take, at
         self.pair, self._place, self._entry = pair, Place(), Entry()
         self._grow(ANSWER_MOST + WRITE_MOST)
 
@@ -38,7 +38,7 @@ class Cursor:
 
     def next(self):
         """The entry, or None where all were taken."""
-        if self._restarts != self.pair.restarts:
+        if self.pair is not None and self._restarts != self.pair.restarts:
             self._place.entry = self._place.byte = 0
             self._restarts = self.pair.restarts
         refused = self._take(*self._arguments)

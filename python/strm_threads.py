@@ -30,6 +30,7 @@ import threading
 import time
 from collections import deque
 
+from strm import _traced
 from strm_library import Ask, Chosen, Reply
 from strm_threads_calls import Calls
 from strm_threads_library import Account, Each, Part, Settled, Share, ThreadsLibrary, Told, Visit, done
@@ -349,6 +350,12 @@ class End(Calls):
     def restart(self):
         """Begins the journal of the pair anew."""
         done(self._makes("restart"), "restart")
+
+    def cut(self):
+        """Hands out the Trace of the pair, the image at which its journal began and the entries since, calls of all ends and turns, and begins the
+        journal anew. Where full ones begin anew (Choices) entries before that are gone."""
+        library = self._library
+        return _traced(lambda at: self._makes("cut", at), library.end_trace_base, library.end_trace_next, library.end_trace_free)
 
     # ------------------------------------------------------------------------------------------------------------- waiting
 

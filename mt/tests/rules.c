@@ -185,6 +185,132 @@ static void journals(void)
     HOLDS(strm_system_free(on) == STRM_OK);
 }
 
+/* ------------------------------------------------------------------------------------------------------------- cuts */
+
+/* A trace, and what was taken of it: how many calls, how many turns, and the last entry with what it brought. */
+typedef struct tale {
+    strm_trace trace;
+    strm_cursor at;
+    strm_entry entry;
+    size_t calls, turns;
+    uint8_t bytes[STRM_WRITE_MOST + 8192];
+} tale;
+
+static tale *cut(strm_end *end)
+{
+    tale *made = (tale *)calloc(1, sizeof *made);
+    HOLDS(made && strm_end_cut(end, &made->trace) == STRM_OK && made->trace.is_open);
+    return made;
+}
+
+/* Takes the next entry, which is a call. */
+static bool tells(tale *t, uint32_t op, uint32_t side, const void *brought, size_t n)
+{
+    strm_refusal e = strm_end_trace_next(&t->trace, &t->at, &t->entry, t->bytes, sizeof t->bytes);
+    t->calls++;
+    return e == STRM_OK && t->entry.kind == STRM_CALLED && t->entry.ask.op == op && t->entry.ask.side == side && t->entry.brings == n
+        && (n == 0 || memcmp(t->bytes, brought, n) == 0);
+}
+
+/* Takes all that is left. */
+static void told(tale *t)
+{
+    strm_refusal e;
+    while ((e = strm_end_trace_next(&t->trace, &t->at, &t->entry, t->bytes, sizeof t->bytes)) == STRM_OK)
+        *(t->entry.kind == STRM_CALLED ? &t->calls : &t->turns) += 1;
+    HOLDS(e == STRM_EAGAIN);
+}
+
+static void gone(tale *t)
+{
+    strm_end_trace_free(&t->trace);
+    strm_end_trace_free(&t->trace);
+    HOLDS(!t->trace.is_open && strm_end_trace_next(&t->trace, &t->at, &t->entry, t->bytes, sizeof t->bytes) == STRM_EINVAL);
+    free(t);
+}
+
+/* Whether two traces begin at one state: their bases are the same bytes. */
+static bool begin_alike(tale *one, tale *other)
+{
+    static uint8_t first[65536], second[65536];
+    size_t n = 0, m = 0;
+    memset(first, 0x5a, sizeof first);
+    HOLDS(strm_end_trace_base(&one->trace, first, 0, &n) == STRM_EINVAL && n > 0 && n <= sizeof first && first[0] == 0x5a);
+    HOLDS(strm_end_trace_base(&one->trace, first, n, &m) == STRM_OK && n == m);
+    HOLDS(strm_end_trace_base(&other->trace, second, sizeof second, &m) == STRM_OK && m > 0);
+    return n == m && memcmp(first, second, n) == 0;
+}
+
+/* What a cut hands out is what was entered, by either end and by turns, and the trace stays as the pair goes on, and goes. */
+static void cuts(void)
+{
+    strm_system *of = system_of(1, &plain);
+    strm_end *master, *slave;
+    strm_share before, behind;
+    strm_trace open;
+    strm_reply r;
+    size_t made;
+    tale *opened, *none, *typed, *more;
+    terminal(of, &master, &slave);
+    strm_end_told(slave, &before);
+    opened = cut(slave), none = cut(master), open = none->trace;
+    strm_end_told(slave, &behind);
+    HOLDS(memcmp(&before, &behind, sizeof before) == 0);
+    HOLDS(strm_end_write(master, "ab\r", 3, &r) == STRM_OK && strm_end_write(slave, "c", 1, &r) == STRM_OK);
+    HOLDS(strm_end_cut(slave, &none->trace) == STRM_EINVAL && memcmp(&open, &none->trace, sizeof open) == 0);
+    HOLDS(strm_end_run(slave, &made) == STRM_OK && made > 0);
+    typed = cut(slave), more = cut(slave);
+    HOLDS(begin_alike(none, typed) && !begin_alike(opened, none) && !begin_alike(typed, more));
+    ends(master, slave);
+    HOLDS(strm_system_free(of) == STRM_OK);
+    HOLDS(tells(opened, STRM_OP_OPEN_MASTER, 0, NULL, 0) && tells(opened, STRM_OP_UNLOCK, STRM_MASTER, NULL, 0));
+    HOLDS(tells(opened, STRM_OP_OPEN_SLAVE, 0, NULL, 0) && tells(opened, STRM_OP_PUSH, STRM_SLAVE, NULL, 0) && opened->entry.ask.a == STRM_PTEM);
+    HOLDS(tells(opened, STRM_OP_PUSH, STRM_SLAVE, NULL, 0) && opened->entry.ask.a == STRM_LDTERM);
+    HOLDS(strm_end_trace_next(&typed->trace, &typed->at, &typed->entry, NULL, 0) == STRM_EINVAL && typed->entry.brings == 3);
+    HOLDS(typed->at.entry == 0 && typed->at.byte == 0);
+    HOLDS(tells(typed, STRM_OP_WRITE, STRM_MASTER, "ab\r", 3) && typed->entry.reply.value == 3 && tells(typed, STRM_OP_WRITE, STRM_SLAVE, "c", 1));
+    told(opened), told(none), told(typed), told(more);
+    HOLDS(opened->calls == 5 && opened->turns == 0 && none->calls + none->turns == 0);
+    HOLDS(typed->calls == 2 && typed->turns == made && more->calls + more->turns == 0);
+    gone(opened), gone(none), gone(typed), gone(more);
+}
+
+/* Cuts let go on what a full journal held back, and lose no entry of one that doesn't begin anew. Of one that does a look behind a cut drops none. */
+static void cuts_of_full(void)
+{
+    strm_choices sizes = { 128, 8, 16384, 0, false };
+    strm_system *of = system_of(1, &sizes);
+    strm_end *master, *slave;
+    strm_account all;
+    strm_reply r;
+    uint32_t ready;
+    uint64_t calls = 0;
+    size_t made, cut_off = 0;
+    tale *t;
+    terminal(of, &master, &slave);
+    while (strm_end_write(master, "a\r", 2, &r) == STRM_OK) continue;
+    HOLDS(strm_workers_start(of, 1) == STRM_OK && strm_end_wait(slave, STRM_CAN_READ, 50, &ready) == STRM_EAGAIN);
+    do {
+        t = cut(master), told(t), calls += t->calls;
+        HOLDS(t->calls + t->turns == 8 && ++cut_off < 100);
+        gone(t);
+    } while (strm_end_wait(slave, STRM_CAN_READ, 1000, &ready) == STRM_EAGAIN);
+    HOLDS(strm_workers_stop(of) == STRM_OK);
+    t = cut(slave), told(t), calls += t->calls, gone(t);
+    HOLDS(strm_system_audit(of, 0, &all) == STRM_OK && all.told.calls == calls);
+    ends(master, slave);
+    HOLDS(strm_system_free(of) == STRM_OK);
+    sizes.anew = true, of = system_of(1, &sizes);
+    terminal(of, &master, &slave);
+    for (made = 0; strm_system_run(of, 0, &made) != STRM_JOURNAL_FULL;) HOLDS(strm_end_write(master, "a\r", 2, &r) == STRM_OK);
+    t = cut(slave), gone(t);
+    HOLDS(strm_end_write(master, "b\r", 2, &r) == STRM_OK && strm_end_ready(slave, &ready) == STRM_OK);
+    t = cut(slave);
+    HOLDS(tells(t, STRM_OP_WRITE, STRM_MASTER, "b\r", 2));
+    gone(t), ends(master, slave);
+    HOLDS(strm_system_free(of) == STRM_OK);
+}
+
 static double seconds(void)
 {
     struct timespec t;
@@ -233,7 +359,7 @@ static void turns(void)
 {
     strm_choices sizes = { 600, 4096, 262144, 0, false };
     strm_system *of = system_of(1, &sizes);
-    strm_end *master, *slave;
+    strm_end *master = NULL, *slave;
     uint8_t out[256];
     strm_reply r;
     uint32_t pair;
@@ -254,6 +380,8 @@ int main(void)
     parts();
     calls();
     journals();
+    cuts();
+    cuts_of_full();
     turns();
     waits();
     printf("%d things hold\n", held);

@@ -77,7 +77,25 @@ static void calls(thread *t, unsigned long left)
     else t->granted++;
 }
 
-/* What is done beside calls: splits, waits, turns, looks, audits. */
+/* A cut, whose trace is taken to its end. */
+static void cuts(thread *t)
+{
+    strm_trace trace = STRM_CLOSED;
+    strm_cursor at = { 0, 0 };
+    strm_entry entry;
+    uint8_t bytes[STRM_WRITE_MOST + 8192];
+    strm_refusal e;
+    size_t length = 0;
+    must(strm_end_cut(t->end, &trace), "cut");
+    while ((e = strm_end_trace_next(&trace, &at, &entry, bytes, sizeof bytes)) == STRM_OK)
+        if (entry.kind > STRM_TURNED) fails("an entry that is neither a call nor a turn", 0);
+    if (e != STRM_EAGAIN) fails("an entry of a trace", e);
+    e = strm_end_trace_base(&trace, NULL, 0, &length);
+    if (e != STRM_EINVAL || length == 0) fails("a base", e);
+    strm_end_trace_free(&trace);
+}
+
+/* What is done beside calls: splits, waits, turns, looks, audits, cuts. */
 static void does(thread *t, uint32_t number)
 {
     strm_account all;
@@ -87,7 +105,7 @@ static void does(thread *t, uint32_t number)
     uint32_t ready;
     size_t made;
     struct pollfd fd;
-    switch (chance(t, 11)) {
+    switch (chance(t, 12)) {
     case 0:
         must(strm_end_split(t->end, &second), "split");
         must(strm_end_join(second, t->end), "join");
@@ -111,6 +129,7 @@ static void does(thread *t, uint32_t number)
         t->granted++;
         must(strm_end_join(t->end, second), "join");
         break;
+    case 10: cuts(t); break;
     default: strm_end_wait(t->end, chance(t, 32), (int)chance(t, 3), &ready); break;
     }
 }

@@ -12,9 +12,10 @@ import unittest
 import warnings
 from concurrent.futures import ThreadPoolExecutor
 
-from strm_words import MASTER, SLAVE, Caller, Choices, Nak, Ready, Refused, Signal, Stopped, Turn
+from strm_words import MASTER, SLAVE, Call, Caller, Choices, Nak, Ready, Refused, Signal, Stopped, Turn
 
 try:
+    from strm import Pair
     from strm_threads import TERMINALS, Reader, System, ThreadsLibrary, Writer
 
     ThreadsLibrary.at()
@@ -182,6 +183,46 @@ class Threads(unittest.TestCase):
         joined.join(master)  # it calls as the one that opened the pair
         self.assertEqual((joined.side, joined.told().side, joined.told().parts), (MASTER, MASTER, 1 << 63))
         self.agrees(joined.settle())
+
+    def test_a_cut_of_an_end_is_made_again(self):
+        master, slave = self.system(choices=TERMINALS._replace(anew=False)).terminal()
+        opened = slave.cut()
+        self.assertEqual([entry.op for entry in opened.entries], ["open_master", "unlock", "open_slave", "push", "push"])
+        before = slave.told()
+        master.write(b"pwd\r")
+        turns = slave.run()
+        self.assertEqual(slave.read(), b"pwd\n")
+        typed = master.cut()
+        self.assertEqual(len(typed.entries), turns + 2)
+        self.assertEqual(slave.told().told.calls, before.told.calls + 1)
+        last = slave.cut()
+        self.assertEqual(last.entries, [])
+        with Pair(image=opened.base) as again:
+            for trace, behind in ((opened, typed), (typed, last)):
+                self.assertEqual([again.repeat(entry) for entry in trace.entries], trace.entries)
+                self.assertEqual(again.image(), behind.base)
+        self.agrees(master.join(slave).settle())
+        self.assertRaises(ValueError, slave.cut)
+
+    def test_a_cut_lets_a_full_journal_go_on(self):
+        system = self.system(choices=Choices(128, 8, 16384, 0, False))
+        (master, slave), calls = system.terminal(), 0
+        for _ in range(3):
+            master.write(b"x\r")
+        self.refused("JournalFull", master.write, b"x\r")
+        system.start_workers(1)
+        self.refused("EAGAIN", slave.wait, Ready.CAN_READ, 0.05)
+        while True:
+            trace = master.cut()
+            self.assertEqual(len(trace.entries), 8)
+            calls += sum(isinstance(entry, Call) for entry in trace.entries)
+            try:
+                slave.wait(Ready.CAN_READ, 1)
+                break
+            except Refused as refusal:
+                self.assertTrue(refusal.would_wait)
+        calls += sum(isinstance(entry, Call) for entry in slave.cut().entries)
+        self.assertEqual(calls, slave.told().told.calls + master.told().told.calls)
 
     def test_ends_of_two_systems_stay(self):
         one, other = self.system(2), self.system(2)

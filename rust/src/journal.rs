@@ -34,13 +34,42 @@ pub struct Trace {
     pub entries: Vec<Entry>,
 }
 
+// What a library has for traces.
+pub(crate) struct Traces {
+    pub(crate) next: unsafe extern "C" fn(*mut ffi::Handle, *mut ffi::Cursor, *mut ffi::Entry, *mut u8, usize) -> u32,
+    pub(crate) base: unsafe extern "C" fn(*mut ffi::Handle, *mut u8, usize, *mut usize) -> u32,
+    pub(crate) free: unsafe extern "C" fn(*mut ffi::Handle),
+}
+
 // A trace behind its handle, which is freed when it goes.
-struct Held(ffi::Handle);
+struct Held {
+    handle: ffi::Handle,
+    library: Traces,
+}
 
 impl Drop for Held {
     fn drop(&mut self) {
-        // SAFETY: the handle is closed, or was made by strm_cut.
-        unsafe { ffi::strm_trace_free(&mut self.0) }
+        // SAFETY: the handle is closed, or was made by this library.
+        unsafe { (self.library.free)(&mut self.handle) }
+    }
+}
+
+impl Trace {
+    // SAFETY: of whoever calls: the functions are of one library, and `cut` puts a trace of it behind a closed handle, or is refused.
+    pub(crate) unsafe fn of(library: Traces, cut: impl FnOnce(&mut ffi::Handle) -> u32) -> Result<Trace, Refused> {
+        let mut held = Held { handle: ffi::Handle { at: std::ptr::null_mut(), is_open: false }, library };
+        told(cut(&mut held.handle))?;
+        let Held { handle, library } = &mut held;
+        let (mut at, mut entries) = (Cursor::default(), Vec::new());
+        // SAFETY: the buffers are as long as their lengths say.
+        let base = text_of(|text, length| unsafe { (library.base)(&mut *handle, text.as_mut_ptr(), text.len(), length) })?;
+        while let Some(entry) = taken(&mut at, |place, entry, room| {
+            // SAFETY: as above.
+            unsafe { (library.next)(&mut *handle, place, entry, room.as_mut_ptr(), room.len()) }
+        })? {
+            entries.push(entry);
+        }
+        Ok(Trace { base, entries })
     }
 }
 
@@ -87,20 +116,15 @@ impl Pair {
 
     /// Hands out the image at which the journal began and all entries since, and begins the journal anew. Cursors begin anew too.
     pub fn cut(&mut self) -> Result<Trace, Refused> {
-        let mut trace = Held(ffi::Handle { at: std::ptr::null_mut(), is_open: false });
-        // SAFETY: the trace's handle is closed.
-        told(unsafe { ffi::strm_cut(&mut self.handle, &mut trace.0) })?;
-        self.restarts += 1;
-        let (mut at, mut entries) = (Cursor::default(), Vec::new());
-        // SAFETY: the buffers are as long as their lengths say.
-        let base = text_of(|text, length| unsafe { ffi::strm_trace_base(&mut trace.0, text.as_mut_ptr(), text.len(), length) })?;
-        while let Some(entry) = taken(&mut at, |place, entry, room| {
-            // SAFETY: as above.
-            unsafe { ffi::strm_trace_next(&mut trace.0, place, entry, room.as_mut_ptr(), room.len()) }
-        })? {
-            entries.push(entry);
-        }
-        Ok(Trace { base, entries })
+        let library = Traces { next: ffi::strm_trace_next, base: ffi::strm_trace_base, free: ffi::strm_trace_free };
+        let cut = |trace: &mut ffi::Handle| {
+            // SAFETY: the trace's handle is closed.
+            let refused = unsafe { ffi::strm_cut(&mut self.handle, trace) };
+            self.restarts += u64::from(refused == 0);
+            refused
+        };
+        // SAFETY: the functions are those of libstrm.
+        unsafe { Trace::of(library, cut) }
     }
 
     /// Makes a call or a turn of a journal again, by the caller that it names: the entry with the answer that this pair gives.

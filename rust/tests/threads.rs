@@ -8,7 +8,7 @@ use std::time::{Duration, Instant};
 
 use strm::threads::{Account, End, Reader, System, Writer, TERMINALS};
 use strm::{
-    termios, Answer, Caller, Choices, Event, Module, Priority, Ready, Refusal, Refused, Side, Signal, Sizes, Wanted, When, Winsize,
+    termios, Answer, Caller, Choices, Event, Module, Pair, Priority, Ready, Refusal, Refused, Side, Signal, Sizes, Wanted, When, Winsize,
 };
 
 type Outcome = Result<(), Box<dyn Error>>;
@@ -168,6 +168,31 @@ fn a_split_and_a_join() -> Outcome {
     let all = slave.join(master)?; // it calls as the one that opened the pair
     assert_eq!((all.side(), all.told().side, all.told().parts), (Side::Master, Side::Master, 1 << 63));
     agrees(&all.settle()?);
+    Ok(())
+}
+
+// The calls of both ends and the turns between, on a pair of one thread that begins where the journal did.
+#[test]
+fn a_cut_of_an_end_is_made_again() -> Outcome {
+    let system = System::new(1, &Choices { anew: false, ..TERMINALS })?;
+    let (mut master, mut slave) = system.terminal()?;
+    let opened = slave.cut()?;
+    assert_eq!(opened.entries.len(), 5);
+    let (before, mut line) = (slave.told().told, [0; 9]);
+    assert_eq!(master.write(b"pwd\r")?, 4);
+    let turns = slave.run()?;
+    let taken = slave.read(&mut line)?;
+    let typed = master.cut()?;
+    assert_eq!(typed.entries.len(), turns + 2);
+    assert_eq!((taken, slave.told().told.calls), (4, before.calls + 1));
+    let mut again = Pair::restore(Sizes::default(), &opened.base)?;
+    for (trace, behind) in [(&opened, &typed), (&typed, &slave.cut()?)] {
+        for entry in &trace.entries {
+            assert_eq!(again.repeat(entry)?, *entry);
+        }
+        assert_eq!(again.image()?, behind.base);
+    }
+    agrees(&master.join(slave)?.settle()?);
     Ok(())
 }
 

@@ -8,8 +8,9 @@ use super::ioctls::Ioctls;
 use super::system::Inner;
 use super::told::{Account, Kept, Share};
 use super::{ffi, Reader, Writer};
+use crate::journal::Traces;
 use crate::refused::told;
-use crate::{Caller, Ready, Refusal, Refused, Side};
+use crate::{Caller, Ready, Refusal, Refused, Side, Trace};
 
 /// So long the last end of a slave that is dropped waits at most for what it wrote to leave its modules, before it closes the side: as close(2) of a
 /// stream.
@@ -241,6 +242,14 @@ impl End {
     pub fn restart(&mut self) -> Result<(), Refused> {
         // SAFETY: the end is this one's alone.
         told(unsafe { ffi::strm_end_restart(self.at) })
+    }
+
+    /// Hands out the image at which the journal of the end's pair began and all entries since, calls of all of its ends and turns, and begins the
+    /// journal anew. Where full ones begin anew ([`Choices`](crate::Choices)) entries before that are gone. NoMemory.
+    pub fn cut(&mut self) -> Result<Trace, Refused> {
+        let library = Traces { next: ffi::strm_end_trace_next, base: ffi::strm_end_trace_base, free: ffi::strm_end_trace_free };
+        // SAFETY: the functions are of one library, the end is this one's alone, and the trace's handle is closed.
+        unsafe { Trace::of(library, |trace| ffi::strm_end_cut(self.at, trace)) }
     }
 
     /// What the end's side is ready for. ENXIO: the side isn't open.

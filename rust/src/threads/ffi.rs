@@ -1,5 +1,5 @@
 //! The structs and exports of include/strm_mt.h.
-use crate::ffi::{Ask, Books, Choices, Reply, Went};
+use crate::ffi::{Ask, Books, Choices, Cursor, Entry, Handle, Reply, Went};
 
 #[repr(C)]
 pub struct System {
@@ -78,6 +78,10 @@ extern "C" {
     pub fn strm_end_call(end: *mut End, ask: *const Ask, bytes: *const u8, n: usize, out: *mut u8, room: usize, reply: *mut Reply) -> u32;
     pub fn strm_end_run(end: *mut End, turns: *mut usize) -> u32;
     pub fn strm_end_restart(end: *mut End) -> u32;
+    pub fn strm_end_cut(end: *mut End, trace: *mut Handle) -> u32;
+    pub fn strm_end_trace_next(trace: *mut Handle, at: *mut Cursor, entry: *mut Entry, bytes: *mut u8, room: usize) -> u32;
+    pub fn strm_end_trace_base(trace: *mut Handle, out: *mut u8, room: usize, length: *mut usize) -> u32;
+    pub fn strm_end_trace_free(trace: *mut Handle);
     pub fn strm_end_ready(end: *mut End, ready: *mut u32) -> u32;
     pub fn strm_end_wait(end: *mut End, what: u32, timeout: i32, ready: *mut u32) -> u32;
     pub fn strm_end_fd(end: *mut End) -> i32;
