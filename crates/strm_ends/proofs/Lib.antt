@@ -6,3 +6,4 @@ pub mod Firsts
 pub mod JoinsAt
 pub mod Opens
 pub mod Places
+pub mod Slaves
