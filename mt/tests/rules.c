@@ -307,6 +307,10 @@ static void cuts_of_full(void)
     HOLDS(strm_end_write(master, "b\r", 2, &r) == STRM_OK && strm_end_ready(slave, &ready) == STRM_OK);
     t = cut(slave);
     HOLDS(tells(t, STRM_OP_WRITE, STRM_MASTER, "b\r", 2));
+    while (strm_system_run(of, 0, &made) != STRM_JOURNAL_FULL) HOLDS(strm_end_write(master, "a\r", 2, &r) == STRM_OK);
+    /* (a cut that is refused leaves it to who looks) */
+    HOLDS(strm_end_cut(slave, &t->trace) == STRM_EINVAL && strm_end_ready(slave, &ready) == STRM_OK);
+    HOLDS(strm_system_run(of, 0, &made) != STRM_EINVAL && made > 0);
     gone(t), ends(master, slave);
     HOLDS(strm_system_free(of) == STRM_OK);
 }
