@@ -5,3 +5,4 @@ pub mod Firsts
 pub mod JoinsAt
 pub mod Opens
 pub mod Places
+pub mod Slaves

@@ -1,5 +1,5 @@
 -- Minors that are claimed and given back.
-use Rattle.std.specs.Prelude.{ℕ, ◌≡◌, ◌+◌, ◌*◌, List, Option, None, Some, Result, Ok, Err, MatchResult, length}
+use Rattle.std.specs.Prelude.{ℕ, ◌≡◌, ◌+◌, ◌*◌, List, Option, None, Some, Ok, MatchResult, length}
 use Rattle.strm_types.specs.declared.refusals.Refusal.TheVariants.{Einval, NoMinor}
 use Rattle.strm_minors.specs.Openers.{Holding}
 use Rattle.strm_hosts.specs.declared.opener.HostMinor.{HostMinor}

@@ -1,14 +1,13 @@
 -- Hosts that are made, and their members.
-use Rattle.std.specs.Prelude.{ℕ, ◌≡◌, List, Option, None, Some, Result, Ok, Err, MatchResult, map}
+use Rattle.std.specs.Prelude.{ℕ, ◌≡◌, List, Option, None, Some, Result, Ok, Err, MatchResult}
 use Rattle.strm_types.specs.declared.limits.Config.{Config}
 use Rattle.strm_types.specs.declared.refusals.Refusal.{Refusal}
 use Rattle.strm_types.specs.declared.refusals.Refusal.TheVariants.{Einval, NoMemory}
 use Rattle.strm_types.specs.Numbers.{number_of}
-use Rattle.strm_minors.specs.Openers.{Holding, opening}
+use Rattle.strm_minors.specs.Openers.{Holding}
 use Rattle.strm_hosts.specs.Hosts.{all_opening}
 use Rattle.strm_system.specs.Sizes.{AreSizes, IsCount, IsLaid, NotHosted}
 use Rattle.strm_ends.specs.declared.hold.Hold.TheVariants.{Nothing}
-use Rattle.strm_ends.specs.declared.numbers.NotDone.{NotDone}
 use Rattle.strm_ends.specs.declared.numbers.NotDone.TheVariants.{Refused}
 use Rattle.strm_ends.specs.Members.{Seated, seated}
 use Rattle.strm_ends.specs.Outcomes.{Outcome, Refuses}

@@ -1,5 +1,5 @@
 -- What a member has of a host, and what holds of it between any two calls.
-use Rattle.std.specs.Prelude.{ℕ, ◌≡◌, ◌≤◌, ◌+◌, ◌*◌, ◌/◌, ◌%◌, List, [], length, Option, None, Some, IfSome, IsSome, option_and_then, slice_get}
+use Rattle.std.specs.Prelude.{ℕ, ◌≡◌, ◌≤◌, ◌/◌, ◌%◌, List, [], length, Option, None, Some, IfSome, IsSome, option_and_then, slice_get}
 use Rattle.strm_hosts.specs.declared.opener.HostMinor.{HostMinor}
 use Rattle.strm_hosts.specs.Hosts.{AreOf, HoldsAt}
 use Rattle.strm_minors.specs.Openers.{Holding}

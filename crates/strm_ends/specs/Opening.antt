@@ -1,6 +1,5 @@
 -- Pairs that are opened by a member: the master by the minor in hand, the slave by a call of the end in hand.
-use Rattle.std.specs.Prelude.{ℕ, ◌≡◌, ◌⊎◌, Option, None, Some, Result, Ok, Err, MatchResult}
-use Rattle.strm_types.specs.declared.refusals.Refusal.{Refusal}
+use Rattle.std.specs.Prelude.{ℕ, ◌≡◌, ◌⊎◌, Option, None, Some, Ok, Err, MatchResult}
 use Rattle.strm_types.specs.declared.refusals.Refusal.TheVariants.{Einval, NoMemory}
 use Rattle.strm_hosts.specs.declared.opener.HostMinor.{HostMinor}
 use Rattle.strm_locks.specs.Ends.{CallsSlave, IsOpened, Share}

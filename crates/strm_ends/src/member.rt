@@ -9,7 +9,8 @@ use strm_types::Content;
 
 /// A share of a host, an opener of its minors, if it has one, what it has in hand, and room for an answer, which is empty between calls.
 ///
-/// An opener and an end are of that host. A minor in hand, and that of an end in hand, is one that the opener holds; an end without an opener has no minor.
+/// An opener and an end are of that host. A minor in hand, and that of an end in hand, is one that the opener holds; an end without an opener has no
+/// minor.
 #[derive(Drop)]
 pub(crate) struct Member {
     pub(crate) host: Arc<Host<Object>, Global>,

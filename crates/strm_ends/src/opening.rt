@@ -113,7 +113,7 @@ pub fn open(alloc: Global, handle: &mut Handle) -> u32
     number(outcome)
 }
 
-/// Opens the slave by a call of the end in hand (open(2) of the slave device): its end is in hand of a member that is made in a closed handle, and has
+/// Opens the slave by a call of the end in hand (open(2) of the slave device): its end is in hand of a member that is made in a closed handle and has
 /// no opener.
 pub fn open_slave(alloc: Global, handle: &mut Handle, made: &mut Handle) -> u32
     ensures { WithMade OpensSlave handle.old.held.kept handle.new.held.kept made.old.held.kept made.new.held.kept result }

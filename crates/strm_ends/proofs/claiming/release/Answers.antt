@@ -8,4 +8,5 @@ pub returns : goal.returns
 returns c =
     let before : c.args.handle.now.held.kept ≡ Some c.as_mut.result.now = cc (c.in-Some.ensures.taken, c.as_mut.ensures.value) in
     let behind : c.put.new.self.held.kept ≡ Some c.release-outcome.new.self = (cc) in
-    at_member (Unit {0}) (ReleasesMinor) c.args.handle.now.held.kept c.put.new.self.held.kept c.as_mut.result.now c.release-outcome.new.self c.release-outcome.result c.number.result before behind c.number.ensures c.release-outcome.ensures
+    at_member (Unit {0}) (ReleasesMinor) c.args.handle.now.held.kept c.put.new.self.held.kept c.as_mut.result.now c.release-outcome.new.self
+    c.release-outcome.result c.number.result before behind c.number.ensures c.release-outcome.ensures
