@@ -110,9 +110,8 @@ pub(crate) fn flush_write<B: Blocks>(
     if !asked.for_write {
         return false;
     }
-    if takes_band_0(asked.band) {
-        ldterm.echoing = false;
-    }
+    let whole = takes_band_0(asked.band);
+    ldterm.echoing = ldterm.echoing && !whole;
     let direction = direction_at(Way::Down, here.side);
     flush_queue(store, &mut ldterm.write_queue, direction, asked.band, told)
 }

@@ -72,9 +72,8 @@ fn wait_down<B: Blocks>(ldterm: &mut Ldterm, store: &mut B, message: InHand) -> 
     ensures blocks { FreesNone (B.value store.old) (B.value store.new) }
 {
     store.audit();
-    if store.band(&message).0 == 0 {
-        ldterm.echoing = false;
-    }
+    let band = store.band(&message);
+    ldterm.echoing = ldterm.echoing && band.0 > 0;
     let enables = enqueue(store, &mut ldterm.write_queue, message);
     Acts {
         notes: note_if(enables, Note::Enable(Way::Down)),

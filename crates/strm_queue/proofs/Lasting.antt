@@ -18,7 +18,6 @@ use Rattle.strm_queue.specs.Stored.{messages_on, IsReady, FreesBlocks, FreesNone
 use Rattle.strm_queue.proofs.Counted.{counted-removed}
 use Rattle.strm_queue.proofs.Dequeuing.{unpopped}
 use Rattle.strm_queue.proofs.Placed.{Landed, landed}
-use Rattle.strm_queue.proofs.Stored.{taken-fits}
 
 -- what holds of all holds of the last, and of those before it
 pub all-before : {A : Type 0} (P : A → Type 0) (xs : List A) (x : A) → AllByRecursion P (xs ++ x ∷ []) → AllByRecursion P xs
