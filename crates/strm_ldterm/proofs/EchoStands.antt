@@ -25,7 +25,7 @@ use Rattle.strm_frame.specs.Hands.{once, AreIn, HasRoom}
 use Rattle.strm_frame.specs.Outboxes.{times_sent, parcels_in, AreChains}
 use Rattle.strm_frame.proofs.Handing.{once-apart}
 use Rattle.strm_ldterm.specs.declared.ldterm.Ldterm.{Ldterm}
-use Rattle.strm_ldterm.specs.Stands.{ldterm_in, owns, keeps, EndsPlain, IsData, IsGathered, IsHeld}
+use Rattle.strm_ldterm.specs.Stands.{ldterm_in, keeps, EndsPlain, IsData, IsGathered, IsHeld}
 use Rattle.strm_ldterm.specs.Does.{Proceeds}
 use Rattle.strm_ldterm.specs.Frames.{data-same, each-same, form-same, gathered-same, kept-same, list-ready}
 use Rattle.strm_ldterm.specs.Grown.{BeginsLast, GrowsLast, Rewrites}

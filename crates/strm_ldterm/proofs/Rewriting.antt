@@ -2,14 +2,13 @@
 use Rattle.std.proofs.Common.{ℕ, ◌≡◌, ◌≢◌, ◌≤◌, ◌<◌, ◌+◌, eqb, cond, List, [], ◌∷◌, ◌++◌, refl, sym, ap, subst, ◌∙◌, arith}
 use Rattle.std.proofs.lemmas.List.Sums.{sum_by-cons}
 use Rattle.strm_types.specs.declared.kinds.MsgKind.TheVariants as kinds
-use Rattle.strm_types.specs.declared.spots.Spot.{Spot}
 use Rattle.strm_types.specs.Cells.{plain}
 use Rattle.strm_types.specs.Message.{Message, cells_of, data_message, rank_of}
 use Rattle.strm_types.specs.Queue as queues
 use Rattle.strm_types.specs.Typing.{grown}
-use Rattle.strm_blocks.specs.Blocks.{Held, StoreValue, IsStore, IsInHand, chain_in, dropped, in_hand, list_at, times_in}
+use Rattle.strm_blocks.specs.Blocks.{Held, StoreValue, IsStore, chain_in, dropped, in_hand, list_at, times_in}
 use Rattle.strm_blocks.proofs.Laws.{in_hand-held_other}
-use Rattle.strm_msg.specs.Messages.{message_of, IsChain}
+use Rattle.strm_msg.specs.Messages.{message_of}
 use Rattle.strm_msg.proofs.Chains.{kind-is, band-is}
 use Rattle.strm_queue.specs.declared.queue.Queue.{Queue}
 use Rattle.strm_queue.specs.Stored.{queue_in, messages_on, Changes, FreesBlocks, IsReady, TakenLast}
@@ -20,11 +19,11 @@ use Rattle.strm_ldterm.specs.Frames.{list-ready}
 use Rattle.strm_ldterm.specs.Grown.{Begins, BeginsLast, Grown, GrowsLast, Rewrites}
 use Rattle.strm_ldterm.specs.Stands.{EndsPlain, IsOrdinary}
 use Rattle.strm_ldterm.proofs.EchoStands.{grown-last}
-use Rattle.strm_ldterm.proofs.Grows.{begins-lists, begins-others, begins-pool, begins-times, data-in-hand, grown-is, grown-lists, grown-others, grown-pool, grown-times}
+use Rattle.strm_ldterm.proofs.Grows.{begins-lists, begins-others, begins-pool, begins-times, grown-is, grown-lists, grown-others, grown-pool, grown-times}
 use Rattle.strm_ldterm.proofs.Last.{data-first, data-rank, zero-last}
 
 -- the last of a list
-last_or : {A : Type 0} → A → List A → A
+abbrev last_or : {A : Type 0} → A → List A → A
 last_or a [] = a
 last_or a (x ∷ xs) = last_or x xs
 
@@ -111,10 +110,10 @@ module _ (s v u : StoreValue) (q q1 : Queue) (i n : ℕ) (bytes : List ℕ) (tak
   -- and is put back
   module _ (t : StoreValue) (q' : Queue) (j : ℕ) (st : IsStore u) (same : j ≡ i) (ends : EndsPlain (messages_on s q.list)) (changes : Changes (dropped u j) t q1 q') (frees : FreesBlocks u t)
       (put : queue_in t q' ≡ queues.put_on (message_of (in_hand u j)) (queue_in u q1)) where
-    rests : List (Message ℕ)
+    abbrev rests : List (Message ℕ)
     rests = messages_on v q1.list
 
-    whole : Message ℕ
+    abbrev whole : Message ℕ
     whole = data_message (cells_of (message_in v i) ++ bytes)
 
     is-whole : message_in u i ≡ whole

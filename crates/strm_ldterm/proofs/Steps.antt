@@ -25,7 +25,7 @@ use Rattle.strm_types.specs.declared.spots.Spot.{Spot}
 use Rattle.strm_frame.proofs.Shifting.{shifts-joined}
 use Rattle.strm_ldterm.specs.declared.ldterm.Ldterm.{Ldterm}
 use Rattle.strm_ldterm.specs.Stands.{ldterm_in, keeps, EndsPlain, IsHeld}
-use Rattle.strm_ldterm.specs.Does.{Does}
+use Rattle.strm_ldterm.specs.Does.{Alters, Does}
 use Rattle.strm_ldterm.specs.Frames.{ldterm-frame}
 use Rattle.strm_ldterm.proofs.Beside.{held-quieter, read-plain, read-held, read-own, write-plain, write-held, write-own, without-same}
 use Rattle.strm_ldterm.proofs.Last.{ends-put, low-rank}
@@ -93,6 +93,40 @@ module _ (s t : StoreValue) (x : Ldterm) (i : ℕ) (q' : Queue) (acts : Acts) (f
         frees = frees;
         pool = h.pool;
       }
+
+-- after the module has altered
+module _ (s u : StoreValue) (x y : Ldterm) (i : ℕ) (st : IsStore s) (can : CanPut s i (keeps x)) (alters : Alters s u x y) where
+  pub still-can : CanPut u i (keeps y)
+  still-can = record { apart = λ j. let a = can.apart j in let c = alters.hands.counts j in omega arith }
+
+  not-kept : keeps x i ≡ 0
+  not-kept = let a = can.apart i in let few = st.apart i in let one = once-self i in omega arith
+
+  pub still-chain : in_hand u i ≡ in_hand s i
+  still-chain = let a = can.apart i in let one = once-self i in alters.hands.others i refl not-kept (omega arith)
+
+  pub alters-does : (t : StoreValue) (x' : Ldterm) (acts : Acts) (f f' : Fates) (is is' : Acted ℕ (ldterms.Ldterm ℕ)) → Does u t y x' i acts f f' is → is ≡ is' → Does s t x x' i acts f f' is'
+  alters-does t x' acts f f' is is' does same =
+      subst (λ v. Does s t x x' i acts f f' v) same (record {
+        state = does.state;
+        notes = does.notes;
+        sent = does.sent;
+        told = does.told;
+        held = does.held;
+        own = record {
+          lists = λ k none. does.own.lists k (alters.own.owns_same k ∙ none) ∙ alters.own.lists k none;
+          owns_same = λ k. does.own.owns_same k ∙ alters.own.owns_same k;
+        };
+        chains = does.chains;
+        hands = record {
+          counts = λ j. let a = alters.hands.counts j in let d = does.hands.counts j in omega arith;
+          others = λ j gone kept some.
+              let a = alters.hands.counts j in let few = alters.fewer j in
+              does.hands.others j gone (omega arith) (omega arith) ∙ alters.hands.others j refl kept some;
+        };
+        frees = record { mblks = (let a = alters.frees.mblks in let b = does.frees.mblks in omega arith); dblks = (let a = alters.frees.dblks in let b = does.frees.dblks in omega arith) };
+        pool = record { mblks = does.pool.mblks ∙ alters.pool.mblks; dblks = does.pool.dblks ∙ alters.pool.dblks };
+      })
 
 -- a message that passes
 pub passes-does : (s : StoreValue) (x : Ldterm) (z : Sent) (acts : Acts) (f : Fates) (here : Spot) (notes : List Note) → IsHeld s x → IsChain (in_hand s (token z.message)) → z.to ≡ toward here.way here

@@ -1,6 +1,6 @@
 -- A turn that moved something treated its message whole, or a byte of it at least.
 use Rattle.std.proofs.Common.{ℕ, zero, suc, ◌≡◌, ◌≤◌, ◌<◌, ◌-◌, Bool, true, false, cond, List, [], ◌∷◌, ◌++◌, length, map, inl, inr, refl, sym, ap, subst, ◌∙◌, arith}
-use Rattle.std.specs.Prelude.{◌&&◌, nat_le, nat_lt, not, slice_index_or, Option, None, Some}
+use Rattle.std.specs.Prelude.{◌&&◌, nat_le, nat_lt, not, slice_index_or, Some}
 use Rattle.std.proofs.Math.Nat.{le-min}
 use Rattle.std.proofs.lemmas.Bool.Decides.{nat_tests}
 use Rattle.strm_types.specs.declared.answers.Turn.{Turn}
@@ -24,7 +24,7 @@ use Rattle.strm_types.specs.Queue.{first_size}
 use Rattle.strm_laws.specs.ModuleTurns.{moved_by, place_named, whole_module}
 use Rattle.strm_laws.specs.Pair.{IsKeptAhead, MovesOn}
 use Rattle.strm_laws.specs.Refusals.{Free, enough}
-use Rattle.strm_laws.specs.Stacked.{Module, module_queue}
+use Rattle.strm_laws.specs.Stacked.{module_queue}
 use Rattle.strm_laws.specs.State.{State, Stream, stream}
 use Rattle.strm_laws.specs.TurnCalls.{ldterm_of, module_at}
 use Rattle.strm_laws.specs.TurnOutcomes.{TurnOutcome, stayed_put}

@@ -1,5 +1,5 @@
 -- What the queues of a pair have, as an image wants it: the flow control of each band, and few bytes.
-use Rattle.std.proofs.Common.{ℕ, ◌≡◌, List, [], ◌∷◌, ◌++◌, length, length-append, map, subst, ◌∙◌, arith}
+use Rattle.std.proofs.Common.{ℕ, ◌≡◌, List, [], ◌∷◌, ◌++◌, length, length-append, map, ◌∙◌, arith}
 use Rattle.std.specs.Prelude.{◌≤◌, ◌*◌, sum_by}
 use Rattle.std.specs.List.{AllByRecursion}
 use Rattle.std.proofs.lemmas.List.{length-map}

@@ -1,5 +1,5 @@
 -- The last message of a queue, taken off it.
-use Rattle.std.proofs.Common.{ℕ, ◌≡◌, ◌<◌, ◌+◌, List, [], ◌∷◌, ◌++◌, length, map, refl, sym, ap, subst, ◌∙◌, arith}
+use Rattle.std.proofs.Common.{ℕ, ◌≡◌, ◌≤◌, ◌<◌, ◌+◌, List, [], ◌∷◌, ◌++◌, length, map, refl, sym, ap, subst, ◌∙◌, arith}
 use Rattle.std.specs.Prelude.{sum_by, slice_set, Option, None, Some, MatchOption}
 use Rattle.std.specs.List.{AllByRecursion}
 use Rattle.std.proofs.lemmas.List.Sums.{sum_by-cons, sum_by-append}
@@ -12,7 +12,7 @@ use Rattle.strm_msg.specs.Messages.{message_of, IsChain, AreMessages}
 use Rattle.strm_queue.specs.declared.flow.Flow.{Flow}
 use Rattle.strm_queue.specs.declared.queue.Queue.{Queue}
 use Rattle.strm_queue.specs.Flows.{plain_flows, removed_from}
-use Rattle.strm_queue.specs.Kept.{AreCounted, AllBands, band_of, bytes_of, is_data, data_share, other_share, flow_at}
+use Rattle.strm_queue.specs.Kept.{AreCounted, AllBands, band_of, bytes_of, is_data, flow_at}
 use Rattle.strm_queue.specs.Queues.{OnlyCounts}
 use Rattle.strm_queue.specs.Stored.{messages_on, IsReady, FreesBlocks, FreesNone, TakenLast}
 use Rattle.strm_queue.proofs.Counted.{counted-removed}
@@ -54,9 +54,6 @@ module _ (s : StoreValue) (k : ℕ) (flows : List Flow) (chain : List Block) (re
       counted-removed flows (list_at s k) rest chain last-low (λ f. ap (λ q. sum_by f q) is ∙ sum-last f rest chain) (all-before (λ c. band_of c < 256) rest chain bands) counted
 
 module _ (s t : StoreValue) (q q' : Queue) (i : ℕ) (within : q.list < length s.lists) (p : PoppedLast s t q.list i) where
-  left : StoreValue
-  left = placed s q.list p.rest
-
   off : Landed s (placed s q.list p.rest) q.list p.rest
   off = landed s q.list p.rest within
 

@@ -1,7 +1,6 @@
 -- It is made in hand, and put on the queue.
 use Rattle.std.proofs.Common.{◌∙◌}
 use Rattle.strm_blocks.specs.Blocks.{token}
-use Rattle.strm_ldterm.specs.Echoes.{echo_bytes}
 use Rattle.strm_ldterm.proofs.Grows.{data-in-hand}
 use Rattle.strm_ldterm.proofs.Rewriting.{begins-enables, begins-last, begins-ready}
 use Rattle.strm_ldterm.proofs.echoing.begin_run.Goals as goal

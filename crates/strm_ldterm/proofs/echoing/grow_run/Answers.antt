@@ -2,7 +2,6 @@
 use Rattle.std.proofs.Common.{sym, subst}
 use Rattle.strm_blocks.specs.Blocks.{IsInHand, in_hand, token}
 use Rattle.strm_msg.specs.Messages.{IsChain}
-use Rattle.strm_ldterm.specs.Echoes.{echo_bytes}
 use Rattle.strm_ldterm.proofs.Grows.{data-in-hand}
 use Rattle.strm_ldterm.proofs.Rewriting.{grown-ready, grows-last, taken-room}
 use Rattle.strm_ldterm.proofs.echoing.grow_run.Goals as goal

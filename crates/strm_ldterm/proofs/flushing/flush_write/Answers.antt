@@ -8,7 +8,6 @@ use Rattle.strm_types.specs.declared.spots.Note.TheVariants.{Room}
 use Rattle.strm_types.specs.Deliver.{Goes, counted_with}
 use Rattle.strm_types.specs.declared.rules.Rule.TheVariants.{Flushed}
 use Rattle.strm_types.specs.Emptied.{of_data, cells_gone}
-use Rattle.strm_types.specs.Ldterms.{takes_band_0}
 use Rattle.strm_queue.specs.Stored.{messages_on}
 use Rattle.strm_ldterm.proofs.Beside.{held-quieter}
 use Rattle.strm_ldterm.proofs.Flushed.{flushes-down, write-after}

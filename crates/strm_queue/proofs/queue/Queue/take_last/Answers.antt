@@ -8,12 +8,11 @@ use Rattle.strm_queue.proofs.queue.Queue.take_last.Goals as goal
 pub returns-clause-counted : goal.returns-clause-counted
 returns-clause-counted g c =
     let s = g.B.Blocks.value c.args.store.now in
-    let t = g.B.Blocks.value c.in_ok-message.new.store in
     let q = c.args.self.now in
     let p = c.in_ok-message.ensures in
     let i = token c.in_ok-message.message in
     let within = (let low = q.on_list in omega (arith, low, c.audit.ensures.eight)) in
-    rw (c.remove.ensures, last-list s t q q i within p, c.share_of-share.ensures.band, c.share_of-share.ensures.bytes, c.share_of-share.ensures.kind, last-chain s t q q i within p)
+    rw (c.remove.ensures, last-list s _ q q i within p, c.share_of-share.ensures.band, c.share_of-share.ensures.bytes, c.share_of-share.ensures.kind, last-chain s _ q q i within p)
     (last-counted s q.list q.flows p.message p.rest c.requires p.joined)
 
 pub returns-clause-flows : goal.returns-clause-flows
