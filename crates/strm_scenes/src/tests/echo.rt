@@ -190,11 +190,11 @@ show s
 title: The echo of a key may pass 512 bytes, and that of the next one is dropped
 setup: ldterm
 write m "\t\t\t\t\t\t\t\t\t\t\t\t\t\t\t\t\t\t\t\t\x15\t\t\t\x15a"
-  ok 25
+  ok 26
 turn m.drv.w
-  ok 25
+  ok 26
 turn s.ldterm.r
-  ok 25
+  ok 26
 show s
   show s head.r 0 0 ldterm.r 0 0 ldterm.w 1 575 drv.w 0 0
 "#;
