@@ -10,7 +10,7 @@ pub mod Fresh
 pub mod Last
 pub mod Beside
 pub mod Steps
-pub mod Asking
+pub mod Asked
 pub mod Flows
 pub mod FrontOut
 pub mod Flushed

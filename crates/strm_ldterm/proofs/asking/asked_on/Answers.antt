@@ -1,7 +1,7 @@
 -- What is seen of the first message is what it asks by.
 use Rattle.std.proofs.Common.{◌∙◌, sym}
 use Rattle.strm_frame.proofs.FirstSizes.{first-few}
-use Rattle.strm_ldterm.proofs.Asking.{asked-none, asked-peek}
+use Rattle.strm_ldterm.proofs.Asked.{asked-none, asked-peek}
 use Rattle.strm_ldterm.proofs.asking.asked_on.Goals as goal
 
 pub returns-in-Some-clause-asks : goal.returns-in-Some-clause-asks
