@@ -1,5 +1,5 @@
 -- A message in hand that is put back on a queue, and one that the module kept.
-use Rattle.std.proofs.Common.{ℕ, ◌≡◌, ◌<◌, length, map, refl, sym, ap, subst, ◌∙◌, arith}
+use Rattle.std.proofs.Common.{ℕ, ◌≡◌, ◌<◌, List, length, map, refl, sym, ap, subst, ◌∙◌, arith}
 use Rattle.std.proofs.lemmas.Bool.{false≢true}
 use Rattle.std.specs.Prelude.{None, Some}
 use Rattle.strm_types.specs.Queue as plain

@@ -111,7 +111,7 @@ pub(crate) fn flush_write<B: Blocks>(
         return false;
     }
     let whole = takes_band_0(asked.band);
-    ldterm.echoing = ldterm.echoing && !whole;
+    ldterm.echoing &= !whole;
     let direction = direction_at(Way::Down, here.side);
     flush_queue(store, &mut ldterm.write_queue, direction, asked.band, told)
 }

@@ -73,7 +73,7 @@ fn wait_down<B: Blocks>(ldterm: &mut Ldterm, store: &mut B, message: InHand) -> 
 {
     store.audit();
     let band = store.band(&message);
-    ldterm.echoing = ldterm.echoing && band.0 > 0;
+    ldterm.echoing &= band.0 > 0;
     let enables = enqueue(store, &mut ldterm.write_queue, message);
     Acts {
         notes: note_if(enables, Note::Enable(Way::Down)),
