@@ -1,4 +1,4 @@
-/* A recorder: entries of a journal through a cursor, a buffer that is too small, a full journal that is emptied in place, and an image. */
+/* A recorder: entries of a journal through a cursor, a buffer that is too small, a full journal that is emptied in place, an image, and a cut. */
 #include <stdio.h>
 #include <strm.h>
 
@@ -98,6 +98,64 @@ static int image(strm_pair *p)
     return 0;
 }
 
+/* Makes a call or a turn again: whether it is answered the same. */
+static int same_again(strm_pair *p, const strm_entry *entry)
+{
+    static uint8_t out[8192];
+    strm_went went;
+    strm_reply r;
+    if (entry->kind == STRM_TURNED)
+        return !strm_turn(p, entry->queue, &went) && went.kind == entry->went.kind && went.moved == entry->went.moved;
+    if (strm_call(p, &entry->ask, room, entry->brings, out, sizeof out, &r)) return 0;
+    return r.kind == entry->reply.kind && r.value == entry->reply.value && r.bytes == entry->reply.bytes
+        && memcmp(out, room + entry->brings, r.bytes) == 0;
+}
+
+/* A trace's entries, made again at the pair of its base, lead to the state of the pair that was cut. */
+static int plays(strm_trace *t, strm_pair *again)
+{
+    static uint8_t base[8192];
+    strm_cursor at = { 0, 0 };
+    strm_entry entry;
+    strm_refusal e;
+    size_t wanted = 0, length = 0;
+    printf("%s", strm_refusal_name(strm_trace_base(t, base, 4, &wanted)));
+    printf(": %d\n", wanted > 4);
+    if (strm_trace_base(t, base, sizeof base, &length) || length != wanted) return 1;
+    if (strm_restore(again, 256, 24, 4096, base, length)) return 1;
+    while (!(e = strm_trace_next(t, &at, &entry, room, sizeof room))) {
+        show(&entry);
+        if (!same_again(again, &entry)) return 1;
+    }
+    return e != STRM_EAGAIN;
+}
+
+/* A cut: the journal goes into a trace, and is empty; all else of the pair stays. */
+static int cut(strm_pair *p)
+{
+    static uint8_t image[8192], other[8192];
+    strm_pair again = STRM_CLOSED;
+    strm_trace t = STRM_CLOSED;
+    strm_cursor at = { 0, 0 };
+    strm_entry entry;
+    strm_reply r;
+    size_t length = 0, others = 0;
+    if (strm_write(p, STRM_SLAVE, "$ ", 2, &r) || strm_run(p)) return 1;
+    if (strm_read(p, STRM_MASTER, room, 256, &r) || strm_image(p, image, sizeof image, &length)) return 1;
+    printf("%s", strm_refusal_name(strm_cut(p, &t)));
+    printf(" %s", strm_refusal_name(strm_cut(p, &t)));
+    printf(" %s\n", strm_refusal_name(strm_next_entry(p, &at, &entry, room, sizeof room)));
+    if (plays(&t, &again)) return 1;
+    if (strm_image(p, other, sizeof other, &others) || others != length || memcmp(image, other, length) != 0) return 1;
+    if (strm_image(&again, other, sizeof other, &others) || others != length || memcmp(image, other, length) != 0) return 1;
+    printf("the same images\n");
+    strm_trace_free(&t);
+    strm_free(&again);
+    printf("%s", strm_refusal_name(strm_trace_next(&t, &at, &entry, room, sizeof room)));
+    printf(" %s\n", strm_refusal_name(strm_trace_base(&t, other, sizeof other, &others)));
+    return t.is_open;
+}
+
 int main(void)
 {
     strm_pair p = STRM_CLOSED;
@@ -109,7 +167,7 @@ int main(void)
     printf(" %s", strm_refusal_name(strm_runqueues(&p, &turns)));
     printf(" %u\n", (unsigned)turns);
     if (strm_new(&p, 256, 24, 4096)) return 1;
-    if (session(&p) || small_buffer(&p) || full_journal(&p) || image(&p)) return 1;
+    if (session(&p) || small_buffer(&p) || full_journal(&p) || image(&p) || cut(&p)) return 1;
     strm_free(&p);
     return 0;
 }

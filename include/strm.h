@@ -36,8 +36,8 @@
  * OWNERSHIP
  *   The library keeps no pointer of the caller's behind a call, calls nothing back, and has no state of its own beside the handles.
  *   strm_new, strm_restore and those of chosen pairs, strm_new_with and strm_restore_with, take all memory that a pair will use, by malloc, and
- *   strm_free gives it back; no other function takes any. Memory that is taken isn't touched before it is used: a pair costs what stands in it,
- *   however many blocks it has.
+ *   strm_free gives it back; strm_cut takes that of a trace, and strm_trace_free gives it back; no other function takes any. What a pair has taken isn't
+ *   touched before it is used: a pair costs what stands in it, however many blocks it has.
  *   A handle is closed when its bytes are all 0 (STRM_CLOSED). An open one isn't copied and then used or freed twice, as with a FILE.
  *
  * SECRETS
@@ -45,22 +45,23 @@
  *   image at which it begins. Zeros are written over a block when the last message that has it goes (read, flushed, closed upon, popped), over what
  *   an erase or a kill takes from a line and over a line that is handed up, over the journal's bytes when it begins anew (strm_restart), whose
  *   entries are written over too, and over all of them when the pair is freed (strm_free): a password that was read is gone at the next
- *   strm_restart. What stood there at the time is in the caller's buffers, images and recordings, which are the caller's to clear, and may be on
- *   the stack of a thread that called.
+ *   strm_restart. A trace has the journal's bytes and that image until it is freed (strm_trace_free), and zeros are written over both. What stood
+ *   there at the time is in the caller's buffers, images and recordings, which are the caller's to clear, and may be on the stack of a thread that
+ *   called.
  *
  * THREADS AND SIGNALS
  *   A handle is used by one thread at a time, and may be handed from one to another behind a lock, a thread's start or its join. Two
  *   handles are independent. No function is called in the forked child of a process with threads.
  *   A handle is closed while a call is made at it. So a signal handler may call, on the thread that it interrupts, all but what takes or gives back
- *   memory (strm_new, strm_restore, those of chosen pairs, and strm_free), as malloc isn't called there. On the handle of the call that it
- *   interrupts its call is STRM_EINVAL and changes nothing (strm_enabled tells NO_QUEUE, strm_ready 0), or is made whole in front of that call or
- *   behind it; on any other it is a call like another. This is tried (bench/hostile.c), and not proved.
+ *   memory (strm_new, strm_restore, those of chosen pairs, strm_cut, strm_free and strm_trace_free), as malloc isn't called there. On the handle of the
+ *   call that it interrupts its call is STRM_EINVAL and changes nothing (strm_enabled tells NO_QUEUE, strm_ready 0), or is made whole in front of that
+ *   call or behind it; on any other it is a call like another. This is tried (bench/hostile.c), and not proved.
  *
  * WHAT A CALLER OWES (nothing checks it)
  *   Two threads don't call on one handle at once: that isn't told, and may corrupt the pair or end the process. Pointers lead to as much memory as
  *   their length says, and don't overlap where one is written to; one beside a length of 0 may be NULL, no other. A bool is 0 or 1. A handle is
  *   closed, or was made by these functions and only handed to them since. A cursor was zeroed when the journal began, and only moved by
- *   strm_next_entry since: another one corrupts nothing, but may tell other bytes.
+ *   strm_next_entry since, or is a trace's, and only strm_trace_next moved it: another one corrupts nothing, but may tell other bytes.
  *
  * WHAT STAYS
  *   STRM_VERSION is 65536 times a major number and a minor one. Within a major number names, numbers, layouts and meanings stay; a larger
@@ -68,7 +69,7 @@
  *   1.1 has strm_restart, strm_runqueues, strm_next_entry, strm_image and strm_restore beside the calls of 1.0; 1.2 has strm_ready and
  *   strm_room, and brings at most STRM_WRITE_MOST bytes by one write, where 1.1 entered all in the journal and refused what was longer
  *   than its blocks. A program of 1.0 or 1.1 runs with it as it is: what is taken of a write was never more than that. 1.3 has strm_new_with and
- *   strm_restore_with: what they choose holds for pairs that they made, and for no other.
+ *   strm_restore_with: what they choose holds for pairs that they made, and for no other. 1.4 has strm_cut and the three functions of its trace.
  *
  * PROVED: each function that libstrm exports, by its contract in crates/strm_ffi, whose words are those of crates/strm_handle. NOT PROVED: the inline
  * functions of this file, and malloc.
@@ -85,7 +86,7 @@
 extern "C" {
 #endif
 
-#define STRM_VERSION 65539u /* 1.3 */
+#define STRM_VERSION 65540u /* 1.4 */
 
 /* A pair, in place. Nothing behind `at` is the caller's. */
 typedef struct strm_pair {
@@ -283,6 +284,26 @@ strm_refusal strm_next_entry(strm_pair *p, strm_cursor *at, strm_entry *entry, v
 /* Begins the journal anew, in place: it is empty, and begins at the state that the pair has. All else stays, so a pair whose journal is full
  * goes on. A cursor is zeroed then. It takes no memory. EINVAL is a closed handle alone. */
 strm_refusal strm_restart(strm_pair *p);
+
+/* A trace, in place, as a pair is: a closed one is STRM_CLOSED. It has the base at which a journal began, and all that was entered since. */
+typedef struct strm_trace {
+    void *at;
+    bool is_open;
+} strm_trace;
+
+/* Cuts the pair: its journal goes into a trace, and begins anew as by strm_restart. The trace stays as it is while the pair goes on. EINVAL: the
+ * pair is closed, or the trace open. NO_MEMORY: malloc gave none for the copies. Both stay then. */
+strm_refusal strm_cut(strm_pair *p, strm_trace *t);
+
+/* Takes the entry at a cursor of a trace, which moves behind it, as strm_next_entry does; a cursor begins zeroed. The pair of the base (strm_restore)
+ * comes to the state of the one that was cut as these calls and turns are made again, with ample blocks. */
+strm_refusal strm_trace_next(strm_trace *t, strm_cursor *at, strm_entry *entry, void *bytes, size_t room);
+
+/* Puts the image of a trace's base into a buffer, as strm_image does that of a pair. */
+strm_refusal strm_trace_base(strm_trace *t, void *out, size_t room, size_t *length);
+
+/* Gives the memory of a trace back and closes it. A closed one stays so. */
+void strm_trace_free(strm_trace *t);
 
 /* ------------------------------------------------------------------------------------------------------------- looks: no call is made */
 

@@ -404,15 +404,7 @@ class Pair:
 
     def image(self):
         """What the pair is between two calls, as docs/IMAGES.md spells it, for Pair(image=..) at any later time, on any machine."""
-        room, length = 1 << 16, ctypes.c_size_t()
-        while True:
-            out = ctypes.create_string_buffer(room)
-            refused = self.library.image(self._at, ctypes.addressof(out), room, ctypes.addressof(length))
-            if not refused:
-                return out[: length.value]
-            if length.value <= room:
-                raise Refused(refused, "image")
-            room = length.value
+        return _text(self.library.image, self._at, "image")
 
     # ------------------------------------------------------------------------------------------------------------- the journal
 
@@ -424,6 +416,22 @@ class Pair:
         if refused:
             raise Refused(refused, "restart")
         self.restarts += 1
+
+    def cut(self):
+        """Hands out the Trace of the pair, the image at which its journal began and the entries since, and begins the journal anew."""
+        for hook in self.before_restart:
+            hook(self)
+        trace = Handle()
+        at = ctypes.addressof(trace)
+        refused = self.library.cut(self._at, at)
+        if refused:
+            raise Refused(refused, "cut")
+        self.restarts += 1
+        try:
+            cursor = Cursor.of_trace(self, at)
+            return Trace(_text(self.library.trace_base, at, "cut"), list(iter(cursor.next, None)))
+        finally:
+            self.library.trace_free(at)
 
     def next_entry(self, cursor):
         """The entry at a cursor, which moves behind it; None where all were taken."""
@@ -448,6 +456,18 @@ class Pair:
 def _answer(reply, given):
     kind = ANSWERS[reply.kind]
     return Answer(kind, reply.value, reply.prio, reply.parts, reply.size, reply.more_control, reply.more_data, given)
+
+
+def _text(function, at, name):
+    room, length = 1 << 16, ctypes.c_size_t()
+    while True:
+        out = ctypes.create_string_buffer(room)
+        refused = function(at, ctypes.addressof(out), room, ctypes.addressof(length))
+        if not refused:
+            return out[: length.value]
+        if length.value <= room:
+            raise Refused(refused, name)
+        room = length.value
 
 
 def _turn(queue, went):

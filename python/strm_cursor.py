@@ -1,4 +1,4 @@
-"""A place in a pair's journal, of which strm.py's Pair is made."""
+"""A place in a journal, of which strm.py's Pair is made."""
 import ctypes
 import struct
 
@@ -17,21 +17,31 @@ class Cursor:
     def __init__(self, pair):
         if pair.anew:
             raise Refused(EINVAL, "cursor")
-        self._restarts = pair.restarts
+        self._begin(pair, pair.library.next_entry, pair._at)
+
+    @classmethod
+    def of_trace(cls, pair, trace):
+        """A place in what a cut of a pair handed out, behind a handle at an address."""
+        made = cls.__new__(cls)
+        made._begin(pair, pair.library.trace_next, trace)
+        return made
+
+    def _begin(self, pair, take, at):
+        self._restarts, self._take, self._at = pair.restarts, take, at
         self.pair, self._place, self._entry = pair, Place(), Entry()
         self._grow(ANSWER_MOST + WRITE_MOST)
 
     def _grow(self, size):
         self._room = ctypes.create_string_buffer(size)
         parts = (self._place, self._entry, self._room)
-        self._arguments = (self.pair._at, *map(ctypes.addressof, parts), size)
+        self._arguments = (self._at, *map(ctypes.addressof, parts), size)
 
     def next(self):
         """The entry, or None where all were taken."""
         if self._restarts != self.pair.restarts:
             self._place.entry = self._place.byte = 0
             self._restarts = self.pair.restarts
-        refused = self.pair.library.next_entry(*self._arguments)
+        refused = self._take(*self._arguments)
         if refused:
             if refused == EAGAIN:
                 return None

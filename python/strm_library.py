@@ -6,7 +6,7 @@ import subprocess
 
 from strm_words import RULES
 
-VERSION = (1, 3)  # the least version of the library that strm.py calls
+VERSION = (1, 4)  # the least version of the library that strm.py calls
 
 
 class Handle(ctypes.Structure):
@@ -77,6 +77,10 @@ def prototypes():
         ("strm_runqueues", number, (pointer, pointer)),
         ("strm_next_entry", number, (pointer, pointer, pointer, pointer, size)),
         ("strm_restart", number, (pointer,)),
+        ("strm_cut", number, (pointer, pointer)),
+        ("strm_trace_next", number, (pointer, pointer, pointer, pointer, size)),
+        ("strm_trace_base", number, (pointer, pointer, size, pointer)),
+        ("strm_trace_free", None, (pointer,)),
         ("strm_enabled", number, (pointer, size)),
         ("strm_sizes", number, (pointer, number, pointer)),
         ("strm_first_size", number, (pointer, number, pointer)),

@@ -192,6 +192,13 @@ class Turn(NamedTuple):
     moved: int
 
 
+class Trace(NamedTuple):
+    """What a cut handed out: the image at which the pair's journal began, and its entries since, each a Call or a Turn."""
+
+    base: bytes
+    entries: list
+
+
 class Message(NamedTuple):
     """What a get gives: `prio` is a band or HIGH; a part that isn't there is None; more_* say that more of that part waits."""
 

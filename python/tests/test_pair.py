@@ -6,6 +6,7 @@ import unittest
 
 import strm
 from strm import HIGH, MASTER, SLAVE, WRITE_MOST, Caller, Message, Nak, Pair, Refused, Signal, Stopped, Turn
+from strm_cursor import Cursor
 
 
 class Terminals(unittest.TestCase):
@@ -202,6 +203,27 @@ class Journals(unittest.TestCase):
             self.assertEqual(told.exception.name, "JournalFull")
             pair.restart()
             self.assertEqual((pair.runqueues(), pair.read(SLAVE)), (1, b"x"))
+
+    def test_a_cut_is_made_again(self):
+        with Pair.terminal() as pair:
+            pair.write(MASTER, b"pwd\r")
+            pair.restart()
+            base = pair.image()
+            pair.runqueues()
+            self.assertEqual(pair.read(SLAVE), b"pwd\n")
+            entries, image = list(pair.entries()), pair.image()
+            cursor = Cursor(pair)
+            cursor.next()
+            trace = pair.cut()
+            self.assertEqual((trace.base, trace.entries), (base, entries))
+            self.assertGreater(len(trace.entries), 2)
+            self.assertEqual((pair.image(), list(pair.entries()), cursor.next()), (image, [], None))
+            with Pair(image=trace.base) as again:
+                self.assertEqual([again.repeat(entry) for entry in trace.entries], trace.entries)
+                self.assertEqual(again.image(), image)
+        with self.assertRaises(Refused) as told:
+            pair.cut()
+        self.assertEqual(told.exception.name, "EINVAL")
 
     def test_turns_that_do_not_end_are_refused(self):
         with Pair.terminal(256, 500, 8192) as pair:

@@ -105,6 +105,10 @@ extern "C" {
     pub fn strm_runqueues(p: *mut Handle, turns: *mut usize) -> u32;
     pub fn strm_next_entry(p: *mut Handle, at: *mut Cursor, entry: *mut Entry, bytes: *mut u8, room: usize) -> u32;
     pub fn strm_restart(p: *mut Handle) -> u32;
+    pub fn strm_cut(p: *mut Handle, t: *mut Handle) -> u32;
+    pub fn strm_trace_next(t: *mut Handle, at: *mut Cursor, entry: *mut Entry, bytes: *mut u8, room: usize) -> u32;
+    pub fn strm_trace_base(t: *mut Handle, out: *mut u8, room: usize, length: *mut usize) -> u32;
+    pub fn strm_trace_free(t: *mut Handle);
     pub fn strm_enabled(p: *mut Handle, place: usize) -> u32;
     pub fn strm_sizes(p: *mut Handle, queue: u32, told: *mut Standing) -> u32;
     pub fn strm_first_size(p: *mut Handle, queue: u32, told: *mut usize) -> u32;

@@ -1,5 +1,6 @@
 //! The journal: every call that wasn't refused, and every turn, in order.
 use crate::ffi;
+use crate::look::text_of;
 use crate::refused::told;
 use crate::{Answer, Call, Pair, Queue, Refusal, Refused, Turn};
 
@@ -23,6 +24,26 @@ pub struct Cursor {
     room: Vec<u8>,
 }
 
+/// What a cut handed out: the image at which a pair's journal began, and its entries since. The pair of the base comes to the state of the one that
+/// was cut as the entries are made again ([`Pair::repeat`]), with ample blocks.
+#[derive(Clone, Debug, PartialEq, Eq)]
+pub struct Trace {
+    /// The image, as [`Pair::image`] makes one.
+    pub base: Vec<u8>,
+    /// The entries, in order.
+    pub entries: Vec<Entry>,
+}
+
+// A trace behind its handle, which is freed when it goes.
+struct Held(ffi::Handle);
+
+impl Drop for Held {
+    fn drop(&mut self) {
+        // SAFETY: the handle is closed, or was made by strm_cut.
+        unsafe { ffi::strm_trace_free(&mut self.0) }
+    }
+}
+
 impl Pair {
     /// Takes the entry at a cursor, which moves behind it. `None`: all were taken. EINVAL: the library begins the pair's journal anew
     /// ([`Choices`](crate::Choices)), so that entries go without being taken.
@@ -33,17 +54,10 @@ impl Pair {
         if at.restarts != self.restarts {
             (at.place, at.restarts) = (ffi::Cursor::default(), self.restarts);
         }
-        let mut entry = ffi::Entry::default();
-        loop {
-            let (room, length) = (at.room.as_mut_ptr(), at.room.len());
+        taken(at, |place, entry, room| {
             // SAFETY: the buffer is as long as its length says.
-            match unsafe { ffi::strm_next_entry(&mut self.handle, &mut at.place, &mut entry, room, length) } {
-                0 => return entry_of(&entry, &at.room).map(Some),
-                2 => return Ok(None),
-                1 if entry.brings + entry.reply.bytes > length => at.room.resize(entry.brings + entry.reply.bytes, 0),
-                number => return Err(Refused::Call(Refusal::of(number))),
-            }
-        }
+            unsafe { ffi::strm_next_entry(&mut self.handle, place, entry, room.as_mut_ptr(), room.len()) }
+        })
     }
 
     /// The journal's entries, from where it last began.
@@ -71,6 +85,24 @@ impl Pair {
         Ok(())
     }
 
+    /// Hands out the image at which the journal began and all entries since, and begins the journal anew. Cursors begin anew too.
+    pub fn cut(&mut self) -> Result<Trace, Refused> {
+        let mut trace = Held(ffi::Handle { at: std::ptr::null_mut(), is_open: false });
+        // SAFETY: the trace's handle is closed.
+        told(unsafe { ffi::strm_cut(&mut self.handle, &mut trace.0) })?;
+        self.restarts += 1;
+        let (mut at, mut entries) = (Cursor::default(), Vec::new());
+        // SAFETY: the buffers are as long as their lengths say.
+        let base = text_of(|text, length| unsafe { ffi::strm_trace_base(&mut trace.0, text.as_mut_ptr(), text.len(), length) })?;
+        while let Some(entry) = taken(&mut at, |place, entry, room| {
+            // SAFETY: as above.
+            unsafe { ffi::strm_trace_next(&mut trace.0, place, entry, room.as_mut_ptr(), room.len()) }
+        })? {
+            entries.push(entry);
+        }
+        Ok(Trace { base, entries })
+    }
+
     /// Makes a call or a turn of a journal again, by the caller that it names: the entry with the answer that this pair gives.
     ///
     /// A pair that begins where the journal's did gives the same answers, as long as the blocks of both are ample: of two with few that are free,
@@ -79,6 +111,19 @@ impl Pair {
         match entry {
             Entry::Call(call, _) => self.call(call).map(|answer| Entry::Call(call.clone(), answer)),
             Entry::Turn(queue, _) => self.turn(*queue).map(|went| Entry::Turn(*queue, went)),
+        }
+    }
+}
+
+// The entry at a cursor, which `next` tells, into a buffer that grows to its bytes.
+fn taken(at: &mut Cursor, mut next: impl FnMut(&mut ffi::Cursor, &mut ffi::Entry, &mut [u8]) -> u32) -> Result<Option<Entry>, Refused> {
+    let mut entry = ffi::Entry::default();
+    loop {
+        match next(&mut at.place, &mut entry, &mut at.room) {
+            0 => return entry_of(&entry, &at.room).map(Some),
+            2 => return Ok(None),
+            1 if entry.brings + entry.reply.bytes > at.room.len() => at.room.resize(entry.brings + entry.reply.bytes, 0),
+            number => return Err(Refused::Call(Refusal::of(number))),
         }
     }
 }

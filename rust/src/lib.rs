@@ -39,7 +39,7 @@ mod turn;
 
 pub use call::{Answer, Call, Caller, Event, Message};
 pub use halves::{Locked, Master, Slave};
-pub use journal::{Cursor, Entry};
+pub use journal::{Cursor, Entry, Trace};
 pub use look::{Books, Ready, Room, Standing, RULES};
 pub use names::{Flush, Mode, Module, Priority, Queue, Side, Signal, Wanted};
 pub use pair::{version, Pair};

@@ -166,17 +166,22 @@ impl Pair {
 
     /// The image of the pair, docs/IMAGES.md: its state and its ledgers, the same bytes on every machine.
     pub fn image(&mut self) -> Result<Vec<u8>, Refused> {
-        let (mut text, mut length) = (vec![0; 4096], 0);
-        loop {
-            // SAFETY: the buffer has so many bytes.
-            let refused = unsafe { ffi::strm_image(&mut self.handle, text.as_mut_ptr(), text.len(), &mut length) };
-            if refused == 1 && length > text.len() {
-                text.resize(length, 0);
-                continue;
-            }
-            told(refused)?;
-            text.truncate(length);
-            return Ok(text);
+        // SAFETY: the buffer is as long as its length says.
+        text_of(|text, length| unsafe { ffi::strm_image(&mut self.handle, text.as_mut_ptr(), text.len(), length) })
+    }
+}
+
+// What `put` puts into a buffer, which grows to it.
+pub(crate) fn text_of(mut put: impl FnMut(&mut [u8], &mut usize) -> u32) -> Result<Vec<u8>, Refused> {
+    let (mut text, mut length) = (vec![0; 4096], 0);
+    loop {
+        let refused = put(&mut text, &mut length);
+        if refused == 1 && length > text.len() {
+            text.resize(length, 0);
+            continue;
         }
+        told(refused)?;
+        text.truncate(length);
+        return Ok(text);
     }
 }

@@ -70,7 +70,7 @@ impl Pair {
 
     fn closed() -> Pair {
         let (major, minor) = version();
-        assert!(major == 1 && minor >= 3, "libstrm 1.3 is needed, and {major}.{minor} is linked");
+        assert!(major == 1 && minor >= 4, "libstrm 1.4 is needed, and {major}.{minor} is linked");
         Pair { handle: ffi::Handle { at: ptr::null_mut(), is_open: false }, keeps: false, caller: Caller::NOBODY, restarts: 0, anew: false }
     }
 

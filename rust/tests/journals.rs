@@ -1,5 +1,7 @@
 //! Journals and images: entries, those that are made again, full journals, and pairs that go on.
-use strm::{Answer, Call, Caller, Cursor, Entry, Event, Flush, Mode, Module, Pair, Priority, Queue, Refused, Side, Sizes, Wanted, Winsize};
+use strm::{
+    Answer, Call, Caller, Cursor, Entry, Event, Flush, Mode, Module, Pair, Priority, Queue, Refused, Side, Sizes, Trace, Wanted, Winsize,
+};
 use Side::{Master, Slave};
 
 fn read(pair: &mut Pair, side: Side) -> Result<Vec<u8>, Refused> {
@@ -79,6 +81,32 @@ fn a_journal_is_made_again_answer_by_answer() -> Result<(), Refused> {
     }
     assert_eq!(again.entries()?, told);
     assert_eq!(again.image()?, pair.image()?);
+    Ok(())
+}
+
+#[test]
+fn a_cut_is_made_again() -> Result<(), Refused> {
+    let mut pair = Pair::new(Sizes::default())?;
+    pair.open_terminal()?;
+    pair.write(Master, b"pwd\r")?;
+    pair.restart()?;
+    let base = pair.image()?;
+    pair.runqueues()?;
+    assert_eq!(read(&mut pair, Slave)?, b"pwd\n");
+    let (entries, image) = (pair.entries()?, pair.image()?);
+    let mut at = Cursor::default();
+    assert!(pair.next_entry(&mut at)?.is_some());
+    let trace = pair.cut()?;
+    assert_eq!(trace, Trace { base, entries });
+    assert!(trace.entries.len() > 2, "{}", trace.entries.len());
+    assert_eq!((pair.image()?, pair.entries()?, pair.next_entry(&mut at)?), (image.clone(), vec![], None));
+    let mut again = Pair::restore(Sizes::default(), &trace.base)?;
+    for entry in &trace.entries {
+        assert_eq!(again.repeat(entry)?, *entry);
+    }
+    assert_eq!(again.image()?, image);
+    pair.free();
+    assert_eq!(pair.cut().err().map(|refused| refused.name()), Some("EINVAL"));
     Ok(())
 }
 

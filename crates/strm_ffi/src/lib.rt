@@ -6,4 +6,5 @@ mod imaging;
 mod looking;
 mod making;
 mod recording;
+mod tracing;
 mod turning;

@@ -9,12 +9,12 @@ use std::alloc::Global;
 use strm_handle::{Choices, Handle};
 
 /// The version of this interface: 65536 times the major number and the minor number.
-const VERSION: u32 = 65539;
+const VERSION: u32 = 65540;
 
 /// The version of this interface.
 #[unsafe(no_mangle)]
 pub extern "C" fn strm_version() -> u32
-    ensures { result ≡ 65539 }
+    ensures { result ≡ 65540 }
 {
     VERSION
 }

@@ -16,3 +16,4 @@ pub mod RunsAnew
 pub mod RunsWithin
 pub mod StoredEntries
 pub mod TakenEntries
+pub mod Traced

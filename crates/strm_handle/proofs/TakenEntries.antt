@@ -6,8 +6,7 @@ use Rattle.std.proofs.lemmas.Option.{slice_get_read}
 use Rattle.std.specs.Prelude.{Bool, true, false, Option, Some, None, nat_le, nat_lt, get_or, slice_get, sum_by}
 use Rattle.strm_types.specs.declared.entries.Entry.{Entry}
 use Rattle.strm_types.specs.Journal.{PlainEntry, entry_in, entry_len, entries_in, room_of, room_used}
-use Rattle.strm_laws.specs.Pair.{PairState}
-use Rattle.strm_handle.specs.Entries.{Enters, StandsAt, Taking, Takes, TakesAt, taken_where}
+use Rattle.strm_handle.specs.Entries.{AreWhole, Enters, StandsAt, Taking, Takes, TakesAt, TakesStored, taken_where}
 use Rattle.strm_handle.proofs.StoredEntries.{StoredAt, of-own, room-stored, stored-at}
 
 none-at : (entries : List (Entry ℕ)) (bytes : List ℕ) (place : ℕ) → slice_get entries place ≡ None → slice_get (entries_in entries bytes) place ≡ None
@@ -15,32 +14,51 @@ none-at [] bytes place is = refl
 none-at (e ∷ entries) bytes zero is = absurd (cc)
 none-at (e ∷ entries) bytes (suc place) is = none-at entries (drop (entry_len e) bytes) place is
 
-module _ (entries : List (Entry ℕ)) (bytes : List ℕ) (p : PairState) (old new : Taking) (n : ℕ) (stored : entries_in entries bytes ≡ p.journal) where
+some-at : (entries : List (Entry ℕ)) (bytes : List ℕ) (place : ℕ) (s : Entry ℕ) → slice_get entries place ≡ Some s
+    → (e : PlainEntry) × (slice_get (entries_in entries bytes) place ≡ Some e)
+some-at [] bytes place s is = absurd (cc)
+some-at (e ∷ entries) bytes zero s is = (entry_in e bytes, refl)
+some-at (e ∷ entries) bytes (suc place) s is = some-at entries (drop (entry_len e) bytes) place s is
+
+same-entry : (e f : PlainEntry) → Some e ≡ Some f → f ≡ e
+same-entry e f is = cc
+
+module _ (entries : List (Entry ℕ)) (bytes : List ℕ) (old new : Taking) (n : ℕ) where
+  abbrev Given : Type 0
+  Given = AreWhole entries bytes × StandsAt old.at (entries_in entries bytes)
+
   -- behind the last entry
-  pub takes-none : slice_get entries old.at.entry ≡ None → n ≡ 2 → new ≡ old → TakesAt p old new n
+  pub takes-none : slice_get entries old.at.entry ≡ None → n ≡ 2 → new ≡ old → TakesStored entries bytes old new n
   takes-none is told same =
-      let none : slice_get p.journal old.at.entry ≡ None = ap (λ es. slice_get es old.at.entry) (sym stored) ∙ none-at entries bytes old.at.entry is in
-      subst (λ (o : Option PlainEntry). Takes o (StandsAt old.at p) old new n) (sym none) (told, same)
+      subst (λ (o : Option PlainEntry). Takes o Given old new n) (sym (none-at entries bytes old.at.entry is)) (told, same)
 
   -- an entry whose bytes stand at the cursor
-  pub takes-some : (s : Entry ℕ) → sum_by entry_len entries ≡ length bytes → slice_get entries old.at.entry ≡ Some s
+  pub takes-some : (s : Entry ℕ) → slice_get entries old.at.entry ≡ Some s
       → (old.at.byte + entry_len s ≤ length bytes → taken_where (nat_le (room_of (entry_in s (drop old.at.byte bytes))) (length old.out)) (entry_in s (drop old.at.byte bytes)) old new n)
-      → TakesAt p old new n
-  takes-some s lengths is so =
+      → TakesStored entries bytes old new n
+  takes-some s is so =
+      let found = some-at entries bytes old.at.entry s is in
       let from : ℕ = room_used (take old.at.entry (entries_in entries bytes)) in
-      let there : StoredAt entries bytes old.at.entry s from = stored-at entries bytes old.at.entry s lengths is in
-      let some : slice_get p.journal old.at.entry ≡ Some (entry_in s (drop from bytes)) = ap (λ es. slice_get es old.at.entry) (sym stored) ∙ there.is in
-      subst (λ (o : Option PlainEntry). Takes o (StandsAt old.at p) old new n) (sym some)
-      (λ stands. let same : old.at.byte ≡ from = stands ∙ ap (λ es. room_used (take old.at.entry es)) (sym stored) in
-      subst (λ k. taken_where (nat_le (room_of (entry_in s (drop k bytes))) (length old.out)) (entry_in s (drop k bytes)) old new n) same (so (omega (arith, there.within, same))))
+      subst (λ (o : Option PlainEntry). Takes o Given old new n) (sym found.1)
+      (λ given. let there : StoredAt entries bytes old.at.entry s from = stored-at entries bytes old.at.entry s given.0 is in
+      let stands : old.at.byte ≡ from = given.1 in
+      subst (λ (e : PlainEntry). taken_where (nat_le (room_of e) (length old.out)) e old new n) (same-entry found.0 (entry_in s (drop from bytes)) (sym found.1 ∙ there.is))
+      (subst (λ k. taken_where (nat_le (room_of (entry_in s (drop k bytes))) (length old.out)) (entry_in s (drop k bytes)) old new n) stands (so (omega (arith, there.within, stands)))))
+
+-- An entry of a whole journal is taken as of a plain one.
+pub takes-whole : (o : Option PlainEntry) (whole stands : Type 0) (old new : Taking) (n : ℕ) → whole → Takes o (whole × stands) old new n → Takes o stands old new n
+takes-whole None whole stands old new n is told = told
+takes-whole (Some e) whole stands old new n is told = λ given. told (is, given)
+
+pub takes-journal : (entries : List (Entry ℕ)) (bytes : List ℕ) (journal : List PlainEntry) (old new : Taking) (n : ℕ)
+    → entries_in entries bytes ≡ journal → sum_by entry_len entries ≡ length bytes → TakesStored entries bytes old new n → TakesAt journal old new n
+takes-journal entries bytes journal old new n is whole told =
+    subst (λ (es : List PlainEntry). TakesAt es old new n) is
+    (takes-whole (slice_get (entries_in entries bytes) old.at.entry) (AreWhole entries bytes) (StandsAt old.at (entries_in entries bytes)) old new n whole told)
 
 -- what a slice lends
 pub is-there : (entries : List (Entry ℕ)) (place : ℕ) (s : Entry ℕ) → true ≡ nat_lt place (length entries) → s ≡ get_or entries place s → slice_get entries place ≡ Some s
 is-there entries place s within is = slice_get_read entries (length entries) place s refl (ltb-true place (length entries) (sym within)) is
-
--- no entry has more bytes than the journal
-pub stored-short : (entries : List (Entry ℕ)) (bytes : List ℕ) (place : ℕ) (s : Entry ℕ) → sum_by entry_len entries ≡ length bytes → slice_get entries place ≡ Some s → entry_len s ≤ length bytes
-stored-short entries bytes place s lengths is = let there = stored-at entries bytes place s lengths is in omega (arith, there.within)
 
 module _ (s : Entry ℕ) (bytes : List ℕ) (le : entry_len s ≤ length bytes) (old new : Taking) (n : ℕ) (reads : Enters new.told s)
     (sum : new.told.brings + new.told.reply.bytes ≡ entry_len s) where

@@ -1,5 +1,5 @@
 -- Which entry of a journal a C program is told, and what taking one does.
-use Rattle.std.specs.Prelude.{ℕ, ◌≡◌, ◌+◌, ◌≤◌, ◌==◌, nat_le, if◌then◌else◌, Bool, true, false, List, length, take, drop, Option, None, Some, slice_get}
+use Rattle.std.specs.Prelude.{ℕ, ◌≡◌, ◌+◌, ◌≤◌, ◌==◌, nat_le, if◌then◌else◌, Bool, true, false, List, length, take, drop, Option, None, Some, slice_get, sum_by}
 use Rattle.strm_types.specs.declared.answers.Turn.{Turn}
 use Rattle.strm_types.specs.declared.entries.Entry.{Entry}
 use Rattle.strm_types.specs.declared.entries.Entry.TheVariants.{Called, Turned}
@@ -7,8 +7,7 @@ use Rattle.strm_types.specs.declared.events.Caller.{Caller}
 use Rattle.strm_types.specs.declared.names.QueueName.{QueueName}
 use Rattle.strm_types.specs.Events.{Request}
 use Rattle.strm_types.specs.Events as events
-use Rattle.strm_types.specs.Journal.{PlainEntry, entry_in, entry_len, room_of, room_used}
-use Rattle.strm_laws.specs.Pair.{PairState}
+use Rattle.strm_types.specs.Journal.{PlainEntry, entries_in, entry_in, entry_len, room_of, room_used}
 use Rattle.strm_handle.specs.declared.entries.Cursor.{Cursor}
 use Rattle.strm_handle.specs.declared.entries.Entered.{Entered}
 use Rattle.strm_handle.specs.Numbers.{queue_at, turn_at}
@@ -33,9 +32,9 @@ entry_at told bytes =
 abbrev pub Enters : Entered → Entry ℕ → Type 0
 Enters told entry = (bytes : List ℕ) → entry_len entry ≤ length bytes → entry_at told bytes ≡ Some (entry_in entry bytes)
 
--- A cursor stands at an entry where it counts the bytes of all that are in front of it.
-abbrev pub StandsAt : Cursor → PairState → Type 0
-StandsAt at p = at.byte ≡ room_used (take at.entry p.journal)
+-- A cursor stands at an entry of a journal where it counts the bytes of all that are in front of it.
+abbrev pub StandsAt : Cursor → List PlainEntry → Type 0
+StandsAt at journal = at.byte ≡ room_used (take at.entry journal)
 
 -- the memory of a caller who takes an entry
 pub record Taking : Type 0 where
@@ -71,10 +70,19 @@ abbrev pub Takes : Option PlainEntry → Type 0 → Taking → Taking → ℕ �
 Takes None stands old new n = (n ≡ 2) × (new ≡ old)
 Takes (Some e) stands old new n = stands → taken_where (nat_le (room_of e) (length old.out)) e old new n
 
-abbrev pub TakesAt : PairState → Taking → Taking → ℕ → Type 0
-TakesAt p old new n = Takes (slice_get p.journal old.at.entry) (StandsAt old.at p) old new n
+-- of a journal:
+abbrev pub TakesAt : List PlainEntry → Taking → Taking → ℕ → Type 0
+TakesAt journal old new n = Takes (slice_get journal old.at.entry) (StandsAt old.at journal) old new n
+
+-- of stored entries, each of which has its bytes:
+abbrev pub AreWhole : List (Entry ℕ) → List ℕ → Type 0
+AreWhole entries bytes = sum_by entry_len entries ≡ length bytes
+
+abbrev pub TakesStored : List (Entry ℕ) → List ℕ → Taking → Taking → ℕ → Type 0
+TakesStored entries bytes old new n =
+    Takes (slice_get (entries_in entries bytes) old.at.entry) (AreWhole entries bytes × StandsAt old.at (entries_in entries bytes)) old new n
 
 -- At a handle, whose pair stays; EINVAL for a closed one.
 abbrev pub NextEntry : Option KeptPair → Taking → Taking → ℕ → Type 0
 NextEntry None old new n = (n ≡ 1) × (new ≡ old)
-NextEntry (Some k) old new n = TakesAt k.pair old new n
+NextEntry (Some k) old new n = TakesAt k.pair.journal old new n

@@ -1,5 +1,5 @@
 -- A pair as a handle keeps it: with what its maker chose, whether a full journal begins anew, and how many blocks are in reserve.
-use Rattle.std.specs.Prelude.{ℕ, ◌≡◌, ◌<◌, ◌≤◌, ◌+◌, ◌&&◌, ◌||◌, Bool, true, false, not, nat_lt, nat_le, if◌then◌else◌, length, Option, None, Some, Result, Ok, Err}
+use Rattle.std.specs.Prelude.{ℕ, ◌≡◌, ◌<◌, ◌≤◌, ◌+◌, ◌&&◌, ◌||◌, Bool, true, false, not, nat_lt, nat_le, if◌then◌else◌, List, [], length, Option, None, Some, Result, Ok, Err}
 use Rattle.strm_types.specs.declared.events.Event.TheVariants.{Write, Put, Ioctl}
 use Rattle.strm_types.specs.declared.limits.Config.{Config}
 use Rattle.strm_types.specs.declared.names.Place.{Place}
@@ -36,6 +36,11 @@ pub record TakesAny (limits : Config) : Type 0 where
 pub record IsKept (k : KeptPair) : Type 0 where
   pub within : AreWithin k.pair.state
   pub anew : k.anew ≡ true → TakesAny k.pair.limits
+
+-- in memory: between calls no byte of an answer is there
+pub record IsHeld (k : KeptPair) (bytes : List ℕ) : Type 0 where
+  pub kept : IsKept k
+  pub answer : bytes ≡ []
 
 -- What is chosen for a pair that is made: 1 to 65536 blocks, of which no more are in reserve; a journal that begins anew takes any call.
 abbrev pub takes_any : Choices → Bool

@@ -8,3 +8,4 @@ pub mod Images
 pub mod Outcomes
 pub mod Ready
 pub mod Restored
+pub mod Traces

@@ -17,8 +17,8 @@ pub struct Handle {
     pub ghost told: { is_some held.kept ≡ is_open },
 }
 
-// A handle may go from thread to thread, with what it holds.
-fn sent<T: Send>(value: T) -> T
+/// A handle may go from thread to thread, with what it holds.
+pub(crate) fn sent<T: Send>(value: T) -> T
     ensures { result ≡ value }
 {
     value

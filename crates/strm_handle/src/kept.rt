@@ -8,6 +8,8 @@ ghost use Rattle.strm_types.specs.Numbers.{number_of};
 ghost use Rattle.strm_handle.specs.Kept.{is_full, is_held_back, made_at};
 ghost use Rattle.strm_handle.specs.Few.{FewAsked, FewBytes};
 ghost use Rattle.strm_handle.specs.Outcomes.{CallsAt, is_held, refused_before, refused_within, ask_refused, side_refused, turn_refused, Answers, AnswersAsk, AnswersSide, RunsQueues, Stay, Turns, TurnsFirst, no_bytes, number_told, run_refused, waits_told};
+ghost use Rattle.strm_handle.specs.Traces.{IsWhole};
+ghost use Rattle.strm_image.specs.Traces.{IsTrace};
 ghost use Rattle.strm_laws.specs.Pair.{new_pair, restarted};
 ghost use Rattle.strm_laws.specs.Refusals.{blocks_asked};
 
@@ -18,11 +20,13 @@ use crate::asks::Ask;
 use crate::numbers::{queue_of, side_of, went};
 use crate::replies::{Reply, Went};
 use crate::reserve::{has_blocks, has_many, sends};
+use crate::traces::copied;
 use std::alloc::Global;
 use std::marker::Model;
+use strm_image::Trace;
 use strm_pair::Pair;
 use strm_raw::RawStore;
-use strm_types::{Caller, Content, Event, Refusal, Side};
+use strm_types::{Caller, Content, Event, NoMemory, Refusal, Side};
 
 /// So many turns a run makes at most of a pair whose journal begins anew: two `ldterm`s that echo each other's echo never end.
 const TURNS_MAX: usize = 65536;
@@ -39,13 +43,13 @@ pub(crate) struct Kept {
 }
 
 impl Model for Kept {
-    ghost use Rattle.strm_handle.specs.Kept.{IsKept, KeptPair};
+    ghost use Rattle.strm_handle.specs.Kept.{IsHeld, KeptPair};
 
     ghost Value = { KeptPair };
 
     ghost view = { λ k. record { pair = k.pair; anew = k.anew; reserve = k.reserve } };
 
-    ghost invariant = { λ k. IsKept (record { pair = k.pair; anew = k.anew; reserve = k.reserve }) };
+    ghost invariant = { λ k. IsHeld (record { pair = k.pair; anew = k.anew; reserve = k.reserve }) k.answer.items };
 }
 
 /// The number that an export answers for a refusal.
@@ -277,11 +281,21 @@ impl Kept {
         self.pair.restart();
     }
 
-    /// Makes the pair as new, so that no byte of a message, a line or the journal is left in its memory.
+    /// Hands out the base of the journal and all that was entered since, and begins the journal anew. The memory is asked for first.
+    pub(crate) fn cut(&mut self, alloc: Global) -> Result<Trace, NoMemory>
+        ensures trace { IfOk result (λ t. IsTrace (self.old).pair t × IsWhole t) }
+        ensures restarted { IfOk result (λ _. self.new ≡ record self.old { pair = restarted (self.old).pair }) }
+        ensures stays { IfErr result (λ _. self.new ≡ self.old) }
+    {
+        let trace = copied(alloc, self.pair.journal())?;
+        self.restart();
+        Ok(trace)
+    }
+
+    /// Makes the pair as new, so that no byte of a message, a line or the journal is left in its memory; none of an answer is.
     pub(crate) fn wipe(&mut self)
         ensures { self.new.pair ≡ new_pair self.old.pair.limits }
     {
-        self.answer.clear();
         self.pair.reset();
     }
 }

@@ -1,7 +1,7 @@
 //! The journal of a pair, entry by entry, and its beginning anew.
 
-ghost use Rattle.std.specs.Prelude.{◌≡◌};
-ghost use Rattle.strm_handle.specs.Entries.{NextEntry, TakesAt, taking};
+ghost use Rattle.std.specs.Prelude.{◌≡◌, ◌+◌, ◌<◌, ◌≤◌, IfNone, IfSome};
+ghost use Rattle.strm_handle.specs.Entries.{NextEntry, TakesAt, TakesStored, taking};
 ghost use Rattle.strm_handle.specs.Outcomes.{Restarts};
 
 use crate::entries::{Cursor, Entered, numbers_of};
@@ -10,34 +10,62 @@ use crate::kept::{give, refused};
 use std::alloc::Global;
 use strm_pair::Pair;
 use strm_raw::RawStore;
-use strm_types::Refusal;
+use strm_types::{Entry, Refusal};
 
-// Takes the entry at a cursor.
-fn take_entry(pair: &Pair<RawStore>, at: &mut Cursor, told: &mut Entered, out: &mut [u8]) -> u32
-    ensures { TakesAt pair.now (taking at.old told.old out.old) (taking at.new told.new out.new) result }
+// Where the bytes of an entry end that begin at a place, of so many. None: they aren't all there.
+fn end_of(entry: &Entered, from: usize, kept: usize) -> Option<usize>
+    ensures there { IfSome result (λ end. (end ≡ from + (entry.now.brings + entry.now.reply.bytes)) × (end ≤ kept)) }
+    ensures lacking { IfNone result (kept < from + (entry.now.brings + entry.now.reply.bytes)) }
 {
-    let recorded = pair.journal();
-    let kept = recorded.bytes.len();
-    let Some(entry) = recorded.entries.get(at.entry) else {
+    if from > kept {
+        return None;
+    }
+    let left = kept - from;
+    if entry.brings > left {
+        return None;
+    }
+    if entry.reply.bytes > left - entry.brings {
+        return None;
+    }
+    Some(from + entry.brings + entry.reply.bytes)
+}
+
+/// Takes the entry at a cursor of a journal: its entries, and their bytes in order.
+pub(crate) fn take_entry(
+    entries: &[Entry<u32>],
+    bytes: &[u8],
+    at: &mut Cursor,
+    told: &mut Entered,
+    out: &mut [u8],
+) -> u32
+    ensures { TakesStored entries.now bytes.now (taking at.old told.old out.old) (taking at.new told.new out.new) result }
+{
+    let Some(entry) = entries.get(at.entry) else {
         return refused(Refusal::Eagain);
     };
     let entry = numbers_of(entry);
-    let room = entry.brings + entry.reply.bytes;
     // A cursor that stands at an entry has its bytes behind it.
-    if at.byte > kept || room > kept - at.byte {
+    let Some(behind) = end_of(&entry, at.byte, bytes.len()) else {
         return refused(Refusal::Einval);
-    }
+    };
     *told = entry;
-    if room > out.len() {
+    if behind - at.byte > out.len() {
         return refused(Refusal::Einval);
     }
-    let behind = at.byte + room;
-    give(&recorded.bytes[at.byte..behind], out);
+    give(&bytes[at.byte..behind], out);
     *at = Cursor {
         entry: at.entry + 1,
         byte: behind,
     };
     0
+}
+
+// Takes the entry at a cursor of a pair's journal.
+fn pair_entry(pair: &Pair<RawStore>, at: &mut Cursor, told: &mut Entered, out: &mut [u8]) -> u32
+    ensures { TakesAt (pair.now).journal (taking at.old told.old out.old) (taking at.new told.new out.new) result }
+{
+    let recorded = pair.journal();
+    take_entry(recorded.entries, recorded.bytes, at, told, out)
 }
 
 /// Takes the entry at a cursor, which moves behind it. `out` has room for the bytes of its call and those of its answer.
@@ -54,7 +82,7 @@ pub fn next_entry(
     let Some(kept) = handle.take(alloc) else {
         return refused(Refusal::Einval);
     };
-    let answered = take_entry(&kept.pair, at, told, out);
+    let answered = pair_entry(&kept.pair, at, told, out);
     handle.put(kept);
     answered
 }

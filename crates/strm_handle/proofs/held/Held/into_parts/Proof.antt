@@ -27,7 +27,8 @@ use denote.Triple.Table.{entered}
 use denote.Triple.Walked.{says, Stays, stay_dropped, walk_of, ends_at, Goes-dropped, walk_Meets}
 use Rattle.std_alloc.proofs.BoxSteps.Form.{D, word, box_typed}
 use Rattle.std_alloc.proofs.BoxSteps.Steps.{box_out, box_in}
-use Rattle.strm_handle.proofs.AsBox.{E, FromHeld as From, opened, opened-is}
+use Rattle.strm_handle.proofs.AsBox.{E, FromHeld as From}
+use Rattle.strm_handle.proofs.Opens.{opened, opened-is}
 use Rattle.strm_handle.specs.Held.{KeptValue, IsOpen}
 use Rattle.strm_handle.specs.contracts.held.Held as Held
 use Rattle.strm_handle.specs.contracts.held.Held.into_parts as F

@@ -18,18 +18,21 @@ use types.Part.{whole, sub, agg}
 use types.Run.{stop, fld, no_more, and_then, of_opd, returns, enter}
 use types.ByLocal.{alloc_all, pass_all, free_all, look_at, get, get_in, sets}
 use denote.Exit.{yes}
-use denote.Signature.{type_at}
+use denote.Signature.{Slot, type_at}
 use denote.Steps.{nothing}
 use denote.Triple.Spec.{triple_of}
 use denote.Triple.Table.{entered}
 use denote.Triple.Walked.{says, Stays, stay_dropped, walk_of, ends_at, Goes-dropped, walk_Meets}
 use Rattle.std_alloc.proofs.BoxSteps.Form.{D, B, word, box_typed}
 use Rattle.std_alloc.proofs.BoxSteps.Steps.{box_out, box_in}
-use Rattle.strm_handle.proofs.AsBox.{E, FromParts as From}
+use Rattle.strm_handle.proofs.AsBox.{E, FromParts}
 use Rattle.strm_handle.specs.contracts.held.Held.of_parts as F
 use Rattle.strm_handle.specs.contracts.held.Held.of_parts.Key.{name as #self}
 use Rattle.strm_handle.proofs.held.Held.of_parts.Statement as stated
 use Rattle.strm_handle.proofs.held.Held.of_parts.Code as code
+
+abbrev From : Slot 0
+From = FromParts E.row
 
 abbrev stayed : Stays (F.ended).signature.params (F.ended).kept
 stayed = (stay_dropped From yes, tt)

@@ -9,7 +9,7 @@ use Rattle.strm_handle.proofs.kept.Kept.run_on.Goals as goal
 pub invariant_of-self : goal.invariant_of-self
 invariant_of-self c =
     let k : KeptPair = record { pair = c.self.inside.pair; anew = c.self.inside.anew; reserve = c.self.inside.reserve } in
-    runs-kept c.runqueues-ran.result.turns k c.runqueues-ran.new.self c.self.invariant c.runqueues-ran.ensures.ran
+    record { kept = runs-kept c.runqueues-ran.result.turns k c.runqueues-ran.new.self c.self.invariant.kept c.runqueues-ran.ensures.ran; answer = c.self.invariant.answer }
 
 pub returns : goal.returns
 returns c =

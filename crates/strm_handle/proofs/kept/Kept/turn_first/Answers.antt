@@ -19,14 +19,17 @@ invariant_of-self c =
     let k : KeptPair = record { pair = c.self.inside.pair; anew = c.self.inside.anew; reserve = c.self.inside.reserve } in
     let at : PairState = begun k.anew (queue_refused k.pair c.in-Some.queue) k.pair in
     let stays = refused-by (queue_refused at c.in-Some.queue) c.turn_at.result c.turn_at.ensures.refused c.in-Err.refusal c.in-Err.is in
-    subst (λ (p : PairState). IsKept (record k { pair = p })) (sym stays.1) (begun-kept k (queue_refused k.pair c.in-Some.queue) c.self.invariant)
+    record { kept = subst (λ (p : PairState). IsKept (record k { pair = p })) (sym stays.1) (begun-kept k (queue_refused k.pair c.in-Some.queue) c.self.invariant.kept); answer = c.self.invariant.answer }
 
 pub invariant_of-self-2 : goal.invariant_of-self-2
 invariant_of-self-2 c =
     let k : KeptPair = record { pair = c.self.inside.pair; anew = c.self.inside.anew; reserve = c.self.inside.reserve } in
     let at : KeptPair = record k { pair = begun k.anew (queue_refused k.pair c.in-Some.queue) k.pair } in
-    stays-kept at (record k { pair = c.turn_at.new.pair }) (Turned c.in-Some.queue c.in_default-turn_at.field-0) (begun-kept k (queue_refused k.pair c.in-Some.queue) c.self.invariant)
-    (record { anew = refl; reserve = refl }) c.in_default-turn_at.ensures.adds
+    record {
+      kept = stays-kept at (record k { pair = c.turn_at.new.pair }) (Turned c.in-Some.queue c.in_default-turn_at.field-0) (begun-kept k (queue_refused k.pair c.in-Some.queue) c.self.invariant.kept)
+          (record { anew = refl; reserve = refl }) c.in_default-turn_at.ensures.adds;
+      answer = c.self.invariant.answer;
+    }
 
 pub returns-clause-ok : goal.returns-clause-ok
 returns-clause-ok c =
@@ -51,4 +54,4 @@ returns-in-Err-clause-goes_on c =
     let at : PairState = begun k.anew (queue_refused k.pair c.in-Some.queue) k.pair in
     let stays = refused-by (queue_refused at c.in-Some.queue) c.turn_at.result c.turn_at.ensures.refused c.in-Err.refusal c.in-Err.is in
     let first = refused-first k c.turn_at.new.pair c.in-Some.queue c.in-Err.refusal (sym c.first_enabled.ensures ∙ c.in-Some.is) stays in
-    subst (λ (o : KeptPair). o.anew ≡ true → is_full (Some c.in-Err.refusal) ≡ false) c.self.view_is (first-other k (Some c.in-Err.refusal) new c.self.invariant first.0 first.1.0)
+    subst (λ (o : KeptPair). o.anew ≡ true → is_full (Some c.in-Err.refusal) ≡ false) c.self.view_is (first-other k (Some c.in-Err.refusal) new c.self.invariant.kept first.0 first.1.0)
