@@ -4,7 +4,7 @@ ghost use Rattle.std.specs.Prelude.{ℕ};
 ghost use Rattle.strm_types.specs.declared.names.ModuleName.TheVariants as names;
 
 use crate::ldterm::Ldterm;
-use crate::{pops, ending, ldterm, puts, queues, service_calls};
+use crate::{ending, ldterm, pops, puts, queues, service_calls};
 use strm_blocks::{Blocks, InHand};
 use strm_frame::{Acts, LetGo, Module, Served, TurnEnd};
 use strm_types::{Asks, Band, Fates, ModuleName, Rule, Side, Spot, Way};

@@ -17,11 +17,11 @@ ghost use Rattle.strm_ldterm.specs.Posting.{PoursAs, poured};
 ghost use Rattle.strm_ldterm.specs.Stands.{IsData, IsHeld, keeps, ldterm_in};
 
 use crate::first_steps::skip_empty;
-use crate::output_runs::{Flow, flow_out};
 use crate::ldterm::Ldterm;
+use crate::line_keys::gather;
+use crate::output_runs::{Flow, flow_out};
 use crate::plain_runs::run_most;
 use crate::service_calls::are_few;
-use crate::line_keys::gather;
 use arrayvec::ArrayVec;
 use strm_blocks::{Blocks, InHand};
 use strm_types::{Fates, Spot};

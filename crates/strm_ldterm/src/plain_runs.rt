@@ -20,13 +20,13 @@ ghost use Rattle.strm_ldterm.specs.PlainRuns.{MayRun, has_keys, is_plain, run_ec
 ghost use Rattle.strm_ldterm.specs.Stands.{IsData, IsHeld, keeps, ldterm_in, stage_in};
 ghost use Rattle.strm_ldterm.specs.Turns.{ahead, bytes_on, stages_left};
 
-use crate::first_steps::skip_empty;
 use crate::echoes::RUN_MAX;
-use crate::standing_echo::stand_run;
+use crate::first_steps::skip_empty;
 use crate::flushes::direction_at;
 use crate::ldterm::Ldterm;
-use crate::queues::echo_room;
 use crate::line_keys::gather;
+use crate::queues::echo_room;
+use crate::standing_echo::stand_run;
 use arrayvec::ArrayVec;
 use bitflags::Flags;
 use strm_blocks::{Blocks, InHand};

@@ -20,11 +20,11 @@ ghost use Rattle.strm_ldterm.specs.Stands.{ldterm_in, keeps, IsHeld};
 ghost use Rattle.strm_ldterm.specs.Does.{Alters, Does, Puts};
 ghost use Rattle.std.specs.Prelude.{true};
 
+use crate::answers::pass;
 use crate::behind::goes_behind;
 use crate::flushes::{flush_read, flush_write};
 use crate::ldterm::Ldterm;
 use crate::reads::asked_of;
-use crate::answers::pass;
 use arrayvec::ArrayVec;
 use strm_blocks::{Blocks, InHand};
 use strm_frame::{Acts, Outbox, Sent};

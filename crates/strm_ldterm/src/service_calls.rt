@@ -14,11 +14,11 @@ ghost use Rattle.strm_ldterm.specs.Turns.{needs, stages_left};
 
 use crate::call_ends::finish;
 use crate::ldterm::{Ldterm, Stage};
-use crate::turn_starts::{InputBegun, Passed, begin_input};
-use crate::write_turns::serve_output;
 use crate::plain_runs::treat_run;
 use crate::treated_bytes::{join, resume, treat_byte};
+use crate::turn_starts::{InputBegun, Passed, begin_input};
 use crate::wholes::{goes_up, pass_work};
+use crate::write_turns::serve_output;
 use arrayvec::ArrayVec;
 use strm_blocks::Blocks;
 use strm_frame::{Acts, Outbox, Served};

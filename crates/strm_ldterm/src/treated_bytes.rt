@@ -16,14 +16,14 @@ ghost use Rattle.strm_ldterm.specs.Does.{Proceeds};
 ghost use Rattle.strm_ldterm.specs.Quiet.{is_quiet};
 ghost use Rattle.strm_ldterm.specs.Turns.{ahead, leaves, needs, one_after, stages_left};
 
-use crate::first_steps::begin;
 use crate::echoes::{echo_of, of_slice, short_echo};
-use crate::standing_echo::echo;
+use crate::first_steps::begin;
 use crate::ldterm::{Ldterm, Stage};
+use crate::line_keys::{is_quiet, strike_quiet};
 use crate::sending_keys::{end_file, end_line, stop};
 use crate::signal_keys::signal;
+use crate::standing_echo::echo;
 use crate::strokes::stroke_of;
-use crate::line_keys::{is_quiet, strike_quiet};
 use arrayvec::ArrayVec;
 use std::mem;
 use strm_blocks::Blocks;

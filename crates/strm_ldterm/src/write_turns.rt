@@ -22,9 +22,9 @@ ghost use Rattle.strm_ldterm.specs.Turns.{stages_left};
 
 use crate::call_ends::return_rest;
 use crate::ldterm::Ldterm;
-use crate::turn_starts::{OutputBegun, Passed, begin_output};
 use crate::output::post_bytes;
 use crate::service_calls::of_whole;
+use crate::turn_starts::{OutputBegun, Passed, begin_output};
 use crate::wholes::{goes_down, post_whole};
 use arrayvec::ArrayVec;
 use strm_blocks::{Blocks, InHand};

@@ -8,7 +8,6 @@ ghost use Rattle.strm_pair.specs.Placing.{AreModuleTexts, AreStacked, module_blo
 use crate::images::made_modules::module_of;
 use crate::stacks::Stack;
 use strm_blocks::Blocks;
-use strm_frame::Stream;
 use strm_image::ModuleText;
 use strm_ldterm::Tables;
 
@@ -28,7 +27,7 @@ pub(crate) fn stack_of<B: Blocks>(
     requires room { HasRoom (B.value store.old) (sum_by module_blocks texts.now) }
     ensures { AreStacked (B.value store.old) (B.value store.new) first texts.now result.modules.items shelf.new }
 {
-    let mut stack = Stream::new();
+    let mut stack = Stack::new();
     for text in texts {
         stack.modules.push(module_of(store, first, shelf, text));
     }

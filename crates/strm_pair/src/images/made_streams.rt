@@ -9,8 +9,8 @@ ghost use Rattle.strm_pair.specs.Streams.{IsBlank};
 
 use crate::ends::StreamEnd;
 use crate::images::heads::head_of;
-use crate::images::made_stacks::stack_of;
 use crate::images::made_queues::queue_of;
+use crate::images::made_stacks::stack_of;
 use crate::streams::SideTables;
 use strm_blocks::Blocks;
 use strm_image::StreamText;

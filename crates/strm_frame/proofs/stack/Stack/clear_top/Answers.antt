@@ -7,7 +7,7 @@ use Rattle.strm_types.specs.Service.{cleared}
 use Rattle.strm_frame.specs.Does.{Clears}
 use Rattle.strm_frame.specs.Stacks.{all_in, all_of, AreHeld}
 use Rattle.strm_frame.proofs.Beside.{refilled}
-use Rattle.strm_frame.proofs.stack.Stream.clear_top.Goals as goal
+use Rattle.strm_frame.proofs.stack.Stack.clear_top.Goals as goal
 
 pub clear_among-requires-clause-held : goal.clear_among-requires-clause-held
 clear_among-requires-clause-held g c =

@@ -5,7 +5,7 @@ use Rattle.strm_blocks.specs.Blocks.{StoreValue}
 use Rattle.strm_frame.specs.Does.{Changes}
 use Rattle.strm_frame.specs.Stacks.{all_in, all_of, AreHeld}
 use Rattle.strm_frame.proofs.Beside.{refilled}
-use Rattle.strm_frame.proofs.stack.Stream.let_wait_past.Goals as goal
+use Rattle.strm_frame.proofs.stack.Stack.let_wait_past.Goals as goal
 
 pub returns-clause-does : goal.returns-clause-does
 returns-clause-does g c =

@@ -6,7 +6,7 @@ use Rattle.strm_types.specs.Service.{turn_ended, end_relieves, has_more}
 use Rattle.strm_frame.specs.Does.{EndsTurn}
 use Rattle.strm_frame.specs.Stacks.{all_in, all_of, AreHeld}
 use Rattle.strm_frame.proofs.Beside.{refilled}
-use Rattle.strm_frame.proofs.stack.Stream.end_turn.Goals as goal
+use Rattle.strm_frame.proofs.stack.Stack.end_turn.Goals as goal
 
 pub returns-clause-does : goal.returns-clause-does
 returns-clause-does g c =

@@ -7,7 +7,7 @@ use Rattle.strm_frame.specs.Hands.{CanPut, HasRoom}
 use Rattle.strm_frame.specs.Outboxes.{message_in}
 use Rattle.strm_frame.specs.Stacks.{all_in, all_of, AreHeld}
 use Rattle.strm_frame.proofs.Beside.{refilled}
-use Rattle.strm_frame.proofs.stack.Stream.put.Goals as goal
+use Rattle.strm_frame.proofs.stack.Stack.put.Goals as goal
 use Rattle.strm_blocks.specs.Blocks.{token}
 
 pub put_among-requires-clause-within : goal.put_among-requires-clause-within

@@ -6,7 +6,7 @@ use Rattle.strm_frame.specs.Does.{Serves}
 use Rattle.strm_frame.specs.Serves.{served_among, stop_of}
 use Rattle.strm_frame.specs.Stacks.{all_in, all_of, AreHeld}
 use Rattle.strm_frame.proofs.Beside.{refilled}
-use Rattle.strm_frame.proofs.stack.Stream.serve.Goals as goal
+use Rattle.strm_frame.proofs.stack.Stack.serve.Goals as goal
 
 pub returns-clause-does : goal.returns-clause-does
 returns-clause-does g c =
