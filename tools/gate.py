@@ -25,7 +25,7 @@ TICKS = os.sysconf("SC_CLK_TCK")
 PAGE, HEADING = "docs/GATE.md", "## What it costs"
 CLOSING = re.compile(r"^(\d+) passed, (\d+) failed\b")
 # Crates of tests alone: their lines aren't counted.
-TESTS = re.compile(r"/strm_(tests|scenes)/|/tests/|tests\.rt$")
+TESTS = re.compile(r"/strm_(tests|scenes|threads)/|/tests/|tests\.rt$")
 
 
 def text_of(path):
