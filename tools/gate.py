@@ -185,8 +185,9 @@ def table(seen, wall, used, closing):
     yield from (row_of(*row) for row in rows)
     yield ""
     share = 100 * whole[5] / max(used, 1)
-    yield f"`{closing}`: {wall / 60:.0f} minutes by the clock on {os.cpu_count()} cores in {os.environ.get('RT_JOBS', '1')} lanes, " \
-        f"{used / 60:.0f} of the processor; wrong bodies are {share:.0f} % of it."
+    lanes = f" in {os.environ['RT_JOBS']} lanes" if os.environ.get("RT_JOBS") else ""
+    yield f"`{closing}`: {wall / 60:.0f} minutes by the clock on {len(os.sched_getaffinity(0))} cores{lanes}, {used / 60:.0f} of the processor; " \
+        f"wrong bodies are {share:.0f} % of it."
 
 
 def write_table(lines):

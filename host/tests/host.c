@@ -8,6 +8,7 @@
 #include <stdio.h>
 #include <stdlib.h>
 #include <string.h>
+#include <sys/stat.h>
 #include <sys/wait.h>
 #include <time.h>
 #include <unistd.h>
@@ -15,6 +16,7 @@
 #include <strm_host.h>
 
 #define ROOM 65536
+#define LATE 120 /* seconds in which anything comes, on a machine with much else to do too */
 
 static int passed, failed, skipped;
 static const char *program, *fixed;
@@ -121,7 +123,7 @@ static bool shown(const session *s, const char *text) { return s->n == strlen(te
 static int ends(session *s)
 {
     int status = -1;
-    double end = now() + 5;
+    double end = now() + LATE;
     while (!strm_host_ended(s->host) && now() < end) {
         pumps(s);
         poll(NULL, 0, 1);
@@ -139,11 +141,11 @@ static void lines_go_one_by_one(void)
     static const char *const kinds[] = { "lines", "lines", "busy" }, *const naps[] = { "0", "1", "0" };
     static session s;
     int k, joined = 0, ended = 0;
-    for (k = 0; k < 200; k++) {
+    for (k = 0; k < 200 && ended == k && !joined; k++) {
         starts(&s, kinds[k % 3], naps[k % 3]);
-        shows(&s, "> ", 5);
+        shows(&s, "> ", LATE);
         types(&s, "one\rtwo\rthree\rfour\r\004");
-        shows(&s, "end", 5);
+        shows(&s, "end", LATE);
         joined += !memmem(s.shown, s.n, "[one]", 5) || !memmem(s.shown, s.n, "[two]", 5) || !memmem(s.shown, s.n, "[three]", 7)
                   || !memmem(s.shown, s.n, "[four]", 6) || memchr(s.shown, 4, s.n);
         ended += !ends(&s);
@@ -160,7 +162,7 @@ static void modes_stand_in_their_place(void)
     for (k = 0; k < 50; k++) strcat(want, "a\r\nb\nc\r\n");
     for (k = 0; k < 3; k++) {
         starts(&s, "turns", when[k]);
-        rests(&s, 10);
+        rests(&s, LATE);
         is("output under modes that are taken back at once", shown(&s, want), &s);
         ends(&s);
     }
@@ -170,9 +172,9 @@ static void a_secret_has_no_echo(const char *path, const char *name)
 {
     static session s;
     begins(&s, path, "secret", NULL, 256, 8192);
-    shows(&s, "word: ", 5);
+    shows(&s, "word: ", LATE);
     types(&s, "hus\003h\r");
-    rests(&s, 5);
+    rests(&s, LATE);
     is(name, shown(&s, "word: \r\n(hus\003h)\r\n"), &s);
     ends(&s);
 }
@@ -181,13 +183,13 @@ static void raw_keys(const char *path, const char *name)
 {
     static session s;
     begins(&s, path, "raw", NULL, 256, 8192);
-    shows(&s, "raw", 5);
+    shows(&s, "raw", LATE);
     types(&s, "ab");
     rests(&s, 0.2);
     types(&s, "c");
-    shows(&s, ">", 5);
+    shows(&s, ">", LATE);
     types(&s, "\003\004q");
-    rests(&s, 5);
+    rests(&s, LATE);
     is(name, shown(&s, "raw<3:abc><3:\003\004q>"), &s);
     ends(&s);
 }
@@ -197,9 +199,9 @@ static void windows(void)
     static session s;
     strm_winsize size = { 30, 100, 0, 0 };
     starts(&s, "window", NULL);
-    shows(&s, "ready", 5);
+    shows(&s, "ready", LATE);
     strm_host_resize(s.host, &size);
-    shows(&s, "again", 5);
+    shows(&s, "again", LATE);
     is("SIGWINCH, by the host and by the program itself", shown(&s, "ready[30 100]again"), &s);
     strm_get_winsize(&s.pair, STRM_SLAVE, &size);
     is("the window that the program set is the pair's", size.rows == 7 && size.columns == 100, &s);
@@ -216,18 +218,18 @@ static void full_journals(void)
     int whole[2] = { 0, 0 }, fulls = 0, k;
     size_t entries;
     for (k = 0; k < 50; k++) strcat(want, "a\r\nb\nc\r\n");
-    for (entries = 16; entries < 80; entries++) {
+    for (entries = 16; entries < 80 && whole[0] == (int)entries - 16; entries++) {
         int why;
         begins(&s, program, "window", NULL, 256, entries);
-        shows(&s, "ready", 5);
+        shows(&s, "ready", LATE);
         while ((why = strm_host_resize(s.host, &size)) == ENOSPC && !strm_restart(&s.pair)) fulls++;
-        shows(&s, "again", 5);
+        shows(&s, "again", LATE);
         whole[0] += !why && shown(&s, "ready[30 100]again");
         ends(&s);
     }
-    for (entries = 16; entries < 80; entries += 3) {
+    for (entries = 16; entries < 80 && 3 * whole[1] == (int)entries - 16; entries += 3) {
         begins(&s, program, "turns", when[entries % 3], 256, entries);
-        rests(&s, 10);
+        rests(&s, LATE);
         whole[1] += shown(&s, want);
         ends(&s);
     }
@@ -239,12 +241,12 @@ static void counts_and_flushes(void)
 {
     static session s;
     starts(&s, "count", NULL);
-    shows(&s, "> ", 5);
+    shows(&s, "> ", LATE);
     types(&s, "one\rtwo\runfinished");
-    shows(&s, "[8]", 5);
-    shows(&s, "[0]", 5);
+    shows(&s, "[8]", LATE);
+    shows(&s, "[0]", LATE);
     types(&s, "three\r");
-    rests(&s, 5);
+    rests(&s, LATE);
     is("FIONREAD counts all lines, and TCIFLUSH takes them", memmem(s.shown, s.n, "[8]", 3) && memmem(s.shown, s.n, "[0]", 3)
        && memmem(s.shown, s.n, "[three]", 7), &s);
     ends(&s);
@@ -259,12 +261,12 @@ static void false_rests(void)
     for (k = 0; k < sizeof asks / sizeof *asks; k++) {
         starts(&s, "asks", asks[k]);
         began = now();
-        is(asks[k], rests(&s, 5) && now() - began < 2 && shown(&s, "asks"), &s);
+        is(asks[k], rests(&s, LATE) && now() - began < LATE / 2 && shown(&s, "asks"), &s);
         types(&s, "x\r");
         ends(&s);
     }
     starts(&s, "asks", "nap");
-    is("a poll with a time-out is no rest", rests(&s, 5) && shown(&s, "askslate"), &s);
+    is("a poll with a time-out is no rest", rests(&s, LATE) && shown(&s, "askslate"), &s);
     types(&s, "x\r");
     ends(&s);
 }
@@ -274,12 +276,12 @@ static void interrupts(void)
     static session s;
     int status;
     starts(&s, "lines", "0");
-    shows(&s, "> ", 5);
+    shows(&s, "> ", LATE);
     types(&s, "abc\003");
     status = ends(&s);
     is("an INTR key", WIFSIGNALED(status) && WTERMSIG(status) == SIGINT, &s);
     starts(&s, "lines", "0");
-    shows(&s, "> ", 5);
+    shows(&s, "> ", LATE);
     is("kill", !strm_host_kill(s.host, SIGTERM), &s);
     status = ends(&s);
     is("and its status", WIFSIGNALED(status) && WTERMSIG(status) == SIGTERM, &s);
@@ -305,14 +307,14 @@ static void terminals_that_are_taken(void)
     static session s;
     int status;
     starts(&s, "takes", NULL);
-    if (!shows(&s, "> ", 5)) {
+    if (!shows(&s, "> ", LATE)) {
         status = ends(&s);
         if (WIFEXITED(status) && WEXITSTATUS(status) == 77) skipped++, printf("skipped vhangup(2): no right to it\n");
         else is("a terminal that was taken by vhangup(2)", false, &s);
         return;
     }
     types(&s, "one\rtwo\r\004");
-    shows(&s, "end", 5);
+    shows(&s, "end", LATE);
     is("a terminal that was taken by vhangup(2)", memmem(s.shown, s.n, "[one]", 5) && memmem(s.shown, s.n, "[two]", 5), &s);
     ends(&s);
 }
@@ -320,12 +322,21 @@ static void terminals_that_are_taken(void)
 static void who_outlives_the_program(void)
 {
     static session s;
-    char *words[] = { (char *)"sh", (char *)"-c", (char *)"trap '' HUP; (sleep .3; echo late) & echo first", NULL };
+    char fifo[] = "/tmp/strmXXXXXX";
+    char *words[] = { (char *)"sh", (char *)"-c", (char *)"trap '' HUP; (read x <$0; echo late) & echo first", fifo, NULL };
+    int told = mkstemp(fifo);
     memset(&s, 0, sizeof s);
+    close(told);
+    unlink(fifo);
+    if (told < 0 || mkfifo(fifo, 0600)) exit(2);
     if (strm_new(&s.pair, 256, 8192, 262144) || strm_open_terminal(&s.pair) || strm_host_spawn(&s.host, &s.pair, words, NULL, NULL)) exit(2);
     while (!strm_host_ended(s.host)) rests(&s, 1);
     is("the end is the program's, not that of its children", shown(&s, "first\r\n"), &s);
-    is("and what they write is carried", shows(&s, "late", 5), &s);
+    told = open(fifo, O_WRONLY);
+    if (write(told, "\n", 1) != 1) exit(2);
+    close(told);
+    unlink(fifo);
+    is("and what they write is carried", shows(&s, "late", LATE), &s);
     strm_host_close(s.host);
     strm_free(&s.pair);
 }
@@ -346,7 +357,7 @@ static void an_idle_host_enters_nothing(void)
     size_t before;
     int k;
     starts(&s, "lines", "0");
-    rests(&s, 5);
+    rests(&s, LATE);
     before = entries_of(&s);
     for (k = 0; k < 1000; k++) pumps(&s), strm_host_waits(s.host);
     is("a thousand pumps of an idle host are no entry", entries_of(&s) == before, NULL);
@@ -380,14 +391,14 @@ static void ends_are_hard(void)
     double began;
     pid_t pid;
     starts(&s, "stays", NULL);
-    shows(&s, "stays", 5);
+    shows(&s, "stays", LATE);
     pid = strm_host_pid(s.host);
     began = now();
     strm_host_close(s.host);
-    is("who takes SIGHUP is killed", kill(pid, 0) < 0 && errno == ESRCH && now() - began < 2, &s);
+    is("who takes SIGHUP is killed", kill(pid, 0) < 0 && errno == ESRCH && now() - began < LATE / 2, &s);
     strm_free(&s.pair);
     starts(&s, "fails", NULL);
-    rests(&s, 5);
+    rests(&s, LATE);
     is("wrong arguments of the program are refused as Linux refuses them", shown(&s, "-1 1 -1 1 -1 1\r\n"), &s);
     ends(&s);
 }

@@ -12,7 +12,7 @@ use strm_host::{Host, Size};
 
 /// Carries on till the program waits or has ended: what was shown.
 fn rests(host: &mut Host) -> Vec<u8> {
-    let (mut shown, mut room, end) = (Vec::new(), [0; 4096], Instant::now() + Duration::from_secs(10));
+    let (mut shown, mut room, end) = (Vec::new(), [0; 4096], Instant::now() + Duration::from_secs(120));
     while Instant::now() < end {
         let seen = host.pump().expect("a pump");
         while let Ok(n) = host.pair().read(Side::Master, &mut room) {

@@ -5,12 +5,18 @@ import sys
 from typing import NamedTuple
 
 BASH = ["bash", "--norc", "--noprofile", "-i"]
+# Waits till the job that was started last has stopped, or has ended, and bash knows it.
+STOPS = (
+    b"stops() { until grep -q '^State:.T' /proc/$!/status; do sleep .02; done; sleep .3; }; "
+    b"ends() { while [ -e /proc/$! ]; do sleep .02; done; }\r"
+)
+ASKS = 20.0
 
 
 class Program(NamedTuple):
     words: list
     steps: list
-    quiet: float = 20.0  # where it never asks without a time-out: how long nothing is shown, before the next step comes
+    quiet: float = ASKS  # where it never asks without a time-out: how long nothing is shown, before the next step comes
     hides: bytes = rb"(?!)"
     needs: tuple = ()  # programs beside the first word
     relay: bool = False  # it asks for keys while another program is at work, so the time alone tells that it rests
@@ -68,12 +74,12 @@ PROGRAMS = {
         BASH,
         [
             b"cat\r", b"\x03", b"cat\r", b"\x1a", b"jobs\r", b"fg\r", b"resumed\r", b"\x04", b"sleep 100\r", b"\x1a", b"bg >/dev/null\r", b"jobs\r",
-            b"kill %1; wait\r", b"cat & sleep .3\r", b"jobs\r", b"fg\r", b"a line\r", b"\x04", b"stty tostop; (echo shown) & sleep .3\r", b"jobs\r",
-            b"fg\r", b"stty -tostop; (echo shown) & sleep .3\r", b"(stty -echo; echo set) & sleep .3\r", b"fg\r", b"stty echo\r", b"cat\r",
-            b"typed\r", b"\x1c",
+            b"kill %1; wait\r", STOPS, b"cat & stops\r", b"jobs\r", b"fg\r", b"a line\r", b"\x04", b"stty tostop; (echo shown) & stops\r", b"jobs\r",
+            b"fg\r", b"stty -tostop; mkfifo f; (read x <f; echo shown) & echo >f; ends\r", b"(stty -echo; echo set) & stops\r", b"fg\r",
+            b"stty echo\r", b"cat\r", b"typed\r", b"\x1c",
             b"trap 'echo INT' INT; read x\r", b"\x03", b"\r", b"sh -c 'kill -TSTP $$; echo on'\r", b"fg\r", b"exit\r",
         ],
-        quiet=1.5,
+        quiet=3.0,
         hides=rb"\[1\] \d+",
     ),
     "dash": Program(
@@ -83,7 +89,7 @@ PROGRAMS = {
     "zsh": Program(
         ["zsh", "-f", "-i"],
         [
-            b"echo one\r", b"ech two\x01\x06\x06\x06o\r", b"cat\r", b"x\r", b"\x04", b"sleep 50\r", b"\x1a", b"jobs\r", b"kill %1; sleep .3\r",
+            b"echo one\r", b"ech two\x01\x06\x06\x06o\r", b"cat\r", b"x\r", b"\x04", b"sleep 50\r", b"\x1a", b"jobs\r", b"kill %1; wait\r",
             b"exit\r",
         ],
         0.8,
@@ -117,10 +123,11 @@ PROGRAMS = {
     ),
     "nvi": Program(["nvi", "-e", "text"], keys("1,3p\r", "a\r", "new\r", ".\r", "%s/line/LINE/\r", "q!\r")),
     "nano": Program(["nano", "-I", "new"], keys("hello\rworld", "\x01", "\x0b", (20, 70), "\x15", "\x18", "n"), 0.6),
-    "joe": Program(["joe", "-asis", "text"], keys("abc", "\x1b[B", "\x0bx"), 0.8, rb"\d\d?:\d\d"),
+    # (of several keys it shows the first ones earlier, where it has the time)
+    "joe": Program(["joe", "-asis", "text"], keys("a", "b", "c", "\x1b[B", "\x0b", "x"), 0.8, rb"\d\d?:\d\d"),
     "less": Program(["less", "-X", "long"], keys(" ", "G", "g", "/line 50\r", "n", "-N\r", (20, 70), "q"), 0.6),
     "more": Program(["more", "long"], keys(" ", "\r", "h", " ", "q"), 0.6),
-    "most": Program(["most", "long"], keys(" ", "b", "G", "q"), 0.6),
+    "most": Program(["most", "long"], keys(" ", "b", "G", "7\r", "q"), 0.6),
     "python": Program(
         [sys.executable, "-q", "-I"],
         [
@@ -137,7 +144,8 @@ PROGRAMS = {
         keys("select 6*7;\r", "create table t(a);\r", "insert into t\r", "values (1),(2);\r", "select * from t;\r", ".quit\r"),
     ),
     "gdb": Program(["gdb", "-q", "-nx"], keys("print 6*7\r", "set confirm off\r", "info line\r", "help x\r", "q\r", "quit\r"), 5.0),
-    "rlwrap": Program(["rlwrap", "-H", "/dev/null", "cat"], keys("one\r", "tw\x7fwo\r", "\x1b[A\r", "\x04"), 0.6, relay=True),
+    # (it shows a prompt where the program has said nothing for so many ms)
+    "rlwrap": Program(["rlwrap", "-w", "1000", "-H", "/dev/null", "cat"], keys("one\r", "tw\x7fwo\r", "\x1b[A\r", "\x04"), 2.0, relay=True),
     "script": Program(
         ["script", "-q", "-c", "bash --norc --noprofile -i", "log"],
         [
@@ -162,7 +170,7 @@ PROGRAMS = {
     "whiptail": Program(["whiptail", "--yesno", "sure?", "10", "40"], keys("\t", "\t", "\r"), 0.6),
     "su": Program(["su", "-s", "/bin/sh", "nobody", "-c", "stty -a | grep -c icanon; read x; echo [$x]"], keys("ab\x7fc\r"), 0.6),
     "ssh-keygen": Program(["ssh-keygen", "-q", "-t", "ed25519", "-f", "key"], keys("hush\r", "hust\r", "word\r", "word\r"), 1.0),
-    "expect": Program(["expect", "-c", "spawn -noecho cat; interact"], keys("x\r", "\x04"), 0.6, relay=True),
+    "expect": Program(["expect", "-c", "spawn -noecho cat; send_user here; interact"], keys("x\r", "\x04"), 0.6, relay=True),
     "watch": Program(["watch", "-t", "-n", "60", "echo same"], keys((20, 60), "\x03"), 1.0),
     "reset": Program(
         BASH,

@@ -1,5 +1,6 @@
-"""Sessions of a login server at once: sessions.py LOGIND FOLDER [SESSIONS [WRAPPER ..]]. Each is a connection of telnet that says its window, types
-into its shell and sees what it shows; then the journal of each is made again. The status is 1 where anything isn't as it should be."""
+"""Sessions of a login server at once: sessions.py LOGIND NAME [SESSIONS [WRAPPER ..]], whose journals go into a new folder that begins with NAME.
+Each is a connection of telnet that says its window, types into its shell and sees what it shows; then the journal of each is made again. The status
+is 1 where anything isn't as it should be."""
 import os
 import pathlib
 import re
@@ -7,13 +8,14 @@ import selectors
 import socket
 import subprocess
 import sys
+import tempfile
 import time
 
 sys.path.insert(0, str(pathlib.Path(__file__).parents[2] / "python"))
 
 from strm_record import read_journal, replay  # noqa: E402
 
-SECONDS = 240
+SECONDS = 240  # in which any session goes on, on a machine with much else to do too
 OFFERS = bytes([255, 251, 1, 255, 251, 3, 255, 253, 31])
 
 
@@ -36,11 +38,11 @@ class Session:
         self.socket.setblocking(False)
 
     def goes_on(self):
-        """Reads and types. True: it has ended."""
+        """Reads and types. True: it has ended; None: there was nothing to read."""
         try:
             data = self.socket.recv(65536)
         except BlockingIOError:
-            return False
+            return None
         except ConnectionError:
             data = b""
         self.seen += data
@@ -62,29 +64,44 @@ def free_port():
 
 
 def connects(port, server):
+    """Whether a server takes a session, which ends at once."""
     for _ in range(600):
         try:
-            return socket.create_connection(("127.0.0.1", port)).close()
+            socket.create_connection(("127.0.0.1", port)).close()
+            return server.poll() is None
         except ConnectionRefusedError:
             if server.poll() is not None:
                 break
             time.sleep(0.1)
+    return None
+
+
+def listening(program, words):
+    """A server, and its port, to which another one may have come first."""
+    for _ in range(5):
+        port = free_port()
+        server = subprocess.Popen([*program, str(port), *words])
+        if connects(port, server):
+            return port, server
+        server.kill()
+        server.wait()
     raise SystemExit("the server doesn't listen")
 
 
 def main():
-    logind, folder, number = sys.argv[1], sys.argv[2], int(sys.argv[3]) if len(sys.argv) > 3 else 100
-    port = free_port()
-    server = subprocess.Popen([*sys.argv[4:], logind, str(port), folder, "sh", "-i"])
-    connects(port, server)  # a session that ends at once
+    logind, folder, number = sys.argv[1], tempfile.mkdtemp(prefix=sys.argv[2]), int(sys.argv[3]) if len(sys.argv) > 3 else 100
+    port, server = listening([*sys.argv[4:], logind], [folder, "sh", "-i"])
     began, failed = time.monotonic(), 0
     sessions = [Session(k, port) for k in range(1, number + 1)]
     with selectors.DefaultSelector() as waits:
         for session in sessions:
             waits.register(session.socket, selectors.EVENT_READ, session)
-        while waits.get_map() and time.monotonic() - began < SECONDS:
+        moved = began
+        while waits.get_map() and time.monotonic() - moved < SECONDS:
             for key, _ in waits.select(1):
-                if key.data.goes_on():
+                ended = key.data.goes_on()
+                moved = moved if ended is None else time.monotonic()
+                if ended:
                     waits.unregister(key.fileobj)
     for session in sessions:
         if not session.is_whole:
@@ -93,7 +110,7 @@ def main():
     seconds = time.monotonic() - began
     server.terminate()
     try:
-        status = server.wait(60)
+        status = server.wait(SECONDS)
     except subprocess.TimeoutExpired:
         server.kill()
         status = "no answer to SIGTERM"

@@ -23,14 +23,16 @@ try:
 except ImportError as failure:
     MISSING = str(failure)
 
+LATE = 60  # seconds in which anything comes, on a machine with much else to do too
+LIMIT = 4 * LATE  # of what is expected to come sooner
 BASH = "bash --norc --noprofile -i"
-PLAIN = {"PS1": "$ ", "HISTFILE": "", "INPUTRC": "/dev/null", "LC_ALL": "C"}
+PLAIN = {"TERM": "xterm", "PS1": "$ ", "HISTFILE": "", "INPUTRC": "/dev/null", "LC_ALL": "C", "PROMPT_COMMAND": ""}
 
 
 @unittest.skipIf(MISSING, MISSING)
 class Programs(unittest.TestCase):
     def bash(self, **named):
-        child = spawn(BASH, env=PLAIN, **named)
+        child = spawn(BASH, env=PLAIN, timeout=LIMIT, **named)
         self.addCleanup(child.close)
         child.expect_exact("$ ")
         return child
@@ -38,7 +40,7 @@ class Programs(unittest.TestCase):
     def found(self, command, pattern, **named):
         """How long it took till a pattern was shown by a command."""
         began = time.monotonic()
-        with spawn("sh", ["-c", command], **named) as child:
+        with spawn("sh", ["-c", command], timeout=LIMIT, **named) as child:
             child.expect(pattern)
         return time.monotonic() - began
 
@@ -54,35 +56,35 @@ class Programs(unittest.TestCase):
         self.assertEqual((child.exitstatus, child.signalstatus, child.isalive()), (3, None, False))
 
     def test_three_false_rests(self):
-        self.assertLess(self.found("sleep 1; echo hi", "hi"), 5)
-        self.assertLess(self.found("bash -c 'read -t 1 || echo late'", "late"), 5)
+        self.assertLess(self.found("sleep 1; echo hi", "hi"), LATE)
+        self.assertLess(self.found("bash -c 'read -t 1 || echo late'", "late"), LATE)
         room = tempfile.mkdtemp()
         self.addCleanup(shutil.rmtree, room)
         fifo = os.path.join(room, "fifo")
-        self.assertLess(self.found(f"mkfifo {fifo}; (setsid sh -c 'sleep .5; echo x > {fifo}' &) ; cat {fifo}", "x"), 5)
+        self.assertLess(self.found(f"mkfifo {fifo}; (setsid sh -c 'sleep .5; echo x > {fifo}' &) ; cat {fifo}", "x"), LATE)
 
     def test_what_never_comes_is_told_at_once(self):
         began = time.monotonic()
-        with spawn("cat") as child, self.assertRaises(AtRest):
+        with spawn("cat", timeout=LIMIT) as child, self.assertRaises(AtRest):
             child.expect("never")
         with self.assertRaises(EOF):
             self.found("exit 3", "never")
-        self.assertLess(time.monotonic() - began, 5)
+        self.assertLess(time.monotonic() - began, LATE)
 
     def test_a_time_out_is_an_upper_limit(self):
         began = time.monotonic()
-        with spawn("sleep 50") as child:
+        with spawn("sleep 500") as child:
             with self.assertRaises(TIMEOUT):
                 child.expect("never", timeout=0.3)
             self.assertEqual(child.expect(["never", TIMEOUT], timeout=0.2), 1)
             self.assertTrue(child.terminate())
             self.assertEqual((child.signalstatus, child.exitstatus), (signal.SIGHUP, None))
-        self.assertLess(time.monotonic() - began, 5)
+        self.assertLess(time.monotonic() - began, LATE)
 
     def test_time_alone(self):
         with spawn("sh -c 'cat & sleep .3; echo late; kill %1; wait'") as child:
             child.rests = False
-            child.expect("late", timeout=5)
+            child.expect("late", timeout=LATE)
 
     def test_ends(self):
         with spawn("sh", ["-c", "trap '' HUP INT; echo ready; while :; do sleep 1; done"]) as child:
@@ -119,7 +121,7 @@ class Programs(unittest.TestCase):
         self.assertFalse(spawn("cat", echo=False).getecho())
         child.sendline("read -s -p 'word: ' w; echo; echo [$w]")
         child.expect("word: (?!')")
-        self.assertTrue(child.waitnoecho(timeout=5))
+        self.assertTrue(child.waitnoecho(timeout=LATE))
         child.sendline("hush")
         child.expect_exact("[hush]")
         self.assertNotIn(b"hush", child.before)
@@ -145,7 +147,8 @@ class Programs(unittest.TestCase):
     def test_by_hand(self):
         """interact between a pipe and a program."""
         code = "import sys; sys.path.insert(0, sys.argv[1]); from strm_expect import spawn; spawn('cat').interact(escape_character='q')"
-        done = subprocess.run([sys.executable, "-c", code, str(pathlib.Path(__file__).parents[1])], input=b"hi\rq", capture_output=True, timeout=30)
+        words = [sys.executable, "-c", code, str(pathlib.Path(__file__).parents[1])]
+        done = subprocess.run(words, input=b"hi\rq", capture_output=True, timeout=LIMIT)
         self.assertEqual((done.returncode, done.stdout[:4]), (0, b"hi\r\n"), done.stderr)
 
     def test_who_loops_is_broken_off(self):
@@ -157,7 +160,7 @@ class Programs(unittest.TestCase):
         with spawn(loops) as child, self.assertRaises(AtRest) as told:
             child.expect("never", timeout=1)
         self.assertIn("broken off", str(told.exception))
-        self.assertLess(time.monotonic() - began, 5)
+        self.assertLess(time.monotonic() - began, LATE)
 
     def test_small_pools(self):
         def copies(terminal):
@@ -186,7 +189,7 @@ class Records(unittest.TestCase):
 
     def test_an_idle_bridge_enters_nothing(self):
         with Pair.terminal() as pair, Bridge(["cat"], pair=pair) as bridge:
-            self.assertTrue(bridge.rests(5))
+            self.assertTrue(bridge.rests(LATE))
             before = self.entries(pair)
             for _ in range(200):
                 bridge.pump(), bridge.waits()
@@ -202,7 +205,7 @@ class Records(unittest.TestCase):
             with Bridge(BASH.split(), environment=PLAIN, pair=pair) as bridge:
                 for keys in (b"", b"seq 300\r", b"cat\r", b"a lin\x7fne\r", b"\x04", b"stty -echo; stty echo\r", b"exit\r"):
                     bridge.type(keys)
-                    self.assertTrue(bridge.rests(10))
+                    self.assertTrue(bridge.rests(LATE))
                     shown += bridge.take()
                     recorder.drain()
         self.assertGreater(pair.restarts, 1)
@@ -225,11 +228,11 @@ class Records(unittest.TestCase):
             "import os, signal, sys; sys.path.insert(0, sys.argv[1])\n"
             "from strm import Pair\nfrom strm_host import Bridge\nfrom strm_record import *\n"
             "pair = Pair(); recorder = Recorder(pair, [JournalWriter(sys.argv[2]), AsciicastWriter(sys.argv[3])]); pair.open_terminal()\n"
-            "bridge = Bridge(['seq', '50'], pair=pair); bridge.rests(10); bridge.take(); recorder.drain()\n"
+            "bridge = Bridge(['seq', '50'], pair=pair); bridge.rests(60); bridge.take(); recorder.drain()\n"
             "os.kill(os.getpid(), signal.SIGKILL)\n"
         )
         path, cast = self.room / "journal", self.room / "cast"
-        subprocess.run([sys.executable, "-c", code, str(pathlib.Path(__file__).parents[1]), path, cast], timeout=60)
+        subprocess.run([sys.executable, "-c", code, str(pathlib.Path(__file__).parents[1]), path, cast], timeout=LIMIT)
         whole, told = read_journal(path), read_asciicast(cast)
         self.assertEqual(replay(whole), [])
         self.assertTrue(told[1][-1][2].endswith(b"50\r\n"))

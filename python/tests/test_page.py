@@ -61,8 +61,27 @@ class Frames(unittest.TestCase):
         self.assertEqual(screen_of(b"lx\b \bs\r\n\x1b[1mtotal\x1b[0m\r\nabc\rX\x1b[K"), "ls\ntotal\nX")
 
 
-@unittest.skipUnless(BROWSER, "no chromium")
+def dumped(address, room):
+    """What a browser says and shows; a machine with much else to do lets it take its time, or end early."""
+    words = [BROWSER, "--headless", "--no-sandbox", "--disable-gpu", "--disable-dev-shm-usage", f"--user-data-dir={room}/profile"]
+    for _ in range(3):
+        try:
+            ran = subprocess.run([*words, "--enable-logging=stderr", "--dump-dom", address], capture_output=True, text=True, timeout=300)
+        except subprocess.TimeoutExpired:
+            continue
+        if "</body>" in ran.stdout:
+            return ran
+    return None
+
+
+def starts():
+    """Whether the browser shows any page at all here."""
+    with tempfile.TemporaryDirectory() as room:
+        return BROWSER and dumped("data:text/html,<p>page</p>", room)
+
+
 class Browser(unittest.TestCase):
+    @unittest.skipUnless(starts(), "no chromium, or it doesn't start")
     def test_five_steps_show_the_state_of_the_pair(self):
         journal = session()
         text, _ = page_of(journal, "<A> page")
@@ -84,8 +103,8 @@ class Browser(unittest.TestCase):
                         self.assertTrue(title in shown, f"step {number}: {title}")
 
     def dumped(self, address, room):
-        words = [BROWSER, "--headless", "--no-sandbox", "--disable-gpu", f"--user-data-dir={room}/profile", "--enable-logging=stderr"]
-        ran = subprocess.run([*words, "--dump-dom", address], capture_output=True, text=True, timeout=120)
+        ran = dumped(address, room)
+        self.assertTrue(ran, "the browser shows nothing")
         self.assertEqual([line for line in ran.stderr.split("\n") if "CONSOLE" in line], [])
         return ran.stdout
 

@@ -14,12 +14,21 @@ enum { PARTS = 8 };
 static strm_pair p = STRM_CLOSED;
 static strm_host *host;
 static uint8_t out[4096];
+static unsigned long restarts;
 
 static void must(int holds, const char *what)
 {
     if (holds) return;
     fprintf(stderr, "soak_host: %s\n", what);
     exit(1);
+}
+
+/* Whether a call is made again, as the journal was full. */
+static bool again(strm_refusal e)
+{
+    if (e != STRM_JOURNAL_FULL || strm_restart(&p)) return false;
+    restarts++;
+    return true;
 }
 
 /* Carries what is there; how many bytes were shown. */
@@ -30,16 +39,16 @@ static size_t shown(void)
     size_t n = 0;
     strm_refusal e;
     do e = strm_host_pump(host, &what);
-    while (e == STRM_JOURNAL_FULL && !strm_restart(&p));
+    while (again(e));
     must(!e, "a pump is refused");
     for (;;) {
         strm_reply r;
         e = strm_read(&p, STRM_MASTER, out, sizeof out, &r);
-        if (e == STRM_JOURNAL_FULL && !strm_restart(&p)) continue;
+        if (again(e)) continue;
         if (e) break;
         n += r.bytes;
     }
-    if (!n && !(what & STRM_HOST_MOVED)) must(poll(&ready, 1, 10000) > 0, "nothing is shown for ten seconds");
+    if (!n && !(what & STRM_HOST_MOVED)) must(poll(&ready, 1, 120000) > 0, "nothing is shown for two minutes");
     return n;
 }
 
@@ -50,7 +59,7 @@ static void line_passes(const char *line, size_t n)
     strm_refusal e;
     size_t seen = 0;
     do e = strm_write(&p, STRM_MASTER, line, n, &r);
-    while (e == STRM_JOURNAL_FULL && !strm_restart(&p));
+    while (again(e));
     must(!e && r.value == n, "a line isn't taken");
     while (seen < 2 * (n + 1)) seen += shown();
     must(seen == 2 * (n + 1), "bytes that nobody wrote");
@@ -80,6 +89,7 @@ int main(int count, char **words)
     unsigned long part = strtoul(words[1], NULL, 10) / PARTS;
     must(!strm_new(&p, 256, 8192, 262144) && !strm_open_terminal(&p), "no pair");
     must(!strm_host_spawn(&host, &p, cat, NULL, NULL), "cat isn't started");
+    while (restarts < 2) line_passes(line, sizeof line - 1); /* all memory of the journal is resident then */
     for (int at = 1; at <= PARTS; at++) {
         double began = used();
         for (unsigned long left = part; left > 0; left--) line_passes(line, sizeof line - 1);
