@@ -158,14 +158,23 @@ def returns(line, returned):
         yield "early return", [f"{indent}return {it};".replace(" ;", ";"), line]
 
 
-def pairs(one, other, known):
-    """What two lines may become: what stands on the one is exchanged with what stands on the other."""
+def pairs(one, other, known, is_called):
+    """What two lines, of a call's arguments or else, may become: what stands on the one is exchanged with what stands on the other."""
     for shape, kind in ((ARM, "arms swapped"), (FIELD, "argument")):
         first, second = shape.match(one), shape.match(other)
         if first and second and first[1] == second[1] and first[3] != second[3] and (shape is ARM or known.are_alike(first[2], second[2])):
             yield kind, [replaced(one, first, second[3], 3), replaced(other, second, first[3], 3)]
-    if re.fullmatch(rf"\s+{NAME},", one) and re.fullmatch(rf"\s+{NAME},", other):
+    first, second = (re.fullmatch(rf"(\s+)({NAME}),", it) for it in (one, other))
+    if first and second and is_called:
         yield "argument", [other, one]
+    elif first and second and known.are_alike(first[2], second[2]):
+        yield "argument", [f"{first[1]}{first[2]}: {second[2]},", f"{first[1]}{second[2]}: {first[2]},"]
+
+
+def stands_in_a_call(lines, at):
+    """Whether what is round a line is a call, and not a struct's fields."""
+    inner = len(lines[at]) - len(lines[at].lstrip())
+    return next((it.endswith("(") for it in reversed(lines[:at]) if it.strip() and len(it) - len(it.lstrip()) < inner), False)
 
 
 def slips_of(lines, at, known, head):
@@ -179,7 +188,7 @@ def slips_of(lines, at, known, head):
     for kind, new in (*statements(line), *returns(line, returned_by(head))):
         yield kind, 1, new
     if at + 1 < len(lines) and not PASSED.search(lines[at + 1]):
-        for kind, new in pairs(line, lines[at + 1], known):
+        for kind, new in pairs(line, lines[at + 1], known, stands_in_a_call(lines, at)):
             yield kind, 2, new
 
 
