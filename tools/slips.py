@@ -113,8 +113,8 @@ def operators(line):
     both_ways = [("comparison", TURNED), ("operator", OPERATORS)]
     for kind, pairs in (*both_ways, *((kind, [(new, old) for old, new in pairs]) for kind, pairs in both_ways), ("operator", PLAIN)):
         for old, new in pairs:
-            if old == " | " and re.search("=>|::|^ *[|]", line):
-                continue  # (a choice of patterns)
+            if old == " | " and re.search("=>|::|^ *[|]", line) or old == " || " and " || -> " in line:
+                continue  # (a choice of patterns, a closure)
             for found in re.finditer(rf"\b{old}\b" if old.isalpha() else re.escape(old), line):
                 yield kind, replaced(line, found, new)
 
