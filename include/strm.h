@@ -201,7 +201,7 @@ enum {
 
 /* An answer. `bytes` of it stand at the front of the caller's buffer, those of a control part before those of a data part. `value` is
  * a module, a count of bytes or messages, the number of an ioctl, a refusal, or a signal. Of a message `prio` is its band or HIPRI,
- * `parts` which parts it has, `size` how long its control part is; more_* say that more of that part waits (MORECTL, MOREDATA). Of
+ * `parts` which parts it has, `size` how long its control part is where it has both; more_* say that more of a part waits (MORECTL, MOREDATA). Of
  * SIZES `size` is how many bytes of data the first message has. */
 typedef struct strm_reply {
     size_t bytes;

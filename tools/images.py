@@ -138,7 +138,8 @@ def write_queue(q, version):
     if version == 1:
         bands = b"".join(write_flow(flow) for flow in q.flows[:FIRST_BANDS])
     else:
-        listed = [(band, flow) for band, flow in enumerate(q.flows) if flow != new_flow(q.at)]
+        new = new_flow(q.at)
+        listed = [(band, flow) for band, flow in enumerate(q.flows) if flow != new]
         bands = number(len(listed), 2) + b"".join(bytes([band]) + write_flow(flow) for band, flow in listed)
     messages = b"".join(bytes([m.kind, m.band]) + write_part(m.control) + write_part(m.data) for m in q.messages)
     return bytes([q.flags]) + bands + number(len(q.messages), 4) + messages

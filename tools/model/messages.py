@@ -8,6 +8,7 @@ M_DATA, M_PROTO, M_IOCTL, M_SETOPTS = 0x00, 0x01, 0x0E, 0x10
 M_IOCACK, M_IOCNAK, M_PCPROTO, M_PCSIG, M_FLUSH = 0x81, 0x82, 0x83, 0x84, 0x86
 M_STOP, M_START, M_HANGUP = 0x87, 0x88, 0x89
 BOOKED = (M_DATA, M_PROTO, M_PCPROTO)
+PROTOS = (M_PROTO, M_PCPROTO)
 FLUSHR, FLUSHW, FLUSHBAND = 1, 2, 4
 SIZE = 256
 # Bytes of a message block, and the count of references of its data block: a list of one number, which those that share it have.

@@ -3,7 +3,7 @@ import collections
 
 from .head import RMSGD, RMSGN, RNORM, RPROTDAT, RPROTDIS, RPROTNORM, Head, Refused, Waits
 from .messages import FLUSHBAND, FLUSHR, FLUSHW, M_DATA, M_FLUSH, M_HANGUP, M_IOCACK, M_IOCNAK, M_IOCTL, M_PCPROTO, M_PROTO
-from .messages import M_SETOPTS, M_START, M_STOP, Message, Pool, Queue, flushes
+from .messages import M_SETOPTS, M_START, M_STOP, Message, Pool, Queue, flushes, size_of
 from .modules import NAK_EINVAL, SETS, TIOCGPGRP, TIOCSIGNAL, TIOCSPGRP, TIOCSWINSZ, Ldterm, Pckt, Ptem, asked, header, message, other, refused
 
 RULES = ["read", "igncr", "erase-key", "erased", "killed", "eof-key", "signal-key", "flow-key", "lnext-key", "reprint-key", "line-full", "line-over",
@@ -29,7 +29,8 @@ Caller = collections.namedtuple("Caller", "group ignores orphaned", defaults=(0,
 
 
 class Pair:
-    def __init__(self, blocks):
+    def __init__(self, blocks, entries=ENTRIES, entry_bytes=ENTRY_BYTES):
+        self.limits = entries, entry_bytes
         self.pool, self.sides, self.locked, self.next = Pool(blocks), {"m": NEVER, "s": NEVER}, True, 1
         self.heads = {side: Head(self, side) for side in "ms"}
         self.modules, self.drivers = {"m": [], "s": []}, {"m": Queue(), "s": Queue()}
@@ -215,7 +216,7 @@ class Pair:
 
     def asks(self, entry_bytes, blocks=0):
         """Room in the journal, and free blocks."""
-        if self.entries >= ENTRIES or ENTRY_BYTES - self.entry_bytes < entry_bytes:
+        if self.entries >= self.limits[0] or self.limits[1] - self.entry_bytes < entry_bytes:
             raise Refused("JournalFull")
         if not self.pool.has(blocks):
             self.is_short = True
@@ -255,11 +256,15 @@ class Pair:
 
     def open_master(self):
         self.asks(0)
+        if self.sides["m"] != NEVER:
+            raise Refused("EINVAL")
         self.sides["m"] = OPEN
         self.enters()
 
-    def unlock(self):
-        self.opened("m", lasts=True)
+    def unlock(self, side="m"):
+        self.opened(side, lasts=True)
+        if side == "s":
+            raise Refused("EINVAL")
         self.asks(0)
         self.locked = False
         self.enters()
@@ -389,6 +394,13 @@ class Pair:
         self.reads(side)
         got = head.get(what, most_control, most_data)
         return self.enters(len(got[1] or b"") + len(got[2] or b""), got)
+
+    def stands(self, side):
+        """I_NREAD: how many messages stand at a head, and how many bytes of data the first one has."""
+        head = self.opened(side, lasts=True)
+        self.asks(0)
+        messages = head.r.messages
+        return self.enters(0, (len(messages), size_of(messages[0].data) if messages else 0))
 
     def set_mode(self, side, mode):
         head = self.opened(side, lasts=True)

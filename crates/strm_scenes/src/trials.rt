@@ -3,16 +3,12 @@
 mod cuts;
 mod imaging;
 mod ioctls;
-mod kept;
-mod ledgers;
 mod messages;
-mod recount;
 mod restarts;
 mod restoring;
 mod running;
 pub mod steps;
 pub mod texts;
-mod walk;
 
 use crate::trials::steps::*;
 use crate::trials::texts::buffer;
@@ -75,6 +71,20 @@ const FEW_BLOCKS: Config = Config {
 
 const ONE_BLOCK_MORE: Config = Config {
     mblks: 33,
+    dblks: 33,
+    journal_events: 10,
+    journal_bytes: 10,
+};
+
+const A_MESSAGE_BLOCK_MORE: Config = Config {
+    mblks: 33,
+    dblks: 32,
+    journal_events: 10,
+    journal_bytes: 10,
+};
+
+const A_DATA_BLOCK_MORE: Config = Config {
+    mblks: 32,
     dblks: 33,
     journal_events: 10,
     journal_bytes: 10,
@@ -261,7 +271,7 @@ const UNKNOWN: [Step<'static>; 8] = [
 ];
 
 // The runs of this file.
-const RUNS: [Run<'static>; 12] = [
+const RUNS: [Run<'static>; 14] = [
     Run {
         title: "bytes cross to the slave",
         sizes: SIZES,
@@ -291,6 +301,18 @@ const RUNS: [Run<'static>; 12] = [
         sizes: ONE_BLOCK_MORE,
         first: &OPENING,
         then: &ENOUGH,
+    },
+    Run {
+        title: "a message block more isn't enough",
+        sizes: A_MESSAGE_BLOCK_MORE,
+        first: &OPENING,
+        then: &TOO_FEW,
+    },
+    Run {
+        title: "a data block more isn't enough",
+        sizes: A_DATA_BLOCK_MORE,
+        first: &OPENING,
+        then: &TOO_FEW,
     },
     Run {
         title: "a full journal refuses",

@@ -14,12 +14,6 @@ pub fn image_into<B: Blocks + Drop>(pair: &Pair<B>, out: &mut [u8]) -> usize {
     pair.image_into(out)
 }
 
-/// The image of a pair in a buffer that has room for it.
-pub fn image_in<'a, B: Blocks + Drop>(pair: &Pair<B>, out: &'a mut [u8]) -> Option<&'a [u8]> {
-    let length = image_into(pair, out);
-    out.get(..length)
-}
-
 /// Whether this is the image of a pair, in a buffer that has room for it.
 pub fn is_imaged<B: Blocks + Drop>(pair: &Pair<B>, out: &mut [u8], image: &[u8]) -> bool {
     let length = image_into(pair, out);
