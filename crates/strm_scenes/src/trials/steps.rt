@@ -1,6 +1,6 @@
 //! Steps of a run on a pair, each with what must come of it.
 
-ghost use Rattle.std.specs.Prelude.{◌≡◌, [], IfOk, replicate};
+ghost use Rattle.std.specs.Prelude.{◌≡◌, ◌<◌, ◌≤◌, [], IfOk, replicate};
 ghost use Rattle.strm_types.specs.declared.limits.TheConstants.{LISTS};
 
 use std::alloc::{AllocError, Global};
@@ -263,14 +263,38 @@ pub fn follow<B: Blocks + Drop>(
     }
 }
 
+// So many blocks, as a store has them.
+fn within(blocks: usize) -> usize
+    ensures some { 0 < result }
+    ensures few { result ≤ 65536 }
+{
+    if blocks == 0 {
+        1
+    } else if blocks > 65536 {
+        65536
+    } else {
+        blocks
+    }
+}
+
+// A store that holds nothing.
+fn empty<B: Reserve>(alloc: Global, mblks: usize, dblks: usize) -> Result<B, AllocError>
+    requires some_mblks { 0 < mblks }
+    requires few_mblks { mblks ≤ 65536 }
+    requires some_dblks { 0 < dblks }
+    requires few_dblks { dblks ≤ 65536 }
+    ensures lists { IfOk result (λ store. (B.value store).lists ≡ replicate LISTS []) }
+    ensures hand { IfOk result (λ store. (B.value store).hand ≡ []) }
+{
+    B::reserve(alloc, mblks, dblks)
+}
+
 /// A store of 1 to 65536 blocks of each kind, which holds nothing.
 pub fn store_of<B: Reserve>(alloc: Global, sizes: &Config) -> Result<B, AllocError>
     ensures lists { IfOk result (λ store. (B.value store).lists ≡ replicate LISTS []) }
     ensures hand { IfOk result (λ store. (B.value store).hand ≡ []) }
 {
-    let mblks = sizes.mblks.clamp(1, 65536);
-    let dblks = sizes.dblks.clamp(1, 65536);
-    B::reserve(alloc, mblks, dblks)
+    empty(alloc, within(sizes.mblks), within(sizes.dblks))
 }
 
 /// A pair that nobody opened, of 1 to 65536 blocks of each kind.
