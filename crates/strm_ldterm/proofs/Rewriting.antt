@@ -11,7 +11,8 @@ use Rattle.strm_blocks.proofs.Laws.{in_hand-held_other}
 use Rattle.strm_msg.specs.Messages.{message_of}
 use Rattle.strm_msg.proofs.Chains.{kind-is, band-is}
 use Rattle.strm_queue.specs.declared.queue.Queue.{Queue}
-use Rattle.strm_queue.specs.Stored.{queue_in, messages_on, Changes, FreesBlocks, IsReady, TakenLast}
+use Rattle.strm_queue.specs.Stored.{queue_in, messages_on, Changes, FreesBlocks, IsReady}
+use Rattle.strm_queue.specs.Taken.{TakenLast}
 use Rattle.strm_frame.specs.Hands.{once, CanPut, HasRoom, Shifts}
 use Rattle.strm_frame.specs.Outboxes.{message_in}
 use Rattle.strm_frame.proofs.Shifting.{shifts-joined}

@@ -1,5 +1,5 @@
 -- What a store and the queues beside it stand for, and what holds of a queue and its list.
-use Rattle.std.specs.Prelude.{ℕ, Bool, true, false, ◌≡◌, ◌≢◌, ◌≤◌, List, [], ◌∷◌, ◌++◌, map}
+use Rattle.std.specs.Prelude.{ℕ, Bool, true, false, ◌≡◌, ◌≢◌, ◌≤◌, List, ◌∷◌, map}
 use Rattle.std.specs.List.{AllByRecursion}
 use Rattle.strm_types.specs.declared.kinds.MsgKind.{MsgKind}
 use Rattle.strm_types.specs.declared.kinds.MsgKind.TheVariants as kinds
@@ -94,19 +94,3 @@ pub record Dequeued (old new : StoreValue) (q q' : Queue) (name : ℕ) : Type 0 
   pub mblks : new.mblks ≡ old.mblks
   pub dblks : new.dblks ≡ old.dblks
   pub frees : FreesBlocks old new
-
--- The last message of a queue was taken off it into the hand, beside what was there. The queue's flags stay, no other queue changed, and
--- no block was taken or freed.
-pub record TakenLast (old new : StoreValue) (q q' : Queue) (name : ℕ) : Type 0 where
-  pub fresh : IsFreshName old name
-  pub last : messages_on old q.list ≡ messages_on new q'.list ++ message_of (in_hand new name) ∷ []
-  pub queue : queue_in new q' ≡ record (queue_in old q) { messages = messages_on new q'.list }
-  pub ready : IsReady new q'
-  pub chain : IsChain (in_hand new name)
-  pub list : q'.list ≡ q.list
-  pub others : (k : ℕ) → k ≢ q.list → list_at new k ≡ list_at old k
-  pub hand : new.hand ≡ record { name = name; chain = in_hand new name } ∷ old.hand
-  pub mblks : new.mblks ≡ old.mblks
-  pub dblks : new.dblks ≡ old.dblks
-  pub frees : FreesBlocks old new
-  pub blocks : FreesNone old new

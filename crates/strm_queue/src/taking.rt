@@ -5,7 +5,8 @@ ghost use Rattle.strm_blocks.specs.Blocks.{list_at, token};
 ghost use Rattle.strm_blocks.specs.Outcomes.{PoppedLast, Unpopped};
 ghost use Rattle.strm_queue.specs.Flows.{plain_flows};
 ghost use Rattle.strm_queue.specs.Kept.{AreCounted};
-ghost use Rattle.strm_queue.specs.Stored.{messages_on, IsReady, TakenLast};
+ghost use Rattle.strm_queue.specs.Stored.{messages_on, IsReady};
+ghost use Rattle.strm_queue.specs.Taken.{TakenLast};
 
 use crate::queue::Queue;
 use crate::share::share_of;
