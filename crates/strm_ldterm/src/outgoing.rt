@@ -1,7 +1,7 @@
 //! Turns of the write queue: bytes of M_DATA go out under OPOST, and all else goes down whole (ldterm(7M), "Write-side Behavior"; termio(7I):
 //! "Output Modes"; srv(9E); putbq(9F)).
 
-ghost use Rattle.std.specs.Prelude.{ℕ, Bool, ◌≡◌, ◌<◌, ◌≤◌, [], false, length, map, None, is_some};
+ghost use Rattle.std.specs.Prelude.{ℕ, Bool, ◌≡◌, ◌<◌, ◌≤◌, [], false, length, map, None};
 ghost use Rattle.strm_types.specs.declared.limits.TheConstants.{MODULES};
 ghost use Rattle.strm_types.specs.declared.names.Way.TheVariants.{Down};
 ghost use Rattle.strm_types.specs.declared.rules.Fates.{Fates};

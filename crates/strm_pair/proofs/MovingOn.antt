@@ -1,5 +1,5 @@
 -- A turn that moved something treated its message whole, or a byte of it at least.
-use Rattle.std.proofs.Common.{ℕ, zero, suc, ◌≡◌, ◌≤◌, ◌<◌, ◌-◌, Bool, true, false, cond, List, [], ◌∷◌, ◌++◌, length, map, inl, inr, refl, sym, ap, subst, ◌∙◌, arith}
+use Rattle.std.proofs.Common.{ℕ, zero, suc, ◌≡◌, ◌≤◌, ◌<◌, ◌-◌, Bool, true, false, cond, List, [], ◌∷◌, length, map, inl, inr, refl, sym, ap, subst, ◌∙◌, arith}
 use Rattle.std.specs.Prelude.{◌&&◌, nat_le, nat_lt, not, slice_index_or, Some}
 use Rattle.std.proofs.Math.Nat.{le-min}
 use Rattle.std.proofs.lemmas.Bool.Decides.{nat_tests}
