@@ -53,6 +53,11 @@ pub mod Earlier
 pub mod Noted
 pub mod ModulePuts
 pub mod PutsFall
+pub mod PtemWithin
+pub mod PutsWithin
+pub mod OneSide
+pub mod StacksFit
+pub mod Budgeted
 pub mod StackBounds
 pub mod StackModules
 pub mod StackOnce
@@ -90,7 +95,6 @@ pub mod LdtermProgress
 pub mod LdtermStops
 pub mod ModuleTurnCalls
 pub mod Booked
-pub mod LdtermSends
 pub mod LdtermPutForgets
 pub mod LdtermTypingForgets
 pub mod LdtermServesForgets

@@ -25,7 +25,6 @@ use Rattle.strm_laws.specs.Stacked.{Module, OfLdterm, OfPtem, OfPckt, IsAtRest, 
 use Rattle.strm_laws.proofs.LdtermOrderly.{orderly-echo, puts-orderly, serves-orderly}
 use Rattle.strm_laws.proofs.LdtermProgress.{serves-leaves}
 use Rattle.strm_types.proofs.LdtermPutStays.{puts-stay}
-use Rattle.strm_laws.proofs.LdtermSends.{serves-near}
 use Rattle.strm_laws.proofs.LdtermServes.{serves-keep}
 use Rattle.strm_laws.proofs.ModulesIdle.{AllIdle, among-idle, puts-idle}
 
@@ -155,11 +154,6 @@ module _ {C : Type 0} (cells : Cells C) (here : Spot) (made : ℕ) (again : Bool
   abbrev asks : Module C → Bool
   asks l = (module_serves cells here made again (Some left) l).again
 
-  module-near : (q : Module C) → AllByRecursion (λ (x : Parcel C). x.to.at ≤ suc here.at) (acts q).sent
-  module-near (OfLdterm l) = serves-near cells here made again (Some left) l
-  module-near (OfPtem q) = tt
-  module-near (OfPckt q) = tt
-
   module-goes : (q : Module C) → Ready q → asks q ≡ true → IsReadyAt true here.way (left - treated q) (acts q).state
   module-goes (OfLdterm l) ready works = goes-at cells here.way here again made left l ready works
   module-goes (OfPtem q) ready works = tt
@@ -169,11 +163,6 @@ module _ {C : Type 0} (cells : Cells C) (here : Spot) (made : ℕ) (again : Bool
   module-rests (OfLdterm l) ready over = rests-at cells here.way here again made left l ready over
   module-rests (OfPtem q) ready over = tt
   module-rests (OfPckt q) ready over = tt
-
-  pub among-near : (i : ℕ) (ps : List (Module C)) → AllByRecursion (λ (q : Parcel C). q.to.at ≤ suc here.at) (act_among acts i ps).sent
-  among-near i [] = tt
-  among-near zero (l ∷ ls) = module-near l
-  among-near (suc i) (l ∷ ls) = among-near i ls
 
   pub among-goes : (i : ℕ) (ps : List (Module C)) → OneIs Ready i ps → slice_index_or (map asks ps) i false ≡ true
       → OneIs (λ l. IsReadyAt true here.way (left - slice_index_or (map treated ps) i 0) l) i (act_among acts i ps).state

@@ -72,7 +72,7 @@ module _ {C : Type 0} (p : Dir → C → Bool) where
   moved-keeps : (cells : Cells C) (side : Side) (m : Message C) (rest : List (Message C)) (s : State C) → (stream side s).driver.queue.messages ≡ m ∷ rest → Keeps (moved_across cells side m rest s) (state_weight p s)
   moved-keeps cells side m rest s is =
       let from = with_driver side (left_with rest (stream side s).driver.queue) s in
-      omega (arith, ended-keeps side (size_of m) (delivered cells (up_across side from) m from).state, delivered-keeps cells p (up_across side from) m from (omega (arith, few-stand (length (stream (other side) from).modules))), taken-keeps side m rest s is, across-weighs side m (modules_on (other side) from))
+      omega (arith, ended-keeps side (size_of m) (delivered cells (up_across side from) m from).state, delivered-keeps cells p (up_across side from) m from, taken-keeps side m rest s is, across-weighs side m (modules_on (other side) from))
 
   blocked-keeps : (side : Side) (m : Message C) (s : State C) → state_weight p (blocked_across side m s) ≡ state_weight p s
   blocked-keeps side m s = waits-keeps p (other side) Up (driver_place (other side) s) (band_of m) s
