@@ -52,16 +52,12 @@ pub mod PutParts
 pub mod Earlier
 pub mod Noted
 pub mod ModulePuts
-pub mod PutsFall
-pub mod PtemWithin
 pub mod PutsWithin
+pub mod PutsOwn
 pub mod OneSide
 pub mod StacksFit
 pub mod Budgeted
-pub mod StackBounds
-pub mod StackModules
 pub mod StackOnce
-pub mod StackPuts
 pub mod StackSpares
 pub mod StackStays
 pub mod PutWeights

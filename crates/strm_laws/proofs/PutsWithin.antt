@@ -39,7 +39,7 @@ use Rattle.strm_laws.specs.SideCosts.{SideAt, SideCosts, both_costs, behind_cost
 use Rattle.strm_laws.specs.StackCosts.{Stands, stands_of, stands_on}
 use Rattle.strm_laws.specs.Stacked.{Module, OfLdterm, OfPtem, OfPckt, module_name, module_puts}
 use Rattle.strm_laws.specs.State.{State, Stream, stream}
-use Rattle.strm_laws.proofs.PtemWithin.{ptem-within}
+use Rattle.strm_types.proofs.PtemWithin.{ptem-within}
 use Rattle.strm_laws.proofs.StackStays.{puts-stand}
 
 module _ (cost : At → ℕ) where
@@ -192,8 +192,12 @@ module _ {C : Type 0} (cost : At → ℕ) where
     among-fits zero (p ∷ ps) = module-fits p
     among-fits (suc i) (p ∷ ps) = among-fits i ps
 
+pub module-within : {C : Type 0} (cells : Cells C) (made : ℕ) (here : Spot) (m : Message C) (p : Module C)
+    → Within (module_puts cells made here m p).sent (emits_at here (name_does (module_name p) here.way (shape_of m)))
+module-within cells made here m p cost = module-fits cost cells made here m p
+
 -- the first of several are the same among the first so many
-among-front : (k i : ℕ) (on : List ModuleName) (way : Way) (shape : Shape) → i < k → does_among i (take k on) way shape ≡ does_among i on way shape
+pub among-front : (k i : ℕ) (on : List ModuleName) (way : Way) (shape : Shape) → i < k → does_among i (take k on) way shape ≡ does_among i on way shape
 among-front zero i on way shape low = absurd (omega (arith, low))
 among-front (suc k) i [] way shape low = refl
 among-front (suc k) zero (n ∷ on) way shape low = refl
@@ -204,7 +208,7 @@ module _ {C : Type 0} where
   pub names-on : (side : Side) (s : State C) → stands_on side (stands_of s) ≡ map module_name (stream side s).modules
   names-on side s = get-map (λ (t : Stream C). map module_name t.modules) side s.ends
 
-  count-on : (side : Side) (s : State C) → length (front_on side (stands_of s)) ≡ modules_on side s
+  pub count-on : (side : Side) (s : State C) → length (front_on side (stands_of s)) ≡ modules_on side s
   count-on side s = length-take MODULES (stands_on side (stands_of s)) ∙ ap (min MODULES) (ap length (names-on side s) ∙ length-map (stream side s).modules module_name)
 
 module _ {C : Type 0} (cells : Cells C) (cost : At → ℕ) where

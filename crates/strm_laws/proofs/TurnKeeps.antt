@@ -23,7 +23,6 @@ use Rattle.strm_laws.proofs.TurnHolds.{any-holds, turn-holds, turns-stay}
 use Rattle.strm_laws.proofs.Deliveries.{delivered-keeps}
 use Rattle.strm_laws.proofs.PutsKeep.{same-itself, same-stays, same-with}
 use Rattle.strm_laws.proofs.ModuleTurnKeeps.{module_turned-keeps}
-use Rattle.strm_laws.proofs.PutsFall.{few-stand}
 use Rattle.strm_types.proofs.Weights.{weight-take}
 use Rattle.strm_laws.specs.Earlier.{driver_place, modules_on}
 use Rattle.strm_laws.proofs.Past.{waits-keeps}

@@ -123,7 +123,7 @@ abbrev pub driver_most : Bool → ℕ
 driver_most once = if once then 2 else 4
 
 abbrev pub place_most : Bool → Way → Shape → ℕ
-place_most once way shape = if once then most_on way shape else 14
+place_most once way shape = if once then most_on way shape else 15
 
 -- so many numbers, from one up
 abbrev pub counted : ℕ → ℕ → List ℕ

@@ -3,10 +3,12 @@ use Rattle.std.proofs.Common.{ℕ, ◌≡◌, ◌≤◌, ◌+◌, Bool, true, fa
 use Rattle.std.specs.Prelude.{sum_by}
 use Rattle.std.proofs.lemmas.List.Sums.{sum_by-cons}
 use Rattle.strm_types.specs.declared.spots.Spot.{Spot}
-use Rattle.strm_types.specs.Budgets.{cost_of}
+use Rattle.strm_types.specs.declared.names.Way.{Way}
+use Rattle.strm_types.specs.declared.names.Way.TheVariants.{Up, Down}
+use Rattle.strm_types.specs.Budgets.{cost_of, most, most_on}
 use Rattle.strm_types.specs.Deliver.{Acted, Parcel}
 use Rattle.strm_types.specs.Message.{Message}
-use Rattle.strm_types.specs.Shapes.{At, at_of, shape_of}
+use Rattle.strm_types.specs.Shapes.{At, Shape, Held, at_of, shape_of}
 
 module _ {C : Type 0} (cost : At → ℕ) where
   abbrev pub Few : ℕ → List (Parcel C) → Type 0
@@ -58,3 +60,13 @@ pub cost-under : {C : Type 0} (f g : At → ℕ) → ((a : At) → f a ≤ g a) 
 unfolding cost_of
 cost-under f g under [] = omega arith
 cost-under f g under (p ∷ ps) = omega (arith, under (at_of p), cost-under f g under ps)
+
+-- a message takes few
+pub most-few : (a : At) → most a ≤ 8
+most-few a = by a.to.way a.shape
+  where
+    by : (way : Way) (shape : Shape) → most_on way shape ≤ 8
+    by Up Held = omega arith
+    by Up _ = omega arith
+    by Down Held = omega arith
+    by Down _ = omega arith

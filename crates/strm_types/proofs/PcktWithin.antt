@@ -3,19 +3,21 @@ use Rattle.std.proofs.Common.{ℕ, ◌≡◌, ◌≤◌, ◌+◌, Bool, true, fa
 use Rattle.std.specs.Prelude.{sum_by}
 use Rattle.strm_types.specs.declared.kinds.MsgKind.{MsgKind}
 use Rattle.strm_types.specs.declared.kinds.MsgKind.TheVariants as kinds
+use Rattle.strm_types.specs.declared.names.ModuleName.{ModuleName}
+use Rattle.strm_types.specs.declared.names.ModuleName.TheVariants as names
 use Rattle.strm_types.specs.declared.names.Way.{Way}
 use Rattle.strm_types.specs.declared.names.Way.TheVariants.{Up, Down}
 use Rattle.strm_types.specs.declared.spots.Spot.{Spot}
 use Rattle.strm_types.specs.Budgets.{Does, Within, cost_of, emits_at}
 use Rattle.strm_types.specs.Cells.{Cells}
-use Rattle.strm_types.specs.Costs.{pckt_takes, pckt_takes_on}
+use Rattle.strm_types.specs.Costs.{packs_on_way, pckt_takes, pckt_takes_on}
 use Rattle.strm_types.specs.Deliver.{Acted, Parcel, toward}
 use Rattle.strm_types.specs.Flushing.{asked_by, flush_bytes, flush_message}
 use Rattle.strm_types.specs.Ldterms.{onward}
 use Rattle.strm_types.specs.Message.{Message, has_parts}
 use Rattle.strm_types.specs.Pckts.{Pckt, flush_passed, is_flush_passed, is_packed, packet, pckt_on_way, pckt_packs, pckt_passes, pckt_puts, writers_flush}
-use Rattle.strm_types.specs.Shapes.{At, Shape, Held, Acking, FlushW, Passing, shape_by, shape_of}
-use Rattle.strm_types.specs.Tables.{packs, packs_flush, passes_on, pckt_does}
+use Rattle.strm_types.specs.Shapes.{At, Shape, Held, Asking, Acking, FlushW, shape_of}
+use Rattle.strm_types.specs.Tables.{name_does, packs, packs_flush, passes_on, pckt_does}
 use Rattle.strm_types.proofs.CostsOf.{more-few, none-few, one-few}
 use Rattle.strm_types.proofs.ShapesOf.{packed_shape, passed_shape, same-packed, same-passed, writes-shape}
 
@@ -88,3 +90,36 @@ pckt-own here m = at here.way
     at : (way : Way) → (pckt_does way (shape_of m)).own ≡ pckt_takes_on way m.kind m.plain
     at Up = ap (λ (d : Does). d.own) (pckt-looks m) ∙ looks (is_packed m.kind) (is_flush_passed m.kind m.plain)
     at Down = refl
+
+pub pckt-makes : {C : Type 0} (here : Spot) (m : Message C) → (pckt_does here.way (shape_of m)).makes ≡ packs_on_way here.way m
+pckt-makes here m = at here.way
+  where
+    looks : (packed passed : Bool) → (by_looks packed passed (shape_of m)).makes ≡ cond packed 1 0
+    looks true true = refl
+    looks true false = refl
+    looks false passed = refl
+
+    at : (way : Way) → (pckt_does way (shape_of m)).makes ≡ packs_on_way way m
+    at Up = ap (λ (d : Does). d.makes) (pckt-looks m) ∙ looks (is_packed m.kind) (is_flush_passed m.kind m.plain)
+    at Down = refl
+
+-- no module makes more packets than it takes blocks, and none more than one
+pub makes-own : (name : ModuleName) (way : Way) (shape : Shape) → (name_does name way shape).makes ≤ (name_does name way shape).own
+makes-own names.Ldterm Up Acking = omega arith
+makes-own names.Ldterm way shape = omega arith
+makes-own names.Ptem Up Asking = omega arith
+makes-own names.Ptem Down Asking = omega arith
+makes-own names.Ptem way shape = omega arith
+makes-own names.Pckt Up Held = omega arith
+makes-own names.Pckt Up _ = omega arith
+makes-own names.Pckt Down shape = omega arith
+
+pub makes-one : (name : ModuleName) (way : Way) (shape : Shape) → (name_does name way shape).makes ≤ 1
+makes-one names.Ldterm Up Acking = omega arith
+makes-one names.Ldterm way shape = omega arith
+makes-one names.Ptem Up Asking = omega arith
+makes-one names.Ptem Down Asking = omega arith
+makes-one names.Ptem way shape = omega arith
+makes-one names.Pckt Up Held = omega arith
+makes-one names.Pckt Up _ = omega arith
+makes-one names.Pckt Down shape = omega arith

@@ -66,14 +66,17 @@ most_on Up Packed = 1
 most_on Up Asking = 3
 most_on Up Acking = 4
 most_on Up FlushR = 2
-most_on Up FlushW = 5
-most_on Up FlushRW = 5
-most_on Up FlushMixed = 5
+most_on Up FlushW = 6
+most_on Up FlushRW = 6
+most_on Up FlushMixed = 6
 most_on Down Asking = 8
-most_on Down FlushR = 3
-most_on Down FlushW = 3
+most_on Down FlushR = 4
+most_on Down FlushW = 4
 most_on Down FlushRW = 5
 most_on way _ = 0
 
 abbrev pub most : At → ℕ
 most a = most_on a.to.way a.shape
+
+abbrev pub most_of : {C : Type 0} → Spot → Message C → ℕ
+most_of to m = most (record { to = to; shape = shape_of m })

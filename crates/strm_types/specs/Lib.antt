@@ -26,7 +26,6 @@ pub mod Termios
 pub mod Drivers
 pub mod Dropped
 pub mod Heads
-pub mod Far
 pub mod Costs
 pub mod Shapes
 pub mod Budgets

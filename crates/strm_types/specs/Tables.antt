@@ -6,7 +6,8 @@ use Rattle.strm_types.specs.declared.names.ModuleName.TheVariants as names
 use Rattle.strm_types.specs.declared.names.Way.{Way}
 use Rattle.strm_types.specs.declared.names.Way.TheVariants.{Up, Down}
 use Rattle.strm_types.specs.Budgets.{Does, Table}
-use Rattle.strm_types.specs.Shapes.{Shape, Held, Asking, Acking, FlushR, FlushW, FlushRW, FlushMixed, Packed, Passing}
+use Rattle.strm_types.specs.Message.{Message}
+use Rattle.strm_types.specs.Shapes.{Shape, Held, Asking, Acking, FlushR, FlushW, FlushRW, FlushMixed, Packed, Passing, shape_of}
 
 abbrev pub does_nothing : Does
 does_nothing = record { own = 0; makes = 0; emits = [] }
@@ -70,9 +71,13 @@ pub record Drives : Type 0 where
 -- Of what comes down: an M_FLUSH goes across, to the readers with FLUSHW and to the driver with FLUSHR, and an M_IOCTL may be answered. Of what was sent
 -- across: it goes on to the readers across.
 abbrev pub driver_does : Way → Shape → Drives
-driver_does Down FlushW = record { own = 1; ups = []; across = ToReaders ∷ [] }
-driver_does Down FlushR = record { own = 1; ups = []; across = ToDriver ∷ [] }
+driver_does Down FlushW = record { own = 2; ups = []; across = ToReaders ∷ [] }
+driver_does Down FlushR = record { own = 2; ups = []; across = ToDriver ∷ [] }
 driver_does Down FlushRW = record { own = 2; ups = []; across = ToReaders ∷ ToDriver ∷ [] }
 driver_does Down Asking = record { own = 1; ups = Passing ∷ []; across = [] }
 driver_does Down _ = record { own = 0; ups = []; across = [] }
 driver_does Up shape = record { own = 1; ups = []; across = ToReaders ∷ [] }
+
+-- what it takes of a message
+abbrev pub driver_own : {C : Type 0} → Way → Message C → ℕ
+driver_own way m = (driver_does way (shape_of m)).own

@@ -1,4 +1,4 @@
-use Rattle.strm_laws.proofs.PtemWithin.{ptem-within}
+use Rattle.strm_types.proofs.PtemWithin.{ptem-within}
 use Rattle.strm_laws.proofs.ptem_laws.ptem_keeps_its_table.Goals as goal
 
 pub returns : goal.returns

@@ -19,7 +19,7 @@ use Rattle.strm_types.specs.Typing.{bare}
 use Rattle.strm_types.specs.Winsizes.{same_winsize}
 use Rattle.strm_types.proofs.CostsOf.{cost-one, more-few, none-few, one-few}
 use Rattle.strm_types.proofs.ShapesOf.{asked-shape}
-use Rattle.strm_laws.proofs.PtemPuts.{puts-each}
+use Rattle.strm_types.proofs.PtemPuts.{puts-each}
 
 module _ {C : Type 0} (here : Spot) (cost : At → ℕ) where
   abbrev costs : Does → ℕ
