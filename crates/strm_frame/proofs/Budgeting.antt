@@ -1,6 +1,6 @@
 -- A delivery with a budget has a hop left, and room for what its first put takes and for all that this sends.
 use Rattle.std.proofs.Common.{ℕ, zero, suc, ◌≡◌, ◌≤◌, ◌<◌, ◌+◌, ◌-◌, ap, arith}
-use Rattle.std.specs.Prelude.{List, min, sum_by}
+use Rattle.std.specs.Prelude.{List, sum_by}
 use Rattle.strm_types.specs.Budgets.{Costs, Within, beyond, budget, cost_of}
 use Rattle.strm_types.specs.Deliver.{Parcel}
 use Rattle.strm_types.specs.Shapes.{At}

@@ -6,8 +6,6 @@ use Rattle.std.proofs.lemmas.List.Sums.{sum_by-cons}
 use Rattle.strm_blocks.specs.Blocks.{Block, Held, StoreValue, IsStore, IsInHand, in_hand, dropped, times_in, without, names_of, token}
 use Rattle.strm_blocks.proofs.Laws.{in_hand-dropped, total-dropped, used-is, free_m-is, free_d-more, references-is}
 use Rattle.strm_msg.proofs.Hands.{other-name}
-use Rattle.strm_types.specs.Message.{Message}
-use Rattle.strm_types.specs.declared.spots.Spot.{Spot}
 use Rattle.strm_frame.specs.declared.parcels.Sent.{Sent}
 use Rattle.strm_types.specs.Deliver.{Parcel}
 use Rattle.strm_msg.specs.Messages.{IsChain}

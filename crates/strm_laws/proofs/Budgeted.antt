@@ -2,11 +2,10 @@
 use Rattle.std.proofs.Common.{◌≡◌, ◌<◌, ◌≤◌, true, false, refl, arith}
 use Rattle.std.proofs.lemmas.Bool.{false≢true}
 use Rattle.strm_types.specs.declared.limits.TheConstants.{HOPS, MODULES}
-use Rattle.strm_types.specs.declared.names.Side.{Side}
 use Rattle.strm_types.specs.Budgets.{beyond, budget, most}
 use Rattle.strm_types.specs.Shapes.{At}
 use Rattle.strm_laws.specs.SideCosts.{all_stacks, costs, side_budget, stack_fits}
-use Rattle.strm_laws.specs.StackCosts.{EachOnce, StandOnce, Stands, stands_on}
+use Rattle.strm_laws.specs.StackCosts.{StandOnce, Stands, stands_on}
 use Rattle.strm_laws.proofs.StacksFit.{budget-most, fronts-once}
 
 any-fit : all_stacks MODULES (stack_fits false) ≡ true

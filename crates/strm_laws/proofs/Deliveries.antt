@@ -1,5 +1,5 @@
 -- Deliveries in a pair, and with them flushes of a stream, lose no cell, and leave a side that isn't open nothing to be read.
-use Rattle.std.proofs.Common.{◌≡◌, ◌≤◌, ◌+◌, Bool, arith}
+use Rattle.std.proofs.Common.{◌≡◌, ◌+◌, Bool, arith}
 use Rattle.std.specs.Prelude.{Option}
 use Rattle.strm_types.specs.declared.events.FlushQueues.{FlushQueues}
 use Rattle.strm_types.specs.declared.kinds.Band.{Band}

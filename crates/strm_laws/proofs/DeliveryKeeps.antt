@@ -1,5 +1,5 @@
 -- A delivery keeps all cells.
-use Rattle.std.proofs.Common.{ℕ, zero, suc, ◌≡◌, ◌<◌, ◌≤◌, ◌+◌, Bool, List, [], ◌∷◌, ◌++◌, refl, subst, ◌∙◌, arith}
+use Rattle.std.proofs.Common.{ℕ, zero, suc, ◌≡◌, ◌<◌, ◌+◌, Bool, List, [], ◌∷◌, ◌++◌, refl, subst, ◌∙◌, arith}
 use Rattle.std.specs.Prelude.{min, sum_by}
 use Rattle.std.specs.List.{AllByRecursion}
 use Rattle.strm_types.specs.Message.{Message}

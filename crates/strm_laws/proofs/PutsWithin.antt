@@ -15,9 +15,9 @@ use Rattle.strm_types.specs.declared.names.Way.{Way}
 use Rattle.strm_types.specs.declared.names.Way.TheVariants.{Up, Down}
 use Rattle.strm_types.specs.declared.spots.Across.{Across}
 use Rattle.strm_types.specs.declared.spots.Spot.{Spot}
-use Rattle.strm_types.specs.Budgets.{Costed, Costs, Within, cost_of, emits_at, next_at}
+use Rattle.strm_types.specs.Budgets.{Costed, Within, cost_of, emits_at, next_at}
 use Rattle.strm_types.specs.Cells.{Cells}
-use Rattle.strm_types.specs.Deliver.{Acted, Parcel, Took, toward}
+use Rattle.strm_types.specs.Deliver.{Parcel, Took, toward}
 use Rattle.strm_types.specs.Drivers.{answered, bottom_across, crosses, driver_across, driver_put, freed, ioctl_put, own_flushed, put_across, put_down, reader_flush, taken_in}
 use Rattle.strm_types.specs.Flushing.{asked_by, flush_bytes, flush_message, is_bare_flush, read_flush}
 use Rattle.strm_types.specs.Heads.{Head, head_put, is_doubled, nak_down, obeyed, turned_round, waits_for_readers}
@@ -27,16 +27,16 @@ use Rattle.strm_types.specs.Modules.{put_among}
 use Rattle.strm_types.specs.Names.{is_master, is_open, other}
 use Rattle.strm_types.specs.Queue.{Queue}
 use Rattle.strm_types.specs.Shapes.{At, Shape, Asking, FlushR, FlushW, FlushRW, Passing, bare_shape, flush_shape, is_flushing, shape_by, shape_of}
-use Rattle.strm_types.specs.Tables.{Crossing, ToDriver, ToReaders, driver_does, head_does, name_does}
+use Rattle.strm_types.specs.Tables.{ToDriver, ToReaders, driver_does, head_does, name_does}
 use Rattle.strm_types.proofs.BySide.{get-map}
-use Rattle.strm_types.proofs.CostsOf.{both-cost, both-few, cost-one, none-few, one-few, sent-none, sum-map}
+use Rattle.strm_types.proofs.CostsOf.{both-cost, cost-one, none-few, one-few, sent-none}
 use Rattle.strm_types.proofs.LdtermWithin.{ldterm-within}
 use Rattle.strm_types.proofs.PcktWithin.{pckt-within}
 use Rattle.strm_types.proofs.ShapesOf.{reads-shape, same-flushing, writes-shape}
 use Rattle.strm_laws.specs.Earlier.{driver_place, modules_on}
 use Rattle.strm_laws.specs.Puts.{across_of, made_above, passed_up, put_at_driver, put_at_head, put_at_module, put_behind, put_below, put_in}
-use Rattle.strm_laws.specs.SideCosts.{SideAt, SideCosts, both_costs, behind_costs, costs, crossed, does_among, front_on, fronts, place_costs, rises, side_costs, side_does, side_drives, side_next, whole}
-use Rattle.strm_laws.specs.StackCosts.{Stands, stands_of, stands_on}
+use Rattle.strm_laws.specs.SideCosts.{SideCosts, both_costs, behind_costs, costs, crossed, does_among, front_on, fronts, place_costs, rises, side_does, side_drives, side_next, whole}
+use Rattle.strm_laws.specs.StackCosts.{stands_of, stands_on}
 use Rattle.strm_laws.specs.Stacked.{Module, OfLdterm, OfPtem, OfPckt, module_name, module_puts}
 use Rattle.strm_laws.specs.State.{State, Stream, stream}
 use Rattle.strm_types.proofs.PtemWithin.{ptem-within}

@@ -1,6 +1,6 @@
 -- What a put in a pair does at most, by tables: at each place of a side's stream, and what goes across. Budgets are reckoned a side at a time, with a
 -- number for what goes across.
-use Rattle.std.specs.Prelude.{ℕ, zero, suc, ◌+◌, ◌-◌, ◌==◌, nat_le, min, Bool, true, false, not, ◌&&◌, ◌||◌, if◌then◌else◌, List, [], ◌∷◌, ◌++◌, length, map, sum_by, count_by, take}
+use Rattle.std.specs.Prelude.{ℕ, zero, suc, ◌+◌, ◌-◌, ◌==◌, nat_le, min, Bool, not, ◌&&◌, ◌||◌, if◌then◌else◌, List, [], ◌∷◌, ◌++◌, length, map, sum_by, count_by, take}
 use Rattle.std.specs.List.{list_all}
 use Rattle.strm_types.specs.declared.limits.TheConstants.{HOPS, MODULES}
 use Rattle.strm_types.specs.declared.names.ModuleName.{ModuleName}
@@ -8,7 +8,6 @@ use Rattle.strm_types.specs.declared.names.ModuleName.TheVariants as names
 use Rattle.strm_types.specs.declared.names.Side.{Side}
 use Rattle.strm_types.specs.declared.names.Way.{Way}
 use Rattle.strm_types.specs.declared.names.Way.TheVariants.{Up, Down}
-use Rattle.strm_types.specs.declared.spots.Spot.{Spot}
 use Rattle.strm_types.specs.Budgets.{Costs, Does, Table, beyond, most_on}
 use Rattle.strm_types.specs.Names.{other, same_module}
 use Rattle.strm_types.specs.Shapes.{At, Shape, Held, Asking, Acking, FlushR, FlushW, FlushRW, FlushMixed, Packed, Passing, is_flushing}

@@ -1,6 +1,6 @@
 -- What a byte that is struck sends goes to the places next to ldterm's own: up to three messages.
-use Rattle.std.proofs.Common.{ℕ, zero, suc, ◌≡◌, ◌+◌, ◌-◌, ◌*◌, Bool, true, false, cond, List, [], ◌∷◌, ◌++◌, map, refl, sym, subst}
-use Rattle.std.specs.Prelude.{not, ◌&&◌, length, take, Option, None, Some, unwrap_or}
+use Rattle.std.proofs.Common.{ℕ, suc, ◌+◌, ◌-◌, Bool, true, false, cond, List, [], ◌∷◌, ◌++◌, refl}
+use Rattle.std.specs.Prelude.{not}
 use Rattle.strm_types.specs.declared.flushing.FlushAsked.{FlushAsked}
 use Rattle.strm_types.specs.declared.keys.Key.{Key}
 use Rattle.strm_types.specs.declared.keys.Key.TheVariants.{Stop, Start, Intr, Quit, Susp, Ignored, Eof, Erase, Kill, Werase, Reprint, Lnext, Delimiter, Ordinary}
@@ -9,21 +9,14 @@ use Rattle.strm_types.specs.declared.names.Way.{Way}
 use Rattle.strm_types.specs.declared.names.Way.TheVariants.{Up, Down}
 use Rattle.strm_types.specs.declared.rules.Rule.TheVariants.{Flushed, SignalKey, LineFull, LineOver}
 use Rattle.strm_types.specs.declared.spots.Spot.{Spot}
-use Rattle.strm_types.specs.Cells.{Cells, cells_made, plain}
+use Rattle.strm_types.specs.Cells.{Cells}
 use Rattle.strm_types.specs.Deliver.{Acted, Parcel}
-use Rattle.strm_types.specs.Flushing.{asked_by, flush_bytes, flush_message}
-use Rattle.strm_types.specs.Input.{begins_next, cells_left, input_begins, is_data, made_of, next_stage, passes, stage_at, stages, stages_done, then_on, to_treat, treats, with_left}
-use Rattle.strm_types.specs.Keys.{restarts}
-use Rattle.strm_types.specs.LdtermServes.{ldterm_serves}
-use Rattle.strm_types.specs.Ldterms.{Ldterm, Stage, Between, Begun, Answered, both, flush_passes, onward, queue_flushed, sends, takes_band_0, without_line}
+use Rattle.strm_types.specs.Flushing.{flush_bytes, flush_message}
+use Rattle.strm_types.specs.Ldterms.{Ldterm, onward, sends}
 use Rattle.strm_types.specs.Lines.{Types, edited, has_room}
-use Rattle.strm_types.specs.Message.{Message, cells_of, data_message}
-use Rattle.strm_types.specs.Output.{posts}
-use Rattle.strm_types.specs.OutputTurns.{output_dir, output_serves, posted, unchanged, with_given}
-use Rattle.strm_types.specs.Queue.{is_full, is_none_left, left_with}
-use Rattle.strm_types.specs.Service.{Serving, line_gone}
-use Rattle.strm_types.specs.Termios.{icanon, imaxbel, noflsh, opost}
-use Rattle.strm_types.specs.Typing.{added, bare, begins, both_ways, dropped, echo_dir, echoed, echo_grows, echo_lost, echo_stands, gathered_up, is_blank_cell, is_lnext, lost, sigint, signals, sigquit, sigtstp, stroke_at, strikes, struck, up_alone}
+use Rattle.strm_types.specs.Message.{Message, data_message}
+use Rattle.strm_types.specs.Termios.{icanon, imaxbel, noflsh}
+use Rattle.strm_types.specs.Typing.{added, bare, both_ways, dropped, gathered_up, is_blank_cell, is_lnext, lost, sigint, signals, sigquit, sigtstp, stroke_at, strikes, struck, up_alone}
 
 -- what holds of so many parcels or fewer, each on its way to a next place
 module _ {C : Type 0} (cells : Cells C) (here : Spot) (P : ℕ → List (Parcel C) → Type 0) (none : (n : ℕ) → P n [])

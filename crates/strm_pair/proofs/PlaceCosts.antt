@@ -1,7 +1,6 @@
 -- What a put at a spot of a pair takes of the books is no more than what its tables say of blocks, and a delivery takes few of either.
-use Rattle.std.proofs.Common.{ℕ, ◌≡◌, ◌≤◌, ◌+◌, Bool, true, false, cond, List, [], ◌∷◌, length, refl, ap, arith}
+use Rattle.std.proofs.Common.{ℕ, ◌≡◌, ◌≤◌, ◌+◌, Bool, true, false, cond, List, [], length, refl, ap, arith}
 use Rattle.std.specs.Prelude.{◌==◌, nat_le}
-use Rattle.std.proofs.lemmas.Bool.Decides.{nat_tests}
 use Rattle.strm_types.specs.declared.limits.TheConstants.{HOPS}
 use Rattle.strm_types.specs.declared.names.Side.TheVariants.{Master, Slave}
 use Rattle.strm_types.proofs.BySide.{each-side}
@@ -12,14 +11,13 @@ use Rattle.strm_types.specs.Deliver.{Parcel}
 use Rattle.strm_laws.specs.Earlier.{modules_on}
 use Rattle.strm_types.specs.Flush.{is_data_kind}
 use Rattle.strm_types.specs.Message.{Message}
-use Rattle.strm_types.specs.ModuleQueues.{at_place}
 use Rattle.strm_types.specs.Shapes.{shape_of}
 use Rattle.strm_types.proofs.CostsOf.{cost-under}
 use Rattle.strm_laws.specs.Puts.{put_at_head, put_at_module, put_behind, put_below, put_in}
 use Rattle.strm_laws.specs.SideCosts.{costs}
-use Rattle.strm_laws.specs.Spares.{module_packs, spare}
+use Rattle.strm_laws.specs.Spares.{spare}
 use Rattle.strm_laws.specs.StackCosts.{EachOnce, StandOnce, Stands, stands_of}
-use Rattle.strm_laws.specs.State.{State, stream}
+use Rattle.strm_laws.specs.State.{State}
 use Rattle.strm_laws.proofs.Budgeted.{keeps-most}
 use Rattle.strm_laws.proofs.PutsOwn.{own, place-makes}
 use Rattle.strm_laws.proofs.StackSpares.{behind-spare, head-spare, stack-falls}

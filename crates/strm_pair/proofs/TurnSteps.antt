@@ -1,9 +1,7 @@
 -- A turn of a driver, step by step.
-use Rattle.std.proofs.Common.{ℕ, ◌≡◌, ◌≤◌, ◌<◌, ◌+◌, Bool, true, false, cond, List, [], ◌∷◌, map, refl, sym, ap, ◌∙◌, arith}
-use Rattle.std.specs.Prelude.{not, ◌&&◌, ◌||◌, ◌==◌, Option, None, Some, MatchOption}
+use Rattle.std.proofs.Common.{ℕ, ◌≡◌, ◌≤◌, Bool, true, false, List, [], ◌∷◌, map, refl, sym, ap, ◌∙◌, arith}
+use Rattle.std.specs.Prelude.{not, ◌&&◌, Option, None, Some, MatchOption}
 use Rattle.strm_types.specs.declared.answers.Turn.TheVariants.{Blocked, Idle}
-use Rattle.strm_types.specs.declared.kinds.MsgKind.{MsgKind}
-use Rattle.strm_types.specs.declared.kinds.MsgKind.TheVariants.{Flush, Iocack, Ioctl}
 use Rattle.strm_types.specs.declared.names.Side.{Side}
 use Rattle.strm_types.specs.declared.names.Way.{Way}
 use Rattle.strm_types.specs.declared.names.Way.TheVariants.{Up}
@@ -12,12 +10,10 @@ use Rattle.strm_types.specs.Budgets.{most_of}
 use Rattle.strm_types.specs.Shapes.{shape_of}
 use Rattle.strm_types.proofs.CostsOf.{most-few}
 use Rattle.strm_laws.specs.Earlier.{driver_place}
-use Rattle.strm_types.specs.Flushing.{asked_by, is_flush}
 use Rattle.strm_laws.specs.Kept.{AreIdle}
-use Rattle.strm_types.specs.Message.{Message, band_of, has_parts, is_held}
+use Rattle.strm_types.specs.Message.{Message, band_of, is_held}
 use Rattle.strm_types.specs.Names.{other, is_open}
 use Rattle.strm_laws.specs.Past.{has_room_past, writer_waits}
-use Rattle.strm_types.specs.Pckts.{is_packed}
 use Rattle.strm_types.specs.Queue as plain
 use Rattle.strm_types.specs.Queue.{left_with}
 use Rattle.strm_laws.specs.Spares.{spare}

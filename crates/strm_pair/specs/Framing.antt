@@ -5,18 +5,14 @@ use Rattle.std.specs.List.{AllByRecursion}
 use Rattle.strm_types.specs.declared.both.Both.{Both}
 use Rattle.strm_types.specs.declared.names.Side.{Side}
 use Rattle.strm_types.specs.declared.names.Side.TheVariants.{Master, Slave}
-use Rattle.strm_types.specs.declared.spots.Spot.{Spot}
 use Rattle.strm_types.specs.Cells as cells
 use Rattle.strm_laws.specs.Kept.{AreIdle}
-use Rattle.strm_types.specs.Message.{Message}
 use Rattle.strm_types.specs.Names.{other}
 use Rattle.strm_types.proofs.BySide.{map-same}
-use Rattle.strm_laws.specs.Puts.{put_in}
 use Rattle.strm_laws.specs.Stacked as plain
 use Rattle.strm_laws.specs.Stacked.{IsAtRest}
 use Rattle.strm_laws.specs.State as state
 use Rattle.strm_laws.specs.State.{State}
-use Rattle.strm_laws.proofs.StackStays.{puts-stand}
 use Rattle.strm_blocks.specs.Blocks.{StoreValue, in_hand, list_at}
 use Rattle.strm_frame.specs.Hands.{SameFor}
 use Rattle.strm_head.specs.Heads.{head_in}

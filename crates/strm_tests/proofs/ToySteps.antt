@@ -1,7 +1,6 @@
 -- What toys do, step by step.
 use Rattle.std.specs.Prelude.{min, sum_by}
 use Rattle.std.proofs.Common.{ℕ, zero, suc, ◌+◌, ◌≡◌, ◌<◌, ◌≤◌, ◌==◌, eqb, true, false, Bool, List, [], ◌∷◌, Option, Some, None, ◌∙◌, cond, ap, refl, subst, sym, arith}
-use Rattle.strm_types.specs.declared.limits.TheConstants.{MODULES}
 use Rattle.strm_types.specs.declared.kinds.MsgKind.{MsgKind}
 use Rattle.strm_types.specs.declared.names.ModuleName.{ModuleName}
 use Rattle.strm_types.specs.declared.names.Way.{Way}
@@ -28,7 +27,7 @@ use Rattle.strm_types.proofs.CostsOf.{most-few}
 use Rattle.strm_frame.specs.Outboxes.{message_in, spot_in, times_sent, parcels_in}
 use Rattle.strm_frame.specs.Serves.{later_cost}
 use Rattle.strm_frame.specs.Hands.{once, OnlyOwn, CanPut, Handles, Hands, SameFor, HasRoom, Spends, Takes}
-use Rattle.strm_frame.proofs.Handing.{alone-can, once-apart, one-parts}
+use Rattle.strm_frame.proofs.Handing.{alone-can, once-apart}
 use Rattle.strm_frame.proofs.FirstSizes.{first-few}
 use Rattle.strm_frame.proofs.Shifting.{shifts-joined}
 use Rattle.strm_tests.specs.Toys.{Stock, count_costs, counts, stays, stocked, stocks, stock_queue, turns, idle, stock_sends, serves_of, stock_serves}

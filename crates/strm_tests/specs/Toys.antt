@@ -1,5 +1,5 @@
 -- What the toys of the tests do.
-use Rattle.std.specs.Prelude.{ℕ, List, Option, None, Some, ◌+◌, ◌-◌, ◌%◌, ◌^◌, ◌==◌, if◌then◌else◌, Bool, true, false, [], ◌∷◌}
+use Rattle.std.specs.Prelude.{ℕ, List, Option, None, Some, ◌+◌, ◌%◌, ◌^◌, ◌==◌, if◌then◌else◌, Bool, true, false, [], ◌∷◌}
 use Rattle.strm_types.specs.declared.kinds.MsgKind.{MsgKind}
 use Rattle.strm_types.specs.declared.kinds.MsgKind.TheVariants.{Data, Flush}
 use Rattle.strm_types.specs.declared.names.ModuleName.{ModuleName}

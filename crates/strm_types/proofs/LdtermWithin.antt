@@ -1,5 +1,5 @@
 -- A put at ldterm keeps within its table.
-use Rattle.std.proofs.Common.{ℕ, ◌≡◌, ◌≤◌, ◌+◌, Bool, true, false, cond, List, [], ◌∷◌, ◌++◌, map, refl, sym, ap, subst, ◌∙◌, arith}
+use Rattle.std.proofs.Common.{ℕ, ◌≡◌, ◌≤◌, ◌+◌, Bool, true, false, cond, List, [], ◌∷◌, ◌++◌, refl, sym, ap, subst, ◌∙◌, arith}
 use Rattle.std.specs.Prelude.{◌&&◌, ◌==◌, not, None, sum_by}
 use Rattle.strm_types.specs.declared.flushing.FlushAsked.{FlushAsked}
 use Rattle.strm_types.specs.declared.ioctls.TheConstants.{TCSETSF}
@@ -10,7 +10,7 @@ use Rattle.strm_types.specs.declared.spots.Spot.{Spot}
 use Rattle.strm_types.specs.declared.termios.Termios.{Termios}
 use Rattle.strm_types.specs.Budgets.{Does, Within, cost_of, emits_at}
 use Rattle.strm_types.specs.Commands.{is_acked}
-use Rattle.strm_types.specs.Deliver.{Acted, Parcel, toward}
+use Rattle.strm_types.specs.Deliver.{Parcel, toward}
 use Rattle.strm_types.specs.Flushing.{asked_by, flush_message, read_flush}
 use Rattle.strm_types.specs.LdtermPuts.{ldterm_puts}
 use Rattle.strm_types.specs.Ldterms.{Ldterm, both, flush_passes, line_flushed, onward, queue_flushed, read_flushed, sends, takes_band_0, without_line, write_flushed}
@@ -22,7 +22,7 @@ use Rattle.strm_types.specs.Tables.{ldterm_does}
 use Rattle.strm_types.specs.TakenUp.{ends_lines, input_flushed, line_up, read_mode_of, taken_up, termios_taken}
 use Rattle.strm_types.specs.Termios.{tostop}
 use Rattle.strm_types.specs.Typing.{up_alone}
-use Rattle.strm_types.proofs.CostsOf.{both-cost, cost-more, cost-one, more-few, none-few, one-few}
+use Rattle.strm_types.proofs.CostsOf.{both-cost, more-few, none-few, one-few}
 use Rattle.strm_types.proofs.LdtermPuts.{either, puts-each}
 use Rattle.strm_types.proofs.ShapesOf.{acked-shape, data-shape}
 

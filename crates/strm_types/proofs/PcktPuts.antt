@@ -1,20 +1,19 @@
 -- A put at pckt: how many cells it makes.
-use Rattle.std.proofs.Common.{ℕ, suc, ◌≡◌, ◌<◌, ◌≤◌, ◌+◌, ◌-◌, Bool, true, false, cond, List, [], ◌∷◌, ◌++◌, length, refl, ap, ◌∙◌, arith}
+use Rattle.std.proofs.Common.{ℕ, suc, ◌≡◌, ◌+◌, ◌-◌, Bool, true, false, cond, List, [], ◌∷◌, ◌++◌, length, refl, ap, ◌∙◌, arith}
 use Rattle.std.specs.Prelude.{Option, None, Some}
 use Rattle.strm_types.specs.declared.kinds.MsgKind.{MsgKind}
-use Rattle.strm_types.specs.declared.kinds.MsgKind.TheVariants.{Flush, Proto}
-use Rattle.strm_types.specs.declared.limits.TheConstants.{MODULES}
+use Rattle.strm_types.specs.declared.kinds.MsgKind.TheVariants.{Proto}
 use Rattle.strm_types.specs.declared.names.Way.{Way}
 use Rattle.strm_types.specs.declared.names.Way.TheVariants.{Up, Down}
 use Rattle.strm_types.specs.declared.spots.Spot.{Spot}
 use Rattle.strm_types.specs.Cells.{Cells, plain}
-use Rattle.strm_types.specs.Deliver.{Acted, AreLower, Comes, Parcel}
-use Rattle.strm_types.specs.Flushing.{asked_by, flush_bytes}
+use Rattle.strm_types.specs.Deliver.{Acted, Comes, Parcel}
+use Rattle.strm_types.specs.Flushing.{asked_by}
 use Rattle.strm_types.specs.Input.{made_of}
 use Rattle.strm_types.specs.Kinds.{kind_number}
 use Rattle.strm_types.specs.Ldterms.{onward}
 use Rattle.strm_types.specs.Message.{Message, band_of, cells_of}
-use Rattle.strm_types.specs.Pckts.{Pckt, flush_passed, is_bare_packet, is_flush_passed, is_packed, pckt_dir, pckt_on_way, pckt_packs, pckt_passes, pckt_puts, plain_packed, writers_flush}
+use Rattle.strm_types.specs.Pckts.{Pckt, flush_passed, is_bare_packet, is_packed, pckt_dir, pckt_on_way, pckt_packs, pckt_passes, pckt_puts, plain_packed, writers_flush}
 use Rattle.strm_types.specs.Names.{direction_at}
 use Rattle.strm_types.proofs.MadeCells.{made-long, made-same}
 

@@ -1,5 +1,5 @@
 -- A put at pckt keeps within its table.
-use Rattle.std.proofs.Common.{ℕ, ◌≡◌, ◌≤◌, ◌+◌, Bool, true, false, cond, List, [], ◌∷◌, ◌++◌, map, refl, sym, ap, subst, ◌∙◌, arith}
+use Rattle.std.proofs.Common.{ℕ, ◌≡◌, ◌≤◌, Bool, true, false, cond, List, [], ◌∷◌, refl, sym, ap, subst, ◌∙◌, arith}
 use Rattle.std.specs.Prelude.{sum_by}
 use Rattle.strm_types.specs.declared.kinds.MsgKind.{MsgKind}
 use Rattle.strm_types.specs.declared.kinds.MsgKind.TheVariants as kinds
@@ -11,14 +11,14 @@ use Rattle.strm_types.specs.declared.spots.Spot.{Spot}
 use Rattle.strm_types.specs.Budgets.{Does, Within, cost_of, emits_at}
 use Rattle.strm_types.specs.Cells.{Cells}
 use Rattle.strm_types.specs.Costs.{packs_on_way, pckt_takes, pckt_takes_on}
-use Rattle.strm_types.specs.Deliver.{Acted, Parcel, toward}
+use Rattle.strm_types.specs.Deliver.{Parcel, toward}
 use Rattle.strm_types.specs.Flushing.{asked_by, flush_bytes, flush_message}
 use Rattle.strm_types.specs.Ldterms.{onward}
 use Rattle.strm_types.specs.Message.{Message, has_parts}
-use Rattle.strm_types.specs.Pckts.{Pckt, flush_passed, is_flush_passed, is_packed, packet, pckt_on_way, pckt_packs, pckt_passes, pckt_puts, writers_flush}
+use Rattle.strm_types.specs.Pckts.{Pckt, is_flush_passed, is_packed, packet, pckt_on_way, pckt_packs, pckt_passes, pckt_puts, writers_flush}
 use Rattle.strm_types.specs.Shapes.{At, Shape, Held, Asking, Acking, FlushW, shape_of}
 use Rattle.strm_types.specs.Tables.{name_does, packs, packs_flush, passes_on, pckt_does}
-use Rattle.strm_types.proofs.CostsOf.{more-few, none-few, one-few}
+use Rattle.strm_types.proofs.CostsOf.{more-few, one-few}
 use Rattle.strm_types.proofs.ShapesOf.{packed_shape, passed_shape, same-packed, same-passed, writes-shape}
 
 -- the table, by what pckt looks at

@@ -1,5 +1,5 @@
 -- A put at ptem keeps within its table.
-use Rattle.std.proofs.Common.{ℕ, ◌≡◌, ◌≤◌, ◌+◌, Bool, true, false, cond, List, [], ◌∷◌, ◌++◌, map, refl, sym, ap, subst, ◌∙◌, arith}
+use Rattle.std.proofs.Common.{ℕ, ◌≡◌, ◌≤◌, ◌+◌, Bool, true, false, cond, List, [], ◌∷◌, ◌++◌, refl, sym, subst, arith}
 use Rattle.std.specs.Prelude.{sum_by}
 use Rattle.strm_types.specs.declared.ioctls.Ioc.{Ioc}
 use Rattle.strm_types.specs.declared.names.Way.{Way}
@@ -15,9 +15,8 @@ use Rattle.strm_types.specs.Message.{Message}
 use Rattle.strm_types.specs.Ptems.{Ptem, ptem_puts, signals_up, sigwinch}
 use Rattle.strm_types.specs.Shapes.{At, Shape, Asking, shape_of}
 use Rattle.strm_types.specs.Tables.{ptem_does}
-use Rattle.strm_types.specs.Typing.{bare}
 use Rattle.strm_types.specs.Winsizes.{same_winsize}
-use Rattle.strm_types.proofs.CostsOf.{cost-one, more-few, none-few, one-few}
+use Rattle.strm_types.proofs.CostsOf.{one-few}
 use Rattle.strm_types.proofs.ShapesOf.{asked-shape}
 use Rattle.strm_types.proofs.PtemPuts.{puts-each}
 

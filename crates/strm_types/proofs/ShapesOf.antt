@@ -1,5 +1,5 @@
 -- The shapes of the messages that modules, heads and drivers make, and what they say of a message's kind.
-use Rattle.std.proofs.Common.{ℕ, ◌≡◌, Bool, true, false, cond, List, [], ◌∷◌, refl, ap, ◌∙◌}
+use Rattle.std.proofs.Common.{ℕ, ◌≡◌, Bool, true, false, cond, List, [], refl, ap, ◌∙◌}
 use Rattle.std.specs.Prelude.{◌&&◌, not, Option, None, Some}
 use Rattle.strm_types.specs.declared.flushing.FlushAsked.{FlushAsked}
 use Rattle.strm_types.specs.declared.kinds.Band.{Band}
@@ -9,7 +9,7 @@ use Rattle.strm_types.specs.Commands.{is_acked, is_asked, is_ioctl}
 use Rattle.strm_types.specs.Flushing.{asked_by, flush_bytes, flush_message, is_bare_flush, is_flush, read_flush}
 use Rattle.strm_types.specs.Message.{Message, data_message, has_parts}
 use Rattle.strm_types.specs.Pckts.{is_flush_passed, is_packed}
-use Rattle.strm_types.specs.Shapes.{Shape, Held, Asking, Acking, FlushR, FlushW, FlushRW, FlushMixed, Packed, Passing, bare_shape, is_flushing, other_shape, shape_by, shape_of}
+use Rattle.strm_types.specs.Shapes.{Shape, Held, Asking, Acking, FlushR, FlushW, FlushRW, FlushMixed, Packed, Passing, bare_shape, is_flushing, shape_by, shape_of}
 use Rattle.strm_types.proofs.LdtermPuts.{acked-bare, acked-kind}
 
 -- an M_FLUSH for readers alone, and one that goes down again

@@ -6,7 +6,7 @@ use Rattle.strm_types.specs.declared.names.Way.TheVariants.{Up, Down}
 use Rattle.strm_types.specs.declared.spots.Spot.{Spot}
 use Rattle.strm_types.specs.Deliver.{Parcel, Took, toward}
 use Rattle.strm_types.specs.Message.{Message}
-use Rattle.strm_types.specs.Shapes.{At, Shape, Held, Asking, Acking, FlushR, FlushW, FlushRW, FlushMixed, Packed, Passing, at_of, shape_of}
+use Rattle.strm_types.specs.Shapes.{At, Shape, Held, Asking, Acking, FlushR, FlushW, FlushRW, FlushMixed, Packed, at_of, shape_of}
 
 -- What a put at a module does at most: how many blocks of each kind it takes, how often it makes as many bytes as a packet has at most, and the ways and
 -- shapes of what it sends on.

@@ -1,6 +1,6 @@
 -- Delivery: a message that is put at a spot changes what stands there and gives rise to others, and each is carried in
 -- turn with all that it gives rise to, until queues or ends have taken it (STREAMS Programming Guide, "Put Procedures").
-use Rattle.std.specs.Prelude.{ℕ, zero, suc, ◌+◌, ◌-◌, ◌<◌, List, [], ◌∷◌, ◌++◌, length}
+use Rattle.std.specs.Prelude.{ℕ, zero, suc, ◌+◌, ◌-◌, List, [], ◌∷◌, ◌++◌, length}
 use Rattle.strm_types.specs.declared.names.Dir.{Dir}
 use Rattle.strm_types.specs.declared.names.Way.{Way}
 use Rattle.strm_types.specs.declared.names.Way.TheVariants.{Up, Down}

@@ -1,6 +1,5 @@
 -- One module changes, and the others stand for the same.
 use Rattle.std.proofs.Common.{ℕ, get_or, map, refl, sym, ap, subst, ◌∙◌}
-use Rattle.std.specs.Prelude.{slice_index_or}
 use Rattle.std.proofs.Math.ListN.{set}
 use Rattle.strm_types.specs.Budgets.{own_at}
 use Rattle.strm_types.specs.Deliver.{tallied}

@@ -1,4 +1,4 @@
-use Rattle.std.proofs.Common.{ℕ, ◌≤◌, List, sym, subst}
+use Rattle.std.proofs.Common.{◌≤◌, sym, subst}
 use Rattle.std.proofs.lemmas.Bool.{OnTrue_from}
 use Rattle.strm_types.specs.Cells.{plain}
 use Rattle.strm_types.specs.Input.{made_of}
