@@ -145,7 +145,7 @@ impl<M: Module + Default> Stream<M> {
         requires chain { IsChain (in_hand (B.value store.old) (token message)) }
         requires room { let s = B.value store.old in
             HasRoom s (at_place (λ p. own_at (M.does p) to (message_in s (token message))) 0 to.at
-                (map (M.plain s) self.old.modules.items)) }
+            (map (M.plain s) self.old.modules.items)) }
         ensures length { length self.new.modules.items ≡ length self.old.modules.items }
         ensures does { let s = B.value store.old in let m = message_in s (token message) in
             let xs = self.old.modules.items in let ps = all_in M.plain s xs in

@@ -57,7 +57,6 @@ module _ (all : Stands) (over : ℕ → Crossing → ℕ) (side : Side)
         sum-under (λ c. cost (crossed side bottom c)) (over hops) (crosses hops) d.across,
       )
 
-
 low-of : (n k : ℕ) → nat_le n k ≡ true → n ≤ k
 low-of n k is = let r : n ≤ k = grind (arith, nat_tests) in r
 

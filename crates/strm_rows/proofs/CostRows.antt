@@ -1,19 +1,18 @@
 -- What puts do at most by their tables, how many blocks a delivery takes by them, and a put at pckt itself, case by case.
 use Rattle.std.proofs.Common.{ℕ, ◌≡◌, List, [], ◌∷◌, map, refl}
 use Rattle.std.specs.Prelude.{Some}
-use Rattle.strm_types.specs.declared.kinds.MsgKind.TheVariants.{Flush, Ioctl, Iocack, Iocnak, Sig, Setopts}
-use Rattle.strm_types.specs.declared.names.ModuleName.{ModuleName}
+use Rattle.strm_types.specs.declared.kinds.MsgKind.TheVariants.{Flush, Ioctl, Iocack, Iocnak, Sig}
 use Rattle.strm_types.specs.declared.names.ModuleName.TheVariants as names
 use Rattle.strm_types.specs.declared.names.Side.{Side}
 use Rattle.strm_types.specs.declared.names.Side.TheVariants.{Master, Slave}
 use Rattle.strm_types.specs.declared.names.Way.{Way}
 use Rattle.strm_types.specs.declared.names.Way.TheVariants.{Up, Down}
 use Rattle.strm_types.specs.declared.spots.Spot.{Spot}
-use Rattle.strm_types.specs.Budgets.{Does, Table, budget, most, own_at}
-use Rattle.strm_types.specs.Costs.{pckt_takes}
+use Rattle.strm_types.specs.Budgets.{Table, budget, most, own_at}
+use Rattle.strm_types.specs.Costs.{head_takes, pckt_takes, up_takes}
 use Rattle.strm_types.specs.Message.{Message}
-use Rattle.strm_types.specs.Shapes.{At, Shape, Held, Asking, Acking, FlushR, FlushW, FlushRW, FlushMixed, Packed, Passing, shape_of}
-use Rattle.strm_types.specs.Tables.{driver_does, head_does, ldterm_does, name_does, pckt_does, ptem_does}
+use Rattle.strm_types.specs.Shapes.{Shape, Held, Asking, Acking, FlushR, FlushW, FlushRW, FlushMixed, Packed, Passing, shape_of}
+use Rattle.strm_types.specs.Tables.{ToDriver, ToReaders, driver_does, head_does, ldterm_does, name_does, pckt_does, ptem_does}
 use Rattle.strm_laws.specs.SideCosts.{costs}
 use Rattle.strm_laws.specs.StackCosts.{Stands}
 use Rattle.strm_laws.proofs.Samples.{header, options, ordinary, proto, urgent, without_parts}
@@ -77,6 +76,12 @@ pub heads-and-drivers-take : map (λ shape. (head_does shape).own) shapes ∷ ma
     ≡ (0 ∷ 1 ∷ 0 ∷ 0 ∷ 1 ∷ 1 ∷ 0 ∷ 0 ∷ 0 ∷ []) ∷ (1 ∷ 1 ∷ 1 ∷ 1 ∷ 1 ∷ 1 ∷ 1 ∷ 1 ∷ 1 ∷ []) ∷ (0 ∷ 1 ∷ 0 ∷ 2 ∷ 2 ∷ 2 ∷ 0 ∷ 0 ∷ 0 ∷ []) ∷ []
 heads-and-drivers-take = refl
 
+pub what-drivers-do : map (driver_does Down) (FlushR ∷ FlushW ∷ FlushRW ∷ Asking ∷ []) ∷ map (driver_does Up) (FlushR ∷ []) ∷ []
+    ≡ (record { own = 2; ups = []; across = ToDriver ∷ [] } ∷ record { own = 2; ups = []; across = ToReaders ∷ [] } ∷ record { own = 2; ups = []; across = ToReaders ∷ ToDriver ∷ [] }
+    ∷ record { own = 1; ups = Passing ∷ []; across = [] } ∷ [])
+    ∷ (record { own = 1; ups = []; across = ToReaders ∷ [] } ∷ []) ∷ []
+what-drivers-do = refl
+
 pub what-goes-on : (ldterm_does Up Acking).emits ∷ (ptem_does Down Asking).emits ∷ (pckt_does Up FlushRW).emits ∷ (pckt_does Down FlushRW).emits ∷ (head_does FlushRW).emits ∷ []
     ≡ ((Up, FlushR) ∷ (Up, Held) ∷ (Up, Passing) ∷ (Up, Acking) ∷ []) ∷ ((Up, Acking) ∷ (Down, Asking) ∷ (Up, Passing) ∷ []) ∷ ((Up, Held) ∷ (Up, FlushW) ∷ [])
     ∷ ((Down, FlushRW) ∷ []) ∷ ((Down, FlushW) ∷ []) ∷ []
@@ -116,6 +121,14 @@ budgets-of-few-hops = refl
 pub most-blocks : map (λ way. map (λ shape. most (record { to = record { side = Slave; at = 1; way = way }; shape = shape })) shapes) (Up ∷ Down ∷ [])
     ≡ (1 ∷ 3 ∷ 4 ∷ 2 ∷ 6 ∷ 6 ∷ 6 ∷ 1 ∷ 0 ∷ []) ∷ (0 ∷ 8 ∷ 0 ∷ 4 ∷ 4 ∷ 5 ∷ 0 ∷ 0 ∷ 0 ∷ []) ∷ []
 most-blocks = refl
+
+-- what a head takes itself, and what is taken of what comes up behind it and was sent across
+
+pub heads-take : map head_takes (without_parts Ioctl (header 1 7 0) ∷ answers ∷ reads ∷ writes ∷ both ∷ []) ≡ 1 ∷ 0 ∷ 0 ∷ 1 ∷ 1 ∷ []
+heads-take = refl
+
+pub reads-take : map (λ m. at_each (λ here. up_takes here m) Up) (reads ∷ parted reads ∷ []) ≡ (0 ∷ 0 ∷ 0 ∷ 0 ∷ 1 ∷ []) ∷ (0 ∷ 0 ∷ 0 ∷ 0 ∷ 0 ∷ []) ∷ []
+reads-take = refl
 
 -- pckt itself, which its table says no less of
 

@@ -44,10 +44,10 @@ among-within zero to m (p ∷ ps) cost = stocks-within to m p cost
 among-within (suc i) to m (p ∷ ps) cost = among-within i to m ps cost
 
 pub rig-costed : Costed (λ (ps : List Stock). rig_costs) rig_puts
+unfolding cost_of
 rig-costed = record { within = λ to m ps. sends to m ps; stays = λ to m ps. refl }
   where
     sends : (to : Spot) (m : Message ℕ) (ps : List Stock) → Within (rig_puts to m ps).sent (rig_costs (record { to = to; shape = shape_of m })).emits
-    unfolding cost_of
     sends to m ps cost = at (is_end to.at)
       where
         at : (end : Bool) → cost_of cost (cond end (left_at ps) (took_at to m ps)).sent ≤ sum_by cost (cond end [] (emits_at to (stock_does to.way (shape_of m))))

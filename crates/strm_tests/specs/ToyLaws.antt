@@ -72,10 +72,10 @@ stocks-within here m p cost = at (stays m.kind here.way)
 
 -- so is what a counter sends
 pub counts-costed : Costed (λ (n : ℕ). count_costs) counts
+unfolding cost_of
 counts-costed = record { within = λ to m n. sends to m n; stays = λ to m n. refl }
   where
     sends : (to : Spot) (m : Message ℕ) (n : ℕ) → Within (counts to m n).sent (count_costs (record { to = to; shape = shape_of m })).emits
-    unfolding cost_of
     sends to m n cost = at (to.at == 0)
       where
         next : ℕ
