@@ -65,11 +65,6 @@ module _ (all : Stands) (once : Bool) where
   abbrev table : At → Costs
   table = costs all
 
-  -- comes to a place of the other side
-  comes : (side : Side) (c : Crossing) → crossed side (length (front_on (other side) all)) c ≡ whole (other side) (arrives (front_on (other side) all) c)
-  comes side ToReaders = refl
-  comes side ToDriver = refl
-
   nothing-across : (side : Side) (hops : ℕ) (c : Crossing) → budget table hops (crossed side (length (front_on (other side) all)) c) ≤ nowhere hops c
   nothing-across side hops c = no-more table hops (crossed side (length (front_on (other side) all)) c)
 

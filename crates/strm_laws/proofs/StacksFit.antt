@@ -14,8 +14,8 @@ use Rattle.strm_types.specs.declared.names.Way.TheVariants.{Up, Down}
 use Rattle.strm_types.specs.Budgets.{beyond, budget}
 use Rattle.strm_types.specs.Names.{same_module}
 use Rattle.strm_types.specs.Shapes.{At, Shape, Held, Asking, Acking, FlushR, FlushW, FlushRW, FlushMixed, Packed, Passing, is_flushing}
-use Rattle.strm_types.specs.Tables.{Crossing, ToDriver, ToReaders, driver_does}
-use Rattle.strm_laws.specs.SideCosts.{SideAt, SideCosts, all_stacks, are_once, arrives, behind_costs, costs, counted, crossings_fit, driver_most, front_on, fronts, is_once, nowhere, place_most, places_fit, readers_most, rises, shapes, side_budget, side_costs, side_drives, spot_fits, stack_fits, to_both, to_readers, ways}
+use Rattle.strm_types.specs.Tables.{Crossing, ToDriver, ToReaders, driver_does, head_does}
+use Rattle.strm_laws.specs.SideCosts.{SideAt, SideCosts, all_stacks, are_once, arrives, behind_costs, costs, counted, crossings_fit, does_among, driver_most, front_on, fronts, is_once, nowhere, place_most, places_fit, readers_most, rises, shapes, side_budget, side_costs, side_does, side_drives, spot_fits, stack_fits, to_both, to_readers, ways}
 use Rattle.strm_laws.specs.StackCosts.{EachOnce, Stands, stands_on, times_there}
 use Rattle.strm_laws.proofs.OneSide.{both-across, sided}
 
@@ -112,8 +112,11 @@ module _ (on : List ModuleName) (few : length on ≤ MODULES) (way : Way) (shape
   far_behind way = behind_costs (length on) way 5 shape
 
   far : (place : ℕ) → 5 ≤ place → side_costs on (there place) ≡ far_behind way
-  far place past = rw (top, below) (by way)
+  far place past = ap (λ b. at b (nat_le place (length on))) top ∙ ap (λ b. at false b) below ∙ by way
     where
+      at : Bool → Bool → SideCosts
+      at head stands = cond head (side_does 0 (head_does shape)) (cond stands (side_does place (does_among (place - 1) on way shape)) (behind_costs (length on) way place shape))
+
       top : (place == 0) ≡ false
       top = grind (arith, nat_tests)
 

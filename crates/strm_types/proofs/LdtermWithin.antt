@@ -24,7 +24,7 @@ use Rattle.strm_types.specs.Termios.{tostop}
 use Rattle.strm_types.specs.Typing.{up_alone}
 use Rattle.strm_types.proofs.CostsOf.{both-cost, more-few, none-few, one-few}
 use Rattle.strm_types.proofs.LdtermPuts.{either, puts-each}
-use Rattle.strm_types.proofs.ShapesOf.{acked-shape, data-shape}
+use Rattle.strm_types.proofs.ShapesOf.{acked-shape, data-shape, reads-shape}
 
 -- flushes of its queues send nothing
 module _ {C : Type 0} (here : Spot) where
@@ -96,7 +96,7 @@ module _ {C : Type 0} (here : Spot) (cost : At → ℕ) where
           told = onward Up here (flush_message (read_flush None)) ∷ []
 
           at : (flushed : Bool) → cost_of cost (cond flushed (both (read_flushed here up_alone l) (sends told)) (sends [] l)).sent ≤ up FlushR
-          at true = subst (λ (ps : List (Parcel C)). cost_of cost (ps ++ told) ≤ up FlushR) (sym (read-none here up_alone l)) (one-few cost (up FlushR) (toward Up here) (flush_message (read_flush None)) (omega arith))
+          at true = subst (λ (ps : List (Parcel C)). cost_of cost (ps ++ told) ≤ up FlushR) (sym (read-none here up_alone l)) (one-few cost (up FlushR) (toward Up here) (flush_message (read_flush None)) (let same = ap up (reads-shape {C = C} None) in omega (arith, same)))
           at false = none-few cost (up FlushR)
 
       taken : (command : ℕ) (t : Termios) (l : Ldterm C) → cost_of cost (taken_up here command t m l).sent ≤ costs (ldterm_does Up Acking)
