@@ -1,18 +1,20 @@
 //! The echo of a byte, which stands last on the write queue while a turn is under way (termio(7I): ECHO; ldterm(7M)).
 
-ghost use Rattle.std.specs.Prelude.{ℕ, ◌≡◌, ◌<◌, ◌≤◌, ◌*◌, length, [], ◌∷◌, true, false, is_some, not, ◌&&◌, if◌then◌else◌};
-ghost use Rattle.strm_types.specs.declared.names.Way.TheVariants.{Down};
+ghost use Rattle.std.specs.Prelude.{ℕ, ◌≡◌, ◌<◌, ◌≤◌, ◌*◌, length, [], true, is_some, if◌then◌else◌};
 ghost use Rattle.strm_types.specs.declared.rules.Fates.{Fates};
-ghost use Rattle.strm_types.specs.declared.spots.Note.TheVariants.{Enable};
 ghost use Rattle.strm_types.specs.declared.spots.Spot.{Spot};
 ghost use Rattle.strm_types.specs.Cells.{plain};
+ghost use Rattle.strm_types.specs.Message.{data_message};
+ghost use Rattle.strm_types.specs.Queue.{put_enables};
 ghost use Rattle.strm_types.specs.Typing.{echo_grows, echo_stands, echoed};
 ghost use Rattle.strm_types.specs.Write.{chunk_count};
+ghost use Rattle.strm_queue.specs.Stored.{IsReady, messages_on, queue_in};
+ghost use Rattle.strm_queue.specs.Taken.{TakenLast};
 ghost use Rattle.strm_frame.specs.Hands.{AreIn, HasRoom};
-ghost use Rattle.strm_ldterm.specs.Stands.{IsData, IsHeld, keeps, ldterm_in};
+ghost use Rattle.strm_ldterm.specs.Stands.{EndsPlain, IsData, IsHeld, IsOrdinary, keeps, ldterm_in};
 ghost use Rattle.strm_ldterm.specs.Does.{Proceeds};
 ghost use Rattle.strm_ldterm.specs.Echoes.{echo_bytes};
-ghost use Rattle.strm_ldterm.specs.Grown.{Grown, Begins};
+ghost use Rattle.strm_ldterm.specs.Grown.{Grown, Begins, BeginsLast, GrowsLast};
 ghost use Rattle.strm_blocks.specs.Blocks.{token};
 
 use crate::echoes::Echo;
@@ -21,10 +23,11 @@ use crate::growing::{begin, grow};
 use crate::ldterm::Ldterm;
 use crate::lines::Line;
 use crate::putting::note_if;
-use crate::queues::is_full;
 use arrayvec::ArrayVec;
 use strm_blocks::{Blocks, InHand};
 use strm_queue::Queue;
+use strm_queue::standing::{enqueue, is_full};
+use strm_queue::taking::take_last;
 use strm_types::{Band, Fates, Note, Rule, Spot, Way, chunk_count};
 
 // Adds an echo to a message of data, run by run, so many at most.
@@ -65,44 +68,52 @@ fn begin_by_runs<B: Blocks>(store: &mut B, plan: Echo, line: &Line, runs: usize)
     grow_by_runs(store, begun, plan, line, runs - 1)
 }
 
-// Whether a message of band 0 that is put on a queue enables it: putq(9F).
-fn enables(queue: &Queue) -> bool
-    ensures { result ≡ (not queue.now.no_enable && queue.now.want_read) }
+// Takes the message of data that stands last on a queue into the hand.
+fn take_echo<B: Blocks>(store: &mut B, queue: &mut Queue) -> InHand
+    requires ready { IsReady (B.value store.old) queue.old }
+    requires last { EndsPlain (messages_on (B.value store.old) queue.old.list) }
+    ensures taken { TakenLast (B.value store.old) (B.value store.new) queue.old queue.new (token result) }
+    ensures ordinary { IsOrdinary (B.value store.new) (token result) }
 {
-    !queue.no_enable && queue.want_read
-}
-
-// Adds an echo to that of the turn, run by run, so many at most.
-fn grow_echo<B: Blocks>(ldterm: &mut Ldterm, store: &mut B, plan: Echo, runs: usize)
-    requires held { IsHeld (B.value store.old) ldterm.old }
-    requires some { is_some ldterm.old.echo ≡ true }
-    requires enough { length (echo_bytes plan ldterm.old.line) ≤ runs * 256 }
-    requires room { HasRoom (B.value store.old) runs }
-    ensures { (here : Spot) (f : Fates) → let s = B.value store.old in
-        Proceeds s (B.value store.new) ldterm.old ldterm.new runs [] [] f f
-        (record (echo_grows plain here (echo_bytes plan ldterm.old.line) (ldterm_in s ldterm.old)) { gone = [] }) }
-{
-    let Some(echo) = ldterm.echo.take() else {
+    let Some(echo) = take_last(store, queue) else {
         unreachable!()
     };
-    ldterm.echo = Some(grow_by_runs(store, echo, plan, &ldterm.line, runs));
+    echo
 }
 
-// Begins the turn's echo, run by run, so many at most, and says whether that enables the write queue.
-fn begin_echo<B: Blocks>(ldterm: &mut Ldterm, store: &mut B, plan: Echo, runs: usize) -> bool
-    requires held { IsHeld (B.value store.old) ldterm.old }
-    requires kept { AreIn (B.value store.old) (λ _. 0) (keeps ldterm.old) }
-    requires none { is_some ldterm.old.echo ≡ false }
-    requires some { 0 < runs }
-    requires enough { length (echo_bytes plan ldterm.old.line) ≤ runs * 256 }
+// Adds an echo to the message of data that stands last on a queue, run by run, so many at most.
+fn grow_echo<B: Blocks>(store: &mut B, queue: &mut Queue, plan: Echo, line: &Line, runs: usize)
+    requires ready { IsReady (B.value store.old) queue.old }
+    requires last { EndsPlain (messages_on (B.value store.old) queue.old.list) }
+    requires enough { length (echo_bytes plan line.now) ≤ runs * 256 }
     requires room { HasRoom (B.value store.old) runs }
-    ensures { (here : Spot) (f : Fates) → let s = B.value store.old in
-        Proceeds s (B.value store.new) ldterm.old ldterm.new runs (if result then Enable Down ∷ [] else []) [] f f
-        (record (echo_stands plain here (echo_bytes plan ldterm.old.line) (ldterm_in s ldterm.old)) { gone = [] }) }
+    ensures { GrowsLast (B.value store.old) (B.value store.new) queue.old queue.new (echo_bytes plan line.now) runs }
 {
+    let echo = take_echo(store, queue);
     store.audit();
-    ldterm.echo = Some(begin_by_runs(store, plan, &ldterm.line, runs));
-    enables(&ldterm.write_queue)
+    let grown = grow_by_runs(store, echo, plan, line, runs);
+    store.audit();
+    let _ = enqueue(store, queue, grown);
+}
+
+// Puts an echo last on a queue, run by run, so many at most, and says whether that enables the queue.
+fn begin_echo<B: Blocks>(
+    store: &mut B,
+    queue: &mut Queue,
+    plan: Echo,
+    line: &Line,
+    runs: usize,
+) -> bool
+    requires ready { IsReady (B.value store.old) queue.old }
+    requires some { 0 < runs }
+    requires enough { length (echo_bytes plan line.now) ≤ runs * 256 }
+    requires room { HasRoom (B.value store.old) runs }
+    ensures begins { BeginsLast (B.value store.old) (B.value store.new) queue.old queue.new (echo_bytes plan line.now) runs }
+    ensures enables { result ≡ put_enables (data_message (echo_bytes plan line.now)) (queue_in (B.value store.old) queue.old) }
+{
+    let begun = begin_by_runs(store, plan, line, runs);
+    store.audit();
+    enqueue(store, queue, begun)
 }
 
 // Lets an echo of some bytes stand last on the write queue, where band 0 isn't full.
@@ -114,22 +125,50 @@ fn let_stand<B: Blocks>(
 ) -> ArrayVec<Note, 4>
     requires held { IsHeld (B.value store.old) ldterm.old }
     requires kept { AreIn (B.value store.old) (λ _. 0) (keeps ldterm.old) }
+    requires work { is_some ldterm.old.in_work ≡ true }
     requires some { 0 < runs }
     requires enough { length (echo_bytes plan ldterm.old.line) ≤ runs * 256 }
     requires room { HasRoom (B.value store.old) runs }
     ensures { (here : Spot) (f : Fates) → let s = B.value store.old in let p = ldterm_in s ldterm.old in
         let bytes = echo_bytes plan ldterm.old.line in
         Proceeds s (B.value store.new) ldterm.old ldterm.new runs result.items [] f f
-        (record (if is_some ldterm.old.echo then echo_grows plain here bytes p else echo_stands plain here bytes p) { gone = [] }) }
+        (record (if ldterm.old.echoing then echo_grows plain here bytes p else echo_stands plain here bytes p) { gone = [] }) }
 {
-    if ldterm.echo.is_some() {
-        grow_echo(ldterm, store, plan, runs);
+    if ldterm.echoing {
+        grow_echo(store, &mut ldterm.write_queue, plan, &ldterm.line, runs);
         return ArrayVec::new();
     }
-    note_if(
-        begin_echo(ldterm, store, plan, runs),
-        Note::Enable(Way::Down),
-    )
+    let enables = begin_echo(store, &mut ldterm.write_queue, plan, &ldterm.line, runs);
+    ldterm.echoing = true;
+    note_if(enables, Note::Enable(Way::Down))
+}
+
+// Adds at most 256 bytes to the message of data that stands last on a queue.
+fn grow_run<B: Blocks>(store: &mut B, queue: &mut Queue, run: &[u8])
+    requires ready { IsReady (B.value store.old) queue.old }
+    requires last { EndsPlain (messages_on (B.value store.old) queue.old.list) }
+    requires few { length run.now ≤ 256 }
+    requires room { HasRoom (B.value store.old) 1 }
+    ensures { GrowsLast (B.value store.old) (B.value store.new) queue.old queue.new run.now 1 }
+{
+    let echo = take_echo(store, queue);
+    store.audit();
+    let grown = grow(store, echo, run);
+    store.audit();
+    let _ = enqueue(store, queue, grown);
+}
+
+// Puts at most 256 bytes last on a queue, and says whether that enables it.
+fn begin_run<B: Blocks>(store: &mut B, queue: &mut Queue, run: &[u8]) -> bool
+    requires ready { IsReady (B.value store.old) queue.old }
+    requires few { length run.now ≤ 256 }
+    requires room { HasRoom (B.value store.old) 1 }
+    ensures begins { BeginsLast (B.value store.old) (B.value store.new) queue.old queue.new run.now 1 }
+    ensures enables { result ≡ put_enables (data_message run.now) (queue_in (B.value store.old) queue.old) }
+{
+    let begun = begin(store, run);
+    store.audit();
+    enqueue(store, queue, begun)
 }
 
 /// Lets bytes stand last on the write queue as the turn's echo, or behind what stands of it, at least one and at most 256: band 0 isn't
@@ -141,23 +180,20 @@ pub(crate) fn stand_run<B: Blocks>(
 ) -> ArrayVec<Note, 4>
     requires held { IsHeld (B.value store.old) ldterm.old }
     requires kept { AreIn (B.value store.old) (λ _. 0) (keeps ldterm.old) }
+    requires work { is_some ldterm.old.in_work ≡ true }
     requires few { length run.now ≤ 256 }
     requires room { HasRoom (B.value store.old) 1 }
     ensures { (here : Spot) (f : Fates) → let s = B.value store.old in let p = ldterm_in s ldterm.old in
         Proceeds s (B.value store.new) ldterm.old ldterm.new 1 result.items [] f f
-        (record (if is_some ldterm.old.echo then echo_grows plain here run.now p else echo_stands plain here run.now p) { gone = [] }) }
+        (record (if ldterm.old.echoing then echo_grows plain here run.now p else echo_stands plain here run.now p) { gone = [] }) }
 {
-    match ldterm.echo.take() {
-        Some(echo) => {
-            ldterm.echo = Some(grow(store, echo, run));
-            ArrayVec::new()
-        }
-        None => {
-            store.audit();
-            ldterm.echo = Some(begin(store, run));
-            note_if(enables(&ldterm.write_queue), Note::Enable(Way::Down))
-        }
+    if ldterm.echoing {
+        grow_run(store, &mut ldterm.write_queue, run);
+        return ArrayVec::new();
     }
+    let enables = begin_run(store, &mut ldterm.write_queue, run);
+    ldterm.echoing = true;
+    note_if(enables, Note::Enable(Way::Down))
 }
 
 /// Echoes a byte, which is the last of what a byte does. Its echo is told as made in the direction of the write queue, and where band 0
@@ -165,7 +201,7 @@ pub(crate) fn stand_run<B: Blocks>(
 /// and that enables the queue as `putq(9F)` says. Where band 0 is full before, none of the echo stands, and all of it is told as gone
 /// (EchoFull). It takes one block of each kind at most for each begun 256 bytes. The cost is a step for each byte of the echo, and for
 /// each block of the turn's echo.
-pub fn echo<B: Blocks>(
+pub(crate) fn echo<B: Blocks>(
     ldterm: &mut Ldterm,
     store: &mut B,
     here: Spot,
@@ -174,6 +210,7 @@ pub fn echo<B: Blocks>(
 ) -> ArrayVec<Note, 4>
     requires held { IsHeld (B.value store.old) ldterm.old }
     requires kept { AreIn (B.value store.old) (λ _. 0) (keeps ldterm.old) }
+    requires work { is_some ldterm.old.in_work ≡ true }
     requires room { HasRoom (B.value store.old) (chunk_count (length (echo_bytes plan ldterm.old.line))) }
     ensures { let s = B.value store.old in let bytes = echo_bytes plan ldterm.old.line in
         Proceeds s (B.value store.new) ldterm.old ldterm.new (chunk_count (length bytes)) result.items [] told.old told.new
@@ -187,7 +224,7 @@ pub fn echo<B: Blocks>(
     let runs = chunk_count(len);
     let direction = direction_at(Way::Down, here.side);
     told.tell_made(direction, len);
-    if is_full(ldterm, store, Way::Down, Band(0)) {
+    if is_full(store, &ldterm.write_queue, Band(0)) {
         told.tell(direction, Rule::EchoFull, len);
         return ArrayVec::new();
     }

@@ -19,7 +19,6 @@ ghost use Rattle.strm_ldterm.specs.Stands.{ldterm_in, keeps, IsHeld};
 ghost use Rattle.strm_ldterm.specs.Does.{Alters, Proceeds};
 
 use crate::ldterm::{Ldterm, Stage};
-use crate::putting::settle_echo;
 use strm_blocks::{Blocks, InHand};
 use strm_frame::{Outbox, Sent};
 use strm_msg::booked_size;
@@ -112,7 +111,7 @@ pub(crate) fn finish<B: Blocks>(ldterm: &mut Ldterm, store: &mut B, here: Spot) 
         FreesNone (B.value store.old) (B.value store.new) }
 {
     // Where the turn stops within its message it ends as well: the next one begins an echo of its own, and goes on with what is left.
-    settle_echo(ldterm, store);
+    ldterm.echoing = false;
     return_work(ldterm, store);
     store.audit();
     // Last, so that nothing is in hand here while it is delivered.

@@ -1,29 +1,22 @@
 //! What an M_FLUSH takes from the module (ldterm(7M); STREAMS Programming Guide, "Flush Handling").
 
-ghost use Rattle.std.specs.Prelude.{ℕ, ◌≡◌, ◌<◌, Some, ◌&&◌, true, false, is_some, [], ◌∷◌, if◌then◌else◌};
-ghost use Rattle.strm_types.specs.Message.{Message};
+ghost use Rattle.std.specs.Prelude.{◌≡◌, [], ◌∷◌, if◌then◌else◌};
 ghost use Rattle.strm_types.specs.declared.names.Way.TheVariants.{Up, Down};
 ghost use Rattle.strm_types.specs.declared.rules.Rule.TheVariants.{Flushed};
 ghost use Rattle.strm_types.specs.declared.spots.Note.TheVariants.{Room};
 ghost use Rattle.strm_types.specs.Deliver.{Goes, counted_with, tallied};
-ghost use Rattle.strm_types.specs.Emptied.{of_data, stayed, cells_gone, queue_behind, writer_goes};
-ghost use Rattle.strm_types.specs.Ldterms.{takes_band_0, queue_flushed, line_flushed, read_flushed, write_flushed};
+ghost use Rattle.strm_types.specs.Emptied.{of_data, cells_gone, queue_behind, writer_goes};
+ghost use Rattle.strm_types.specs.Ldterms.{takes_band_0, line_flushed, read_flushed, write_flushed};
 ghost use Rattle.strm_types.specs.Names.{direction_at};
 ghost use Rattle.strm_blocks.specs.Blocks.{StoreValue};
 ghost use Rattle.strm_queue.specs.Stored.{queue_in, messages_on, IsReady, Changes, FreesBlocks};
-ghost use Rattle.strm_frame.specs.Hands.{AreIn};
-ghost use Rattle.strm_ldterm.specs.Stands.{ldterm_in, keeps, IsHeld, with_last};
-ghost use Rattle.strm_ldterm.specs.Relieved.{AddsBytes};
+ghost use Rattle.strm_ldterm.specs.Stands.{ldterm_in, IsHeld};
 ghost use Rattle.strm_ldterm.specs.Does.{Flushes};
 
 use crate::ldterm::Ldterm;
-use crate::putting::settle_echo;
-use crate::queues::echo_size;
-use crate::relieving::relieve_with;
 use strm_blocks::Blocks;
 use strm_queue::Queue;
 use strm_queue::emptying::{Chosen, empty, going};
-use strm_queue::standing::total;
 use strm_types::{Band, Dir, Fates, FlushAsked, Rule, Side, Spot, Way};
 
 /// The direction in which messages go a way on a side's stream.
@@ -101,84 +94,6 @@ pub(crate) fn flush_read<B: Blocks>(
     room
 }
 
-// Takes what a flush takes from the write queue, where no echo is in hand.
-fn flush_listed<B: Blocks>(
-    ldterm: &mut Ldterm,
-    store: &mut B,
-    here: Spot,
-    band: Option<Band>,
-    told: &mut Fates,
-) -> bool
-    requires held { IsHeld (B.value store.old) ldterm.old }
-    requires none { is_some ldterm.old.echo ≡ false }
-    ensures { let s = B.value store.old in
-        Flushes s (B.value store.new) ldterm.old ldterm.new (if result then Room Down ∷ [] else []) told.old told.new
-        (queue_flushed Down here band (ldterm_in s ldterm.old)) }
-{
-    let direction = direction_at(Way::Down, here.side);
-    flush_queue(store, &mut ldterm.write_queue, direction, band, told)
-}
-
-// Takes the messages of data of a band from a queue. Its flags stay.
-fn drop_band<B: Blocks>(store: &mut B, queue: &mut Queue, band: Band)
-    requires ready { IsReady (B.value store.old) queue.old }
-    ensures queue { let q = queue_in (B.value store.old) queue.old in
-        queue_in (B.value store.new) queue.new ≡ record q { messages = stayed (of_data (Some band)) q.messages } }
-    ensures changes { Changes (B.value store.old) (B.value store.new) queue.old queue.new }
-    ensures frees { FreesBlocks (B.value store.old) (B.value store.new) }
-{
-    store.audit();
-    let want_read = queue.want_read;
-    queue.flushband(store, band);
-    queue.want_read = want_read;
-}
-
-// Takes the messages of a band other than 0 from a queue on which a message of band 0 stands last, beside the list. That one has so
-// many bytes.
-fn flush_before<B: Blocks>(store: &mut B, queue: &mut Queue, more: usize, band: Band) -> bool
-    requires ready { IsReady (B.value store.old) queue.old }
-    requires above { 0 < band.0 }
-    ensures queue { (m : Message ℕ) → m.band ≡ 0 → AddsBytes more (m ∷ []) →
-        with_last (Some m) (queue_in (B.value store.new) queue.new)
-        ≡ queue_behind (of_data (Some band)) (with_last (Some m) (queue_in (B.value store.old) queue.old)) }
-    ensures went { (m : Message ℕ) → m.band ≡ 0 → AddsBytes more (m ∷ []) →
-        result ≡ writer_goes (of_data (Some band)) (with_last (Some m) (queue_in (B.value store.old) queue.old)) }
-    ensures changes { Changes (B.value store.old) (B.value store.new) queue.old queue.new }
-    ensures frees { FreesBlocks (B.value store.old) (B.value store.new) }
-{
-    let before = total(store, queue);
-    drop_band(store, queue, band);
-    if total(store, queue) == before {
-        return false;
-    }
-    relieve_with(queue, more)
-}
-
-// Takes the messages of a band other than 0 from the write queue. The turn's echo stays.
-fn flush_beside<B: Blocks>(
-    ldterm: &mut Ldterm,
-    store: &mut B,
-    here: Spot,
-    band: Option<Band>,
-    told: &mut Fates,
-) -> bool
-    requires held { IsHeld (B.value store.old) ldterm.old }
-    requires other { takes_band_0 band ≡ false }
-    ensures { let s = B.value store.old in
-        Flushes s (B.value store.new) ldterm.old ldterm.new (if result then Room Down ∷ [] else []) told.old told.new
-        (queue_flushed Down here band (ldterm_in s ldterm.old)) }
-{
-    let Some(named) = band else { unreachable!() };
-    if ldterm.echo.is_none() {
-        return flush_listed(ldterm, store, here, band, told);
-    }
-    let more = echo_size(store, &ldterm.echo);
-    let direction = direction_at(Way::Down, here.side);
-    let bytes = going(store, &ldterm.write_queue, Chosen::Of(named));
-    told.tell(direction, Rule::Flushed, bytes);
-    flush_before(store, &mut ldterm.write_queue, more, named)
-}
-
 /// FLUSHW: what waits to go down goes, with the turn's echo where band 0 goes. It says whether queues before have room again.
 pub(crate) fn flush_write<B: Blocks>(
     ldterm: &mut Ldterm,
@@ -188,7 +103,6 @@ pub(crate) fn flush_write<B: Blocks>(
     told: &mut Fates,
 ) -> bool
     requires held { IsHeld (B.value store.old) ldterm.old }
-    requires kept { AreIn (B.value store.old) (λ _. 0) (keeps ldterm.old) }
     ensures { let s = B.value store.old in
         Flushes s (B.value store.new) ldterm.old ldterm.new (if result then Room Down ∷ [] else []) told.old told.new
         (write_flushed here asked (ldterm_in s ldterm.old)) }
@@ -196,9 +110,8 @@ pub(crate) fn flush_write<B: Blocks>(
     if !asked.for_write {
         return false;
     }
-    if takes_band_0(asked.band) {
-        settle_echo(ldterm, store);
-        return flush_listed(ldterm, store, here, asked.band, told);
-    }
-    flush_beside(ldterm, store, here, asked.band, told)
+    let whole = takes_band_0(asked.band);
+    ldterm.echoing &= !whole;
+    let direction = direction_at(Way::Down, here.side);
+    flush_queue(store, &mut ldterm.write_queue, direction, asked.band, told)
 }

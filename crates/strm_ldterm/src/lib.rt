@@ -2,12 +2,12 @@
 //! queues on a store of blocks.
 #![tactic(auto)]
 
+mod asking;
 mod beginning;
 mod behind;
 mod clearing;
 mod echoes;
 mod echoing;
-mod ending;
 mod finishing;
 mod flowing;
 mod flushing;
@@ -22,9 +22,7 @@ mod pasting;
 mod posting;
 mod posts;
 mod putting;
-mod queues;
 mod reading;
-mod relieving;
 mod sending;
 mod serving;
 mod signalling;
@@ -36,13 +34,10 @@ mod wholes;
 
 pub use clearing::clear;
 pub use echoes::{ECHO_MAX, Echo, RUN_MAX, echo_of};
-pub use echoing::echo;
-pub use ending::end_turn;
 pub use ldterm::{Ldterm, Stage, Tables, name};
 pub use lines::Line;
 pub use posts::post;
 pub use putting::put;
-pub use queues::{asks, first_size, is_full, sizes};
 pub use sending::{end_file, end_line, stop};
 pub use serving::serve;
 pub use strokes::{restarts, stroke_of};

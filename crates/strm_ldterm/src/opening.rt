@@ -1,6 +1,6 @@
 //! Turns of the module's queues begin (ldterm(7M); srv(9E); getq(9F)): what stands first passes whole, or comes into work.
 
-ghost use Rattle.std.specs.Prelude.{ℕ, ◌≡◌, ◌<◌, ◌≤◌, ◌&&◌, nat_lt};
+ghost use Rattle.std.specs.Prelude.{ℕ, ◌≡◌, ◌<◌, ◌≤◌, ◌&&◌, false, nat_lt};
 ghost use Rattle.strm_types.specs.declared.limits.TheConstants.{MODULES};
 ghost use Rattle.strm_types.specs.Input.{is_data};
 ghost use Rattle.strm_types.specs.Termios.{opost};
@@ -62,6 +62,7 @@ fn goes_out(termios: &Termios, kind: MsgKind, bytes: usize) -> bool
 pub(crate) fn begin_output<B: Blocks>(ldterm: &mut Ldterm, store: &mut B, here: Spot) -> OutputBegun
     requires held { IsHeld (B.value store.old) ldterm.old }
     requires rests { (i : ℕ) → keeps ldterm.old i ≡ 0 }
+    requires quiet { ldterm.old.echoing ≡ false }
     requires inside { 0 < here.at }
     requires small { here.at ≤ MODULES }
     ensures { OutputBeganAs (B.value store.old) (B.value store.new) here ldterm.old ldterm.new result }
@@ -96,6 +97,7 @@ pub(crate) fn begin_output<B: Blocks>(ldterm: &mut Ldterm, store: &mut B, here: 
 pub(crate) fn begin_input<B: Blocks>(ldterm: &mut Ldterm, store: &mut B, here: Spot) -> InputBegun
     requires held { IsHeld (B.value store.old) ldterm.old }
     requires rests { (i : ℕ) → keeps ldterm.old i ≡ 0 }
+    requires quiet { ldterm.old.echoing ≡ false }
     requires inside { 0 < here.at }
     requires small { here.at ≤ MODULES }
     ensures { BeganAs (B.value store.old) (B.value store.new) here ldterm.old ldterm.new result }

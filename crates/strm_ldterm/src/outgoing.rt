@@ -1,7 +1,7 @@
 //! Turns of the write queue: bytes of M_DATA go out under OPOST, and all else goes down whole (ldterm(7M), "Write-side Behavior"; termio(7I):
 //! "Output Modes"; srv(9E); putbq(9F)).
 
-ghost use Rattle.std.specs.Prelude.{ℕ, Bool, ◌≡◌, ◌<◌, ◌≤◌, [], false, length, map, None, is_some};
+ghost use Rattle.std.specs.Prelude.{ℕ, Bool, ◌≡◌, ◌<◌, ◌≤◌, [], false, length, map, None};
 ghost use Rattle.strm_types.specs.declared.limits.TheConstants.{MODULES};
 ghost use Rattle.strm_types.specs.declared.names.Way.TheVariants.{Down};
 ghost use Rattle.strm_types.specs.declared.rules.Fates.{Fates};
@@ -35,7 +35,6 @@ use strm_types::{Band, Fates, Spot, Way};
 fn return_output<B: Blocks>(ldterm: &mut Ldterm, store: &mut B)
     requires held { IsHeld (B.value store.old) ldterm.old }
     requires kept { AreIn (B.value store.old) (λ _. 0) (keeps ldterm.old) }
-    requires quiet { is_some ldterm.old.echo ≡ false }
     ensures state { let p = ldterm_in (B.value store.old) ldterm.old in ldterm_in (B.value store.new) ldterm.new
         ≡ record p { in_work = None; write_queue = back_on p.in_work p.write_queue } }
     ensures alters { Alters (B.value store.old) (B.value store.new) ldterm.old ldterm.new }
@@ -97,7 +96,6 @@ fn send_output<B: Blocks>(ldterm: &mut Ldterm, store: &mut B, here: Spot, band: 
 fn let_go<B: Blocks>(ldterm: &mut Ldterm, store: &mut B, here: Spot, band: Band) -> Outbox
     requires held { IsHeld (B.value store.old) ldterm.old }
     requires kept { AreIn (B.value store.old) (λ _. 0) (keeps ldterm.old) }
-    requires quiet { is_some ldterm.old.echo ≡ false }
     requires inside { 0 < here.at }
     requires small { here.at ≤ MODULES }
     ensures did { (f : Fates) → let s = B.value store.old in
@@ -127,6 +125,7 @@ pub(crate) fn serve_output<B: Blocks>(
     requires small { here.at ≤ MODULES }
     requires way { here.way ≡ Down }
     requires rests { (i : ℕ) → keeps ldterm.old i ≡ 0 }
+    requires quiet { ldterm.old.echoing ≡ false }
     requires stage { stages_left (stage_in ldterm.old.stage) ≡ 0 }
     ensures { (again : Bool) → ServesAs (B.value store.old) (B.value store.new) here ldterm.old ldterm.new again result told.old told.new }
 {

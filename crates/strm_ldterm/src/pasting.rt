@@ -25,12 +25,14 @@ use crate::echoes::RUN_MAX;
 use crate::echoing::stand_run;
 use crate::flushing::direction_at;
 use crate::ldterm::Ldterm;
-use crate::queues::echo_room;
 use crate::typing::gather;
 use arrayvec::ArrayVec;
 use bitflags::Flags;
 use strm_blocks::{Blocks, InHand};
-use strm_types::{Fates, InputModes, LINE_MAX, LocalModes, Note, STOP_BLOCKS, Spot, Termios, Way};
+use strm_queue::standing::count;
+use strm_types::{
+    Band, Fates, InputModes, LINE_MAX, LocalModes, Note, STOP_BLOCKS, Spot, Termios, Way,
+};
 
 /// What became of plain bytes that were treated at once: how many they were, and what is noted of their echo.
 #[derive(Drop)]
@@ -202,6 +204,17 @@ pub(crate) fn run_most<B: Blocks>(store: &B) -> usize
     RUN_MAX
 }
 
+// How many bytes more leave band 0 of the write queue at its high-water mark, so that it isn't full before the last of them; 0 where it
+// is full.
+fn echo_room<B: Blocks>(ldterm: &Ldterm, store: &B) -> usize
+    requires { IsHeld (B.value store.now) ldterm.now }
+    ensures { let q = (ldterm_in (B.value store.now) ldterm.now).write_queue in
+        0 < result → count_of 0 q.messages + result ≤ (flow_of 0 q).high }
+{
+    let counted = count(store, &ldterm.write_queue, Band(0));
+    (ldterm.write_queue.flows.at(Band(0)).high as usize).saturating_sub(counted)
+}
+
 // How many plain bytes may be treated at once, where any may.
 fn run_room<B: Blocks>(ldterm: &Ldterm, store: &B) -> usize
     requires { IsHeld (B.value store.now) ldterm.now }
@@ -253,6 +266,7 @@ fn echo_run<B: Blocks>(
 ) -> ArrayVec<Note, 4>
     requires held { IsHeld (B.value store.old) ldterm.old }
     requires kept { AreIn (B.value store.old) (λ _. 0) (keeps ldterm.old) }
+    requires work { is_some ldterm.old.in_work ≡ true }
     requires few { length run.now ≤ 256 }
     requires room { HasRoom (B.value store.old) 1 }
     ensures { let s = B.value store.old in

@@ -1,6 +1,6 @@
 //! What a put at the module does (ldterm(7M); put(9E); putq(9F)).
 
-ghost use Rattle.std.specs.Prelude.{ℕ, ◌≡◌, ◌<◌, ◌≤◌, if◌then◌else◌, ◌&&◌, not, nat_lt, is_some, [], ◌∷◌, ◌++◌, false};
+ghost use Rattle.std.specs.Prelude.{ℕ, ◌≡◌, ◌<◌, ◌≤◌, if◌then◌else◌, [], ◌∷◌, ◌++◌, false};
 ghost use Rattle.strm_types.specs.declared.names.Way.TheVariants.{Up, Down};
 ghost use Rattle.strm_types.specs.declared.rules.Fates.{Fates};
 ghost use Rattle.strm_types.specs.declared.limits.TheConstants.{MODULES};
@@ -14,10 +14,10 @@ ghost use Rattle.strm_types.specs.Ldterms.{waits_there};
 ghost use Rattle.strm_blocks.specs.Blocks.{IsInHand, in_hand, block_at, token};
 ghost use Rattle.strm_msg.specs.Messages.{IsChain};
 ghost use Rattle.strm_queue.specs.Stored.{FreesNone};
-ghost use Rattle.strm_frame.specs.Hands.{AreIn, CanPut, HasRoom};
+ghost use Rattle.strm_frame.specs.Hands.{CanPut, HasRoom};
 ghost use Rattle.strm_frame.specs.Outboxes.{message_in};
 ghost use Rattle.strm_ldterm.specs.Stands.{ldterm_in, keeps, IsHeld};
-ghost use Rattle.strm_ldterm.specs.Does.{Alters, Does, Puts};
+ghost use Rattle.strm_ldterm.specs.Does.{Does, Puts};
 ghost use Rattle.std.specs.Prelude.{true};
 
 use crate::behind::goes_behind;
@@ -42,23 +42,6 @@ pub(crate) fn note_if(holds: bool, note: Note) -> ArrayVec<Note, 4>
     notes
 }
 
-/// Puts the turn's echo on the write queue, where it stays last. From then on it stands there as any other message, and a new
-/// echo begins. No block is freed.
-pub(crate) fn settle_echo<B: Blocks>(ldterm: &mut Ldterm, store: &mut B)
-    requires held { IsHeld (B.value store.old) ldterm.old }
-    requires kept { AreIn (B.value store.old) (λ _. 0) (keeps ldterm.old) }
-    ensures state { ldterm_in (B.value store.new) ldterm.new
-        ≡ record (ldterm_in (B.value store.old) ldterm.old) { echoing = false } }
-    ensures alters { Alters (B.value store.old) (B.value store.new) ldterm.old ldterm.new }
-    ensures blocks { FreesNone (B.value store.old) (B.value store.new) }
-{
-    let Some(echo) = ldterm.echo.take() else {
-        return;
-    };
-    store.audit();
-    let _ = enqueue(store, &mut ldterm.write_queue, echo);
-}
-
 // A message waits to go up.
 fn wait_up<B: Blocks>(ldterm: &mut Ldterm, store: &mut B, message: InHand) -> Acts
     requires held { IsHeld (B.value store.old) ldterm.old }
@@ -77,28 +60,7 @@ fn wait_up<B: Blocks>(ldterm: &mut Ldterm, store: &mut B, message: InHand) -> Ac
     }
 }
 
-// A message waits to go down, where it comes to stand before the turn's echo, or there is none.
-fn wait_before<B: Blocks>(ldterm: &mut Ldterm, store: &mut B, message: InHand) -> Acts
-    requires held { IsHeld (B.value store.old) ldterm.old }
-    requires can_put { CanPut (B.value store.old) (token message) (keeps ldterm.old) }
-    requires chain { IsChain (in_hand (B.value store.old) (token message)) }
-    requires low { is_high_priority (message_in (B.value store.old) (token message)).kind ≡ false }
-    requires before { let s = B.value store.old in
-        (is_some ldterm.old.echo && not (nat_lt 0 (message_in s (token message)).band)) ≡ false }
-    ensures does { (f : Fates) → let s = B.value store.old in
-        Does s (B.value store.new) ldterm.old ldterm.new (token message) result f f
-        (queued_at Down (message_in s (token message)) (ldterm_in s ldterm.old)) }
-    ensures blocks { FreesNone (B.value store.old) (B.value store.new) }
-{
-    store.audit();
-    let enables = enqueue(store, &mut ldterm.write_queue, message);
-    Acts {
-        notes: note_if(enables, Note::Enable(Way::Down)),
-        sent: Outbox::none(),
-    }
-}
-
-// A message waits to go down. One of band 0 stands behind the turn's echo.
+// A message waits to go down. One of band 0 stands behind the turn's echo, so that a new one begins, and one of another band before it.
 fn wait_down<B: Blocks>(ldterm: &mut Ldterm, store: &mut B, message: InHand) -> Acts
     requires held { IsHeld (B.value store.old) ldterm.old }
     requires can_put { CanPut (B.value store.old) (token message) (keeps ldterm.old) }
@@ -111,11 +73,12 @@ fn wait_down<B: Blocks>(ldterm: &mut Ldterm, store: &mut B, message: InHand) -> 
 {
     store.audit();
     let band = store.band(&message);
-    if band.0 == 0 {
-        settle_echo(ldterm, store);
-        return wait_before(ldterm, store, message);
+    ldterm.echoing &= band.0 > 0;
+    let enables = enqueue(store, &mut ldterm.write_queue, message);
+    Acts {
+        notes: note_if(enables, Note::Enable(Way::Down)),
+        sent: Outbox::none(),
     }
-    wait_before(ldterm, store, message)
 }
 
 /// Sends a message on to the next place.

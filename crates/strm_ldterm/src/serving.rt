@@ -225,6 +225,7 @@ fn serve_input<B: Blocks>(
     requires room { HasRoom (B.value store.old) 1 }
     requires way { here.way ≡ Up }
     requires rests { (i : ℕ) → keeps ldterm.old i ≡ 0 }
+    requires quiet { ldterm.old.echoing ≡ false }
     requires stage { stages_left (stage_in ldterm.old.stage) ≡ 0 }
     ensures { ServesAs (B.value store.old) (B.value store.new) here ldterm.old ldterm.new false result told.old told.new }
 {

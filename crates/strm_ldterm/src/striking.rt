@@ -1,7 +1,7 @@
 //! What a byte of a turn does once it has begun: its key, and its echo (termio(7I): "Canonical Mode Input Processing", "Special
 //! Characters").
 
-ghost use Rattle.std.specs.Prelude.{ℕ, ◌≡◌, ◌<◌, ◌≤◌, ◌+◌, ◌++◌, [], true, false, length, IfNone, IfSome};
+ghost use Rattle.std.specs.Prelude.{ℕ, ◌≡◌, ◌<◌, ◌≤◌, ◌+◌, ◌++◌, [], true, false, length, is_some, IfNone, IfSome};
 ghost use Rattle.strm_types.specs.declared.limits.TheConstants.{MODULES, STOP_BLOCKS};
 ghost use Rattle.strm_types.specs.declared.spots.Spot as spots;
 ghost use Rattle.strm_types.specs.Cells.{plain};
@@ -42,7 +42,7 @@ fn wakes<B: Blocks>(ldterm: &Ldterm, store: &B, started: bool) -> ArrayVec<Note,
     ensures { (here : spots.Spot) → result.items ≡ wakes plain here started (ldterm_in (B.value store.now) ldterm.now) }
 {
     let mut notes = ArrayVec::new();
-    if started && (ldterm.echo.is_some() || !ldterm.write_queue.is_empty(store)) {
+    if started && !ldterm.write_queue.is_empty(store) {
         notes.push(Note::Enable(Way::Down));
     }
     notes
@@ -118,6 +118,7 @@ fn strike_and_echo<B: Blocks>(
 ) -> ArrayVec<Note, 4>
     requires held { IsHeld (B.value store.old) ldterm.old }
     requires kept { AreIn (B.value store.old) (λ _. 0) (keeps ldterm.old) }
+    requires work { is_some ldterm.old.in_work ≡ true }
     requires room { HasRoom (B.value store.old) 25 }
     requires stroke { stroke ≡ stroke_at plain here byte (ldterm_in (B.value store.old) ldterm.old) }
     requires quiet { is_quiet stroke.key ≡ true }
@@ -155,6 +156,7 @@ fn answer<B: Blocks>(
 ) -> ArrayVec<Note, 4>
     requires held { IsHeld (B.value store.old) ldterm.old }
     requires kept { AreIn (B.value store.old) (λ _. 0) (keeps ldterm.old) }
+    requires work { is_some ldterm.old.in_work ≡ true }
     requires room { HasRoom (B.value store.old) 1 }
     requires stage { stages_left (stage_in ldterm.old.stage) ≡ 1 }
     ensures { let s = B.value store.old in
@@ -178,6 +180,7 @@ fn strike<B: Blocks>(
 ) -> Acts
     requires held { IsHeld (B.value store.old) ldterm.old }
     requires kept { AreIn (B.value store.old) (λ _. 0) (keeps ldterm.old) }
+    requires work { is_some ldterm.old.in_work ≡ true }
     requires inside { 0 < here.at }
     requires small { here.at ≤ MODULES }
     requires room { HasRoom (B.value store.old) 28 }
@@ -224,6 +227,7 @@ pub(crate) fn resume<B: Blocks>(
 ) -> Acts
     requires held { IsHeld (B.value store.old) ldterm.old }
     requires kept { AreIn (B.value store.old) (λ _. 0) (keeps ldterm.old) }
+    requires work { is_some ldterm.old.in_work ≡ true }
     requires inside { 0 < here.at }
     requires small { here.at ≤ MODULES }
     requires room { HasRoom (B.value store.old) (needs (stage_in ldterm.old.stage)) }

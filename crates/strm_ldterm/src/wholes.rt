@@ -65,7 +65,7 @@ pub(crate) fn goes_up<B: Blocks>(ldterm: &Ldterm, store: &B, bytes: usize) -> bo
     if bytes == 0 || ldterm.stopped || ldterm.after_lnext || !is_raw(&ldterm.termios) {
         return false;
     }
-    if ldterm.gathered.is_some() || ldterm.echo.is_some() {
+    if ldterm.gathered.is_some() || ldterm.echoing {
         return false;
     }
     let Some(message) = &ldterm.in_work else {

@@ -59,7 +59,7 @@ pub(crate) fn ldterm_of<B: Blocks>(
         write_queue,
         in_work: None,
         gathered: None,
-        echo: None,
+        echoing: false,
         stage: Stage::Between,
     }
 }

@@ -1,32 +1,28 @@
--- The echo begins, where none was.
-use Rattle.std.proofs.Common.{◌≡◌, false, cond, List, [], ◌∷◌, refl, sym, subst}
-use Rattle.std.specs.Prelude.{Option, None, Some, is_some}
-use Rattle.strm_types.specs.declared.names.Way.TheVariants.{Down}
-use Rattle.strm_types.specs.declared.spots.Note.{Note}
-use Rattle.strm_types.specs.declared.spots.Note.TheVariants.{Enable}
-use Rattle.strm_types.specs.Cells.{plain}
-use Rattle.strm_types.specs.Typing.{echo_stands}
-use Rattle.strm_frame.specs.Hands.{AreIn}
+-- It is made in hand, and put on the queue.
+use Rattle.std.proofs.Common.{◌∙◌}
+use Rattle.strm_blocks.specs.Blocks.{token}
 use Rattle.strm_ldterm.specs.Echoes.{echo_bytes}
-use Rattle.strm_ldterm.specs.Stands.{ldterm_in, keeps, IsHeld}
-use Rattle.strm_ldterm.specs.Does.{Proceeds}
-use Rattle.strm_ldterm.proofs.EchoStands.{begins-proceeds}
+use Rattle.strm_ldterm.proofs.Grows.{data-in-hand}
+use Rattle.strm_ldterm.proofs.Rewriting.{begins-enables, begins-last, begins-ready}
 use Rattle.strm_ldterm.proofs.echoing.begin_echo.Goals as goal
 
-none-there : {A : Type 0} (o : Option A) → is_some o ≡ false → o ≡ None
-none-there None is = refl
-none-there (Some a) is = absurd cc
+pub enqueue-requires-clause-ready : goal.enqueue-requires-clause-ready
+enqueue-requires-clause-ready g c =
+    begins-ready (g.B.Blocks.value c.args.store.now) (g.B.Blocks.value c.begin_by_runs-begun.new.store) (g.B.Blocks.value c.begin_by_runs-begun.new.store) c.args.queue.now c.args.queue.now (token c.begin_by_runs-begun.result) c.args.runs (echo_bytes c.args.plan c.args.line.now) c.begin_by_runs-begun.ensures c.requires.ready
 
-pub returns : goal.returns
-returns g c = λ here f.
-    let s = g.B.Blocks.value c.args.store.now in
-    let t = g.B.Blocks.value c.begin_by_runs.new.store in
-    let x = c.args.ldterm.now in
-    let e = c.begin_by_runs.result in
-    let none : x.echo ≡ None = none-there x.echo c.requires.none in
-    let held = subst (λ o. IsHeld s (record x { echo = o })) none c.requires.held in
-    let kept = subst (λ o. AreIn s (λ _. 0) (keeps (record x { echo = o }))) none c.requires.kept in
-    let bytes = echo_bytes c.args.plan x.line in
-    subst (λ o. Proceeds s t (record x { echo = o }) (record x { echo = Some e }) c.args.runs (cond {A = List Note} c.enables.result (Enable Down ∷ []) []) [] f f
-    (record (echo_stands plain here bytes (ldterm_in s (record x { echo = o }))) { gone = [] })) (sym none)
-    (begins-proceeds s t x e bytes c.args.runs c.audit.ensures held kept c.begin_by_runs.ensures here f c.enables.result c.enables.ensures)
+pub enqueue-requires-clause-in_hand : goal.enqueue-requires-clause-in_hand
+enqueue-requires-clause-in_hand g c = data-in-hand (g.B.Blocks.value c.begin_by_runs-begun.new.store) (token c.begin_by_runs-begun.result) c.audit.ensures c.begin_by_runs-begun.ensures.are.are
+
+pub enqueue-requires-clause-chain : goal.enqueue-requires-clause-chain
+enqueue-requires-clause-chain g c = c.begin_by_runs-begun.ensures.are.are.chain
+
+pub returns-clause-begins : goal.returns-clause-begins
+returns-clause-begins g c =
+    let e = c.enqueue.ensures in
+    begins-last (g.B.Blocks.value c.args.store.now) (g.B.Blocks.value c.begin_by_runs-begun.new.store) (g.B.Blocks.value c.enqueue.new.store) c.args.queue.now c.enqueue.new.queue (token c.begin_by_runs-begun.result) c.args.runs (echo_bytes c.args.plan c.args.line.now)
+    c.begin_by_runs-begun.ensures c.audit.ensures e.changes e.frees e.queue
+
+pub returns-clause-enables : goal.returns-clause-enables
+returns-clause-enables g c =
+    c.enqueue.ensures.enables
+    ∙ begins-enables (g.B.Blocks.value c.args.store.now) (g.B.Blocks.value c.begin_by_runs-begun.new.store) (g.B.Blocks.value c.enqueue.new.store) c.args.queue.now c.enqueue.new.queue (token c.begin_by_runs-begun.result) c.args.runs (echo_bytes c.args.plan c.args.line.now) c.begin_by_runs-begun.ensures

@@ -1,6 +1,5 @@
 -- No byte, a full band, or an echo that stands.
 use Rattle.std.proofs.Common.{◌≡◌, [], ◌∷◌, cond, length, refl, sym, ap, subst, ◌∙◌, arith}
-use Rattle.std.specs.Prelude.{is_some}
 use Rattle.strm_types.specs.declared.rules.Rule.TheVariants.{EchoFull}
 use Rattle.strm_types.specs.Cells.{plain}
 use Rattle.strm_types.specs.Deliver.{Comes, Goes, tallied}
@@ -64,10 +63,10 @@ returns g c =
     let f = c.args.told.now in
     let f' = c.tell_made.new.self in
     let notes = c.let_stand.result.items in
-    let stands = cond (is_some x.echo) (echo_grows plain here bytes p) (echo_stands plain here bytes p) in
+    let stands = cond (x.echoing) (echo_grows plain here bytes p) (echo_stands plain here bytes p) in
     let runs : c.chunk_count-runs.result ≡ chunk_count (length bytes) = c.chunk_count-runs.ensures.value ∙ ap chunk_count c.len-len.ensures in
     let did = subst (λ n. Proceeds s t x x' n notes [] f f (record stands { gone = [] })) runs (c.let_stand.ensures here f) in
     let told = told-made c.direction_at-direction.result d c.len-len.result (length bytes) f f' c.direction_at-direction.ensures c.len-len.ensures c.tell_made.ensures in
     subst (λ a. Proceeds s t x x' (chunk_count (length bytes)) notes [] f f' a)
     (sym (echoed-room here p bytes (λ none. c.if-len-eq0.false (c.len-len.ensures ∙ none)) (sym c.is_full.ensures ∙ c.if-is_full.false)))
-    (proceeds-told s t x x' (chunk_count (length bytes)) notes f f' stands (told ∙ sym (ap (λ gone. tallied gone f) (stands-gone here p bytes (is_some x.echo)))) did)
+    (proceeds-told s t x x' (chunk_count (length bytes)) notes f f' stands (told ∙ sym (ap (λ gone. tallied gone f) (stands-gone here p bytes (x.echoing)))) did)

@@ -11,11 +11,11 @@ returns-then-is_empty g c =
 pub returns-then-is_data : goal.returns-then-is_data
 returns-then-is_data g c =
     began-work (g.B.Blocks.value c.args.store.now) (g.B.Blocks.value c.dequeue.new.store) c.args.ldterm.now c.dequeue.new.queue c.in-Some.message c.args.here
-    c.requires.held c.requires.rests c.in-Some.ensures _ (c.message_size-bytes.ensures.message c.in-Some.ensures.chain) c.audit.ensures
+    c.requires.held c.requires.rests c.requires.quiet c.in-Some.ensures _ (c.message_size-bytes.ensures.message c.in-Some.ensures.chain) c.audit.ensures
     (ap is_data (sym c.kind.ensures) ∙ sym c.is_data.ensures ∙ c.if-is_data.true)
 
 pub returns : goal.returns
 returns g c =
     began-whole (g.B.Blocks.value c.args.store.now) (g.B.Blocks.value c.dequeue.new.store) c.args.ldterm.now c.dequeue.new.queue c.in-Some.message c.args.here
-    c.requires.held c.requires.rests c.in-Some.ensures _ (c.message_size-bytes.ensures.message c.in-Some.ensures.chain) c.toward.result _ c.one.ensures c.toward.ensures
+    c.requires.held c.requires.rests c.requires.quiet c.in-Some.ensures _ (c.message_size-bytes.ensures.message c.in-Some.ensures.chain) c.toward.result _ c.one.ensures c.toward.ensures
     (ap is_data (sym c.kind.ensures) ∙ sym c.is_data.ensures ∙ c.if-is_data.false)

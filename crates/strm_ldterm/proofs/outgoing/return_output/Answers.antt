@@ -6,7 +6,7 @@ use Rattle.strm_ldterm.specs.Stands.{ldterm_in}
 use Rattle.strm_ldterm.specs.Does.{Alters}
 use Rattle.strm_ldterm.proofs.Finished.{work-cells, work-can}
 use Rattle.strm_ldterm.proofs.Freeing.{none-freed}
-use Rattle.strm_ldterm.proofs.Returning.{write-returned, write-returned-alters, none-there}
+use Rattle.strm_ldterm.proofs.Returning.{write-returned, write-returned-alters}
 use Rattle.strm_ldterm.proofs.outgoing.return_output.Goals as goal
 
 pub return_rest-requires-clause-in_hand : goal.return_rest-requires-clause-in_hand
@@ -22,7 +22,7 @@ returns-clause-state g c =
     let x = c.args.ldterm.now in
     let there : x.in_work ≡ Some c.in-Some.message = sym c.take.ensures.value ∙ c.in-Some.is in
     ap (λ o. ldterm_in t (record x { in_work = o; write_queue = c.return_rest.new.queue })) c.take.ensures.after
-    ∙ write-returned s x c.in-Some.message there c.audit.ensures c.requires.held c.requires.kept t c.return_rest.new.queue c.return_rest.ensures.changes (none-there x.echo c.requires.quiet) c.return_rest.ensures.queue
+    ∙ write-returned s x c.in-Some.message there c.audit.ensures c.requires.held c.requires.kept t c.return_rest.new.queue c.return_rest.ensures.changes c.return_rest.ensures.queue
 
 pub returns-clause-alters : goal.returns-clause-alters
 returns-clause-alters g c =

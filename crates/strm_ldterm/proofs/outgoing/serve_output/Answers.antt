@@ -93,10 +93,6 @@ let_go-sent-requires-clause-kept g c =
     still-kept s1 (g.B.Blocks.value c.post_bytes-left.new.store) x1 c.post_bytes-left.new.ldterm _ [] told c.post_bytes-left.new.told _ c.audit-in-InWork.ensures c.post_bytes-left.ensures.does
     (still-kept (g.B.Blocks.value c.args.store.now) s1 c.args.ldterm.now x1 0 [] told told _ c.audit.ensures (c.in-InWork.ensures.works told) c.requires.kept)
 
-pub let_go-sent-requires-clause-quiet : goal.let_go-sent-requires-clause-quiet
-let_go-sent-requires-clause-quiet g c =
-    ap (λ (q : ldterms.Ldterm ℕ). q.echoing) c.post_bytes-left.ensures.does.state ∙ ap (λ (q : ldterms.Ldterm ℕ). q.echoing) (c.in-InWork.ensures.works c.args.told.now).state ∙ c.in-InWork.ensures.quiet
-
 pub returns-in-Whole : goal.returns-in-Whole
 returns-in-Whole g c = λ again.
     let s = g.B.Blocks.value c.args.store.now in

@@ -1,6 +1,5 @@
 -- Nothing without ECHO, and else an echo that stands.
 use Rattle.std.proofs.Common.{[], cond, length, refl, sym, ap, subst, ◌∙◌}
-use Rattle.std.specs.Prelude.{is_some}
 use Rattle.strm_types.specs.Cells.{plain}
 use Rattle.strm_types.specs.Deliver.{tallied}
 use Rattle.strm_types.specs.Typing.{echo_dir, echo_grows, echo_stands}
@@ -33,7 +32,7 @@ returns-then-contains g c =
     let f = c.args.told.now in
     let f' = c.tell_made.new.self in
     let notes = c.stand_run.result.items in
-    let stands = cond (is_some x.echo) (echo_grows plain here run p) (echo_stands plain here run p) in
+    let stands = cond (x.echoing) (echo_grows plain here run p) (echo_stands plain here run p) in
     let told = told-made c.direction_at.result d (length run) (length run) f f' c.direction_at.ensures refl c.tell_made.ensures in
     subst (λ a. Proceeds s t x x' 1 notes [] f f' a) (sym (echoed-so here p run (sym (c.contains.ensures tt) ∙ c.if-contains.true)))
-    (proceeds-told s t x x' 1 notes f f' stands (told ∙ sym (ap (λ gone. tallied gone f) (stands-gone here p run (is_some x.echo)))) (c.stand_run.ensures here f))
+    (proceeds-told s t x x' 1 notes f f' stands (told ∙ sym (ap (λ gone. tallied gone f) (stands-gone here p run (x.echoing)))) (c.stand_run.ensures here f))

@@ -8,7 +8,7 @@ use Rattle.strm_ldterm.specs.Does.{Proceeds}
 use Rattle.strm_ldterm.specs.PlainRuns.{is_plain}
 use Rattle.strm_ldterm.specs.Stands.{ldterm_in}
 use Rattle.strm_ldterm.proofs.Joining.{still-kept}
-use Rattle.strm_ldterm.proofs.RunsDone.{all-plain, front-short, line-room, no-run, run-begun, run-treated}
+use Rattle.strm_ldterm.proofs.RunsDone.{all-plain, front-short, left-works, line-room, no-run, run-begun, run-treated, run-works}
 use Rattle.strm_ldterm.proofs.Skipped.{no-bytes}
 use Rattle.strm_ldterm.proofs.pasting.treat_run.Goals as goal
 
@@ -56,6 +56,18 @@ echo_run-notes-requires-clause-kept g c =
     let t = c.args.told.now in
     still-kept s1 (g.B.Blocks.value c.type_run.new.store) c.take_front.new.ldterm c.type_run.new.ldterm 1 [] t t _ c.audit-2.ensures (c.type_run.ensures t)
     (still-kept (g.B.Blocks.value c.args.store.now) s1 c.args.ldterm.now c.take_front.new.ldterm 0 [] t t _ c.audit.ensures (c.take_front.ensures.did t) c.requires.kept)
+
+pub echo_run-notes-requires-clause-work : goal.echo_run-notes-requires-clause-work
+echo_run-notes-requires-clause-work g c =
+    let s = g.B.Blocks.value c.args.store.now in
+    let s1 = g.B.Blocks.value c.take_front.new.store in
+    let s2 = g.B.Blocks.value c.type_run.new.store in
+    let x = c.args.ldterm.now in
+    let t = c.args.told.now in
+    let some : 0 < length c.as_slice-run.result.now = (let e = sym c.is_empty.ensures ∙ c.if-is_empty.false in grind (arith, nat_tests)) in
+    let same = ap length c.as_slice-run.ensures.value in
+    let short = front-short c.take_front.new.run.items (cells_left (ldterm_in s x)) c.take_front.ensures.front in
+    run-works s s1 s2 x c.take_front.new.ldterm c.type_run.new.ldterm c.take_front.new.run.items c.as_slice-run.result.now t (c.take_front.ensures.did t) (c.type_run.ensures t) (left-works s x (omega arith))
 
 pub echo_run-notes-requires-clause-room : goal.echo_run-notes-requires-clause-room
 echo_run-notes-requires-clause-room g c =

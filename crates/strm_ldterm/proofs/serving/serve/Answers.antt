@@ -1,4 +1,4 @@
-use Rattle.strm_ldterm.proofs.Turned.{down-between, down-rests}
+use Rattle.strm_ldterm.proofs.Turned.{down-between, down-quiet, down-rests}
 use Rattle.strm_ldterm.proofs.serving.serve.Goals as goal
 
 pub serve_output-requires-clause-rests : goal.serve_output-requires-clause-rests
@@ -9,3 +9,6 @@ serve_output-requires-clause-stage g c = down-between (g.B.Blocks.value c.args.s
 
 pub returns-in-Down : goal.returns-in-Down
 returns-in-Down g c = c.serve_output.ensures c.args.again
+
+pub serve_output-requires-clause-quiet : goal.serve_output-requires-clause-quiet
+serve_output-requires-clause-quiet g c = down-quiet (g.B.Blocks.value c.args.store.now) c.args.ldterm.now c.args.here.way c.args.again c.requires.turn c.in-Down.is

@@ -3,11 +3,21 @@ use Rattle.strm_types.specs.Cells.{plain}
 use Rattle.strm_types.specs.Input.{next_stage}
 use Rattle.strm_types.specs.Typing.{struck}
 use Rattle.strm_frame.specs.Outboxes.{sent_of}
+use Rattle.strm_ldterm.specs.ServedLaws.{struck-work}
 use Rattle.strm_ldterm.specs.Stands.{ldterm_in}
 use Rattle.strm_ldterm.specs.Does.{Proceeds}
 use Rattle.strm_ldterm.specs.Turns.{one_after}
+use Rattle.strm_ldterm.proofs.Bytes.{still-works}
 use Rattle.strm_ldterm.proofs.striking.strike.Goals as goal
 use Rattle.strm_ldterm.proofs.Struck.{join-room, next-short, sends-first, some-left, then-answers, wakes-short}
+
+pub answer-echoed-requires-clause-work : goal.answer-echoed-requires-clause-work
+answer-echoed-requires-clause-work g c =
+    let s = g.B.Blocks.value c.args.store.now in
+    let x = c.args.ldterm.now in
+    let first = c.strike_and_send-acts in
+    still-works s (g.B.Blocks.value first.new.store) x first.new.ldterm (struck plain c.args.here c.args.started c.args.byte (ldterm_in s x)).state first.ensures.does.state
+    (struck-work plain c.args.here c.args.started c.args.byte (ldterm_in s x)) c.requires.work
 
 pub join-requires : goal.join-requires
 join-requires g c =

@@ -1,13 +1,14 @@
 use Rattle.std.proofs.Common.{ℕ, [], sym, ap, subst, arith}
 use Rattle.strm_types.specs.Cells.{plain}
 use Rattle.strm_types.specs.Input.{next_stage}
-use Rattle.strm_types.specs.Typing.{struck}
+use Rattle.strm_types.specs.Typing.{strikes, struck}
 use Rattle.strm_ldterm.specs.Stands.{ldterm_in}
 use Rattle.strm_ldterm.specs.Does.{Proceeds}
 use Rattle.strm_ldterm.specs.Echoes.{echo_bytes}
 use Rattle.strm_ldterm.specs.Turns.{one_after}
 use Rattle.strm_types.specs.Ldterms as ldterms
-use Rattle.strm_ldterm.proofs.Struck.{echo-chunks, echoed-short, join-room, may-leave, quiet-proceeds, wakes-short}
+use Rattle.strm_ldterm.proofs.Bytes.{still-works}
+use Rattle.strm_ldterm.proofs.Struck.{echo-chunks, echoed-short, join-room, may-leave, quiet-proceeds, strikes-work, wakes-short}
 use Rattle.strm_ldterm.specs.declared.ldterm.Stage.TheVariants as stages
 use Rattle.strm_ldterm.proofs.striking.strike_and_echo.Goals as goal
 
@@ -24,6 +25,14 @@ echo-notes-requires-clause-room g c =
     let rm = c.requires.room.mblks in
     let rd = c.requires.room.dblks in
     record { mblks = omega arith; dblks = omega arith }
+
+pub echo-notes-requires-clause-work : goal.echo-notes-requires-clause-work
+echo-notes-requires-clause-work g c =
+    let s = g.B.Blocks.value c.args.store.now in
+    let x = record c.args.ldterm.now { after_lnext = c.is_lnext-ldterm.result } in
+    let p = ldterm_in s x in
+    still-works s (g.B.Blocks.value c.strike_quiet.new.store) x c.strike_quiet.new.ldterm (strikes plain c.args.here c.args.stroke.key c.args.stroke.byte p).state c.strike_quiet.ensures.state
+    (strikes-work c.args.here c.args.stroke.key c.args.stroke.byte p) c.requires.work
 
 pub join-requires : goal.join-requires
 join-requires g c =

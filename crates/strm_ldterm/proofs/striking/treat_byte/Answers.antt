@@ -1,10 +1,15 @@
 use Rattle.std.proofs.Common.{refl, sym, ap, subst, arith}
+use Rattle.strm_types.specs.Cells.{plain}
+use Rattle.strm_types.specs.Input.{begins_next, cells_left}
 use Rattle.strm_frame.specs.Outboxes.{sent_of}
+use Rattle.strm_ldterm.specs.ServedLaws.{between-work}
 use Rattle.strm_ldterm.specs.Stands.{ldterm_in, stage_in}
 use Rattle.strm_ldterm.specs.Does.{Proceeds}
 use Rattle.strm_ldterm.specs.Turns.{ahead}
 use Rattle.strm_ldterm.proofs.striking.treat_byte.Goals as goal
 use Rattle.strm_frame.specs.Outboxes.{times_sent}
+use Rattle.strm_ldterm.proofs.Bytes.{still-works}
+use Rattle.strm_ldterm.proofs.RunsDone.{left-works}
 use Rattle.strm_ldterm.proofs.Struck.{some-left}
 use Rattle.strm_ldterm.proofs.Treated.{begun-left, byte-goes-on, byte-starts, few-leaves, few-needs}
 
@@ -36,6 +41,14 @@ resume-requires-clause-kept g c =
     let did = c.begin-sent.ensures c.args.told.now in
     let quiet = c.if-not-is_empty.ensures.0 refl in
     record { apart = λ i. (let e = ap (times_sent i) quiet in let k = did.hands.counts i in let r = c.requires.kept.apart i in omega arith) }
+
+pub resume-requires-clause-work : goal.resume-requires-clause-work
+resume-requires-clause-work g c =
+    let s = g.B.Blocks.value c.args.store.now in
+    let x = c.args.ldterm.now in
+    let p = ldterm_in s x in
+    still-works s (g.B.Blocks.value c.begin-sent.new.store) x c.begin-sent.new.ldterm (begins_next plain c.args.here (cells_left p) p).state (c.begin-sent.ensures c.args.told.now).state
+    (between-work plain c.args.here (cells_left p) p) (left-works s x c.requires.some)
 
 pub resume-requires-clause-room : goal.resume-requires-clause-room
 resume-requires-clause-room g c =

@@ -1,5 +1,6 @@
 -- Its queues are ready, and it keeps nothing.
 use Rattle.std.proofs.Common.{refl, arith}
+use Rattle.std.proofs.lemmas.Bool.{false≢true}
 use Rattle.strm_ldterm.specs.Stands.{times_kept}
 use Rattle.strm_pair.proofs.LdtermsMade.{lists-apart, read-ready}
 use Rattle.strm_pair.proofs.images.ldterms.ldterm_of.Goals as goal
@@ -12,7 +13,7 @@ returns-clause-held g c = record {
   apart = lists-apart c.queue_of-read_queue.ensures.fills c.queue_of-write_queue.ensures.fills;
   work = tt;
   gathers = tt;
-  echoes = tt;
+  echoes = λ on busy. absurd (false≢true on);
   once_each = λ i. omega arith;
 }
 
