@@ -14,10 +14,10 @@ use Rattle.strm_queue.specs.declared.queue.Queue.{Queue}
 use Rattle.strm_queue.specs.Flows.{plain_flows, removed_from}
 use Rattle.strm_queue.specs.Kept.{AreCounted, AllBands, band_of, bytes_of, is_data, flow_at}
 use Rattle.strm_queue.specs.Queues.{OnlyCounts}
-use Rattle.strm_queue.specs.Stored.{messages_on, IsReady, FreesBlocks, FreesNone}
+use Rattle.strm_queue.specs.Stored.{messages_on, IsReady, FreesBlocks, FreesNone, NoneTaken}
 use Rattle.strm_queue.specs.Taken.{TakenLast}
 use Rattle.strm_queue.proofs.Counted.{counted-removed}
-use Rattle.strm_queue.proofs.Dequeuing.{unpopped}
+use Rattle.strm_queue.proofs.Dequeuing.{none-taken}
 use Rattle.strm_queue.proofs.Placed.{Landed, landed}
 
 -- what holds of all holds of the last, and of those before it
@@ -113,6 +113,6 @@ module _ (s t : StoreValue) (q q' : Queue) (i : ℕ) (within : q.list < length s
 
 -- whether something was taken or not
 pub taken-last : (s t : StoreValue) (q q' : Queue) (result : Option InHand) → q.list < length s.lists → IsReady s q → MatchOption result (Unpopped s t q.list) (λ m. PoppedLast s t q.list (token m))
-    → AreCounted q'.flows (list_at t q'.list) → plain_flows q'.flows ≡ plain_flows q.flows → OnlyCounts q q' → MatchOption result (messages_on s q.list ≡ []) (λ m. TakenLast s t q q' (token m))
-taken-last s t q q' None within ready taken counted flows others = unpopped s t q.list taken
+    → AreCounted q'.flows (list_at t q'.list) → plain_flows q'.flows ≡ plain_flows q.flows → OnlyCounts q q' → MatchOption result (NoneTaken s t q q') (λ m. TakenLast s t q q' (token m))
+taken-last s t q q' None within ready taken counted flows others = none-taken s t q q' ready taken counted flows others
 taken-last s t q q' (Some m) within ready taken counted flows others = taken-off s t q q' (token m) within taken ready counted flows others

@@ -1,11 +1,11 @@
 //! The last message of a queue, taken off it for a writer that has more to add to it (STREAMS Programming Guide, "Message Queues").
 
-ghost use Rattle.std.specs.Prelude.{◌≡◌, [], MatchOption};
+ghost use Rattle.std.specs.Prelude.{◌≡◌, MatchOption};
 ghost use Rattle.strm_blocks.specs.Blocks.{list_at, token};
 ghost use Rattle.strm_blocks.specs.Outcomes.{PoppedLast, Unpopped};
 ghost use Rattle.strm_queue.specs.Flows.{plain_flows};
 ghost use Rattle.strm_queue.specs.Kept.{AreCounted};
-ghost use Rattle.strm_queue.specs.Stored.{messages_on, IsReady};
+ghost use Rattle.strm_queue.specs.Stored.{IsReady, NoneTaken};
 ghost use Rattle.strm_queue.specs.Taken.{TakenLast};
 
 use crate::queue::Queue;
@@ -37,7 +37,7 @@ impl Queue {
 /// taken or freed.
 pub fn take_last<B: Blocks>(store: &mut B, queue: &mut Queue) -> Option<InHand>
     requires { IsReady (B.value store.old) queue.old }
-    ensures { MatchOption result (messages_on (B.value store.old) queue.old.list ≡ [])
+    ensures { MatchOption result (NoneTaken (B.value store.old) (B.value store.new) queue.old queue.new)
         (λ m. TakenLast (B.value store.old) (B.value store.new) queue.old queue.new (token m)) }
 {
     store.audit();

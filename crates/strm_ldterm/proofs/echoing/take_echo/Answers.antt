@@ -5,7 +5,7 @@ use Rattle.strm_ldterm.proofs.Rewriting.{some-last, taken-ordinary}
 use Rattle.strm_ldterm.proofs.echoing.take_echo.Goals as goal
 
 pub unreachable-unreachable : goal.unreachable-unreachable
-unreachable-unreachable g c = some-last (messages_on (g.B.Blocks.value c.args.store.now) c.args.queue.now.list) c.requires.last c.in_default.ensures
+unreachable-unreachable g c = some-last (messages_on (g.B.Blocks.value c.args.store.now) c.args.queue.now.list) c.requires.last c.in_default.ensures.none
 
 pub returns-clause-ordinary : goal.returns-clause-ordinary
 returns-clause-ordinary g c =
