@@ -3,9 +3,9 @@
 ghost use Rattle.std.specs.Prelude.{ℕ};
 ghost use Rattle.strm_types.specs.declared.names.ModuleName.TheVariants as names;
 
-use crate::asking::asked_on;
+use crate::asks::asked_on;
 use crate::ldterm::Ldterm;
-use crate::{clearing, ldterm, putting, serving};
+use crate::{ldterm, pops, puts, service_calls};
 use strm_blocks::{Blocks, InHand};
 use strm_frame::{Acts, LetGo, Module, Served, TurnEnd, end_queue_turn};
 use strm_queue::{lengths, standing};
@@ -84,7 +84,7 @@ impl Module for Ldterm {
         told: &mut Fates,
     ) -> Acts {
         store.audit();
-        putting::put(self, store, here, message, told)
+        puts::put(self, store, here, message, told)
     }
 
     fn has_queue(&self, way: Way) -> bool {
@@ -151,7 +151,7 @@ impl Module for Ldterm {
     ) -> Served {
         self.audit();
         store.audit();
-        serving::serve(self, store, here, again, told)
+        service_calls::serve(self, store, here, again, told)
     }
 
     fn end_turn<B: Blocks>(&mut self, store: &B, way: Way, took: bool) -> TurnEnd {
@@ -169,7 +169,7 @@ impl Module for Ldterm {
         seeking: Option<u32>,
         told: &mut Fates,
     ) -> LetGo {
-        clearing::clear(self, store, side, rule, seeking, told)
+        pops::clear(self, store, side, rule, seeking, told)
     }
 
     ghost frame = { λ s t x same held. ldterm-frame s t x same held };

@@ -21,7 +21,7 @@ use Rattle.strm_queue.specs.Stored.{FreesBlocks}
 use Rattle.strm_frame.specs.Hands.{once, OnlyOwn}
 use Rattle.strm_frame.specs.Serves.{SameHand}
 use Rattle.strm_frame.specs.Stacks.{all_of, AreHeld}
-use Rattle.strm_frame.specs.declared.stack.Stream.{Stream}
+use Rattle.strm_frame.specs.declared.stack.Stack.{Stack}
 use Rattle.strm_frame.proofs.Seeking.{all-gone}
 use Rattle.strm_ldterm.specs.declared.ldterm.Ldterm.{Ldterm}
 use Rattle.strm_ldterm.specs.Stands as stands
@@ -96,7 +96,7 @@ module _ (s t : StoreValue) (side : Side) (rule : Rule) where
   cleared-list x (kinds.Ptem y) k is some = absurd (omega (arith, some))
   cleared-list x (kinds.Pckt y) k is some = absurd (omega (arith, some))
 
-  module _ (told told' : Fates) (taken : Taken) (a b c : Stream AnyModule) where
+  module _ (told told' : Fates) (taken : Taken) (a b c : Stack AnyModule) where
     -- the stack before it, behind the clearing, and without the module
     took-these : (x : AnyModule) (xs : List AnyModule) (y : AnyModule) → a.modules.items ≡ x ∷ xs → b.modules.items ≡ y ∷ c.modules.items
         → taken.name ≡ module_name (module_in s x)
