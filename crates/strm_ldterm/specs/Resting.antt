@@ -1,5 +1,5 @@
 -- The module keeps nothing in hand where what it stands for has nothing under way.
-use Rattle.std.specs.Prelude.{ℕ, ◌≡◌, [], length, Option, None, Some, IfSome}
+use Rattle.std.specs.Prelude.{ℕ, ◌≡◌, false, [], length, Option, None, Some, IfSome}
 use Rattle.std.proofs.Common.{refl, ap, arith}
 use Rattle.strm_types.specs.declared.names.Way.{Way}
 use Rattle.strm_types.specs.declared.names.Way.TheVariants.{Up, Down}

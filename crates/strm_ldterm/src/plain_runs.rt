@@ -1,7 +1,7 @@
 //! Runs of plain bytes in a turn, which are treated at once: lines that are pasted, or sent by a program (termio(7I): "Canonical Mode
 //! Input Processing", "Non-Canonical Mode Input Processing", ECHO).
 
-ghost use Rattle.std.specs.Prelude.{ℕ, ◌≡◌, ◌<◌, ◌≤◌, ◌+◌, ◌*◌, ◌++◌, ◌==◌, ◌&&◌, [], true, false, length, drop, take, slice_index_or, IfSome};
+ghost use Rattle.std.specs.Prelude.{ℕ, ◌≡◌, ◌<◌, ◌≤◌, ◌+◌, ◌*◌, ◌++◌, ◌==◌, ◌&&◌, [], true, false, length, drop, take, slice_index_or, is_some, IfSome};
 ghost use Rattle.std.specs.List.{AllByRecursion, list_any};
 ghost use Rattle.strm_types.specs.declared.keys.TheConstants.{LINE_MAX};
 ghost use Rattle.strm_types.specs.declared.limits.TheConstants.{STOP_BLOCKS};
@@ -9,6 +9,7 @@ ghost use Rattle.strm_types.specs.declared.rules.Fates.{Fates};
 ghost use Rattle.strm_types.specs.Input.{cells_left, left_of, with_left};
 ghost use Rattle.strm_types.specs.Ldterms.{sends};
 ghost use Rattle.strm_types.specs.Message.{cells_of};
+ghost use Rattle.strm_types.specs.Queue.{count_of, flow_of};
 ghost use Rattle.strm_types.specs.Termios.{icanon};
 ghost use Rattle.strm_blocks.specs.Blocks.{IsInHand, token};
 ghost use Rattle.strm_frame.specs.Hands.{AreIn, HasRoom};

@@ -1,5 +1,5 @@
 -- The first message of a queue, taken off it.
-use Rattle.std.proofs.Common.{ℕ, ◌≡◌, ◌<◌, false, List, [], ◌∷◌, length, map, refl, sym, ap, subst, ◌∙◌, arith}
+use Rattle.std.proofs.Common.{ℕ, ◌≡◌, ◌<◌, false, List, ◌∷◌, length, map, refl, sym, ap, subst, ◌∙◌, arith}
 use Rattle.std.specs.Prelude.{sum_by, Option, None, Some, MatchOption}
 use Rattle.strm_blocks.specs.Blocks.{Block, StoreValue, list_at, in_hand, names_of, total, token}
 use Rattle.strm_blocks.specs.Outcomes.{Popped, Unpopped}
@@ -11,7 +11,7 @@ use Rattle.strm_queue.specs.declared.queue.Queue.{Queue}
 use Rattle.strm_queue.specs.Flows.{plain_flows}
 use Rattle.strm_queue.specs.Kept.{AreCounted}
 use Rattle.strm_queue.specs.Queues.{OnlyCounts}
-use Rattle.strm_queue.specs.Stored.{messages_on, Holds, IsReady, FreesBlocks, NoneTaken, Dequeued}
+use Rattle.strm_queue.specs.Stored.{Holds, IsReady, FreesBlocks, NoneTaken, Dequeued}
 use Rattle.strm_queue.proofs.Holding.{first-chain, rest-messages, rest-holds}
 use Rattle.strm_queue.proofs.Gotten.{left, off, chain-is, before}
 

@@ -14,7 +14,7 @@ use Rattle.strm_queue.specs.declared.queue.Queue.{Queue}
 use Rattle.strm_queue.specs.Flows.{plain_flows, removed_from}
 use Rattle.strm_queue.specs.Kept.{AreCounted, AllBands, band_of, bytes_of, is_data, flow_at}
 use Rattle.strm_queue.specs.Queues.{OnlyCounts}
-use Rattle.strm_queue.specs.Stored.{messages_on, IsReady, FreesBlocks, FreesNone, NoneTaken}
+use Rattle.strm_queue.specs.Stored.{IsReady, FreesBlocks, FreesNone, NoneTaken}
 use Rattle.strm_queue.specs.Taken.{TakenLast}
 use Rattle.strm_queue.proofs.Counted.{counted-removed}
 use Rattle.strm_queue.proofs.Dequeuing.{none-taken}

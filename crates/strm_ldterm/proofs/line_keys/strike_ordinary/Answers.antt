@@ -12,3 +12,6 @@ returns-else-contains g c =
     let f = c.args.told.now in
     let raw = sym (c.contains.ensures tt) ∙ c.if-contains.false in
     subst (λ a. Proceeds s (g.B.Blocks.value c.gather.new.store) x c.gather.new.ldterm 1 [] [] f f a) (sym (added-raw c.args.here c.args.byte (ldterm_in s x) raw)) (c.gather.ensures f)
+
+pub returns-then-contains : goal.returns-then-contains
+returns-then-contains g c = c.add_to_line.ensures (g.B.Blocks.value c.args.store.now) c.requires.held

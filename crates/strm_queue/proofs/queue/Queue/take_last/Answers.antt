@@ -1,5 +1,5 @@
 -- The message that was taken is part of its band's count.
-use Rattle.std.proofs.Common.{arith}
+use Rattle.std.proofs.Common.{◌<◌, length, arith}
 use Rattle.strm_blocks.specs.Blocks.{token}
 use Rattle.strm_queue.proofs.Lasting.{last-chain, last-counted, last-list}
 use Rattle.strm_queue.proofs.Marks.{set-removed}
@@ -11,7 +11,7 @@ returns-clause-counted g c =
     let q = c.args.self.now in
     let p = c.in_ok-message.ensures in
     let i = token c.in_ok-message.message in
-    let within = (let low = q.on_list in omega (arith, low, c.audit.ensures.eight)) in
+    let within : q.list < length s.lists = (let low = q.on_list in omega (arith, low, c.audit.ensures.eight)) in
     rw (c.remove.ensures, last-list s _ q q i within p, c.share_of-share.ensures.band, c.share_of-share.ensures.bytes, c.share_of-share.ensures.kind, last-chain s _ q q i within p)
     (last-counted s q.list q.flows p.message p.rest c.requires p.joined)
 
