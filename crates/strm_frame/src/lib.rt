@@ -21,4 +21,4 @@ pub use parcels::{Outbox, Sent};
 pub use places::Stations;
 pub use queues::{Emptied, clear_queue, end_queue_turn};
 pub use service::{Served, TurnEnd};
-pub use stack::Stream;
+pub use stack::Stack;

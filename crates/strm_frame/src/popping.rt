@@ -9,7 +9,7 @@ ghost use Rattle.strm_frame.specs.Does.{Clears};
 ghost use Rattle.strm_frame.specs.Stacks.{all_in, all_of, AreHeld};
 
 use crate::modules::{LetGo, Module};
-use crate::stack::Stream;
+use crate::stack::Stack;
 use strm_blocks::Blocks;
 use strm_types::{Fates, Rule, Side};
 
@@ -37,7 +37,7 @@ fn clear_among<B: Blocks, M: Module>(
     modules[at].clear(store, side, rule, seeking, told)
 }
 
-impl<M: Module + Default> Stream<M> {
+impl<M: Module + Default> Stack<M> {
     /// Lets all go that stands on the queues and in the line of the module on top, before `pop` takes it off: its bytes go by
     /// a rule. It tells which queues before its own have room again, and whether the M_IOCTL of a number stood on its write queue, where
     /// one is sought. Nothing where no module stands.

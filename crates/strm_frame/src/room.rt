@@ -13,7 +13,7 @@ ghost use Rattle.strm_frame.specs.Does.{Changes};
 ghost use Rattle.strm_frame.specs.Stacks.{IsPlace, all_in, all_of, AreHeld};
 
 use crate::modules::Module;
-use crate::stack::Stream;
+use crate::stack::Stack;
 use strm_blocks::Blocks;
 use strm_types::{Band, Way};
 
@@ -156,7 +156,7 @@ fn none_wait_up<B: Blocks, M: Module>(store: &B, modules: &[M]) -> bool
     first.none_waits_up(store) && none_wait_up(store, rest)
 }
 
-impl<M: Module + Default> Stream<M> {
+impl<M: Module + Default> Stack<M> {
     /// The place of the nearest module past a place that has a queue, as messages of a way go; None where no module there
     /// has one, so that what stands behind the modules is next.
     pub fn place_past(&self, way: Way, at: usize) -> Option<usize>

@@ -16,7 +16,7 @@ ghost use Rattle.strm_frame.specs.Stacks.{all_in, all_of, AreHeld};
 
 use crate::modules::Module;
 use crate::service::{Served, TurnEnd};
-use crate::stack::Stream;
+use crate::stack::Stack;
 use strm_blocks::Blocks;
 use strm_types::{Asks, Fates, Spot, Way};
 
@@ -78,7 +78,7 @@ fn serve_among<B: Blocks, M: Module>(
     modules[at].serve(store, here, again, told)
 }
 
-impl<M: Module + Default> Stream<M> {
+impl<M: Module + Default> Stack<M> {
     /// What the first message asks of a module's queue of a way, at a place.
     pub fn asks<B: Blocks>(&self, store: &B, place: usize, way: Way) -> Asks
         requires inside { 0 < place }

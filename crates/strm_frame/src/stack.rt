@@ -19,7 +19,7 @@ use strm_types::{Fates, MODULES, ModuleName, Spot};
 
 /// The modules of a stream, from the top down: at most three, each name once.
 #[derive(Drop)]
-pub struct Stream<M> {
+pub struct Stack<M> {
     pub modules: ArrayVec<M, 3>,
 }
 
@@ -72,12 +72,12 @@ fn put_among<B: Blocks, M: Module>(
     modules[at].put(store, to, message, told)
 }
 
-impl<M: Module + Default> Stream<M> {
+impl<M: Module + Default> Stack<M> {
     /// No module.
-    pub fn new() -> Stream<M>
+    pub fn new() -> Stack<M>
         ensures { result.modules.items ≡ [] }
     {
-        Stream {
+        Stack {
             modules: ArrayVec::new(),
         }
     }

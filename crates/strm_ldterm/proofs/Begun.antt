@@ -1,6 +1,6 @@
 -- A byte of the message in work that begins.
 use Rattle.std.proofs.Common.{ℕ, ◌≡◌, ◌+◌, Bool, true, false, cond, List, [], ◌∷◌, drop, refl, sym, ap, subst, ◌∙◌, arith}
-use Rattle.std.specs.Prelude.{Option, None, Some, option_map, slice_index_or, MatchOption, ◌&&◌}
+use Rattle.std.specs.Prelude.{Option, None, Some, is_some, map, option_map, slice_index_or, MatchOption, ◌&&◌}
 use Rattle.strm_types.specs.declared.kinds.MsgKind.TheVariants.{Start}
 use Rattle.strm_types.specs.declared.names.Way.TheVariants.{Down}
 use Rattle.strm_types.specs.declared.rules.Fates.{Fates}
@@ -15,6 +15,7 @@ use Rattle.strm_types.specs.Ldterms.{sends, onward}
 use Rattle.strm_types.specs.Message.{Message, cells_of}
 use Rattle.strm_types.specs.Typing.{bare, begins, stroke_at}
 use Rattle.strm_blocks.specs.Blocks.{StoreValue, IsStore, token}
+use Rattle.strm_msg.specs.Messages.{message_of}
 use Rattle.strm_frame.specs.declared.parcels.Sent.{Sent}
 use Rattle.strm_frame.specs.Hands.{once, AreIn, HasRoom, SameOwn}
 use Rattle.strm_frame.specs.Outboxes.{message_in, times_sent, parcels_in, AreChains}
@@ -24,7 +25,7 @@ use Rattle.strm_ldterm.specs.Becoming.{Becomes}
 use Rattle.strm_ldterm.specs.Does.{Alters, Proceeds}
 use Rattle.strm_ldterm.specs.Frames.{ldterm-frame}
 use Rattle.strm_ldterm.specs.Sending.{MadeOne}
-use Rattle.strm_ldterm.specs.Stands.{ldterm_in, kept_in, times_kept, owns, keeps, IsHeld}
+use Rattle.strm_ldterm.specs.Stands.{ldterm_in, kept_in, times_kept, owns, keeps, EndsPlain, IsHeld}
 use Rattle.strm_ldterm.proofs.Finished.{work-splits, work-shown, work-is, work-held}
 use Rattle.strm_ldterm.proofs.Flushed.{alters-none}
 use Rattle.strm_ldterm.proofs.Proceeding.{proceeds-alters}
@@ -64,7 +65,7 @@ module _ (s t : StoreValue) (x : Ldterm) (m r : InHand) (now : Message ℕ) (the
       apart = framed.1.apart;
       work = b.is;
       gathers = framed.1.gathers;
-      echoes = framed.1.echoes;
+      echoes = λ on busy. subst (λ ls. EndsPlain (map message_of (slice_index_or ls x.write_queue.list []))) (sym b.lists) (held.echoes on (ap is_some there));
       once_each = λ j.
           let c = b.hands.counts j in let e = work-splits s x m there j in let a = kept.apart j in let few = st.apart j in let d = come-splits j in omega arith;
     };

@@ -1,25 +1,18 @@
 -- The module beside a store in which its lists, or what it keeps in hand, change.
-use Rattle.std.proofs.Common.{ℕ, ◌≡◌, ◌≢◌, ◌<◌, ◌+◌, eqb, Bool, true, false, cond, List, [], ◌∷◌, ◌++◌, length, refl, sym, ap, ◌∙◌, arith, append-nil}
-use Rattle.std.specs.Prelude.{None, Some}
+use Rattle.std.proofs.Common.{ℕ, ◌≡◌, ◌≢◌, ◌<◌, ◌+◌, eqb, Bool, true, false, cond, List, [], ◌∷◌, length, refl, sym, ap, subst, arith}
+use Rattle.std.specs.Prelude.{is_some, map}
 use Rattle.std.proofs.lemmas.List.Sums.{sum_by-cons}
-use Rattle.strm_types.specs.Message.{Message}
-use Rattle.strm_types.specs.Queue as plain
-use Rattle.strm_types.specs.Ldterms as ldterms
-use Rattle.strm_blocks.specs.Blocks.{Held, StoreValue, IsStore, IsInHand, in_hand, list_at, dropped, times_in, chain_in, token}
+use Rattle.strm_blocks.specs.Blocks.{Held, StoreValue, IsStore, IsInHand, in_hand, list_at, dropped, times_in, chain_in}
 use Rattle.strm_blocks.proofs.Laws.{in_hand-dropped}
 use Rattle.strm_queue.specs.declared.queue.Queue.{Queue}
-use Rattle.strm_queue.specs.Stored.{queue_in, Changes, FreesBlocks}
-use Rattle.strm_frame.specs.Hands.{once, AreIn, CanPut, OnlyOwn, SameOwn}
-use Rattle.strm_frame.specs.Outboxes.{message_in}
+use Rattle.strm_msg.specs.Messages.{message_of}
+use Rattle.strm_queue.specs.Stored.{queue_in, messages_on, Changes, FreesBlocks}
+use Rattle.strm_frame.specs.Hands.{once, CanPut, OnlyOwn, SameOwn}
 use Rattle.strm_frame.proofs.Handing.{once-self, once-apart}
-use Rattle.strm_frame.proofs.Shifting.{shifts-joined}
 use Rattle.strm_ldterm.specs.declared.ldterm.Ldterm.{Ldterm}
-use Rattle.strm_types.specs.Message.{rank_of}
-use Rattle.strm_ldterm.specs.Stands.{ldterm_in, owns, times_kept, kept_in, keeps, IsHeld, IsData, IsOrdinary, IsGathered, with_last}
+use Rattle.strm_ldterm.specs.Stands.{ldterm_in, owns, keeps, EndsPlain, IsHeld, IsData, IsGathered}
 use Rattle.strm_ldterm.specs.Does.{Alters}
-use Rattle.strm_ldterm.specs.Frames.{kept-same, form-same, list-ready, each-same, data-same, ordinary-same, gathered-same, ldterm-frame}
-use Rattle.strm_ldterm.proofs.Last.{last-rank, zero-last}
-use Rattle.strm_blocks.specs.declared.in_hand.InHand.{InHand}
+use Rattle.strm_ldterm.specs.Frames.{kept-same, form-same, list-ready, each-same, data-same, gathered-same}
 
 -- a chain with a block is in hand
 times-some : (i : ℕ) (hand : List Held) → 0 < length (chain_in i hand) → 0 < times_in i hand
@@ -33,6 +26,29 @@ times-some i (h ∷ hand) some = at (eqb h.name i) some (times-some i hand) (sum
 pub chain-in-hand : (s : StoreValue) (i : ℕ) → IsStore s → 0 < length (in_hand s i) → IsInHand s i
 chain-in-hand s i st some = let few = st.apart i in let t = times-some i s.hand some in omega arith
 
+-- the turn's echo may end
+pub held-quieter : (s : StoreValue) (x : Ldterm) (v : Bool) → (v ≡ true → x.echoing ≡ true) → IsHeld s x → IsHeld s (record x { echoing = v })
+held-quieter s x v less held = record {
+  read = held.read;
+  write = held.write;
+  apart = held.apart;
+  work = held.work;
+  gathers = held.gathers;
+  echoes = λ on busy. held.echoes (less on) busy;
+  once_each = held.once_each;
+}
+
+-- and then it may alter
+pub alters-quieter : (s t : StoreValue) (x z : Ldterm) (v : Bool) → Alters s t (record x { echoing = v }) z → Alters s t x z
+alters-quieter s t x z v a = record {
+  held = a.held;
+  own = record { lists = a.own.lists; owns_same = a.own.owns_same };
+  fewer = a.fewer;
+  hands = record { counts = a.hands.counts; others = a.hands.others };
+  frees = a.frees;
+  pool = a.pool;
+}
+
 -- its read queue changed
 module _ (s t : StoreValue) (x : Ldterm) (q' : Queue) (held : IsHeld s x) (changes : Changes s t x.read_queue q') where
   chains-up : (i : ℕ) → in_hand t i ≡ in_hand s i
@@ -43,8 +59,8 @@ module _ (s t : StoreValue) (x : Ldterm) (q' : Queue) (held : IsHeld s x) (chang
 
   pub read-plain : ldterm_in t (record x { read_queue = q' }) ≡ record (ldterm_in s x) { read_queue = queue_in t q' }
   read-plain =
-      form-same (record x { read_queue = q' }) (list_at t q'.list) (list_at t q'.list) _ _ _ _ _ _ _ _ refl writes-stay
-      (kept-same s t x.in_work (λ i some. chains-up i)) (kept-same s t x.gathered (λ i some. chains-up i)) (kept-same s t x.echo (λ i some. chains-up i))
+      form-same (record x { read_queue = q' }) (list_at t q'.list) (list_at t q'.list) _ _ _ _ _ _ refl writes-stay
+      (kept-same s t x.in_work (λ i some. chains-up i)) (kept-same s t x.gathered (λ i some. chains-up i))
 
   pub read-held : IsHeld t (record x { read_queue = q' })
   read-held = record {
@@ -53,7 +69,7 @@ module _ (s t : StoreValue) (x : Ldterm) (q' : Queue) (held : IsHeld s x) (chang
     apart = (let a = held.apart in let e = changes.list in omega arith);
     work = each-same s t IsData (data-same s t) x.in_work (λ i some. chains-up i) held.work;
     gathers = each-same s t IsGathered (gathered-same s t) x.gathered (λ i some. chains-up i) held.gathers;
-    echoes = each-same s t IsOrdinary (ordinary-same s t) x.echo (λ i some. chains-up i) held.echoes;
+    echoes = λ on busy. subst (λ l. EndsPlain (map message_of l)) (sym writes-stay) (held.echoes on busy);
     once_each = held.once_each;
   }
 
@@ -81,19 +97,20 @@ module _ (s t : StoreValue) (x : Ldterm) (q' : Queue) (held : IsHeld s x) (chang
   reads-stay : list_at t x.read_queue.list ≡ list_at s x.read_queue.list
   reads-stay = changes.others x.read_queue.list (λ e. let a = held.apart in absurd (omega arith))
 
-  pub write-plain : ldterm_in t (record x { write_queue = q' }) ≡ record (ldterm_in s x) { write_queue = with_last (kept_in s x.echo) (queue_in t q') }
+  pub write-plain : ldterm_in t (record x { write_queue = q' }) ≡ record (ldterm_in s x) { write_queue = queue_in t q' }
   write-plain =
-      form-same (record x { write_queue = q' }) _ _ (list_at t q'.list) (list_at t q'.list) _ _ _ _ _ _ reads-stay refl
-      (kept-same s t x.in_work (λ i some. chains-down i)) (kept-same s t x.gathered (λ i some. chains-down i)) (kept-same s t x.echo (λ i some. chains-down i))
+      form-same (record x { write_queue = q' }) _ _ (list_at t q'.list) (list_at t q'.list) _ _ _ _ reads-stay refl
+      (kept-same s t x.in_work (λ i some. chains-down i)) (kept-same s t x.gathered (λ i some. chains-down i))
 
-  pub write-held : IsHeld t (record x { write_queue = q' })
-  write-held = record {
+  -- where the turn's echo stands last still
+  pub write-held : (x.echoing ≡ true → is_some x.in_work ≡ true → EndsPlain (messages_on t q'.list)) → IsHeld t (record x { write_queue = q' })
+  write-held ends = record {
     read = list-ready s t x.read_queue reads-stay held.read;
     write = changes.ready;
     apart = (let a = held.apart in let e = changes.list in omega arith);
     work = each-same s t IsData (data-same s t) x.in_work (λ i some. chains-down i) held.work;
     gathers = each-same s t IsGathered (gathered-same s t) x.gathered (λ i some. chains-down i) held.gathers;
-    echoes = each-same s t IsOrdinary (ordinary-same s t) x.echo (λ i some. chains-down i) held.echoes;
+    echoes = ends;
     once_each = held.once_each;
   }
 
@@ -103,9 +120,9 @@ module _ (s t : StoreValue) (x : Ldterm) (q' : Queue) (held : IsHeld s x) (chang
     owns_same = λ k. ap (λ l. once x.read_queue.list k + once l k) changes.list;
   }
 
-  pub write-alters : FreesBlocks s t → Alters s t x (record x { write_queue = q' })
-  write-alters frees = record {
-    held = write-held;
+  pub write-alters : FreesBlocks s t → (x.echoing ≡ true → is_some x.in_work ≡ true → EndsPlain (messages_on t q'.list)) → Alters s t x (record x { write_queue = q' })
+  write-alters frees ends = record {
+    held = write-held ends;
     own = write-own;
     fewer = λ i. omega arith;
     hands = record { counts = λ i. let e = ap (times_in i) changes.hand in omega arith; others = λ i gone kept some. chains-down i };
@@ -120,59 +137,3 @@ module _ (s : StoreValue) (x : Ldterm) (i : ℕ) (st : IsStore s) (can : CanPut 
 
   pub without-same : SameOwn s (dropped s i) (owns x) (keeps x)
   without-same = record { lists = λ k some. refl; mblks = refl; dblks = refl; kept = λ j some. in_hand-dropped s i j (apart-kept j some) }
-
--- the turn's echo may go
-module _ (s : StoreValue) (x : Ldterm) (e : InHand) (can : AreIn s (λ _. 0) (keeps (record x { echo = Some e }))) where
-  pub echo-can : CanPut s (token e) (λ _. 0)
-  unfolding times_kept
-  echo-can = record { apart = λ j. let a = can.apart j in omega arith }
-
-  apart-echo : CanPut s (token e) (keeps (record x { echo = None }))
-  unfolding times_kept
-  apart-echo = record { apart = λ j. let a = can.apart j in omega arith }
-
--- the turn's echo is put on its list, where it comes last
-module _ (s t : StoreValue) (x : Ldterm) (e : InHand) (q' : Queue) (st : IsStore s) (held : IsHeld s (record x { echo = Some e })) (can : AreIn s (λ _. 0) (keeps (record x { echo = Some e })))
-    (changes : Changes (dropped s (token e)) t x.write_queue q') (frees : FreesBlocks s t) where
-  held-quiet : IsHeld s (record x { echo = None })
-  unfolding times_kept
-  held-quiet = record {
-    read = held.read;
-    write = held.write;
-    apart = held.apart;
-    work = held.work;
-    gathers = held.gathers;
-    echoes = tt;
-    once_each = λ i. let few = held.once_each i in omega arith;
-  }
-
-  framed : (ldterm_in (dropped s (token e)) (record x { echo = None }) ≡ ldterm_in s (record x { echo = None })) × IsHeld (dropped s (token e)) (record x { echo = None })
-  framed = ldterm-frame s (dropped s (token e)) (record x { echo = None }) (without-same s (record x { echo = None }) (token e) st (apart-echo s x e can)) held-quiet
-
-  pub echo-plain : queue_in t q' ≡ plain.put_on (message_in s (token e)) (queue_in s x.write_queue) → ldterm_in t (record x { echo = None; write_queue = q' }) ≡ record (ldterm_in s (record x { echo = Some e })) { echoing = false }
-  echo-plain is =
-      let d = dropped s (token e) in
-      let m = message_in s (token e) in
-      let w = queue_in s x.write_queue in
-      let last : plain.put m w.messages ++ [] ≡ w.messages ++ m ∷ [] = append-nil (plain.put m w.messages) ∙ zero-last rank_of m w.messages (last-rank s (token e) held.echoes) in
-      write-plain d t (record x { echo = None }) q' framed.1 changes
-      ∙ ap (λ (p : ldterms.Ldterm ℕ). record p { write_queue = with_last None (queue_in t q') }) framed.0
-      ∙ ap (λ (q : plain.Queue ℕ). record (ldterm_in s (record x { echo = None })) { write_queue = with_last None q }) is
-      ∙ ap (λ (ms : List (Message ℕ)). record (ldterm_in s (record x { echo = None })) { write_queue = record w { messages = ms } }) last
-
-  pub echo-alters : Alters s t (record x { echo = Some e }) (record x { echo = None; write_queue = q' })
-  unfolding times_kept
-  echo-alters =
-      let h = shifts-joined s t (token e) x.write_queue q' st (echo-can s x e can) changes frees in
-      let own = write-own (dropped s (token e)) t (record x { echo = None }) q' framed.1 changes in
-      record {
-        held = write-held (dropped s (token e)) t (record x { echo = None }) q' framed.1 changes;
-        own = record { lists = own.lists; owns_same = own.owns_same };
-        fewer = λ i. omega arith;
-        hands = record {
-          counts = λ i. let c = h.counts i in omega arith;
-          others = λ i gone kept some. h.others i (omega arith) some;
-        };
-        frees = frees;
-        pool = h.pool;
-      }

@@ -83,6 +83,10 @@ pub kept-some : (s : StoreValue) (o : Option InHand) → is_some (kept_in s o) �
 kept-some s None = refl
 kept-some s (Some m) = refl
 
+-- a message in work stays one
+pub still-works : (s t : StoreValue) (x x' : Ldterm) (p : ldterms.Ldterm ℕ) → ldterm_in t x' ≡ p → is_some p.in_work ≡ is_some (ldterm_in s x).in_work → is_some x.in_work ≡ true → is_some x'.in_work ≡ true
+still-works s t x x' p state same busy = sym (kept-some t x'.in_work) ∙ ap (λ (q : ldterms.Ldterm ℕ). is_some q.in_work) state ∙ same ∙ kept-some s x.in_work ∙ busy
+
 pub left-none : (stage : ldterms.Stage ℕ) → stages_done stage ≡ 0 → stages_left stage ≡ 0
 left-none Between e = refl
 left-none (Begun started c) e = absurd (omega arith)

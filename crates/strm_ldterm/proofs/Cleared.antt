@@ -1,6 +1,7 @@
 -- The module that lets all go: its read queue, then its line, then its write queue.
-use Rattle.std.proofs.Common.{ℕ, ◌≡◌, Bool, cond, List, [], ◌∷◌, ◌++◌, refl, sym, ap, ◌∙◌, arith, append-nil}
-use Rattle.std.specs.Prelude.{map, Option, None, Some}
+use Rattle.std.proofs.Common.{ℕ, ◌≡◌, Bool, false, cond, List, [], ◌∷◌, ◌++◌, refl, sym, ap, ◌∙◌, arith}
+use Rattle.std.specs.Prelude.{map, Option, None, Some, is_some}
+use Rattle.std.proofs.lemmas.Bool.{false≢true}
 use Rattle.strm_types.specs.declared.names.Side.{Side}
 use Rattle.strm_types.specs.declared.names.Way.TheVariants.{Up, Down}
 use Rattle.strm_types.specs.declared.rules.Fates.{Fates}
@@ -12,7 +13,6 @@ use Rattle.strm_types.specs.Dropped.{is_met}
 use Rattle.strm_types.specs.Emptied.{of_all, cells_gone, queue_behind, writer_goes}
 use Rattle.strm_types.specs.Ldterms as ldterms
 use Rattle.strm_types.specs.Ldterms.{without_line}
-use Rattle.strm_types.specs.Message.{Message}
 use Rattle.strm_types.specs.ModuleQueues.{messages_at}
 use Rattle.strm_types.specs.Names.{direction_at}
 use Rattle.strm_types.specs.Queue as plain
@@ -25,10 +25,10 @@ use Rattle.strm_queue.specs.Stored.{queue_in, messages_on, Changes}
 use Rattle.strm_frame.specs.Hands.{OnlyOwn}
 use Rattle.strm_frame.proofs.Handing.{once-self}
 use Rattle.strm_ldterm.specs.declared.ldterm.Ldterm.{Ldterm}
-use Rattle.strm_ldterm.specs.Stands.{ldterm_in, owns, times_kept, kept_in, keeps, IsHeld, with_last}
+use Rattle.strm_ldterm.specs.Stands.{ldterm_in, owns, times_kept, keeps, IsHeld}
 use Rattle.strm_ldterm.specs.Calls.{queue_of, with_queue}
 use Rattle.strm_ldterm.specs.Popped.{line_of}
-use Rattle.strm_ldterm.proofs.Beside.{read-plain, read-held, read-own, writes-stay, write-plain, write-own}
+use Rattle.strm_ldterm.proofs.Beside.{read-plain, read-held, read-own, writes-stay, write-plain, write-held, write-own}
 use Rattle.strm_ldterm.proofs.Flushed.{tallied-append}
 use Rattle.strm_ldterm.proofs.Sends.{held-line}
 
@@ -37,18 +37,9 @@ unfolding times_kept
 none-kept None none = refl
 none-kept (Some m) none = let one = once-self (token m) in let zero = none (token m) in absurd (omega arith)
 
--- Where no message is kept, none is in work, none is gathered, and no echo is begun.
-pub none-in-hand : (x : Ldterm) → ((i : ℕ) → keeps x i ≡ 0) → (x.in_work ≡ None) × (x.gathered ≡ None) × (x.echo ≡ None)
-none-in-hand x rests = (
-  none-kept x.in_work (λ i. let zero = rests i in omega arith),
-  none-kept x.gathered (λ i. let zero = rests i in omega arith),
-  none-kept x.echo (λ i. let zero = rests i in omega arith),
-)
-
--- so its write queue is the list alone
-list-alone : (s : StoreValue) (x : Ldterm) → ((i : ℕ) → keeps x i ≡ 0) → (q : plain.Queue ℕ) → with_last (kept_in s x.echo) q ≡ q
-list-alone s x rests q =
-    ap (λ o. with_last (kept_in s o) q) (none-in-hand x rests).2 ∙ ap (λ (ms : List (Message ℕ)). record q { messages = ms }) (append-nil q.messages)
+-- where no message is kept, none is in work
+pub none-in-work : (x : Ldterm) → ((i : ℕ) → keeps x i ≡ 0) → is_some x.in_work ≡ false
+none-in-work x rests = ap is_some (none-kept x.in_work (λ i. let zero = rests i in omega arith))
 
 module _ (s t u : StoreValue) (x : Ldterm) (line : List ℕ) (q1 q2 : Queue) (held : IsHeld s x) (above : Changes s t x.read_queue q1) (below : Changes t u x.write_queue q2) where
   between : IsHeld t (record x { line = line; read_queue = q1 })
@@ -63,11 +54,13 @@ module _ (s t u : StoreValue) (x : Ldterm) (line : List ℕ) (q1 q2 : Queue) (he
         owns_same = λ k. second.owns_same k ∙ first.owns_same k;
       }
 
-  module _ (side : Side) (rule : Rule) (rests : (i : ℕ) → keeps x i ≡ 0) where
+  -- nothing is in work, so that no echo grows
+  pub cleared-held : ((i : ℕ) → keeps x i ≡ 0) → IsHeld u (record x { line = line; read_queue = q1; write_queue = q2 })
+  cleared-held rests = write-held t u (record x { line = line; read_queue = q1 }) q2 between below (λ on busy. absurd (false≢true (sym (none-in-work x rests) ∙ busy)))
+
+  module _ (side : Side) (rule : Rule) where
     write-list : queue_in t x.write_queue ≡ (ldterm_in s x).write_queue
-    write-list =
-        ap (λ chains. record (queue_in s x.write_queue) { messages = map message_of chains }) (writes-stay s t x q1 held above)
-        ∙ sym (list-alone s x rests (queue_in s x.write_queue))
+    write-list = ap (λ chains. record (queue_in s x.write_queue) { messages = map message_of chains }) (writes-stay s t x q1 held above)
 
     pub cleared-state : line ≡ [] → queue_in t q1 ≡ queue_behind of_all (queue_in s x.read_queue) → queue_in u q2 ≡ queue_behind of_all (queue_in t x.write_queue)
         → ldterm_in u (record x { line = line; read_queue = q1; write_queue = q2 }) ≡ (cleared queue_of with_queue line_of without_line side rule (ldterm_in s x)).state
@@ -75,7 +68,6 @@ module _ (s t u : StoreValue) (x : Ldterm) (line : List ℕ) (q1 q2 : Queue) (he
         let p = ldterm_in s x in
         let y = record x { line = line; read_queue = q1 } in
         write-plain t u y q2 between below
-        ∙ ap (λ (q : plain.Queue ℕ). record (ldterm_in t y) { write_queue = q }) (list-alone t x rests (queue_in u q2))
         ∙ ap (λ (r : ldterms.Ldterm ℕ). record r { write_queue = queue_in u q2 }) (read-plain s t (record x { line = line }) q1 (held-line s x line held) above)
         ∙ ap (λ (l : List ℕ). record p { line = l; read_queue = queue_in t q1; write_queue = queue_in u q2 }) none
         ∙ ap (λ (q : plain.Queue ℕ). record p { line = []; read_queue = q; write_queue = queue_in u q2 }) reads

@@ -1,6 +1,7 @@
 -- What the module keeps in hand, and lets go at the end of a call.
 use Rattle.std.proofs.Common.{ℕ, ◌≡◌, ◌+◌, true, false, cond, List, [], ◌∷◌, length, refl, sym, ap, subst, ◌∙◌, arith}
 use Rattle.std.specs.Prelude.{Option, None, Some, IfSome}
+use Rattle.std.proofs.lemmas.Bool.{false≢true}
 use Rattle.strm_types.specs.declared.names.Way.TheVariants.{Up}
 use Rattle.strm_types.specs.declared.rules.Fates.{Fates}
 use Rattle.strm_types.specs.declared.spots.Spot.{Spot}
@@ -86,7 +87,7 @@ module _ (s : StoreValue) (x : Ldterm) (m : InHand) where
       apart = held.apart;
       work = tt;
       gathers = held.gathers;
-      echoes = held.echoes;
+      echoes = λ on busy. absurd (false≢true busy);
       once_each = λ j. let few = held.once_each j in let e = work-splits j in omega arith;
     }
 

@@ -14,7 +14,7 @@ use Rattle.strm_types.specs.Input.{made_of}
 use Rattle.strm_types.specs.Output.{Output, post, posts, told_for, wrapped}
 use Rattle.strm_types.specs.OutputTurns.{output_dir}
 use Rattle.strm_types.proofs.Outputs.{in_front, posts-join, posts-same}
-use Rattle.strm_ldterm.specs.declared.flowing.Flow.{Flow}
+use Rattle.strm_ldterm.specs.declared.output_runs.Flow.{Flow}
 use Rattle.strm_ldterm.specs.Posting.{FlowsAs, bytes_given, is_printed}
 use Rattle.strm_ldterm.proofs.Pouring.{byte-out, run-out}
 use Rattle.strm_ldterm.proofs.Strikes.{told-append}

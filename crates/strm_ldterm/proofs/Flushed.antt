@@ -1,6 +1,6 @@
 -- What an M_FLUSH takes from the module, step by step.
 use Rattle.std.proofs.Common.{ℕ, ◌≡◌, Bool, true, false, cond, List, [], ◌∷◌, ◌++◌, refl, sym, ap, subst, ◌∙◌, arith, append-nil}
-use Rattle.std.specs.Prelude.{Option, None, Some, is_some}
+use Rattle.std.specs.Prelude.{Option}
 use Rattle.strm_types.specs.declared.kinds.Band.{Band}
 use Rattle.strm_types.specs.declared.names.Way.TheVariants.{Up, Down}
 use Rattle.strm_types.specs.declared.rules.Fates.{Fates}
@@ -9,30 +9,31 @@ use Rattle.strm_types.specs.declared.spots.Note.{Note}
 use Rattle.strm_types.specs.declared.spots.Note.TheVariants.{Room}
 use Rattle.strm_types.specs.declared.spots.Spot.{Spot}
 use Rattle.strm_types.specs.Deliver.{Acted, Fate, Goes, counted_with, tallied}
-use Rattle.strm_types.specs.Emptied.{of_data, cells_gone, queue_behind, writer_goes}
+use Rattle.strm_types.specs.Emptied.{Choice, of_data, cells_gone, emptied, none_goes, queue_behind, stayed, writer_goes}
 use Rattle.strm_types.specs.Ldterms as ldterms
 use Rattle.strm_types.specs.Ldterms.{sends, both, queue_flushed, line_flushed, read_flushed, write_flushed, takes_band_0}
 use Rattle.std.specs.Prelude.{◌&&◌, not}
 use Rattle.strm_frame.specs.Hands.{AreIn}
 use Rattle.strm_types.specs.declared.flushing.FlushAsked.{FlushAsked}
-use Rattle.strm_types.specs.Message.{Message}
 use Rattle.strm_types.specs.Names.{direction_at}
 use Rattle.strm_types.specs.Queue as plain
 use Rattle.strm_blocks.specs.Blocks.{StoreValue}
 use Rattle.strm_queue.specs.declared.queue.Queue.{Queue}
 use Rattle.strm_queue.specs.Stored.{queue_in, messages_on, Changes, FreesBlocks}
 use Rattle.strm_ldterm.specs.declared.ldterm.Ldterm.{Ldterm}
-use Rattle.strm_ldterm.specs.Stands.{ldterm_in, kept_in, keeps, IsHeld, with_last}
+use Rattle.strm_ldterm.specs.Stands.{ldterm_in, keeps, EndsPlain, IsHeld}
 use Rattle.strm_ldterm.specs.Does.{Alters, Flushes}
-use Rattle.strm_ldterm.proofs.Beside.{read-plain, read-alters, write-plain, write-alters}
+use Rattle.strm_ldterm.proofs.Beside.{alters-quieter, read-plain, read-alters, write-plain, write-alters}
+use Rattle.strm_ldterm.proofs.Last.{ends-flushed}
 
 pub tallied-append : (a b : List (Fate ℕ)) (f : Fates) → tallied (a ++ b) f ≡ tallied b (tallied a f)
 tallied-append [] b f = refl
 tallied-append (x ∷ a) b f = tallied-append a b (counted_with x f)
 
-none-is : {A : Type 0} (o : Option A) → is_some o ≡ false → o ≡ None
-none-is None is = refl
-none-is (Some x) is = absurd (cc)
+-- what stays on a queue that is flushed
+behind-messages : (chosen : Choice) (q : plain.Queue ℕ) → (queue_behind chosen q).messages ≡ stayed chosen q.messages
+behind-messages chosen q =
+    elim (none_goes chosen q) as (λ v. (cond {A = plain.Queue ℕ} v (emptied chosen q) (plain.relieved (emptied chosen q))).messages ≡ stayed chosen q.messages) [ true ↦ refl | false ↦ refl ]
 
 pub alters-none : (s : StoreValue) (x : Ldterm) → IsHeld s x → Alters s s x x
 alters-none s x held = record {
@@ -89,27 +90,20 @@ module _ (s t : StoreValue) (x : Ldterm) (q' : Queue) (here : Spot) (band : Opti
     alters = read-alters s t x q' held changes frees;
   }
 
-  -- with the echo, where there is one
-  pub flushes-down : Changes s t x.write_queue q' → with_last (kept_in s x.echo) (queue_in t q') ≡ queue_behind (of_data band) (with_last (kept_in s x.echo) (queue_in s x.write_queue))
-      → room ≡ writer_goes (of_data band) (with_last (kept_in s x.echo) (queue_in s x.write_queue))
-      → f' ≡ counted_with (Goes (direction_at Down here.side) Flushed (cells_gone (of_data band) (with_last (kept_in s x.echo) (queue_in s x.write_queue)).messages)) f → notes ≡ cond room (Room Down ∷ []) []
-      → Flushes s t x (record x { write_queue = q' }) notes f f' (queue_flushed Down here band (ldterm_in s x))
-  flushes-down changes is went told noted = record {
-    state = write-plain s t x q' held changes ∙ ap (λ (q : plain.Queue ℕ). record (ldterm_in s x) { write_queue = q }) is;
-    noted = noted ∙ ap (λ v. cond {A = List Note} v (Room Down ∷ []) []) went;
-    told = told;
-    alters = write-alters s t x q' held changes frees;
-  }
-
-  -- where there is none
-  pub flushes-alone : is_some x.echo ≡ false → Changes s t x.write_queue q' → queue_in t q' ≡ queue_behind (of_data band) (queue_in s x.write_queue) → room ≡ writer_goes (of_data band) (queue_in s x.write_queue)
+  -- the turn's echo stands last still, unless band 0 is taken
+  pub flushes-down : Changes s t x.write_queue q' → queue_in t q' ≡ queue_behind (of_data band) (queue_in s x.write_queue) → room ≡ writer_goes (of_data band) (queue_in s x.write_queue)
       → f' ≡ counted_with (Goes (direction_at Down here.side) Flushed (cells_gone (of_data band) (messages_on s x.write_queue.list))) f → notes ≡ cond room (Room Down ∷ []) []
-      → Flushes s t x (record x { write_queue = q' }) notes f f' (queue_flushed Down here band (ldterm_in s x))
-  flushes-alone none changes is went told noted =
+      → (x.echoing ≡ true → takes_band_0 band ≡ false) → Flushes s t x (record x { write_queue = q' }) notes f f' (queue_flushed Down here band (ldterm_in s x))
+  flushes-down changes is went told noted other =
       let w = queue_in s x.write_queue in
-      let last : (q : plain.Queue ℕ) → with_last (kept_in s x.echo) q ≡ q = λ q. ap (λ o. with_last (kept_in s o) q) (none-is x.echo none) ∙ ap (λ (ms : List (Message ℕ)). record q { messages = ms }) (append-nil q.messages) in
-      flushes-down changes (last (queue_in t q') ∙ is ∙ ap (λ (q : plain.Queue ℕ). queue_behind (of_data band) q) (sym (last w))) (went ∙ ap (λ (q : plain.Queue ℕ). writer_goes (of_data band) q) (sym (last w)))
-      (told ∙ ap (λ (q : plain.Queue ℕ). counted_with (Goes (direction_at Down here.side) Flushed (cells_gone (of_data band) q.messages)) f) (sym (last w))) noted
+      record {
+        state = write-plain s t x q' held changes ∙ ap (λ (q : plain.Queue ℕ). record (ldterm_in s x) { write_queue = q }) is;
+        noted = noted ∙ ap (λ v. cond {A = List Note} v (Room Down ∷ []) []) went;
+        told = told;
+        alters = write-alters s t x q' held changes frees (λ on busy.
+            subst EndsPlain (sym (ap (λ (q : plain.Queue ℕ). q.messages) is ∙ behind-messages (of_data band) w))
+            (ends-flushed band (messages_on s x.write_queue.list) (other on) (held.echoes on busy)));
+      }
 
 -- the line goes after the queue
 pub line-after : (s t : StoreValue) (x y z : Ldterm) (here : Spot) (asked : FlushAsked) (notes : List Note) (f f1 f2 : Fates) → asked.for_read ≡ true
@@ -121,25 +115,20 @@ line-after s t x y z here asked notes f f1 f2 reads first second =
     subst (λ v. Flushes s t x z notes f f2 (cond v done (sends [] p))) (sym reads)
     (flushes-both s t t x y z notes [] notes f f1 f2 (queue_flushed Up here asked.band p) (line_flushed here asked.band) first second (sym (append-nil notes)))
 
--- FLUSHW, where the echo stays in hand or doesn't
-pub write-after : (s t : StoreValue) (x z : Ldterm) (here : Spot) (asked : FlushAsked) (notes : List Note) (f f2 : Fates) (v : Bool) → v ≡ (is_some x.echo && not (takes_band_0 asked.band)) → asked.for_write ≡ true
-    → Flushes s t x z notes f f2 (queue_flushed Down here asked.band (record (ldterm_in s x) { echoing = v })) → Flushes s t x z notes f f2 (write_flushed here asked (ldterm_in s x))
+-- FLUSHW, with the turn's echo where band 0 goes
+pub write-after : (s t : StoreValue) (x z : Ldterm) (here : Spot) (asked : FlushAsked) (notes : List Note) (f f2 : Fates) (v : Bool) → v ≡ (x.echoing && not (takes_band_0 asked.band)) → asked.for_write ≡ true
+    → Flushes s t (record x { echoing = v }) z notes f f2 (queue_flushed Down here asked.band (record (ldterm_in s x) { echoing = v })) → Flushes s t x z notes f f2 (write_flushed here asked (ldterm_in s x))
 write-after s t x z here asked notes f f2 v is writes done =
     let p = ldterm_in s x in
-    subst (λ w. Flushes s t x z notes f f2 (cond w (queue_flushed Down here asked.band (record p { echoing = is_some x.echo && not (takes_band_0 asked.band) })) (sends [] p))) (sym writes)
-    (subst (λ w. Flushes s t x z notes f f2 (queue_flushed Down here asked.band (record p { echoing = w }))) is done)
+    let same = subst (λ w. Flushes s t (record x { echoing = v }) z notes f f2 (queue_flushed Down here asked.band (record p { echoing = w }))) is done in
+    subst (λ w. Flushes s t x z notes f f2 (cond w (queue_flushed Down here asked.band (record p { echoing = x.echoing && not (takes_band_0 asked.band) })) (sends [] p))) (sym writes)
+    (record { state = same.state; noted = same.noted; told = same.told; alters = alters-quieter s t x z v same.alters })
 
 pub write-none : (s : StoreValue) (x : Ldterm) (here : Spot) (asked : FlushAsked) (f : Fates) → IsHeld s x → asked.for_write ≡ false → Flushes s s x x [] f f (write_flushed here asked (ldterm_in s x))
 write-none s x here asked f held writes =
     let p = ldterm_in s x in
-    subst (λ w. Flushes s s x x [] f f (cond w (queue_flushed Down here asked.band (record p { echoing = is_some x.echo && not (takes_band_0 asked.band) })) (sends [] p))) (sym writes)
+    subst (λ w. Flushes s s x x [] f f (cond w (queue_flushed Down here asked.band (record p { echoing = x.echoing && not (takes_band_0 asked.band) })) (sends [] p))) (sym writes)
     (flushes-none s x [] f held refl)
-
-pub settled-flushes : (s u t : StoreValue) (x y z : Ldterm) (here : Spot) (band : Option Band) (notes : List Note) (f f2 : Fates) (p : ldterms.Ldterm ℕ) → Alters s u x y → ldterm_in u y ≡ p
-    → Flushes u t y z notes f f2 (queue_flushed Down here band (ldterm_in u y)) → Flushes s t x z notes f f2 (queue_flushed Down here band p)
-settled-flushes s u t x y z here band notes f f2 p alters is done =
-    let d = subst (λ (q : ldterms.Ldterm ℕ). Flushes u t y z notes f f2 (queue_flushed Down here band q)) is done in
-    record { state = d.state; noted = d.noted; told = d.told; alters = alters-both s u t x y z alters d.alters }
 
 -- what it keeps is in hand still
 pub kept-still : (s u : StoreValue) (x y : Ldterm) → Alters s u x y → AreIn s (λ _. 0) (keeps x) → AreIn u (λ _. 0) (keeps y)

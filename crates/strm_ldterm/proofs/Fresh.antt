@@ -1,11 +1,9 @@
 -- A module as it is pushed: its lists are empty, and it keeps nothing.
 use Rattle.std.proofs.Common.{ℕ, ◌≡◌, List, [], sym, ap, subst, ◌∙◌}
-use Rattle.std.specs.Prelude.{None}
 use Rattle.strm_types.specs.declared.termios.Termios.{Termios}
 use Rattle.strm_types.specs.Ldterms.{new_ldterm}
 use Rattle.strm_types.specs.Termios.{first_termios}
 use Rattle.strm_types.specs.Queue as plain
-use Rattle.strm_ldterm.specs.Stands.{with_last}
 use Rattle.strm_blocks.specs.Blocks.{StoreValue, list_at}
 use Rattle.strm_msg.specs.Messages.{AreMessages}
 use Rattle.strm_queue.specs.declared.queue.Queue.{Queue}
@@ -23,9 +21,9 @@ empty-ready s q list same counted none =
 
 -- a module with nothing on its queues and nothing in hand, as a new one is set
 pub new-shown : (s : StoreValue) (termios : Termios) (line : List ℕ) (read write : plain.Queue ℕ) → termios ≡ first_termios → line ≡ [] → read ≡ plain.new_queue 512 128 → write ≡ plain.new_queue 512 128
-    → record (new_ldterm {C = ℕ}) { termios = termios; line = line; read_queue = read; write_queue = with_last None write } ≡ new_ldterm
+    → record (new_ldterm {C = ℕ}) { termios = termios; line = line; read_queue = read; write_queue = write } ≡ new_ldterm
 new-shown s termios line read write set none r w =
-    ap (λ t. record (new_ldterm {C = ℕ}) { termios = t; line = line; read_queue = read; write_queue = with_last None write }) set
-    ∙ ap (λ l. record (new_ldterm {C = ℕ}) { line = l; read_queue = read; write_queue = with_last None write }) none
-    ∙ ap (λ q. record (new_ldterm {C = ℕ}) { read_queue = q; write_queue = with_last None write }) r
-    ∙ ap (λ q. record (new_ldterm {C = ℕ}) { write_queue = with_last None q }) w
+    ap (λ t. record (new_ldterm {C = ℕ}) { termios = t; line = line; read_queue = read; write_queue = write }) set
+    ∙ ap (λ l. record (new_ldterm {C = ℕ}) { line = l; read_queue = read; write_queue = write }) none
+    ∙ ap (λ q. record (new_ldterm {C = ℕ}) { read_queue = q; write_queue = write }) r
+    ∙ ap (λ q. record (new_ldterm {C = ℕ}) { write_queue = q }) w

@@ -1,54 +1,27 @@
--- A message of band 0 that stands last.
-use Rattle.std.proofs.Common.{ℕ, ◌≡◌, ◌≤◌, ◌<◌, ◌+◌, ◌==◌, Bool, true, false, cond, List, [], ◌∷◌, ◌++◌, refl, sym, ap, ◌∙◌, arith, append-nil}
-use Rattle.std.specs.Prelude.{not, ◌&&◌, ◌||◌, nat_le, nat_lt, Option, None, Some, IfSome, is_some}
-use Rattle.std.specs.Option.{option_to_list}
+-- A message of data of band 0 that stands last.
+use Rattle.std.proofs.Common.{ℕ, ◌≡◌, ◌≤◌, ◌<◌, ◌+◌, Bool, true, false, cond, List, [], ◌∷◌, ◌++◌, refl, ap, ◌∙◌, arith}
+use Rattle.std.specs.Prelude.{not, ◌&&◌, ◌||◌, ◌==◌, nat_le, Option, None, Some, filter}
 use Rattle.std.specs.List.{AllByRecursion}
 use Rattle.std.proofs.lemmas.Bool.{and_parts}
 use Rattle.std.proofs.lemmas.Bool.Decides.{nat_tests}
-use Rattle.std.proofs.lemmas.List.Sums.{sum_by-cons, sum_by-append}
+use Rattle.std.proofs.lemmas.List.Sums.{sum_by-append}
+use Rattle.strm_types.specs.declared.kinds.Band.{Band}
 use Rattle.strm_types.specs.declared.kinds.MsgKind.{MsgKind}
 use Rattle.strm_types.specs.declared.kinds.MsgKind.TheVariants as kinds
-use Rattle.strm_types.specs.Message.{Message, has_parts, is_high_priority, rank_of, band_of, size_of}
+use Rattle.strm_types.specs.Message.{Message, data_message, has_parts, is_high_priority, rank_of}
 use Rattle.strm_types.specs.declared.limits.TheConstants.{HIGH_PRIORITY_RANK}
 use Rattle.strm_types.specs.declared.names.Way.{Way}
 use Rattle.strm_types.specs.declared.names.Way.TheVariants.{Up, Down}
 use Rattle.strm_types.specs.Commands.{is_asked, is_ioctl}
+use Rattle.strm_types.specs.Emptied.{Choice, of_data, stayed}
+use Rattle.strm_types.specs.Flush.{is_data_kind, counted_band}
 use Rattle.strm_types.specs.Ioctls.{read_ioc}
 use Rattle.strm_types.specs.LdtermPuts.{goes_behind, waits_behind, waits_on}
-use Rattle.strm_types.specs.Ldterms.{waits_there}
+use Rattle.strm_types.specs.Ldterms.{takes_band_0, waits_there}
 use Rattle.strm_types.specs.Queue as plain
 use Rattle.strm_types.specs.Ranked as ranked
 use Rattle.strm_types.proofs.Ranked.{put-last}
-use Rattle.strm_blocks.specs.Blocks.{StoreValue, IsStore, in_hand, list_at, block_at, token}
-use Rattle.strm_blocks.specs.declared.in_hand.InHand.{InHand}
-use Rattle.strm_msg.proofs.Chains.{kind-is, band-is, size-shown}
-use Rattle.strm_queue.specs.declared.queue.Queue.{Queue}
-use Rattle.strm_queue.specs.Stored.{messages_on, IsReady}
-use Rattle.strm_queue.proofs.Bounds.{few-bytes}
-use Rattle.strm_queue.proofs.Sizes.{bytes-same}
-use Rattle.strm_frame.specs.Outboxes.{message_in}
-use Rattle.strm_ldterm.specs.Stands.{IsOrdinary, kept_in}
-
-data-low : (k : MsgKind) → k ≡ kinds.Data → is_high_priority k ≡ false
-unfolding is_high_priority
-data-low kinds.Data is = refl
-data-low _ is = absurd (cc)
-
--- such a message has rank 0, and its bytes count in band 0
-module _ (s : StoreValue) (i : ℕ) (is : IsOrdinary s i) where
-  low : is_high_priority (message_in s i).kind ≡ false
-  low = ap is_high_priority (kind-is (in_hand s i)) ∙ data-low (block_at 0 (in_hand s i)).kind is.are.kind
-
-  pub band-zero : (message_in s i).band ≡ 0
-  band-zero = band-is (in_hand s i) ∙ is.band
-
-  pub last-rank : rank_of (message_in s i) ≡ 0
-  unfolding rank_of
-  last-rank = rw low band-zero
-
-  pub last-band : band_of (message_in s i) ≡ 0
-  unfolding band_of
-  last-band = rw low band-zero
+use Rattle.strm_ldterm.specs.Stands.{EndsPlain}
 
 all-above : {A : Type 0} (rank : A → ℕ) (m : A) (q : List A) → rank m ≡ 0 → AllByRecursion (λ x. rank m ≤ rank x) q
 all-above rank m [] none = tt
@@ -59,7 +32,7 @@ pub zero-last : {A : Type 0} (rank : A → ℕ) (m : A) (q : List A) → rank m 
 zero-last rank m q none = put-last rank m q (all-above rank m q none)
 
 -- one of a higher rank is put before it
-pub put-before : {A : Type 0} (rank : A → ℕ) (m e : A) (q : List A) → rank e < rank m → ranked.put rank m (q ++ e ∷ []) ≡ ranked.put rank m q ++ e ∷ []
+put-before : {A : Type 0} (rank : A → ℕ) (m e : A) (q : List A) → rank e < rank m → ranked.put rank m (q ++ e ∷ []) ≡ ranked.put rank m q ++ e ∷ []
 put-before rank m e [] above =
     let no : nat_le (rank m) (rank e) ≡ false = grind (arith, nat_tests) in
     ap (λ v. cond v (e ∷ m ∷ []) (m ∷ e ∷ [])) no
@@ -69,73 +42,65 @@ put-before rank m e (x ∷ q) above = at (nat_le (rank m) (rank x)) (put-before 
     at true ih = ap (λ xs. x ∷ xs) ih
     at false ih = refl
 
--- what counts in a band, and what all have
+-- an ordinary message of data has rank 0
+pub data-rank : (bytes : List ℕ) → rank_of (data_message bytes) ≡ 0
+unfolding rank_of data_message is_high_priority
+data-rank bytes = refl
+
+pub data-first : (bytes : List ℕ) → (data_message bytes).band ≡ 0
+unfolding data_message
+data-first bytes = refl
+
+-- what counts in a band
 pub count-last : (band : ℕ) (ms ls : List (Message ℕ)) → plain.count_of band (ms ++ ls) ≡ plain.count_of band ms + plain.count_of band ls
 count-last band ms ls = sum_by-append _ ms ls
 
-pub bytes-last : (ms ls : List (Message ℕ)) → plain.bytes_of (ms ++ ls) ≡ plain.bytes_of ms + plain.bytes_of ls
-bytes-last ms ls = sum_by-append size_of ms ls
+-- it stays last where a message of a higher rank is put
+pub ends-put : (m : Message ℕ) (ms : List (Message ℕ)) → 0 < rank_of m → EndsPlain ms → EndsPlain (plain.put m ms)
+ends-put m ms above ends = record {
+  before = plain.put m ends.before;
+  cells = ends.cells;
+  is = ap (plain.put m) ends.is ∙ put-before rank_of m (data_message ends.cells) ends.before (let none = data-rank ends.cells in omega arith);
+}
 
--- no more counts in a band than all have
-pub count-within : (band : ℕ) (ms : List (Message ℕ)) → plain.count_of band ms ≤ plain.bytes_of ms
-count-within band [] = omega arith
-count-within band (m ∷ ms) = omega (arith, one (band_of m == band), count-within band ms, sum_by-cons (λ x. cond {A = ℕ} (band_of x == band) (size_of x) 0) m ms, sum_by-cons size_of m ms)
+-- and where it isn't taken
+filter-last : (keep : Message ℕ → Bool) (ms : List (Message ℕ)) (e : Message ℕ) → keep e ≡ true → filter keep (ms ++ e ∷ []) ≡ filter keep ms ++ e ∷ []
+filter-last keep [] e stays = ap (λ v. cond v (e ∷ []) []) stays
+filter-last keep (m ∷ ms) e stays = at (keep m) (filter-last keep ms e stays)
   where
-    one : (v : Bool) → cond {A = ℕ} v (size_of m) 0 ≤ size_of m
-    one true = omega arith
-    one false = omega arith
+    at : (v : Bool) → filter keep (ms ++ e ∷ []) ≡ filter keep ms ++ e ∷ [] → cond v (m ∷ filter keep (ms ++ e ∷ [])) (filter keep (ms ++ e ∷ [])) ≡ cond v (m ∷ filter keep ms) (filter keep ms) ++ e ∷ []
+    at true ih = ap (λ xs. m ∷ xs) ih
+    at false ih = ih
 
-module _ (s : StoreValue) where
-  -- in band 0 its bytes, and none in another band
-  pub count-zero : (o : Option InHand) → IfSome o (λ m. IsOrdinary s (token m)) → plain.count_of 0 (option_to_list (kept_in s o)) ≡ plain.bytes_of (option_to_list (kept_in s o))
-  count-zero None is = refl
-  count-zero (Some m) is = zero-one (message_in s (token m)) (last-band s (token m) is)
-    where
-      zero-one : (x : Message ℕ) → band_of x ≡ 0 → plain.count_of 0 (x ∷ []) ≡ plain.bytes_of (x ∷ [])
-      zero-one x none = rw none refl
+ends-stayed : (chosen : Choice) (ms : List (Message ℕ)) → ((bytes : List ℕ) → chosen (data_message bytes).kind (data_message bytes).band ≡ false) → EndsPlain ms → EndsPlain (stayed chosen ms)
+ends-stayed chosen ms none ends = record {
+  before = stayed chosen ends.before;
+  cells = ends.cells;
+  is = ap (stayed chosen) ends.is ∙ filter-last (λ m. not (chosen m.kind m.band)) ends.before (data_message ends.cells) (ap not (none ends.cells));
+}
 
-  pub count-other : (band : ℕ) (o : Option InHand) → 0 < band → IfSome o (λ m. IsOrdinary s (token m)) → plain.count_of band (option_to_list (kept_in s o)) ≡ 0
-  count-other band None some is = refl
-  count-other band (Some m) some is = other-one (message_in s (token m)) (last-band s (token m) is)
-    where
-      other-one : (x : Message ℕ) → band_of x ≡ 0 → plain.count_of band (x ∷ []) ≡ 0
-      other-one x none = rw none (let no : (0 == band) ≡ false = grind (arith, nat_tests) in rw no refl)
+-- a message of band 0 isn't taken with another band
+none-chosen : (k : MsgKind) (n : ℕ) (band : Band) → n ≡ 0 → 0 < band.0 → of_data (Some band) k n ≡ false
+none-chosen k n band zero above =
+    ap (λ j. is_data_kind k && (counted_band k j == band.0)) zero
+    ∙ ap (λ j. is_data_kind k && (j == band.0)) (same (is_high_priority k))
+    ∙ ap (λ v. is_data_kind k && v) (let no : (0 == band.0) ≡ false = grind (arith, nat_tests) in no)
+    ∙ never (is_data_kind k)
+  where
+    same : (v : Bool) → cond {A = ℕ} v 0 0 ≡ 0
+    same true = refl
+    same false = refl
 
-  -- all bytes are few
-  pub bytes-few : (k : ℕ) (q : Queue) (o : Option InHand) → IsStore s → IsReady s q → q.list ≡ k → IfSome o (λ m. IsOrdinary s (token m))
-      → plain.bytes_of (messages_on s k) + plain.bytes_of (option_to_list (kept_in s o)) ≤ 16777216
-  bytes-few k q None st ready same is =
-      let few = few-bytes s st q.list 0 in let e = bytes-same (list_at s q.list) ready.messages.chains in let f = ap (λ j. plain.bytes_of (messages_on s j)) same in omega arith
-  bytes-few k q (Some m) st ready same is =
-      let few = few-bytes s st q.list (token m) in
-      let e = bytes-same (list_at s q.list) ready.messages.chains in
-      let f = ap (λ j. plain.bytes_of (messages_on s j)) same in
-      let z = size-shown (in_hand s (token m)) is.are.chain in
-      let one = sum_by-cons size_of (message_in s (token m)) [] in
-      omega arith
+    never : (v : Bool) → (v && false) ≡ false
+    never true = refl
+    never false = refl
 
--- a message that is put before it, or where there is none
-module _ (s : StoreValue) where
-  pub put-beside : (o : Option InHand) (m : Message ℕ) (ms : List (Message ℕ)) → IfSome o (λ e. IsOrdinary s (token e)) → rank_of m ≡ m.band → (is_some o && not (nat_lt 0 m.band)) ≡ false
-      → plain.put m ms ++ option_to_list (kept_in s o) ≡ plain.put m (ms ++ option_to_list (kept_in s o))
-  put-beside None m ms is rank before = append-nil (plain.put m ms) ∙ ap (plain.put m) (sym (append-nil ms))
-  put-beside (Some e) m ms is rank before =
-      let none = last-rank s (token e) is in
-      let above : nat_lt 0 m.band ≡ true = not-false (nat_lt 0 m.band) before in
-      let more : 0 < m.band = grind (arith, nat_tests) in
-      sym (put-before rank_of m (message_in s (token e)) ms (omega arith))
-    where
-      not-false : (v : Bool) → not v ≡ false → v ≡ true
-      not-false true is = refl
-      not-false false is = absurd (cc)
-
-  pub stays-beside : (o : Option InHand) (m : Message ℕ) → (is_some o && not (nat_lt 0 m.band)) ≡ false → is_some o ≡ (is_some o && nat_lt 0 m.band)
-  stays-beside None m before = refl
-  stays-beside (Some e) m before = at (nat_lt 0 m.band) before
-    where
-      at : (v : Bool) → not v ≡ false → true ≡ v
-      at true is = refl
-      at false is = absurd (cc)
+-- so it stays in a flush that doesn't take band 0
+pub ends-flushed : (band : Option Band) (ms : List (Message ℕ)) → takes_band_0 band ≡ false → EndsPlain ms → EndsPlain (stayed (of_data band) ms)
+ends-flushed None ms other ends = absurd (cc)
+ends-flushed (Some band) ms other ends =
+    let above : 0 < band.0 = grind (arith, nat_tests) in
+    ends-stayed (of_data (Some band)) ms (λ bytes. none-chosen (data_message bytes).kind (data_message bytes).band band (data-first bytes) above) ends
 
 -- what waits on a queue is of no high priority
 there-low : (k : MsgKind) → waits_there k ≡ true → is_high_priority k ≡ false

@@ -10,12 +10,10 @@ pub mod Fresh
 pub mod Last
 pub mod Beside
 pub mod Steps
-pub mod Asking
-pub mod Relief
+pub mod Asked
 pub mod Flows
 pub mod FrontOut
 pub mod Flushed
-pub mod Before
 pub mod Passing
 pub mod Turning
 pub mod Counting
@@ -24,6 +22,7 @@ pub mod Sends
 pub mod Grows
 pub mod EchoSteps
 pub mod EchoStands
+pub mod Rewriting
 pub mod Strikes
 pub mod Gathered
 pub mod Returning

@@ -1,5 +1,5 @@
 -- The first message of a queue is taken into the hand, where the module keeps none there.
-use Rattle.std.proofs.Common.{ℕ, ◌≡◌, ◌<◌, ◌+◌, eqb, Bool, true, false, cond, List, [], ◌∷◌, ◌++◌, length, map, refl, sym, ap, subst, ◌∙◌, arith}
+use Rattle.std.proofs.Common.{ℕ, ◌≡◌, ◌<◌, ◌+◌, eqb, Bool, true, false, cond, List, [], ◌∷◌, length, map, refl, sym, ap, subst, ◌∙◌, arith}
 use Rattle.std.specs.Prelude.{◌&&◌, Option, None, Some, nat_lt, not, unwrap_or}
 use Rattle.std.proofs.lemmas.Bool.{false≢true}
 use Rattle.std.proofs.lemmas.Bool.Decides.{nat_tests}
@@ -33,7 +33,7 @@ use Rattle.strm_frame.specs.Hands.{once, OnlyOwn}
 use Rattle.strm_frame.specs.Outboxes.{message_in, times_sent, parcels_in, AreChains}
 use Rattle.strm_frame.proofs.Handing.{once-self, once-apart, one-parts, one-chains, no-parts, none-chains}
 use Rattle.strm_ldterm.specs.declared.ldterm.Ldterm.{Ldterm}
-use Rattle.strm_ldterm.specs.Stands.{ldterm_in, owns, times_kept, keeps, IsHeld, with_last}
+use Rattle.strm_ldterm.specs.Stands.{ldterm_in, owns, times_kept, keeps, IsHeld}
 use Rattle.strm_ldterm.specs.Bounds.{goes_out, passes_whole}
 use Rattle.strm_ldterm.specs.Does.{Proceeds}
 use Rattle.strm_ldterm.specs.Frames.{form-same, list-ready}
@@ -53,23 +53,22 @@ data-size chain one is =
     let band = (block_at 0 chain).band in
     ap size_of shown ∙ data_in-size band (data_bytes chain) ∙ ap length (sym (ap cells_of shown ∙ data_in-cells band (data_bytes chain)))
 
--- a module that keeps nothing in hand
+-- a module that keeps nothing in hand, and echoes nothing
 none-kept : (o : Option InHand) → ((i : ℕ) → times_kept o i ≡ 0) → o ≡ None
 unfolding times_kept
 none-kept None none = refl
 none-kept (Some m) none = let one = once-self (token m) in let z = none (token m) in absurd (omega arith)
 
 abbrev at_rest : Ldterm → Ldterm
-at_rest x = record x { in_work = None; gathered = None; echo = None }
+at_rest x = record x { in_work = None; gathered = None; echoing = false }
 
-rests-is : (x : Ldterm) → ((i : ℕ) → keeps x i ≡ 0) → x ≡ at_rest x
-rests-is x rests =
+rests-is : (x : Ldterm) → ((i : ℕ) → keeps x i ≡ 0) → x.echoing ≡ false → x ≡ at_rest x
+rests-is x rests quiet =
     let work = none-kept x.in_work (λ i. let r = rests i in omega arith) in
     let gathers = none-kept x.gathered (λ i. let r = rests i in omega arith) in
-    let echo = none-kept x.echo (λ i. let r = rests i in omega arith) in
     ap (λ o. record x { in_work = o }) work
     ∙ ap (λ o. record x { in_work = None; gathered = o }) gathers
-    ∙ ap (λ o. record x { in_work = None; gathered = None; echo = o }) echo
+    ∙ ap (λ v. record x { in_work = None; gathered = None; echoing = v }) quiet
 
 -- nothing happens
 pub stays : (s : StoreValue) (x : Ldterm) (sent : List Sent) (f : Fates) → IsHeld s x → sent ≡ [] → Proceeds s s x x 0 [] sent f f (sends [] (ldterm_in s x))
@@ -100,20 +99,16 @@ module _ (s t : StoreValue) (q q' : Queue) (i : ℕ) (is : Dequeued s t q q' i) 
       ∙ in_hand-held_other s i j (in_hand t i) (λ e. (let w = ap (λ k. times_in k s.hand) e in let z = is.fresh in absurd (omega arith)))
 
 -- nothing stands there
-module _ (s : StoreValue) (x : Ldterm) (rests : (i : ℕ) → keeps x i ≡ 0) (here : Spot) where
+module _ (s : StoreValue) (x : Ldterm) (here : Spot) where
   down-none : (stop : Option ℕ) → messages_on s x.write_queue.list ≡ [] → output_of s s here x x stop ≡ nothing_served cells.plain here (ldterm_in s x)
-  down-none stop none =
-      subst (λ (y : Ldterm). output_of s s here y y stop ≡ nothing_served cells.plain here (ldterm_in s y)) (sym (rests-is x rests))
-      (ap (λ (ms : List (Message ℕ)). output_serves cells.plain here stop 0 (ms ++ []) (ldterm_in s (at_rest x))) none)
+  down-none stop none = ap (λ (ms : List (Message ℕ)). output_serves cells.plain here stop 0 ms (ldterm_in s x)) none
 
   pub stays-down : (sent : List Sent) → IsHeld s x → messages_on s x.write_queue.list ≡ [] → sent ≡ [] → PassedDown s s here x x sent 0
   stays-down sent held none empty = record {
     passes = λ stop f. subst (λ (v : Serving ℕ (ldterms.Ldterm ℕ)). Proceeds s s x x 0 [] sent f f v.acted) (sym (down-none stop none)) (stays s x sent f held empty);
     size = λ stop. sym (ap (λ (v : Serving ℕ (ldterms.Ldterm ℕ)). v.bytes) (down-none stop none));
     again = λ stop. ap (λ (v : Serving ℕ (ldterms.Ldterm ℕ)). v.again) (down-none stop none);
-    whole = λ again.
-        subst (λ (y : Ldterm). passes_whole Down again (ldterm_in s y) ≡ true) (sym (rests-is x rests))
-        (ap (λ (ms : List (Message ℕ)). passes_whole Down again (record (ldterm_in s (at_rest x)) { write_queue = record (ldterm_in s (at_rest x)).write_queue { messages = ms ++ [] } })) none);
+    whole = λ again. ap (λ (ms : List (Message ℕ)). passes_whole Down again (record (ldterm_in s x) { write_queue = record (ldterm_in s x).write_queue { messages = ms } })) none;
   }
 
 pub stays-up : (s : StoreValue) (here : Spot) (x : Ldterm) → IsHeld s x → messages_on s x.read_queue.list ≡ [] → BeganWhole s s here x x [] 0
@@ -132,10 +127,10 @@ module _ (s t : StoreValue) (x : Ldterm) (q' : Queue) (m : InHand) (held : IsHel
   reads-stay = is.others x.read_queue.list (λ e. let a = held.apart in absurd (omega arith))
 
   down-plain : ldterm_in t (record (at_rest x) { write_queue = q' })
-      ≡ record (ldterm_in s (at_rest x)) { write_queue = left_with (messages_on t q'.list ++ []) (ldterm_in s (at_rest x)).write_queue }
+      ≡ record (ldterm_in s (at_rest x)) { write_queue = left_with (messages_on t q'.list) (ldterm_in s (at_rest x)).write_queue }
   down-plain =
-      form-same (record (at_rest x) { write_queue = q' }) _ _ (list_at t q'.list) (list_at t q'.list) None None None None None None reads-stay refl refl refl refl
-      ∙ ap (λ (q : plain.Queue ℕ). record (ldterm_in s (at_rest x)) { write_queue = with_last None q }) is.queue
+      form-same (record (at_rest x) { write_queue = q' }) _ _ (list_at t q'.list) (list_at t q'.list) None None None None reads-stay refl refl refl
+      ∙ ap (λ (q : plain.Queue ℕ). record (ldterm_in s (at_rest x)) { write_queue = q }) is.queue
 
   down-own : OnlyOwn s t (owns x) (owns (record x { write_queue = q' }))
   down-own = record {
@@ -145,7 +140,7 @@ module _ (s t : StoreValue) (x : Ldterm) (q' : Queue) (m : InHand) (held : IsHel
 
   -- and sent on
   down-proceeds : (to : Spot) (here : Spot) (sent : List Sent) (f : Fates) → sent ≡ record { to = to; message = m } ∷ [] → to ≡ toward Down here
-      → Proceeds s t (at_rest x) (record (at_rest x) { write_queue = q' }) 0 [] sent f f (passes cells.plain here Down (message_in t (token m)) (messages_on t q'.list ++ []) (ldterm_in s (at_rest x))).acted
+      → Proceeds s t (at_rest x) (record (at_rest x) { write_queue = q' }) 0 [] sent f f (passes cells.plain here Down (message_in t (token m)) (messages_on t q'.list) (ldterm_in s (at_rest x))).acted
   unfolding times_kept times_sent
   down-proceeds to here sent f one there = record {
     state = down-plain;
@@ -158,7 +153,7 @@ module _ (s t : StoreValue) (x : Ldterm) (q' : Queue) (m : InHand) (held : IsHel
       apart = (let a = held.apart in let e = is.list in omega arith);
       work = tt;
       gathers = tt;
-      echoes = tt;
+      echoes = λ on busy. absurd (false≢true on);
       once_each = held.once_each;
     };
     own = record { lists = down-own.lists; owns_same = down-own.owns_same };
@@ -175,7 +170,7 @@ module _ (s t : StoreValue) (x : Ldterm) (q' : Queue) (m : InHand) (held : IsHel
   -- or kept in work
   down-kept : (f : Fates) → IsStore t → (block_at 0 (in_hand t (token m))).kind ≡ kinds.Data
       → Proceeds s t (at_rest x) (record (at_rest x) { write_queue = q'; in_work = Some m }) 0 [] [] f f
-      (sends [] (record (ldterm_in s (at_rest x)) { write_queue = left_with (messages_on t q'.list ++ []) (ldterm_in s (at_rest x)).write_queue; in_work = Some (message_in t (token m)) }))
+      (sends [] (record (ldterm_in s (at_rest x)) { write_queue = left_with (messages_on t q'.list) (ldterm_in s (at_rest x)).write_queue; in_work = Some (message_in t (token m)) }))
   unfolding times_kept times_sent parcels_in AreChains
   down-kept f st kind = record {
     state = ap (λ (p : ldterms.Ldterm ℕ). record p { in_work = Some (message_in t (token m)) }) down-plain;
@@ -188,7 +183,7 @@ module _ (s t : StoreValue) (x : Ldterm) (q' : Queue) (m : InHand) (held : IsHel
       apart = (let a = held.apart in let e = is.list in omega arith);
       work = record { chain = is.chain; kind = kind };
       gathers = tt;
-      echoes = tt;
+      echoes = λ on busy. absurd (false≢true on);
       once_each = λ j. let c = taken-comes s t x.write_queue q' (token m) is j in let few = st.apart j in omega arith;
     };
     own = record { lists = down-own.lists; owns_same = down-own.owns_same };
@@ -203,10 +198,10 @@ module _ (s t : StoreValue) (x : Ldterm) (q' : Queue) (m : InHand) (held : IsHel
   }
 
   down-is : (here : Spot) (stop : Option ℕ) → goes_out x.termios (message_in t (token m)) ≡ false → let p = ldterm_in s (at_rest x) in
-      output_serves cells.plain here stop 0 p.write_queue.messages p ≡ passes cells.plain here Down (message_in t (token m)) (messages_on t q'.list ++ []) p
+      output_serves cells.plain here stop 0 p.write_queue.messages p ≡ passes cells.plain here Down (message_in t (token m)) (messages_on t q'.list) p
   down-is here stop whole =
       let p = ldterm_in s (at_rest x) in
-      ap (λ (ms : List (Message ℕ)). output_serves cells.plain here stop 0 (ms ++ []) p) is.first ∙ goes-whole here stop (message_in t (token m)) (messages_on t q'.list ++ []) p whole
+      ap (λ (ms : List (Message ℕ)). output_serves cells.plain here stop 0 ms p) is.first ∙ goes-whole here stop (message_in t (token m)) (messages_on t q'.list) p whole
 
   down-whole : (to : Spot) (here : Spot) (sent : List Sent) (bytes : ℕ) → sent ≡ record { to = to; message = m } ∷ [] → to ≡ toward Down here → goes_out x.termios (message_in t (token m)) ≡ false
       → bytes ≡ size_of (message_in t (token m)) → PassedDown s t here (at_rest x) (record (at_rest x) { write_queue = q' }) sent bytes
@@ -218,15 +213,15 @@ module _ (s t : StoreValue) (x : Ldterm) (q' : Queue) (m : InHand) (held : IsHel
     again = λ stop. ap (λ (v : Serving ℕ (ldterms.Ldterm ℕ)). v.again) (down-is here stop whole);
     whole = λ again.
         let p = ldterm_in s (at_rest x) in
-        ap (λ (ms : List (Message ℕ)). passes_whole Down again (record p { write_queue = record p.write_queue { messages = ms ++ [] } })) is.first ∙ ap not whole;
+        ap (λ (ms : List (Message ℕ)). passes_whole Down again (record p { write_queue = record p.write_queue { messages = ms } })) is.first ∙ ap not whole;
   }
 
   down-work : (here : Spot) (bytes band : ℕ) → IsStore t → (block_at 0 (in_hand t (token m))).kind ≡ kinds.Data → opost x.termios ≡ true → 0 < bytes → bytes ≡ length (cells_of (message_in t (token m)))
       → band ≡ (block_at 0 (in_hand t (token m))).band → BeganOutput s t here (at_rest x) (record (at_rest x) { write_queue = q'; in_work = Some m }) bytes band
   down-work here bytes band st kind output some size banded = record {
     message = message_in t (token m);
-    rest = messages_on t q'.list ++ [];
-    first = ap (λ (ms : List (Message ℕ)). ms ++ []) is.first;
+    rest = messages_on t q'.list;
+    first = is.first;
     is =
         let chain = in_hand t (token m) in
         let shown = data-shown chain is.chain.some kind ∙ ap (λ b. data_in b (data_bytes chain)) (sym banded) in
@@ -248,7 +243,7 @@ module _ (s t : StoreValue) (x : Ldterm) (q' : Queue) (m : InHand) (held : IsHel
   up-plain : ldterm_in t (record (at_rest x) { read_queue = q' })
       ≡ record (ldterm_in s (at_rest x)) { read_queue = left_with (messages_on t q'.list) (ldterm_in s (at_rest x)).read_queue }
   up-plain =
-      form-same (record (at_rest x) { read_queue = q' }) (list_at t q'.list) (list_at t q'.list) _ _ None None None None None None refl writes-stay refl refl refl
+      form-same (record (at_rest x) { read_queue = q' }) (list_at t q'.list) (list_at t q'.list) _ _ None None None None refl writes-stay refl refl
       ∙ ap (λ (q : plain.Queue ℕ). record (ldterm_in s (at_rest x)) { read_queue = q }) is.queue
 
   up-own : OnlyOwn s t (owns x) (owns (record x { read_queue = q' }))
@@ -272,7 +267,7 @@ module _ (s t : StoreValue) (x : Ldterm) (q' : Queue) (m : InHand) (held : IsHel
       apart = (let a = held.apart in let e = is.list in omega arith);
       work = tt;
       gathers = tt;
-      echoes = tt;
+      echoes = λ on busy. absurd (false≢true on);
       once_each = held.once_each;
     };
     own = record { lists = up-own.lists; owns_same = up-own.owns_same };
@@ -306,7 +301,7 @@ module _ (s t : StoreValue) (x : Ldterm) (q' : Queue) (m : InHand) (held : IsHel
       apart = (let a = held.apart in let e = is.list in omega arith);
       work = record { chain = is.chain; kind = kind };
       gathers = tt;
-      echoes = tt;
+      echoes = λ on busy. absurd (false≢true on);
       once_each = λ j. let c = taken-comes s t x.read_queue q' (token m) is j in let few = st.apart j in omega arith;
     };
     own = record { lists = up-own.lists; owns_same = up-own.owns_same };
@@ -364,7 +359,7 @@ data-only : (k : MsgKind) → is_data k ≡ true → k ≡ kinds.Data
 data-only kinds.Data is = refl
 data-only _ is = absurd (cc)
 
-module _ (s t : StoreValue) (x : Ldterm) (q' : Queue) (m : InHand) (here : Spot) (held : IsHeld s x) (rests : (i : ℕ) → keeps x i ≡ 0) (is : Dequeued s t x.read_queue q' (token m)) (bytes : ℕ)
+module _ (s t : StoreValue) (x : Ldterm) (q' : Queue) (m : InHand) (here : Spot) (held : IsHeld s x) (rests : (i : ℕ) → keeps x i ≡ 0) (still : x.echoing ≡ false) (is : Dequeued s t x.read_queue q' (token m)) (bytes : ℕ)
     (size : bytes ≡ size_of (message_in t (token m))) where
   kind-same : is_data (message_in t (token m)).kind ≡ is_data (block_at 0 (in_hand t (token m))).kind
   kind-same = ap is_data (kind-is (in_hand t (token m)))
@@ -372,13 +367,13 @@ module _ (s t : StoreValue) (x : Ldterm) (q' : Queue) (m : InHand) (here : Spot)
   pub began-whole : (to : Spot) (sent : List Sent) → sent ≡ record { to = to; message = m } ∷ [] → to ≡ toward Up here → is_data (block_at 0 (in_hand t (token m))).kind ≡ false
       → BeganWhole s t here x (record x { read_queue = q' }) sent bytes
   began-whole to sent one there kind =
-      let quiet = rests-is x rests in
+      let quiet = rests-is x rests still in
       subst (λ (y : Ldterm). BeganWhole s t here y (record y { read_queue = q' }) sent bytes) (sym quiet)
       (whole-rest s t x q' m (subst (IsHeld s) quiet held) is to here sent bytes one there (kind-same ∙ kind) size)
 
   pub began-work : IsStore t → is_data (block_at 0 (in_hand t (token m))).kind ≡ true → BeganWork s t here x (record x { read_queue = q'; in_work = Some m }) bytes
   began-work st kind =
-      let quiet = rests-is x rests in
+      let quiet = rests-is x rests still in
       let of_data = data-only (block_at 0 (in_hand t (token m))).kind kind in
       subst (λ (y : Ldterm). BeganWork s t here y (record y { read_queue = q'; in_work = Some m }) bytes) (sym quiet)
       (work-rest s t x q' m (subst (IsHeld s) quiet held) is here bytes st of_data (kind-same ∙ kind) (size ∙ data-size (in_hand t (token m)) is.chain of_data))
@@ -396,7 +391,7 @@ both-true true true false is = absurd (false≢true is)
 both-true true false c is = absurd (false≢true is)
 both-true false b c is = absurd (false≢true is)
 
-module _ (s t : StoreValue) (x : Ldterm) (q' : Queue) (m : InHand) (here : Spot) (held : IsHeld s x) (rests : (i : ℕ) → keeps x i ≡ 0) (is : Dequeued s t x.write_queue q' (token m)) (bytes : ℕ)
+module _ (s t : StoreValue) (x : Ldterm) (q' : Queue) (m : InHand) (here : Spot) (held : IsHeld s x) (rests : (i : ℕ) → keeps x i ≡ 0) (still : x.echoing ≡ false) (is : Dequeued s t x.write_queue q' (token m)) (bytes : ℕ)
     (size : bytes ≡ size_of (message_in t (token m))) where
   abbrev kind : MsgKind
   kind = (block_at 0 (in_hand t (token m))).kind
@@ -409,14 +404,14 @@ module _ (s t : StoreValue) (x : Ldterm) (q' : Queue) (m : InHand) (here : Spot)
   pub passed-down : (to : Spot) (sent : List Sent) → sent ≡ record { to = to; message = m } ∷ [] → to ≡ toward Down here → (is_data kind && (opost x.termios && nat_lt 0 bytes)) ≡ false
       → PassedDown s t here x (record x { write_queue = q' }) sent bytes
   passed-down to sent one there whole =
-      let quiet = rests-is x rests in
+      let quiet = rests-is x rests still in
       subst (λ (y : Ldterm). PassedDown s t here y (record y { write_queue = q' }) sent bytes) (sym quiet)
       (down-whole s t x q' m (subst (IsHeld s) quiet held) is to here sent bytes one there (sym tested ∙ whole) size)
 
   pub began-output : (band : ℕ) → IsStore t → band ≡ (block_at 0 (in_hand t (token m))).band → (is_data kind && (opost x.termios && nat_lt 0 bytes)) ≡ true
       → BeganOutput s t here x (record x { write_queue = q'; in_work = Some m }) bytes band
   began-output band st banded out =
-      let quiet = rests-is x rests in
+      let quiet = rests-is x rests still in
       let all = both-true (is_data kind) (opost x.termios) (nat_lt 0 bytes) out in
       let of_data = data-only kind all.0 in
       let some : 0 < bytes = (let z = all.2 in grind (arith, nat_tests)) in

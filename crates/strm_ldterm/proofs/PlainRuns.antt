@@ -30,11 +30,12 @@ use Rattle.strm_types.specs.Termios.{echo, echoctl, echonl, icanon, imaxbel}
 use Rattle.strm_types.specs.Typing.{added, echo_dir, echo_grows, echo_stands, echoed, grown}
 use Rattle.strm_ldterm.specs.FreeBefore.{blocks_grown, echo_size, last_size}
 use Rattle.strm_ldterm.specs.PlainRuns.{has_keys, is_plain, run_done, run_echoed, turns_ends, typed_run}
+use Rattle.strm_ldterm.specs.Stands.{EndsPlain}
 use Rattle.strm_ldterm.specs.Turns.{ahead, one_after}
-use Rattle.strm_ldterm.proofs.EchoStands.{data-enables, data-rank, echoed-room, grown-last}
+use Rattle.strm_ldterm.proofs.EchoStands.{data-enables, echoed-room, grown-last}
 use Rattle.strm_ldterm.proofs.FreeBefore.{all-front, grown-none, grown-two, last-size}
 use Rattle.strm_ldterm.proofs.Grows.{cells-data}
-use Rattle.strm_ldterm.proofs.Last.{count-last, zero-last}
+use Rattle.strm_ldterm.proofs.Last.{count-last, data-rank, zero-last}
 use Rattle.strm_ldterm.proofs.PlainBytes.{no-line-end, taken_as-plain}
 use Rattle.strm_ldterm.proofs.Strikes.{added-raw, added-room, told-append}
 use Rattle.strm_ldterm.proofs.Struck.{struck-echoed}
@@ -103,12 +104,6 @@ module _ (t : Termios) (b : ℕ) (is : is_plain t b ≡ true) where
       shown-plain (echo t) (is_control b) (b == newline) (echonl t) (icanon t) b (echo_byte t b) quiet ends-low
       (no-line-end t b keys ends) (λ printed. ap (λ c. cond (c && (not (b == tab) && echoctl t)) (94 ∷ shown_control b ∷ []) (b ∷ [])) printed)
       ∙ sym (ap (λ full. cond full (cond (imaxbel t) (7 ∷ []) []) (typed_echo t (record { key = Ordinary; byte = b; literal = false }))) room)
-
--- the last message of a queue is an ordinary one
-pub record EndsPlain (ms : List (Message ℕ)) : Type 0 where
-  pub before : List (Message ℕ)
-  pub cells : List ℕ
-  pub is : ms ≡ before ++ data_message cells ∷ []
 
 -- What holds before a run that is treated at once.
 pub record Runs (lines echoes : Bool) (run rest : List ℕ) (p : Ldterm ℕ) : Type 0 where

@@ -14,7 +14,7 @@ use Rattle.strm_types.specs.OutputTurns.{output_dir}
 use Rattle.strm_blocks.specs.Blocks.{StoreValue, IsStore}
 use Rattle.strm_frame.specs.declared.parcels.Sent.{Sent}
 use Rattle.strm_frame.specs.Hands.{HasRoom}
-use Rattle.strm_ldterm.specs.declared.flowing.Flow.{Flow}
+use Rattle.strm_ldterm.specs.declared.output_runs.Flow.{Flow}
 use Rattle.strm_ldterm.specs.declared.ldterm.Ldterm.{Ldterm}
 use Rattle.strm_ldterm.specs.FreeBefore.{IsFreeBefore, all_free, blocks_grown}
 use Rattle.strm_ldterm.specs.Does.{Proceeds}

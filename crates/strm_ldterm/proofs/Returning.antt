@@ -1,9 +1,7 @@
 -- A message in hand that is put back on a queue, and one that the module kept.
-use Rattle.std.proofs.Common.{ℕ, ◌≡◌, ◌<◌, false, List, ◌++◌, length, map, refl, sym, ap, subst, ◌∙◌, arith, append-nil}
+use Rattle.std.proofs.Common.{ℕ, ◌≡◌, ◌<◌, List, length, map, refl, sym, ap, subst, ◌∙◌, arith}
 use Rattle.std.proofs.lemmas.Bool.{false≢true}
-use Rattle.std.specs.Option.{option_to_list}
-use Rattle.std.specs.Prelude.{Option, None, Some, is_some}
-use Rattle.strm_types.specs.Message.{Message}
+use Rattle.std.specs.Prelude.{None, Some}
 use Rattle.strm_types.specs.Queue as plain
 use Rattle.strm_types.specs.Ldterms as ldterms
 use Rattle.strm_types.specs.Input.{back_on}
@@ -25,7 +23,7 @@ use Rattle.strm_frame.specs.Hands.{AreIn, CanPut, OnlyOwn}
 use Rattle.strm_frame.specs.Outboxes.{message_in}
 use Rattle.strm_frame.proofs.Shifting.{shifts-joined}
 use Rattle.strm_ldterm.specs.declared.ldterm.Ldterm.{Ldterm}
-use Rattle.strm_ldterm.specs.Stands.{ldterm_in, owns, keeps, IsHeld, kept_in, with_last}
+use Rattle.strm_ldterm.specs.Stands.{ldterm_in, owns, keeps, IsHeld}
 use Rattle.strm_ldterm.specs.Does.{Alters}
 use Rattle.strm_ldterm.specs.Frames.{ldterm-frame}
 use Rattle.strm_ldterm.proofs.Finished.{work-splits, work-shown, work-can, work-held}
@@ -71,14 +69,6 @@ module _ (s new : StoreValue) (q q' : Queue) (i : ℕ) (within : q.list < length
     where
       after : StoreValue
       after = placed (dropped s i) q.list (put_back (in_hand s i) (list_at s q.list))
-
-pub none-there : {A : Type 0} (o : Option A) → is_some o ≡ false → o ≡ None
-none-there None is = refl
-none-there (Some x) is = absurd (false≢true (sym is))
-
--- where no echo stands, the messages of the write queue are those of its list
-pub alone : (s : StoreValue) (x : Ldterm) → x.echo ≡ None → (ldterm_in s x).write_queue.messages ≡ messages_on s x.write_queue.list
-alone s x quiet = ap (λ o. messages_on s x.write_queue.list ++ option_to_list (kept_in s o)) quiet ∙ append-nil (messages_on s x.write_queue.list)
 
 -- a message of which nothing is left is freed
 pub freed-changes : (s : StoreValue) (q : Queue) (i : ℕ) → IsReady s q → Changes (dropped s i) (dropped s i) q q
@@ -142,20 +132,17 @@ module _ (s : StoreValue) (x : Ldterm) (m : InHand) (there : x.in_work ≡ Some 
     read-returned-alters frees =
         returned-alters t x.read_queue q' (record idle { read_queue = q' }) changes frees (λ j. refl) (read-held rest t idle q' framed.1 changes) (read-own rest t idle q' framed.1 changes)
 
-  -- to the write queue, where no echo stands
+  -- to the write queue
   module _ (t : StoreValue) (q' : Queue) (changes : Changes rest t x.write_queue q') where
-    pub write-returned : x.echo ≡ None → queue_in t q' ≡ back_on (Some (message_in s (token m))) (queue_in s x.write_queue)
+    pub write-returned : queue_in t q' ≡ back_on (Some (message_in s (token m))) (queue_in s x.write_queue)
         → ldterm_in t (record idle { write_queue = q' }) ≡ (let p = ldterm_in s x in record p { in_work = None; write_queue = back_on p.in_work p.write_queue })
-    write-returned quiet is =
+    write-returned is =
         let p = ldterm_in s x in
-        let last : with_last (kept_in rest x.echo) (queue_in t q') ≡ queue_in t q' =
-        ap (λ o. with_last (kept_in rest o) (queue_in t q')) quiet ∙ ap (λ (ms : List (Message ℕ)). record (queue_in t q') { messages = ms }) (append-nil (queue_in t q').messages) in
         write-plain rest t idle q' framed.1 changes
-        ∙ ap (λ (r : ldterms.Ldterm ℕ). record r { write_queue = with_last (kept_in rest x.echo) (queue_in t q') }) framed.0
-        ∙ ap (λ (r : plain.Queue ℕ). record p { in_work = None; write_queue = r }) (last ∙ is)
-        ∙ ap (λ o. record p { in_work = None; write_queue = back_on o (queue_in s x.write_queue) }) (sym (work-shown s x m there))
-        ∙ ap (λ (ms : List (Message ℕ)). record p { in_work = None; write_queue = back_on p.in_work (record (queue_in s x.write_queue) { messages = ms }) }) (sym (alone s x quiet))
+        ∙ ap (λ (r : ldterms.Ldterm ℕ). record r { write_queue = queue_in t q' }) framed.0
+        ∙ ap (λ (r : plain.Queue ℕ). record p { in_work = None; write_queue = r }) is
+        ∙ ap (λ o. record p { in_work = None; write_queue = back_on o p.write_queue }) (sym (work-shown s x m there))
 
     pub write-returned-alters : FreesBlocks s t → Alters s t x (record idle { write_queue = q' })
     write-returned-alters frees =
-        returned-alters t x.write_queue q' (record idle { write_queue = q' }) changes frees (λ j. refl) (write-held rest t idle q' framed.1 changes) (write-own rest t idle q' framed.1 changes)
+        returned-alters t x.write_queue q' (record idle { write_queue = q' }) changes frees (λ j. refl) (write-held rest t idle q' framed.1 changes (λ on busy. absurd (false≢true busy))) (write-own rest t idle q' framed.1 changes)

@@ -1,37 +1,33 @@
 -- Runs of plain bytes on a store.
 use Rattle.std.proofs.Common.{ℕ, ◌≡◌, ◌≤◌, ◌<◌, ◌+◌, ◌*◌, Bool, true, false, cond, List, [], ◌∷◌, ◌++◌, length, drop, refl, sym, ap, subst, ◌∙◌, arith, length-append}
-use Rattle.std.proofs.lemmas.Bool.{false≢true}
 use Rattle.std.specs.List.{AllByRecursion}
-use Rattle.std.specs.Option.{option_to_list}
-use Rattle.std.specs.Prelude.{Option, None, Some, is_some, IfSome, slice_index_or}
+use Rattle.std.specs.Prelude.{Option, None, Some, is_some, option_map, slice_index_or}
 use Rattle.strm_types.specs.declared.limits.TheConstants.{STOP_BLOCKS}
 use Rattle.strm_types.specs.declared.rules.Fates.{Fates}
 use Rattle.strm_types.specs.declared.spots.Note.{Note}
 use Rattle.strm_types.specs.declared.spots.Spot.{Spot}
 use Rattle.strm_types.specs.declared.termios.Termios.{Termios}
 use Rattle.strm_types.specs.declared.keys.TheConstants.{LINE_MAX}
-use Rattle.strm_types.specs.Input.{cells_left, with_left}
+use Rattle.strm_types.specs.Input.{cells_left, left_of, with_left}
 use Rattle.strm_types.specs.Ldterms as ldterms
 use Rattle.strm_types.specs.Ldterms.{sends}
-use Rattle.strm_types.specs.Message.{Message, cells_of}
+use Rattle.strm_types.specs.Message.{Message}
 use Rattle.strm_types.specs.Termios.{echo, icanon}
 use Rattle.strm_types.specs.Typing.{echo_grows, echo_stands}
 use Rattle.strm_types.specs.Cells.{plain}
-use Rattle.strm_blocks.specs.Blocks.{StoreValue, IsStore, token}
+use Rattle.strm_blocks.specs.Blocks.{StoreValue, IsStore}
 use Rattle.strm_frame.specs.Hands.{HasRoom}
-use Rattle.strm_frame.specs.Outboxes.{message_in}
-use Rattle.strm_queue.specs.Stored.{queue_in}
 use Rattle.strm_ldterm.specs.declared.ldterm.Ldterm.{Ldterm}
 use Rattle.strm_ldterm.specs.Does.{Proceeds}
 use Rattle.strm_ldterm.specs.FreeBefore.{blocks_grown}
 use Rattle.strm_ldterm.specs.PlainRuns.{MayRun, is_plain, run_echoed, typed_run}
-use Rattle.strm_ldterm.specs.Stands.{IsHeld, IsOrdinary, kept_in, ldterm_in, stage_in}
+use Rattle.strm_ldterm.specs.Stands.{IsHeld, ldterm_in, stage_in}
 use Rattle.strm_ldterm.specs.Turns.{ahead, bytes_on, stages_left}
-use Rattle.strm_ldterm.proofs.Begun.{busy-all, idle-left}
+use Rattle.strm_ldterm.proofs.Begun.{busy-all, idle-cells, idle-left}
+use Rattle.strm_ldterm.proofs.Bytes.{still-works}
 use Rattle.strm_ldterm.proofs.FreeBefore.{free-on, room-for}
-use Rattle.strm_ldterm.proofs.Grows.{ordinary-is}
 use Rattle.strm_ldterm.proofs.Joining.{proceeds-joined, takes-more}
-use Rattle.strm_ldterm.proofs.PlainRuns.{EndsPlain, Runs, done-as, run-blocks, runs-done}
+use Rattle.strm_ldterm.proofs.PlainRuns.{Runs, done-as, run-blocks, runs-done}
 use Rattle.strm_ldterm.proofs.Treated.{none-under-way}
 use Rattle.strm_blocks.specs.declared.in_hand.InHand.{InHand}
 
@@ -69,17 +65,29 @@ module _ (here : Spot) (p : ldterms.Ldterm ℕ) (run : List ℕ) where
   pub echoed-so : echo p.termios ≡ true → run_echoed here run p ≡ cond p.echoing (echo_grows plain here run p) (echo_stands plain here run p)
   echoed-so loud = rw loud refl
 
--- what a turn echoes stands last as an ordinary message
-echo-last : (s : StoreValue) (x : Ldterm) → IsHeld s x → is_some x.echo ≡ true → EndsPlain (ldterm_in s x).write_queue.messages
-echo-last s x held some = at x.echo held.echoes some
+-- where a byte is left, a message is in work
+pub left-works : (s : StoreValue) (x : Ldterm) → 0 < length (cells_left (ldterm_in s x)) → is_some x.in_work ≡ true
+left-works s x some = at x.in_work refl
   where
-    at : (o : Option InHand) → IfSome o (λ m. IsOrdinary s (token m)) → is_some o ≡ true → EndsPlain ((queue_in s x.write_queue).messages ++ option_to_list (kept_in s o))
-    at None is some = absurd (false≢true some)
-    at (Some m) is some = record {
-      before = (queue_in s x.write_queue).messages;
-      cells = cells_of (message_in s (token m));
-      is = ap (λ (w : Message ℕ). (queue_in s x.write_queue).messages ++ w ∷ []) (ordinary-is s (token m) is);
-    }
+    at : (o : Option InHand) → x.in_work ≡ o → is_some o ≡ true
+    at (Some m) there = refl
+    at None there = let none = ap length (idle-cells s x there) in absurd (omega arith)
+
+-- and so there is behind a run that was taken and typed
+left-there : (rest : List ℕ) (o : Option (Message ℕ)) → is_some (option_map (left_of rest) o) ≡ is_some o
+left-there rest None = refl
+left-there rest (Some m) = refl
+
+typed-work : (run : List ℕ) (p : ldterms.Ldterm ℕ) → is_some (typed_run run p).in_work ≡ is_some p.in_work
+typed-work run p =
+    elim (icanon p.termios) as (λ v. is_some (cond {A = ldterms.Ldterm ℕ} v (record p { line = p.line ++ run }) (record p { gathered = p.gathered ++ run })).in_work ≡ is_some p.in_work) [ true ↦ refl | false ↦ refl ]
+
+pub run-works : (s s1 s2 : StoreValue) (x x1 x2 : Ldterm) (run typed : List ℕ) (t : Fates) → Proceeds s s1 x x1 0 [] [] t t (sends [] (with_left (drop (length run) (cells_left (ldterm_in s x))) (ldterm_in s x)))
+    → Proceeds s1 s2 x1 x2 1 [] [] t t (sends [] (typed_run typed (ldterm_in s1 x1))) → is_some x.in_work ≡ true → is_some x2.in_work ≡ true
+run-works s s1 s2 x x1 x2 run typed t front behind busy =
+    let left = drop (length run) (cells_left (ldterm_in s x)) in
+    still-works s1 s2 x1 x2 (typed_run typed (ldterm_in s1 x1)) behind.state (typed-work typed (ldterm_in s1 x1))
+    (still-works s s1 x x1 (with_left left (ldterm_in s x)) front.state (left-there left (ldterm_in s x).in_work) busy)
 
 -- where no byte is taken, all is left
 pub left-whole : (s : StoreValue) (x : Ldterm) → IsHeld s x → with_left (cells_left (ldterm_in s x)) (ldterm_in s x) ≡ ldterm_in s x
@@ -95,8 +103,8 @@ module _ (s : StoreValue) (x : Ldterm) (run : List ℕ) (most : ℕ) (held : IsH
   abbrev from : ldterms.Ldterm ℕ
   from = ldterm_in s x
 
-  runs-from : Runs (icanon from.termios) (echo from.termios) run (drop (length run) (cells_left from)) from
-  runs-from =
+  runs-from : 0 < length run → Runs (icanon from.termios) (echo from.termios) run (drop (length run) (cells_left from)) from
+  runs-from some =
       let fits = may-fewer from most (length run) few may in
       record {
         canonical = refl;
@@ -108,14 +116,14 @@ module _ (s : StoreValue) (x : Ldterm) (run : List ℕ) (most : ℕ) (held : IsH
         all = all;
         line = fits.line;
         room = fits.room;
-        last = λ v. echo-last s x held v;
+        last = λ v. held.echoes v (left-works s x (let l = front-short run (cells_left from) is in omega arith));
       }
 
   -- each of them begins with blocks enough
   pub run-begun : (here : Spot) → length run ≤ 256 → HasRoom s (STOP_BLOCKS + 2) → (byte : ℕ) → byte < length run → HasRoom s (STOP_BLOCKS + blocks_grown from (bytes_on here byte from).state)
   run-begun here short room byte within =
       free-on here s from stage byte
-      (room-for s (blocks_grown from (ahead here (3 * byte) from).state) room (run-blocks here (icanon from.termios) (echo from.termios) run (drop (length run) (cells_left from)) from byte runs-from short (omega arith)))
+      (room-for s (blocks_grown from (ahead here (3 * byte) from).state) room (run-blocks here (icanon from.termios) (echo from.termios) run (drop (length run) (cells_left from)) from byte (runs-from (omega arith)) short (omega arith)))
 
 module _ (s s1 : StoreValue) (x x1 : Ldterm) (here : Spot) (run : List ℕ) (t : Fates) (held : IsHeld s x)
     (front : Proceeds s s1 x x1 0 [] [] t t (sends [] (with_left (drop (length run) (cells_left (ldterm_in s x))) (ldterm_in s x)))) where
@@ -148,7 +156,7 @@ module _ (s s1 : StoreValue) (x x1 : Ldterm) (here : Spot) (run : List ℕ) (t :
         → stages_left (stage_in x.stage) ≡ 0 → 0 < length run → length run ≤ most → cells_left p ≡ run ++ drop (length run) (cells_left p) → AllByRecursion (λ b. is_plain x.termios b ≡ true) run → MayRun most p
         → Proceeds s s3 x x3 2 notes [] t t3 (ahead here (3 * length run) p)
     run-treated s3 x3 notes t3 most st2 echoed stage some few is all may =
-        let runs = runs-from s x run most held stage few is all may in
+        let runs = runs-from s x run most held stage few is all may some in
         let same = runs-done here (icanon p.termios) (echo p.termios) run (drop (length run) (cells_left p)) p some runs in
         let did = subst (Proceeds s s3 x x3 2 notes [] t t3) (done-as here (icanon p.termios) (echo p.termios) run p refl refl)
         (proceeds-joined s s2 x x2 1 [] t t (sends [] (typed_run run (with_left (drop (length run) (cells_left p)) p))) st2 typed-on s3 x3 1 notes [] t3 (run_echoed here run) echoed) in

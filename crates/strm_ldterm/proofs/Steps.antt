@@ -1,6 +1,8 @@
 -- Puts at the module, step by step.
-use Rattle.std.proofs.Common.{ℕ, ◌≡◌, Bool, true, false, cond, List, [], ◌∷◌, refl, sym, ap, subst, ◌∙◌, arith}
-use Rattle.std.specs.Prelude.{◌&&◌, nat_lt, Option, is_some}
+use Rattle.std.proofs.Common.{ℕ, ◌≡◌, ◌<◌, Bool, true, false, cond, List, [], ◌∷◌, refl, sym, ap, subst, ◌∙◌, arith}
+use Rattle.std.specs.Prelude.{◌&&◌, nat_lt}
+use Rattle.std.proofs.lemmas.Bool.{and_parts}
+use Rattle.std.proofs.lemmas.Bool.Decides.{nat_tests}
 use Rattle.strm_types.specs.declared.names.Way.TheVariants.{Up, Down}
 use Rattle.strm_types.specs.declared.rules.Fates.{Fates}
 use Rattle.strm_types.specs.declared.spots.Note.{Note}
@@ -8,11 +10,11 @@ use Rattle.strm_types.specs.declared.spots.Note.TheVariants.{Enable}
 use Rattle.strm_types.specs.Deliver.{Acted, toward}
 use Rattle.strm_types.specs.Ldterms as ldterms
 use Rattle.strm_types.specs.Ldterms.{queued_at, sends, onward}
-use Rattle.strm_types.specs.Message.{Message}
+use Rattle.strm_types.specs.Message.{Message, is_high_priority, rank_of}
 use Rattle.strm_types.specs.Queue as plain
 use Rattle.strm_blocks.specs.Blocks.{StoreValue, IsStore, in_hand, dropped, token}
 use Rattle.strm_queue.specs.declared.queue.Queue.{Queue}
-use Rattle.strm_queue.specs.Stored.{queue_in, Changes, FreesBlocks}
+use Rattle.strm_queue.specs.Stored.{queue_in, messages_on, Changes, FreesBlocks}
 use Rattle.strm_frame.specs.declared.modules.Acts.{Acts}
 use Rattle.strm_frame.specs.Hands.{once, CanPut, Hands}
 use Rattle.strm_frame.specs.Outboxes.{message_in, sent_of}
@@ -22,10 +24,15 @@ use Rattle.strm_msg.specs.Messages.{IsChain}
 use Rattle.strm_types.specs.declared.spots.Spot.{Spot}
 use Rattle.strm_frame.proofs.Shifting.{shifts-joined}
 use Rattle.strm_ldterm.specs.declared.ldterm.Ldterm.{Ldterm}
-use Rattle.strm_ldterm.specs.Stands.{ldterm_in, kept_in, keeps, IsHeld, with_last}
+use Rattle.strm_ldterm.specs.Stands.{ldterm_in, keeps, EndsPlain, IsHeld}
 use Rattle.strm_ldterm.specs.Does.{Alters, Does}
-use Rattle.strm_ldterm.specs.Frames.{kept-same, ldterm-frame}
-use Rattle.strm_ldterm.proofs.Beside.{read-plain, read-held, read-own, write-plain, write-held, write-own, without-same}
+use Rattle.strm_ldterm.specs.Frames.{ldterm-frame}
+use Rattle.strm_ldterm.proofs.Beside.{held-quieter, read-plain, read-held, read-own, write-plain, write-held, write-own, without-same}
+use Rattle.strm_ldterm.proofs.Last.{ends-put, low-rank}
+
+-- a message of a band above 0 has a rank above 0
+above : (m : Message ℕ) → is_high_priority m.kind ≡ false → nat_lt 0 m.band ≡ true → 0 < rank_of m
+above m low more = let rank = low-rank m low in let some : 0 < m.band = grind (arith, nat_tests) in omega arith
 
 -- a message in hand that is put on a queue
 joined-hands : (s t : StoreValue) (i : ℕ) (q q' : Queue) (k k' : ℕ → ℕ) → IsStore s → CanPut s i k → ((j : ℕ) → k' j ≡ k j) → Changes (dropped s i) t q q' → FreesBlocks s t → Hands s t i k k' (λ _. 0)
@@ -58,27 +65,29 @@ module _ (s t : StoreValue) (x : Ldterm) (i : ℕ) (q' : Queue) (acts : Acts) (f
         pool = h.pool;
       }
 
-  -- where it comes to stand before the turn's echo, or there is none
-  pub waits-down : with_last (kept_in s x.echo) (plain.put_on (message_in s i) (queue_in s x.write_queue)) ≡ plain.put_on (message_in s i) (with_last (kept_in s x.echo) (queue_in s x.write_queue))
-      → is_some x.echo ≡ (is_some x.echo && nat_lt 0 (message_in s i).band)
+  -- one of band 0 ends the turn's echo, and another one stands before it
+  pub waits-down : (v : Bool) → v ≡ (x.echoing && nat_lt 0 (message_in s i).band) → is_high_priority (message_in s i).kind ≡ false
       → Changes (dropped s i) t x.write_queue q' → queue_in t q' ≡ plain.put_on (message_in s i) (queue_in s x.write_queue) → note ≡ plain.put_enables (message_in s i) (queue_in s x.write_queue)
-      → acts.notes.items ≡ cond note (Enable Down ∷ []) [] → Does s t x (record x { write_queue = q' }) i acts f f (queued_at Down (message_in s i) (ldterm_in s x))
-  waits-down last stays changes is enables noted =
+      → acts.notes.items ≡ cond note (Enable Down ∷ []) [] → Does s t x (record x { echoing = v; write_queue = q' }) i acts f f (queued_at Down (message_in s i) (ldterm_in s x))
+  waits-down v stays low changes is enables noted =
       let h = shifts-joined s t i x.write_queue q' st (record { apart = λ j. let a = can.apart j in omega arith }) changes frees in
       let p = ldterm_in s x in
+      let m = message_in s i in
+      let on : v ≡ true → (x.echoing ≡ true) × (nat_lt 0 m.band ≡ true) = λ is. and_parts x.echoing (nat_lt 0 m.band) (sym stays ∙ is) in
+      let quieter = held-quieter (dropped s i) x v (λ is. (on is).0) framed.1 in
       record {
         state =
-            write-plain (dropped s i) t x q' framed.1 changes
-            ∙ ap (λ (o : Option (Message ℕ)). record (ldterm_in (dropped s i) x) { write_queue = with_last o (queue_in t q') }) (kept-same s (dropped s i) x.echo (λ j some. (without-same s x i st can).kept j (omega arith)))
-            ∙ ap (λ (y : ldterms.Ldterm ℕ). record y { write_queue = with_last (kept_in s x.echo) (queue_in t q') }) framed.0
-            ∙ ap (λ (q : plain.Queue ℕ). record p { write_queue = with_last (kept_in s x.echo) q }) is
-            ∙ ap (λ (q : plain.Queue ℕ). record p { write_queue = q }) last
-            ∙ ap (λ (v : Bool). record p { write_queue = plain.put_on (message_in s i) p.write_queue; echoing = v }) stays;
-        notes = noted ∙ ap (λ v. cond {A = List Note} v (Enable Down ∷ []) []) enables;
+            write-plain (dropped s i) t (record x { echoing = v }) q' quieter changes
+            ∙ ap (λ (y : ldterms.Ldterm ℕ). record y { write_queue = queue_in t q'; echoing = v }) framed.0
+            ∙ ap (λ (q : plain.Queue ℕ). record p { write_queue = q; echoing = v }) is
+            ∙ ap (λ (w : Bool). record p { write_queue = plain.put_on m p.write_queue; echoing = w }) stays;
+        notes = noted ∙ ap (λ w. cond {A = List Note} w (Enable Down ∷ []) []) enables;
         sent = no-parts t (sent_of acts.sent) none;
         told = refl;
-        held = write-held (dropped s i) t x q' framed.1 changes;
-        own = (let own = write-own (dropped s i) t x q' framed.1 changes in record { lists = own.lists; owns_same = own.owns_same });
+        held = write-held (dropped s i) t (record x { echoing = v }) q' quieter changes (λ still busy.
+            subst EndsPlain (sym (ap (λ (q : plain.Queue ℕ). q.messages) is))
+            (ends-put m (messages_on s x.write_queue.list) (above m low (on still).1) (held.echoes (on still).0 busy)));
+        own = (let own = write-own (dropped s i) t (record x { echoing = v }) q' quieter changes in record { lists = own.lists; owns_same = own.owns_same });
         chains = none-chains t (sent_of acts.sent) none;
         hands = none-hands s t (once i) (keeps x) (keeps x) (sent_of acts.sent) none (joined-hands s t i x.write_queue q' (keeps x) (keeps x) st can (λ j. refl) changes frees);
         frees = frees;
@@ -118,16 +127,6 @@ module _ (s u : StoreValue) (x y : Ldterm) (i : ℕ) (st : IsStore s) (can : Can
         frees = record { mblks = (let a = alters.frees.mblks in let b = does.frees.mblks in omega arith); dblks = (let a = alters.frees.dblks in let b = does.frees.dblks in omega arith) };
         pool = record { mblks = does.pool.mblks ∙ alters.pool.mblks; dblks = does.pool.dblks ∙ alters.pool.dblks };
       })
-
--- a message of band 0 ends the echo that stood there
-and-false : (v : Bool) → (v && false) ≡ false
-and-false true = refl
-and-false false = refl
-
-pub echo-ends : (m : Message ℕ) (p : ldterms.Ldterm ℕ) → m.band ≡ 0 → queued_at Down m (record p { echoing = false }) ≡ queued_at Down m p
-echo-ends m p none =
-    ap (λ (v : Bool). record (queued_at Down m p) { state = record p { write_queue = plain.put_on m p.write_queue; echoing = v } })
-    (sym (ap (λ b. p.echoing && nat_lt 0 b) none ∙ and-false p.echoing))
 
 -- a message that passes
 pub passes-does : (s : StoreValue) (x : Ldterm) (z : Sent) (acts : Acts) (f : Fates) (here : Spot) (notes : List Note) → IsHeld s x → IsChain (in_hand s (token z.message)) → z.to ≡ toward here.way here

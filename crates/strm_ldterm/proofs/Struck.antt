@@ -5,7 +5,7 @@ use Rattle.strm_types.specs.declared.keys.Key.TheVariants.{Stop, Start, Intr, Qu
 use Rattle.strm_types.specs.declared.keys.Stroke.{Stroke}
 use Rattle.strm_types.specs.declared.rules.Fates.{Fates}
 use Rattle.std.proofs.lemmas.Bool.{false≢true}
-use Rattle.std.specs.Prelude.{not, ◌&&◌, IsTrue, ◌↔◌}
+use Rattle.std.specs.Prelude.{not, ◌&&◌, IsTrue, ◌↔◌, is_some}
 use Rattle.arrayvec.specs.ArrayVec.{ArrayVec}
 use Rattle.strm_types.specs.declared.names.Way.TheVariants.{Down}
 use Rattle.strm_types.specs.declared.spots.Note.{Note}
@@ -21,6 +21,7 @@ use Rattle.strm_types.specs.Queue.{is_none_left, is_full, put_enables}
 use Rattle.strm_types.specs.Typing.{echo_dir, echo_grows, echo_lost, echo_stands, echoed, is_lnext, strikes, struck, stroke_at, wakes}
 use Rattle.strm_types.specs.Write.{chunk_count}
 use Rattle.strm_types.proofs.PlainCells.{bytes-plain}
+use Rattle.strm_types.proofs.StrikesStay.{strikes-stay}
 use Rattle.strm_blocks.specs.Blocks.{StoreValue, IsStore}
 use Rattle.strm_frame.specs.declared.parcels.Sent.{Sent}
 use Rattle.strm_ldterm.specs.declared.echoes.TheConstants.{ECHO_MAX}
@@ -39,6 +40,10 @@ use Rattle.strm_ldterm.proofs.Turning.{Acts, ahead-one, ahead-two}
 pub echo-chunks : (n : ℕ) → n ≤ ECHO_MAX → chunk_count n ≤ 24
 unfolding chunk_count
 echo-chunks n few = omega arith
+
+-- a key leaves a message in work
+pub strikes-work : (here : Spot) (key : Key) (c : ℕ) (p : ldterms.Ldterm ℕ) → is_some (strikes plain here key c p).state.in_work ≡ is_some p.in_work
+strikes-work here key c p = ap is_some (strikes-stay plain here (λ (q : ldterms.Ldterm ℕ). q.in_work ≡ p.in_work) (λ q stopped line gathered holds. holds) key c p refl)
 
 -- what a key leaves of the line, as far as its echo depends on it
 pub may-leave : (here : Spot) (key : Key) (c : ℕ) (p : ldterms.Ldterm ℕ) (line : List ℕ) → line ≡ (strikes plain here key c p).state.line → MayLeave key p.line line

@@ -202,10 +202,17 @@ module _ (s : StoreValue) (x : Ldterm) (way : Way) (again : Bool) (is : IsServed
   more-works up more = sym (kept-some s x.in_work) ∙ again-works way again (ldterm_in s x) up more is
 
   pub first-rests : again ≡ false → IsHeld s x → (i : ℕ) → keeps x i ≡ 0
-  first-rests first held = let idle = first-idle way again (ldterm_in s x) first is in ldterm-rests s x held idle.0 idle.1 idle.2
+  first-rests first held = let idle = first-idle way again (ldterm_in s x) first is in ldterm-rests s x held idle.0 idle.1
 
   pub down-rests : way ≡ Down → IsHeld s x → (i : ℕ) → keeps x i ≡ 0
-  down-rests down held = let idle = down-idle way again (ldterm_in s x) down is in ldterm-rests s x held idle.0 idle.1 idle.2
+  down-rests down held = let idle = down-idle way again (ldterm_in s x) down is in ldterm-rests s x held idle.0 idle.1
+
+  -- nor grows an echo
+  pub first-quiet : again ≡ false → x.echoing ≡ false
+  first-quiet first = (first-idle way again (ldterm_in s x) first is).2
+
+  pub down-quiet : way ≡ Down → x.echoing ≡ false
+  down-quiet down = (down-idle way again (ldterm_in s x) down is).2
 
   pub down-between : way ≡ Down → stages_left (stage_in x.stage) ≡ 0
   down-between down = ap stages_left (down-idle way again (ldterm_in s x) down is).3

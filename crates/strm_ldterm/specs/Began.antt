@@ -14,8 +14,8 @@ use Rattle.strm_types.specs.Ldterms as ldterms
 use Rattle.strm_blocks.specs.Blocks.{StoreValue}
 use Rattle.strm_frame.specs.declared.parcels.Sent.{Sent}
 use Rattle.strm_frame.specs.Outboxes.{sent_of}
-use Rattle.strm_ldterm.specs.declared.opening.InputBegun.{InputBegun}
-use Rattle.strm_ldterm.specs.declared.opening.InputBegun.TheVariants as begun
+use Rattle.strm_ldterm.specs.declared.turn_starts.InputBegun.{InputBegun}
+use Rattle.strm_ldterm.specs.declared.turn_starts.InputBegun.TheVariants as begun
 use Rattle.strm_ldterm.specs.declared.ldterm.Ldterm.{Ldterm}
 use Rattle.strm_ldterm.specs.Bounds.{passes_whole}
 use Rattle.strm_ldterm.specs.Does.{Proceeds}

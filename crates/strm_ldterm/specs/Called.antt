@@ -23,8 +23,8 @@ use Rattle.strm_frame.specs.Hands.{HasRoom}
 use Rattle.strm_frame.specs.Outboxes.{sent_of}
 use Rattle.strm_frame.specs.Serves.{least_free, stop_of}
 use Rattle.strm_ldterm.specs.declared.ldterm.Ldterm.{Ldterm}
-use Rattle.strm_ldterm.specs.declared.serving.Run.{Run}
-use Rattle.strm_ldterm.specs.declared.serving.Run.TheVariants as run
+use Rattle.strm_ldterm.specs.declared.service_calls.Run.{Run}
+use Rattle.strm_ldterm.specs.declared.service_calls.Run.TheVariants as run
 use Rattle.strm_ldterm.specs.Bounds.{passes_whole}
 use Rattle.strm_ldterm.specs.Does.{Proceeds}
 use Rattle.strm_ldterm.specs.FreeBefore.{IsFreeBefore, all_free}

@@ -1,6 +1,5 @@
 -- The module stands for the same where its own lists are the same, and so are the messages that it keeps in hand.
-use Rattle.std.specs.Prelude.{ℕ, ◌≡◌, ◌<◌, ◌++◌, List, length, map, Option, None, Some, IfSome, is_some}
-use Rattle.std.specs.Option.{option_to_list}
+use Rattle.std.specs.Prelude.{ℕ, ◌≡◌, ◌<◌, List, length, map, Option, None, Some, IfSome}
 use Rattle.std.proofs.Common.{eqb, cond, true, refl, sym, ap, subst, ◌∙◌, arith}
 use Rattle.std.proofs.lemmas.Bool.Decides.{nat_tests}
 use Rattle.strm_types.specs.Ldterms as plain
@@ -14,7 +13,7 @@ use Rattle.strm_queue.specs.Kept.{AreCounted}
 use Rattle.strm_queue.specs.Stored.{IsReady}
 use Rattle.strm_frame.specs.Hands.{once, SameOwn}
 use Rattle.strm_ldterm.specs.declared.ldterm.Ldterm.{Ldterm}
-use Rattle.strm_ldterm.specs.Stands.{stage_in, cells_kept, IsData, IsOrdinary, IsGathered, owns, times_kept, kept_in, keeps, ldterm_in, IsHeld}
+use Rattle.strm_ldterm.specs.Stands.{stage_in, cells_kept, EndsPlain, IsData, IsOrdinary, IsGathered, owns, times_kept, kept_in, keeps, ldterm_in, IsHeld}
 
 name-once : (i : ℕ) → once i i ≡ 1
 unfolding once
@@ -46,29 +45,24 @@ each-same s t P stays None same is = tt
 each-same s t P stays (Some m) same is = let one = name-once (token m) in stays (token m) (same (token m) (omega arith)) is
 
 -- what it stands for, by its lists and what it keeps
-abbrev pub form : Ldterm → List (List Block) → List (List Block) → Option (Message ℕ) → Option (Message ℕ) → Option (Message ℕ) → plain.Ldterm ℕ
-form x reads writes work gathers echo = record {
+abbrev pub form : Ldterm → List (List Block) → List (List Block) → Option (Message ℕ) → Option (Message ℕ) → plain.Ldterm ℕ
+form x reads writes work gathers = record {
   termios = x.termios;
   stopped = x.stopped;
   after_lnext = x.after_lnext;
   column = x.column;
   line = x.line;
   read_queue = record { messages = map message_of reads; flows = plain_flows x.read_queue.flows; want_read = x.read_queue.want_read; no_enable = x.read_queue.no_enable };
-  write_queue = record {
-    messages = map message_of writes ++ option_to_list echo;
-    flows = plain_flows x.write_queue.flows;
-    want_read = x.write_queue.want_read;
-    no_enable = x.write_queue.no_enable;
-  };
+  write_queue = record { messages = map message_of writes; flows = plain_flows x.write_queue.flows; want_read = x.write_queue.want_read; no_enable = x.write_queue.no_enable };
   in_work = work;
   gathered = cells_kept gathers;
-  echoing = is_some x.echo;
+  echoing = x.echoing;
   stage = stage_in x.stage;
 }
 
-pub form-same : (x : Ldterm) (a a' b b' : List (List Block)) (k k' l l' m m' : Option (Message ℕ)) → a ≡ a' → b ≡ b' → k ≡ k' → l ≡ l' → m ≡ m' → form x a b k l m ≡ form x a' b' k' l' m'
-form-same x a a' b b' k k' l l' m m' ea eb ek el em =
-    ap (λ v. form x v b k l m) ea ∙ ap (λ v. form x a' v k l m) eb ∙ ap (λ v. form x a' b' v l m) ek ∙ ap (λ v. form x a' b' k' v m) el ∙ ap (λ v. form x a' b' k' l' v) em
+pub form-same : (x : Ldterm) (a a' b b' : List (List Block)) (k k' l l' : Option (Message ℕ)) → a ≡ a' → b ≡ b' → k ≡ k' → l ≡ l' → form x a b k l ≡ form x a' b' k' l'
+form-same x a a' b b' k k' l l' ea eb ek el =
+    ap (λ v. form x v b k l) ea ∙ ap (λ v. form x a' v k l) eb ∙ ap (λ v. form x a' b' v l) ek ∙ ap (λ v. form x a' b' k' v) el
 
 pub ldterm-frame : (s t : StoreValue) (x : Ldterm) → SameOwn s t (owns x) (keeps x) → IsHeld s x → (ldterm_in t x ≡ ldterm_in s x) × IsHeld t x
 ldterm-frame s t x same held =
@@ -77,16 +71,15 @@ ldterm-frame s t x same held =
     let reads = same.lists x.read_queue.list (omega arith) in
     let writes = same.lists x.write_queue.list (omega arith) in
     let work : (i : ℕ) → 0 < times_kept x.in_work i → in_hand t i ≡ in_hand s i = λ i some. same.kept i (omega arith) in
-    let gathers : (i : ℕ) → 0 < times_kept x.gathered i → in_hand t i ≡ in_hand s i = λ i some. same.kept i (omega arith) in
-    let echo : (i : ℕ) → 0 < times_kept x.echo i → in_hand t i ≡ in_hand s i = λ i some. same.kept i (omega arith) in (
-      form-same x _ _ _ _ _ _ _ _ _ _ reads writes (kept-same s t x.in_work work) (kept-same s t x.gathered gathers) (kept-same s t x.echo echo),
+    let gathers : (i : ℕ) → 0 < times_kept x.gathered i → in_hand t i ≡ in_hand s i = λ i some. same.kept i (omega arith) in (
+      form-same x _ _ _ _ _ _ _ _ reads writes (kept-same s t x.in_work work) (kept-same s t x.gathered gathers),
       record {
         read = list-ready s t x.read_queue reads held.read;
         write = list-ready s t x.write_queue writes held.write;
         apart = held.apart;
         work = each-same s t IsData (data-same s t) x.in_work work held.work;
         gathers = each-same s t IsGathered (gathered-same s t) x.gathered gathers held.gathers;
-        echoes = each-same s t IsOrdinary (ordinary-same s t) x.echo echo held.echoes;
+        echoes = λ on busy. subst (λ l. EndsPlain (map message_of l)) (sym writes) (held.echoes on busy);
         once_each = held.once_each;
       },
     )

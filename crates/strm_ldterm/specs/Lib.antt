@@ -4,7 +4,6 @@ pub mod Calls
 pub mod Does
 pub mod Frames
 pub mod Resting
-pub mod Relieved
 pub mod Turns
 pub mod FreeBefore
 pub mod Sending

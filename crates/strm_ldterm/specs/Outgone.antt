@@ -17,8 +17,8 @@ use Rattle.strm_types.specs.Termios.{opost}
 use Rattle.strm_blocks.specs.Blocks.{StoreValue}
 use Rattle.strm_frame.specs.declared.parcels.Sent.{Sent}
 use Rattle.strm_frame.specs.Outboxes.{sent_of}
-use Rattle.strm_ldterm.specs.declared.opening.OutputBegun.{OutputBegun}
-use Rattle.strm_ldterm.specs.declared.opening.OutputBegun.TheVariants as begun
+use Rattle.strm_ldterm.specs.declared.turn_starts.OutputBegun.{OutputBegun}
+use Rattle.strm_ldterm.specs.declared.turn_starts.OutputBegun.TheVariants as begun
 use Rattle.strm_ldterm.specs.declared.ldterm.Ldterm.{Ldterm}
 use Rattle.strm_ldterm.specs.Bounds.{passes_whole}
 use Rattle.strm_ldterm.specs.Does.{Proceeds}

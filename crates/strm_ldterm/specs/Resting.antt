@@ -1,7 +1,6 @@
 -- The module keeps nothing in hand where what it stands for has nothing under way.
-use Rattle.std.specs.Prelude.{ℕ, ◌≡◌, false, [], length, Option, None, Some, IfSome, is_some}
-use Rattle.std.proofs.Common.{refl, sym, ap, arith}
-use Rattle.std.proofs.lemmas.Bool.{false≢true}
+use Rattle.std.specs.Prelude.{ℕ, ◌≡◌, false, [], length, Option, None, Some, IfSome}
+use Rattle.std.proofs.Common.{refl, ap, arith}
 use Rattle.strm_types.specs.declared.names.Way.{Way}
 use Rattle.strm_types.specs.declared.names.Way.TheVariants.{Up, Down}
 use Rattle.strm_blocks.specs.Blocks.{StoreValue, token}
@@ -19,10 +18,6 @@ none-gathers : (s : StoreValue) (o : Option InHand) → IfSome o (λ m. IsGather
 none-gathers s None are none = refl
 none-gathers s (Some m) are none = let empty = ap length none in let some = are.some in absurd (omega arith)
 
-none-there : (o : Option InHand) → is_some o ≡ false → o ≡ None
-none-there None none = refl
-none-there (Some m) none = absurd (false≢true (sym none))
-
 none-kept : (o : Option InHand) (i : ℕ) → o ≡ None → times_kept o i ≡ 0
 unfolding times_kept
 none-kept o i none = ap (λ k. times_kept k i) none
@@ -34,15 +29,14 @@ gathered-none s x held empty = none-gathers s x.gathered held.gathers empty
 pub none-gathered : (s : StoreValue) (x : Ldterm) → x.gathered ≡ None → (ldterm_in s x).gathered ≡ []
 none-gathered s x none = ap (λ o. cells_kept (kept_in s o)) none
 
--- no message in work, no bytes gathered and no echo that grows: nothing is kept in hand
-pub ldterm-rests : (s : StoreValue) (x : Ldterm) → IsHeld s x → (ldterm_in s x).in_work ≡ None → (ldterm_in s x).gathered ≡ [] → (ldterm_in s x).echoing ≡ false → (i : ℕ) → keeps x i ≡ 0
-ldterm-rests s x held work gathered echoing i =
+-- no message in work, and no bytes gathered: nothing is kept in hand
+pub ldterm-rests : (s : StoreValue) (x : Ldterm) → IsHeld s x → (ldterm_in s x).in_work ≡ None → (ldterm_in s x).gathered ≡ [] → (i : ℕ) → keeps x i ≡ 0
+ldterm-rests s x held work gathered i =
     let one = none-kept x.in_work i (none-shown s x.in_work work) in
     let two = none-kept x.gathered i (gathered-none s x held gathered) in
-    let three = none-kept x.echo i (none-there x.echo echoing) in
     omega arith
 
 -- so it is where a turn may begin
 pub served-rests : (s : StoreValue) (x : Ldterm) (way : Way) (i : ℕ) → IsHeld s x → IsServed way false (ldterm_in s x) → keeps x i ≡ 0
-served-rests s x Up i held idle = ldterm-rests s x held idle.0 idle.1 idle.2 i
-served-rests s x Down i held idle = ldterm-rests s x held idle.0 idle.1 idle.2 i
+served-rests s x Up i held idle = ldterm-rests s x held idle.0 idle.1 i
+served-rests s x Down i held idle = ldterm-rests s x held idle.0 idle.1 i

@@ -79,11 +79,11 @@ module _ {C : Type 0} (cells : Cells C) (here : Spot) where
   left-work rest None = refl
   left-work rest (Some m) = refl
 
-  between-work : (xs : List C) (l : Ldterm C) → is_some (begins_next cells here xs l).state.in_work ≡ is_some l.in_work
+  pub between-work : (xs : List C) (l : Ldterm C) → is_some (begins_next cells here xs l).state.in_work ≡ is_some l.in_work
   between-work [] l = refl
   between-work (c ∷ rest) l = begins-work c (with_left rest l) ∙ left-work rest l.in_work
 
-  struck-work : (started : Bool) (c : C) (l : Ldterm C) → is_some (struck cells here started c l).state.in_work ≡ is_some l.in_work
+  pub struck-work : (started : Bool) (c : C) (l : Ldterm C) → is_some (struck cells here started c l).state.in_work ≡ is_some l.in_work
   struck-work started c l =
       let stroke = stroke_at cells here c l in
       ap is_some (strikes-stay cells here (λ p. p.in_work ≡ l.in_work) (λ p stopped line gathered holds. holds) stroke.key (cells.mapped stroke.byte c) (record l { after_lnext = is_lnext stroke.key }) refl)

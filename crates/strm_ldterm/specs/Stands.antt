@@ -1,14 +1,12 @@
 -- What the module ldterm stands for beside a store, and what holds of both.
-use Rattle.std.specs.Prelude.{ℕ, ◌≡◌, ◌≤◌, ◌<◌, ◌+◌, List, [], ◌++◌, length, Option, None, Some, is_some, IfSome}
-use Rattle.std.specs.Option.{option_to_list}
+use Rattle.std.specs.Prelude.{ℕ, ◌≡◌, ◌≤◌, ◌<◌, ◌+◌, true, List, [], ◌∷◌, ◌++◌, length, Option, None, Some, is_some, IfSome}
 use Rattle.strm_types.specs.declared.kinds.MsgKind.TheVariants as kinds
 use Rattle.strm_types.specs.Ldterms as plain
-use Rattle.strm_types.specs.Message.{Message, cells_of}
-use Rattle.strm_types.specs.Queue.{Queue}
+use Rattle.strm_types.specs.Message.{Message, cells_of, data_message}
 use Rattle.strm_blocks.specs.Blocks.{StoreValue, in_hand, block_at, token}
 use Rattle.strm_blocks.specs.declared.in_hand.InHand.{InHand}
 use Rattle.strm_msg.specs.Messages.{IsChain}
-use Rattle.strm_queue.specs.Stored.{queue_in, IsReady}
+use Rattle.strm_queue.specs.Stored.{queue_in, messages_on, IsReady}
 use Rattle.strm_frame.specs.Hands.{once}
 use Rattle.strm_frame.specs.Outboxes.{message_in}
 use Rattle.strm_ldterm.specs.declared.ldterm.Ldterm.{Ldterm}
@@ -20,10 +18,6 @@ abbrev pub stage_in : Stage → plain.Stage ℕ
 stage_in Between = plain.Between
 stage_in (Begun started byte) = plain.Begun started byte
 stage_in (Answered echo) = plain.Answered echo.items
-
--- a queue with a message that stands last
-abbrev pub with_last : Option (Message ℕ) → Queue ℕ → Queue ℕ
-with_last last q = record q { messages = q.messages ++ option_to_list last }
 
 -- the cells of a message, where there is one
 abbrev pub cells_kept : Option (Message ℕ) → List ℕ
@@ -61,7 +55,7 @@ times_kept (Some m) i = once (token m) i
 
 -- how often it keeps a message of a name in hand
 abbrev pub keeps : Ldterm → ℕ → ℕ
-keeps x i = times_kept x.in_work i + times_kept x.gathered i + times_kept x.echo i
+keeps x i = times_kept x.in_work i + times_kept x.gathered i
 
 -- what it stands for
 abbrev pub ldterm_in : StoreValue → Ldterm → plain.Ldterm ℕ
@@ -72,20 +66,26 @@ ldterm_in s x = record {
   column = x.column;
   line = x.line;
   read_queue = queue_in s x.read_queue;
-  write_queue = with_last (kept_in s x.echo) (queue_in s x.write_queue);
+  write_queue = queue_in s x.write_queue;
   in_work = kept_in s x.in_work;
   gathered = cells_kept (kept_in s x.gathered);
-  echoing = is_some x.echo;
+  echoing = x.echoing;
   stage = stage_in x.stage;
 }
 
--- Its queues are ready, each on a list of its own, the read queue's first. The message in work is M_DATA, what is gathered and the turn's echo are M_DATA
--- of band 0, what is gathered has bytes, and each of them is another message.
+-- The last of some messages is M_DATA of band 0.
+pub record EndsPlain (ms : List (Message ℕ)) : Type 0 where
+  pub before : List (Message ℕ)
+  pub cells : List ℕ
+  pub is : ms ≡ before ++ data_message cells ∷ []
+
+-- Its queues are ready, each on a list of its own, the read queue's first. The message in work is M_DATA, what is gathered is M_DATA of band 0 and has
+-- bytes, and they are two messages. While a message is in work, the turn's echo stands last on the write queue where there is one.
 pub record IsHeld (s : StoreValue) (x : Ldterm) : Type 0 where
   pub read : IsReady s x.read_queue
   pub write : IsReady s x.write_queue
   pub apart : x.read_queue.list < x.write_queue.list
   pub work : IfSome x.in_work (λ m. IsData s (token m))
   pub gathers : IfSome x.gathered (λ m. IsGathered s (token m))
-  pub echoes : IfSome x.echo (λ m. IsOrdinary s (token m))
+  pub echoes : x.echoing ≡ true → is_some x.in_work ≡ true → EndsPlain (messages_on s x.write_queue.list)
   pub once_each : (i : ℕ) → keeps x i ≤ 1

@@ -29,7 +29,7 @@ pub enum Stage {
 
 /// The module: what it is set to; whether its output is stopped, and whether the next byte stands behind LNEXT; the column of its
 /// output; the unfinished line; its queues. In a turn of its read queue it has messages in hand: what is left of the message in
-/// work, the bytes that wait to go up together, and the turn's echo, which stands last on the write queue.
+/// work, and the bytes that wait to go up together; and it knows whether the turn's echo stands last on the write queue.
 #[derive(Drop)]
 pub struct Ldterm {
     pub termios: Termios,
@@ -41,7 +41,7 @@ pub struct Ldterm {
     pub write_queue: Queue,
     pub in_work: Option<InHand>,
     pub gathered: Option<InHand>,
-    pub echo: Option<InHand>,
+    pub echoing: bool,
     pub stage: Stage,
 }
 
@@ -86,7 +86,7 @@ impl Ldterm {
             write_queue: Queue::new(write_list, OTHER_HIGH, OTHER_LOW, tables.write),
             in_work: None,
             gathered: None,
-            echo: None,
+            echoing: false,
             stage: Stage::Between,
         }
     }

@@ -3,10 +3,12 @@
 ghost use Rattle.std.specs.Prelude.{ℕ};
 ghost use Rattle.strm_types.specs.declared.names.ModuleName.TheVariants as names;
 
+use crate::asks::asked_on;
 use crate::ldterm::Ldterm;
-use crate::{clearing, ending, ldterm, putting, queues, serving};
+use crate::{ldterm, pops, puts, service_calls};
 use strm_blocks::{Blocks, InHand};
-use strm_frame::{Acts, LetGo, Module, Served, TurnEnd};
+use strm_frame::{Acts, LetGo, Module, Served, TurnEnd, end_queue_turn};
+use strm_queue::{lengths, standing};
 use strm_types::{Asks, Band, Fates, ModuleName, Rule, Side, Spot, Way};
 
 impl Module for Ldterm {
@@ -82,7 +84,7 @@ impl Module for Ldterm {
         told: &mut Fates,
     ) -> Acts {
         store.audit();
-        putting::put(self, store, here, message, told)
+        puts::put(self, store, here, message, told)
     }
 
     fn has_queue(&self, way: Way) -> bool {
@@ -91,23 +93,35 @@ impl Module for Ldterm {
     }
 
     fn is_full<B: Blocks>(&self, store: &B, way: Way, band: Band) -> bool {
-        queues::is_full(self, store, way, band)
+        match way {
+            Way::Up => standing::is_full(store, &self.read_queue, band),
+            Way::Down => standing::is_full(store, &self.write_queue, band),
+        }
     }
 
     fn count<B: Blocks>(&self, store: &B, way: Way, band: Band) -> usize {
-        queues::count(self, store, way, band)
+        match way {
+            Way::Up => standing::count(store, &self.read_queue, band),
+            Way::Down => standing::count(store, &self.write_queue, band),
+        }
     }
 
     fn sizes<B: Blocks>(&self, store: &B, way: Way) -> (usize, usize) {
-        queues::sizes(self, store, way)
+        match way {
+            Way::Up => standing::sizes(store, &self.read_queue),
+            Way::Down => standing::sizes(store, &self.write_queue),
+        }
     }
 
     fn first_size<B: Blocks>(&self, store: &B, way: Way) -> usize {
-        queues::first_size(self, store, way)
+        match way {
+            Way::Up => lengths::first_size(store, &self.read_queue),
+            Way::Down => lengths::first_size(store, &self.write_queue),
+        }
     }
 
     fn none_waits_up<B: Blocks>(&self, store: &B) -> bool {
-        queues::none_waits_up(self, store)
+        standing::has_no_data(store, &self.read_queue)
     }
 
     fn line_len(&self) -> usize {
@@ -122,7 +136,10 @@ impl Module for Ldterm {
     }
 
     fn asks<B: Blocks>(&self, store: &B, way: Way) -> Asks {
-        queues::asks(self, store, way)
+        match way {
+            Way::Up => asked_on(store, &self.read_queue, way, self.stopped),
+            Way::Down => asked_on(store, &self.write_queue, way, self.stopped),
+        }
     }
 
     fn serve<B: Blocks>(
@@ -134,11 +151,14 @@ impl Module for Ldterm {
     ) -> Served {
         self.audit();
         store.audit();
-        serving::serve(self, store, here, again, told)
+        service_calls::serve(self, store, here, again, told)
     }
 
     fn end_turn<B: Blocks>(&mut self, store: &B, way: Way, took: bool) -> TurnEnd {
-        ending::end_turn(self, store, way, took)
+        match way {
+            Way::Up => end_queue_turn(store, &mut self.read_queue, took),
+            Way::Down => end_queue_turn(store, &mut self.write_queue, took),
+        }
     }
 
     fn clear<B: Blocks>(
@@ -149,7 +169,7 @@ impl Module for Ldterm {
         seeking: Option<u32>,
         told: &mut Fates,
     ) -> LetGo {
-        clearing::clear(self, store, side, rule, seeking, told)
+        pops::clear(self, store, side, rule, seeking, told)
     }
 
     ghost frame = { λ s t x same held. ldterm-frame s t x same held };

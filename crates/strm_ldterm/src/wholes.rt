@@ -19,11 +19,11 @@ ghost use Rattle.strm_ldterm.specs.Posting.{is_printed, poured};
 ghost use Rattle.strm_ldterm.specs.Stands.{IsHeld, keeps, ldterm_in};
 ghost use Rattle.strm_ldterm.specs.Turns.{one_after};
 
-use crate::flowing::{is_printed, printed_len};
 use crate::ldterm::Ldterm;
-use crate::outgoing::reband;
-use crate::pasting::{has_keys, turns_ends};
+use crate::output_runs::{is_printed, printed_len};
+use crate::plain_runs::{has_keys, turns_ends};
 use crate::posts::moved_on;
+use crate::write_turns::reband;
 use bitflags::Flags;
 use strm_blocks::{Blocks, InHand};
 use strm_frame::{Outbox, Sent};
@@ -65,7 +65,7 @@ pub(crate) fn goes_up<B: Blocks>(ldterm: &Ldterm, store: &B, bytes: usize) -> bo
     if bytes == 0 || ldterm.stopped || ldterm.after_lnext || !is_raw(&ldterm.termios) {
         return false;
     }
-    if ldterm.gathered.is_some() || ldterm.echo.is_some() {
+    if ldterm.gathered.is_some() || ldterm.echoing {
         return false;
     }
     let Some(message) = &ldterm.in_work else {

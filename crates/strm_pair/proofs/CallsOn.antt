@@ -41,7 +41,7 @@ use Rattle.strm_laws.proofs.Staying.{kept-ahead}
 use Rattle.strm_blocks.specs.Blocks.{StoreValue}
 use Rattle.strm_frame.specs.Serves.{least_free, stop_at}
 use Rattle.strm_pair.specs.AnyModules.{turn_cost}
-use Rattle.strm_pair.specs.declared.calling.Call.{Call}
+use Rattle.strm_pair.specs.declared.service_calls.Call.{Call}
 use Rattle.strm_pair.specs.ModuleServed.{LeavesFew, MayBook, StopsFew, TellsAs, TreatsAs, call_cost, call_units, stop_in}
 use Rattle.strm_pair.specs.ModuleTurned.{MayMove}
 use Rattle.strm_pair.proofs.ServeSteps.{module-goes}

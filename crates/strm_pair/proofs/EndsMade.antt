@@ -23,7 +23,7 @@ use Rattle.strm_queue.proofs.Placed.{ready-same}
 use Rattle.strm_head.specs.declared.head.Head.{Head}
 use Rattle.strm_head.specs.Heads.{head_in}
 use Rattle.strm_frame.specs.Stacks.{all_of}
-use Rattle.strm_frame.specs.declared.stack.Stream.{Stream}
+use Rattle.strm_frame.specs.declared.stack.Stack.{Stack}
 use Rattle.strm_image.specs.declared.modules.ModuleText.{ModuleText}
 use Rattle.strm_image.specs.declared.modules.ModuleText.TheVariants as texts
 use Rattle.strm_image.specs.declared.streams.StreamText.{StreamText}
@@ -99,7 +99,7 @@ names-same (m ∷ ms) = ap (λ ns. module_name (module_now m) ∷ ns) (names-sam
 module _ {s a b d : StoreValue} {first : ℕ} {q r : Queue} (text : StreamText) (opened : Openness) (good : IsStreamText text)
     (h : Fills s a first q) (head_is : queue_in a q ≡ queue_now text.head) (head_spent : Spent s a (queue_blocks (queue_now text.head)))
     (w : Fills a b (first + 1) r) (driver_is : queue_in b r ≡ queue_now text.driver) (driver_spent : Spent a b (queue_blocks (queue_now text.driver)))
-    (stack : Stream AnyModule) (shelf : Option Tables) (stacked : AreStacked b d (first + 2) text.modules.items stack.modules.items shelf)
+    (stack : Stack AnyModule) (shelf : Option Tables) (stacked : AreStacked b d (first + 2) text.modules.items stack.modules.items shelf)
     (head : Head) (is : head.queue ≡ q) (shown : (t : StoreValue) → head_in t head ≡ record (laid_now text).head { queue = queue_in t q }) where
   abbrev made : StreamEnd
   made = record { opened = opened; head = head; stack = stack; driver = r; shelf = shelf }

@@ -14,7 +14,7 @@ use Rattle.strm_laws.specs.Pushes.{may_stand, named_by}
 use Rattle.strm_laws.specs.Stacked.{Module, OfLdterm, OfPtem, OfPckt, module_name}
 use Rattle.strm_blocks.specs.Blocks.{StoreValue, list_at}
 use Rattle.strm_frame.specs.Stacks.{all_of, AreHeld}
-use Rattle.strm_frame.specs.declared.stack.Stream.{Stream}
+use Rattle.strm_frame.specs.declared.stack.Stack.{Stack}
 use Rattle.strm_ldterm.specs.declared.ldterm.Tables.{Tables}
 use Rattle.strm_pair.specs.declared.modules.AnyModule.{AnyModule}
 use Rattle.strm_pair.specs.declared.modules.AnyModule.TheVariants as kinds
@@ -69,7 +69,7 @@ module _ (s : StoreValue) where
   not-owned (kinds.Ptem x) xs may k some = absurd (omega (arith, some))
   not-owned (kinds.Pckt x) xs may k some = absurd (omega (arith, some))
 
-  module _ (first : ℕ) (kind : ModuleName) (a b : Stream AnyModule) (x : AnyModule)
+  module _ (first : ℕ) (kind : ModuleName) (a b : Stack AnyModule) (x : AnyModule)
       (may : may_stand (named_by (Some kind)) (map (module_in s) a.modules.items) ≡ true)
       (spare : (k : ℕ) → first + 2 ≤ k → k < first + 4 → all_of owns a.modules.items k ≡ 0 → list_at s k ≡ [])
       (made : IsMade (first + 2) kind x)

@@ -1,5 +1,5 @@
 -- The module on top of a stack, taken off it.
-use Rattle.std.proofs.Common.{ℕ, zero, suc, ◌≡◌, ◌<◌, ◌+◌, Bool, true, false, cond, List, [], ◌∷◌, ◌++◌, map, refl, sym, ap, subst, ◌∙◌, arith}
+use Rattle.std.proofs.Common.{ℕ, zero, suc, ◌≡◌, ◌<◌, ◌+◌, Bool, true, false, cond, List, [], ◌∷◌, map, refl, sym, ap, subst, ◌∙◌, arith}
 use Rattle.std.proofs.lemmas.Bool.Decides.{nat_tests}
 use Rattle.std.proofs.lemmas.List.Sums.{sum_by-cons}
 use Rattle.std.specs.Prelude.{Option, None, Some, ◌==◌}
@@ -10,7 +10,6 @@ use Rattle.strm_types.specs.declared.rules.Fates.{Fates}
 use Rattle.strm_types.specs.declared.rules.Rule.{Rule}
 use Rattle.strm_types.specs.Deliver.{tallied}
 use Rattle.strm_types.specs.Emptied.{of_all, emptied, none_goes, queue_behind}
-use Rattle.strm_types.specs.Message.{Message}
 use Rattle.strm_types.specs.Modules.{act_among, top_name}
 use Rattle.strm_types.specs.Queue as plain
 use Rattle.strm_laws.specs.Stacked.{Module, OfLdterm, module_name}
@@ -21,7 +20,7 @@ use Rattle.strm_queue.specs.Stored.{FreesBlocks}
 use Rattle.strm_frame.specs.Hands.{once, OnlyOwn}
 use Rattle.strm_frame.specs.Serves.{SameHand}
 use Rattle.strm_frame.specs.Stacks.{all_of, AreHeld}
-use Rattle.strm_frame.specs.declared.stack.Stream.{Stream}
+use Rattle.strm_frame.specs.declared.stack.Stack.{Stack}
 use Rattle.strm_frame.proofs.Seeking.{all-gone}
 use Rattle.strm_ldterm.specs.declared.ldterm.Ldterm.{Ldterm}
 use Rattle.strm_ldterm.specs.Stands as stands
@@ -43,10 +42,6 @@ none-behind q = by (none_goes of_all q)
 no-chain : (l : List (List Block)) → map message_of l ≡ [] → l ≡ []
 no-chain [] none = refl
 no-chain (chain ∷ l) none = absurd (cc)
-
-no-chain-before : (l : List (List Block)) (ms : List (Message ℕ)) → map message_of l ++ ms ≡ [] → l ≡ []
-no-chain-before [] ms none = refl
-no-chain-before (chain ∷ l) ms none = absurd (cc)
 
 -- the name that a list is of
 pub once-is : (l k : ℕ) → 0 < once l k → l ≡ k
@@ -83,7 +78,7 @@ module _ (s t : StoreValue) (side : Side) (rule : Rule) where
       reads = no-chain (list_at t y.read_queue.list) (ap (λ (p : Module ℕ). (ldterm_of p).read_queue.messages) is ∙ none-behind (ldterm_in s x).read_queue)
 
       writes : list_at t y.write_queue.list ≡ []
-      writes = no-chain-before (list_at t y.write_queue.list) _ (ap (λ (p : Module ℕ). (ldterm_of p).write_queue.messages) is ∙ none-behind (ldterm_in s x).write_queue)
+      writes = no-chain (list_at t y.write_queue.list) (ap (λ (p : Module ℕ). (ldterm_of p).write_queue.messages) is ∙ none-behind (ldterm_in s x).write_queue)
 
       by : (n : ℕ) → once y.read_queue.list k ≡ n → list_at t k ≡ []
       by zero none = subst (λ l. list_at t l ≡ []) (once-is y.write_queue.list k (omega (arith, some, none))) writes
@@ -96,7 +91,7 @@ module _ (s t : StoreValue) (side : Side) (rule : Rule) where
   cleared-list x (kinds.Ptem y) k is some = absurd (omega (arith, some))
   cleared-list x (kinds.Pckt y) k is some = absurd (omega (arith, some))
 
-  module _ (told told' : Fates) (taken : Taken) (a b c : Stream AnyModule) where
+  module _ (told told' : Fates) (taken : Taken) (a b c : Stack AnyModule) where
     -- the stack before it, behind the clearing, and without the module
     took-these : (x : AnyModule) (xs : List AnyModule) (y : AnyModule) → a.modules.items ≡ x ∷ xs → b.modules.items ≡ y ∷ c.modules.items
         → taken.name ≡ module_name (module_in s x)

@@ -1,9 +1,8 @@
 -- A turn that moved something treated its message whole, or a byte of it at least.
-use Rattle.std.proofs.Common.{ℕ, zero, suc, ◌≡◌, ◌≤◌, ◌<◌, ◌-◌, Bool, true, false, cond, List, [], ◌∷◌, ◌++◌, length, map, inl, inr, refl, sym, ap, subst, ◌∙◌, arith}
-use Rattle.std.specs.Prelude.{◌&&◌, nat_le, nat_lt, not, slice_index_or, Option, None, Some}
+use Rattle.std.proofs.Common.{ℕ, zero, suc, ◌≡◌, ◌≤◌, ◌<◌, ◌-◌, Bool, true, false, cond, List, [], ◌∷◌, length, map, inl, inr, refl, sym, ap, subst, ◌∙◌, arith}
+use Rattle.std.specs.Prelude.{◌&&◌, nat_le, nat_lt, not, slice_index_or, Some}
 use Rattle.std.proofs.Math.Nat.{le-min}
 use Rattle.std.proofs.lemmas.Bool.Decides.{nat_tests}
-use Rattle.std.specs.Option.{option_to_list}
 use Rattle.strm_types.specs.declared.answers.Turn.{Turn}
 use Rattle.strm_types.specs.declared.answers.Turn.TheVariants.{Moved, Blocked, Idle}
 use Rattle.strm_types.specs.declared.kinds.MsgKind.{MsgKind}
@@ -25,7 +24,7 @@ use Rattle.strm_types.specs.Queue.{first_size}
 use Rattle.strm_laws.specs.ModuleTurns.{moved_by, place_named, whole_module}
 use Rattle.strm_laws.specs.Pair.{IsKeptAhead, MovesOn}
 use Rattle.strm_laws.specs.Refusals.{Free, enough}
-use Rattle.strm_laws.specs.Stacked.{Module, module_queue}
+use Rattle.strm_laws.specs.Stacked.{module_queue}
 use Rattle.strm_laws.specs.State.{State, Stream, stream}
 use Rattle.strm_laws.specs.TurnCalls.{ldterm_of, module_at}
 use Rattle.strm_laws.specs.TurnOutcomes.{TurnOutcome, stayed_put}
@@ -33,13 +32,11 @@ use Rattle.strm_laws.specs.Turns.{driver_serves, driver_turned, is_stopped_acros
 use Rattle.strm_laws.proofs.LdtermStops.{FullFirst}
 use Rattle.strm_laws.proofs.ModuleTurnCalls.{first-left, none_there}
 use Rattle.strm_laws.proofs.Staying.{kept-ahead}
-use Rattle.strm_blocks.specs.Blocks.{Block, StoreValue, free_d, free_m, in_hand, list_at, token}
-use Rattle.strm_blocks.specs.declared.in_hand.InHand.{InHand}
+use Rattle.strm_blocks.specs.Blocks.{Block, StoreValue, free_d, free_m}
 use Rattle.strm_msg.specs.Messages.{message_of}
 use Rattle.strm_msg.proofs.Chains.{kind-is}
 use Rattle.strm_msg.proofs.MadePlain.{booked-data}
 use Rattle.strm_frame.specs.Serves.{least_free}
-use Rattle.strm_ldterm.specs.Stands.{kept_in}
 use Rattle.strm_pair.specs.declared.modules.AnyModule.{AnyModule}
 use Rattle.strm_pair.specs.declared.modules.AnyModule.TheVariants as kinds
 use Rattle.strm_pair.specs.declared.streams.Streams.{Streams}
@@ -61,16 +58,8 @@ module _ (here : Spot) where
   full-first [] = tt
   full-first (chain ∷ q) = λ is. booked-data chain (typed-data _ (sym (ap is_data (kind-is chain)) ∙ is))
 
-  full-behind : (q : List (List Block)) (last : List (Message ℕ)) → FullFirst last → FullFirst (map message_of q ++ last)
-  full-behind [] last full = full
-  full-behind (chain ∷ q) last full = full-first (chain ∷ q)
-
-  full-kept : (s : StoreValue) (o : Option InHand) → FullFirst (option_to_list (kept_in s o))
-  full-kept s None = tt
-  full-kept s (Some m) = full-first (in_hand s (token m) ∷ [])
-
   full-one : (s : StoreValue) (x : AnyModule) → Full (module_in s x)
-  full-one s (kinds.Ldterm x) = (full-first _, full-behind (list_at s x.write_queue.list) (option_to_list (kept_in s x.echo)) (full-kept s x.echo))
+  full-one s (kinds.Ldterm x) = (full-first _, full-first _)
   full-one s (kinds.Ptem x) = (tt, tt)
   full-one s (kinds.Pckt x) = (tt, tt)
 

@@ -34,7 +34,7 @@ use Rattle.strm_laws.proofs.Staying.{SentOn, kept-ahead}
 use Rattle.strm_frame.specs.Does.{StaysAlone}
 use Rattle.strm_frame.specs.Serves.{stop_at}
 use Rattle.strm_ldterm.proofs.Spending.{next-works}
-use Rattle.strm_pair.specs.declared.calling.Call.{Call}
+use Rattle.strm_pair.specs.declared.service_calls.Call.{Call}
 use Rattle.strm_pair.specs.ModuleServed.{TellsAs, acts_in, stop_in}
 use Rattle.strm_pair.specs.Staying.{ComesToStand, sent-stays}
 

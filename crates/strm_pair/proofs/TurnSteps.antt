@@ -31,7 +31,7 @@ use Rattle.strm_blocks.specs.declared.asked.Peek.{Peek}
 use Rattle.strm_blocks.specs.declared.in_hand.InHand.{InHand}
 use Rattle.strm_msg.specs.Messages.{message_of}
 use Rattle.strm_queue.specs.declared.queue.Queue.{Queue}
-use Rattle.strm_queue.specs.Stored.{messages_on, Dequeued}
+use Rattle.strm_queue.specs.Stored.{messages_on, NoneTaken, Dequeued}
 use Rattle.strm_msg.proofs.Chains.{kind-is}
 use Rattle.strm_queue.proofs.Chains.{held-band, stopped-held}
 use Rattle.strm_pty.specs.Does.{OnlyQueue}
@@ -70,9 +70,9 @@ pub taken-idle : (side : Side) (q : plain.Queue ℕ) (s : State ℕ) → AreIdle
 taken-idle side q s idle = idle-with side _ s (idle side) idle
 
 pub took : (side : Side) (s t : StoreValue) (p : Streams) (q : Queue) (result : Option InHand) → AreBeside s p → AreIdle (state_in s p)
-    → MatchOption result (messages_on s (end_at side p).driver.list ≡ []) (λ m. Dequeued s t (end_at side p).driver q (token m))
+    → MatchOption result (NoneTaken s t (end_at side p).driver q) (λ m. Dequeued s t (end_at side p).driver q (token m))
     → MatchOption result (messages_on s (end_at side p).driver.list ≡ []) (λ m. TookFirst side s t p (with_end side (record (end_at side p) { driver = q }) p) (token m))
-took side s t p q None beside idle none = none
+took side s t p q None beside idle none = none.none
 took side s t p q (Some m) beside idle d = took-first side s t p q (token m) beside idle d
 
 abbrev first_message : List (Message ℕ) → Message ℕ → Message ℕ

@@ -1,5 +1,5 @@
 -- What the queues of a pair have, as an image wants it: the flow control of each band, and few bytes.
-use Rattle.std.proofs.Common.{ℕ, ◌≡◌, List, [], ◌∷◌, ◌++◌, length, length-append, map, subst, ◌∙◌, arith}
+use Rattle.std.proofs.Common.{ℕ, ◌≡◌, List, [], ◌∷◌, ◌++◌, length, length-append, map, ◌∙◌, arith}
 use Rattle.std.specs.Prelude.{◌≤◌, ◌*◌, sum_by}
 use Rattle.std.specs.List.{AllByRecursion}
 use Rattle.std.proofs.lemmas.List.{length-map}
@@ -26,7 +26,6 @@ use Rattle.strm_pair.specs.AnyModules.{IsHeld, module_in}
 use Rattle.strm_pair.specs.Pairs.{state_in, AreHeld}
 use Rattle.strm_pair.specs.Stacks.{modules_in}
 use Rattle.strm_pair.specs.Streams.{IsSide, stream_in}
-use Rattle.strm_pair.proofs.RestTexts.{write_rests}
 use Rattle.strm_pair.proofs.Shown.{all-joined}
 
 record IsWide (q : Queue ℕ) : Type 0 where
@@ -59,25 +58,22 @@ module _ (s : StoreValue) (is : IsStore s) where
     bytes = omega (arith, few-bytes s is q.list 0, bytes-same (list_at s q.list) ready.messages.chains);
   }
 
-  module _ (none : s.hand ≡ []) where
-    modules-wide : (xs : List AnyModule) → AllByRecursion (IsHeld s) xs → AllByRecursion IsWide (queues_of_modules (map (module_in s) xs))
-    modules-wide [] held = tt
-    modules-wide (kinds.Ldterm x ∷ xs) held =
-        (ready-wide x.read_queue held.0.read, (subst IsWide (write_rests s x none held.0) (ready-wide x.write_queue held.0.write), modules-wide xs held.1))
-    modules-wide (kinds.Ptem x ∷ xs) held = modules-wide xs held.1
-    modules-wide (kinds.Pckt x ∷ xs) held = modules-wide xs held.1
+  modules-wide : (xs : List AnyModule) → AllByRecursion (IsHeld s) xs → AllByRecursion IsWide (queues_of_modules (map (module_in s) xs))
+  modules-wide [] held = tt
+  modules-wide (kinds.Ldterm x ∷ xs) held = (ready-wide x.read_queue held.0.read, (ready-wide x.write_queue held.0.write, modules-wide xs held.1))
+  modules-wide (kinds.Ptem x ∷ xs) held = modules-wide xs held.1
+  modules-wide (kinds.Pckt x ∷ xs) held = modules-wide xs held.1
 
-    stream-wide : (first : ℕ) (e : StreamEnd) → IsSide s first e → AllByRecursion IsWide (stream_queues (stream_in s e))
-    stream-wide first e side = (
-      ready-wide e.head.queue side.head.ready,
-      all-joined IsWide (queues_of_modules (modules_in s e.stack)) (queue_in s e.driver ∷ []) (modules-wide e.stack.modules.items side.stack.each)
-          (ready-wide e.driver side.driver, tt),
-    )
+  stream-wide : (first : ℕ) (e : StreamEnd) → IsSide s first e → AllByRecursion IsWide (stream_queues (stream_in s e))
+  stream-wide first e side = (
+    ready-wide e.head.queue side.head.ready,
+    all-joined IsWide (queues_of_modules (modules_in s e.stack)) (queue_in s e.driver ∷ []) (modules-wide e.stack.modules.items side.stack.each) (ready-wide e.driver side.driver, tt),
+  )
 
   module _ (p : Streams) (held : AreHeld s p) where
     state-wide : AllByRecursion IsWide (queues_of (state_in s p))
     state-wide = all-joined IsWide (stream_queues (stream_in s p.ends.master)) (stream_queues (stream_in s p.ends.slave))
-        (stream-wide held.hand 0 p.ends.master (held.beside Master)) (stream-wide held.hand 4 p.ends.slave (held.beside Slave))
+        (stream-wide 0 p.ends.master (held.beside Master)) (stream-wide 4 p.ends.slave (held.beside Slave))
 
     pub state-banded : AreBanded (state_in s p)
     state-banded = wide-banded (queues_of (state_in s p)) state-wide

@@ -1,22 +1,18 @@
 -- What the two lists of a stack of modules show: they are of one ldterm at most, the read queue's first. A ptem has none.
-use Rattle.std.specs.Prelude.{ℕ, zero, suc, ◌≡◌, ◌<◌, ◌≤◌, ◌+◌, ◌==◌, Bool, true, false, List, [], ◌∷◌, ◌++◌, length, map, sum_by, Option, None, Some, is_some}
+use Rattle.std.specs.Prelude.{ℕ, zero, suc, ◌≡◌, ◌<◌, ◌≤◌, ◌+◌, ◌==◌, Bool, true, false, List, [], ◌∷◌, ◌++◌, length, map, sum_by}
 use Rattle.std.specs.List.{AllByRecursion}
-use Rattle.std.specs.Option.{option_to_list}
 use Rattle.std.proofs.Common.{append-nil, arith, cond, refl, ap, sym, subst, ◌∙◌}
-use Rattle.std.proofs.lemmas.Bool.{false≢true}
 use Rattle.std.proofs.lemmas.Bool.Decides.{nat_tests}
 use Rattle.std.proofs.lemmas.List.{length-map}
 use Rattle.std.proofs.lemmas.List.Sums.{sum_by-cons}
 use Rattle.strm_types.specs.declared.names.Way.{Way}
 use Rattle.strm_types.specs.declared.names.Way.TheVariants.{Up, Down}
-use Rattle.strm_types.specs.Ldterms.{IsIdle}
 use Rattle.strm_types.specs.Message.{rank_of}
 use Rattle.strm_types.specs.Queue.{IsOrdered, Queue}
 use Rattle.strm_types.specs.Ranked as ranked
 use Rattle.strm_laws.specs.Stacked.{IsAtRest, queues_of_modules}
 use Rattle.strm_blocks.specs.Blocks as blocks
 use Rattle.strm_blocks.specs.Blocks.{Block, StoreValue, list_at}
-use Rattle.strm_blocks.specs.declared.in_hand.InHand.{InHand}
 use Rattle.strm_msg.specs.Messages.{message_of}
 use Rattle.strm_msg.proofs.Chains.{rank-same}
 use Rattle.strm_queue.specs.Stored.{messages_on}
@@ -25,7 +21,7 @@ use Rattle.strm_frame.specs.Hands.{once}
 use Rattle.strm_frame.specs.Stacks.{all_of, AreHeld}
 use Rattle.strm_ldterm.specs.declared.ldterm.Ldterm.{Ldterm}
 use Rattle.strm_ldterm.specs.Stands as stands
-use Rattle.strm_ldterm.specs.Stands.{kept_in, ldterm_in}
+use Rattle.strm_ldterm.specs.Stands.{ldterm_in}
 use Rattle.strm_pair.specs.declared.modules.AnyModule.{AnyModule}
 use Rattle.strm_pair.specs.declared.modules.AnyModule.TheVariants as kinds
 use Rattle.strm_pair.specs.AnyModules.{IsHeld, module_in, owns}
@@ -51,14 +47,6 @@ either-once a k low high = at (a == k) refl
     at false is = let yes : (a + 1 == k) ≡ true = grind (arith, nat_tests) in rw yes refl
 
 module _ (s : StoreValue) (first : ℕ) where
-  -- what an idle ldterm has on its write queue stands on its list
-  no-echo : (o : Option InHand) → is_some o ≡ false → option_to_list (kept_in s o) ≡ []
-  no-echo None none = refl
-  no-echo (Some m) none = absurd (false≢true (sym none))
-
-  writes : (x : Ldterm) → IsIdle (ldterm_in s x) → (ldterm_in s x).write_queue.messages ≡ messages_on s x.write_queue.list
-  writes x idle = ap (λ last. messages_on s x.write_queue.list ++ last) (no-echo x.echo idle.2) ∙ append-nil (messages_on s x.write_queue.list)
-
   -- modules without lists of their own have no queues
   none-queue : (xs : List AnyModule) → ((k : ℕ) → all_of owns xs k ≡ 0) → queues_of_modules (map (module_in s) xs) ≡ []
   none-queue [] none = refl
@@ -134,23 +122,21 @@ module _ (s : StoreValue) (first : ℕ) where
   stack-shown (kinds.Ldterm x ∷ xs) held idle are =
       let r = reads-first x xs are held.each.0 in
       let w = writes-second x xs are held.each.0 in
-      let down = writes x idle.0 in
       let none = others-none x xs are held.each.0 held.apart in
       let rest = none-queue xs none in
       let p = ldterm_in s x in
       record {
         up = ap (messages_on s) (sym r) ∙ sym (append-nil p.read_queue.messages) ∙ ap (λ ms. p.read_queue.messages ++ ms) (sym (none-queued Up xs none));
-        down = ap (messages_on s) (sym w) ∙ sym down ∙ sym (append-nil p.write_queue.messages) ∙ ap (λ ms. p.write_queue.messages ++ ms) (sym (none-queued Down xs none));
+        down = ap (messages_on s) (sym w) ∙ sym (append-nil p.write_queue.messages) ∙ ap (λ ms. p.write_queue.messages ++ ms) (sym (none-queued Down xs none));
         ordered = (
           ordered-map (list_at s x.read_queue.list) held.each.0.read.messages.ordered,
-          (subst IsOrdered (sym down) (ordered-map (list_at s x.write_queue.list) held.each.0.write.messages.ordered), subst (λ qs. AllByRecursion (λ (q : Queue ℕ). IsOrdered q.messages) qs) (sym rest) tt),
+          (ordered-map (list_at s x.write_queue.list) held.each.0.write.messages.ordered, subst (λ qs. AllByRecursion (λ (q : Queue ℕ). IsOrdered q.messages) qs) (sym rest) tt),
         );
         many = omega (
           arith,
           ap (λ qs. sum_by (λ (q : Queue ℕ). length q.messages) (p.read_queue ∷ (p.write_queue ∷ qs))) rest,
           length-map (list_at s x.read_queue.list) message_of,
           length-map (list_at s x.write_queue.list) message_of,
-          ap length down,
           ap (λ k. length (list_at s k)) r,
           ap (λ k. length (list_at s k)) w,
         );

@@ -30,7 +30,7 @@ use Rattle.strm_frame.specs.Outboxes.{AreChains, parcels_in, sent_of, times_sent
 use Rattle.strm_frame.specs.Serves.{later_cost, least_free, stop_at, stop_of}
 use Rattle.strm_ldterm.specs.Bounds.{turn_height}
 use Rattle.strm_pair.specs.AnyModules.{turn_cost}
-use Rattle.strm_pair.specs.declared.calling.Call.{Call}
+use Rattle.strm_pair.specs.declared.service_calls.Call.{Call}
 use Rattle.strm_pair.specs.declared.streams.Streams.{Streams}
 use Rattle.strm_pair.specs.Pairs.{state_in, AreBeside, kept_by}
 use Rattle.strm_pair.specs.Stacks.{modules_in, IsStackHeld, stack_owns, stack_keeps, Stack}

@@ -10,8 +10,8 @@ use Rattle.strm_laws.specs.State.{State, stream}
 use Rattle.strm_types.specs.LdtermCalls.{bytes_left}
 use Rattle.strm_laws.specs.TurnCalls.{ldterm_of, module_at}
 use Rattle.strm_laws.specs.TurnOutcomes.{stayed_put}
-use Rattle.strm_pair.specs.declared.serving.Begun.{Begun}
-use Rattle.strm_pair.specs.declared.serving.Begun.TheVariants.{Over, Serves}
+use Rattle.strm_pair.specs.declared.module_turns.Begun.{Begun}
+use Rattle.strm_pair.specs.declared.module_turns.Begun.TheVariants.{Over, Serves}
 
 -- The module at a place may serve: whatever the turn is answered, it goes as far as that. Its first message has no more bytes than a store
 -- has room for.

@@ -1,7 +1,7 @@
 -- The memory of a pair that is to be made.
 use Rattle.std.specs.Prelude.{◌≡◌, ◌≤◌, [], vec_capacity}
 use Rattle.strm_types.specs.declared.limits.Config.{Config}
-use Rattle.strm_pair.specs.declared.pair.restoring.Reserved.{Reserved}
+use Rattle.strm_pair.specs.declared.pair.restore.Reserved.{Reserved}
 use Rattle.strm_pair.specs.BaseTexts.{image_room}
 use Rattle.strm_pair.specs.Pairs.{journal_of}
 

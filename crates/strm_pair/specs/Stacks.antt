@@ -3,12 +3,12 @@ use Rattle.std.specs.Prelude.{ℕ, List, map}
 use Rattle.strm_laws.specs.Stacked as plain
 use Rattle.strm_blocks.specs.Blocks.{StoreValue}
 use Rattle.strm_frame.specs.Stacks.{all_of, AreHeld}
-use Rattle.strm_frame.specs.declared.stack.Stream.{Stream}
+use Rattle.strm_frame.specs.declared.stack.Stack as frame
 use Rattle.strm_pair.specs.declared.modules.AnyModule.{AnyModule}
 use Rattle.strm_pair.specs.AnyModules.{IsHeld, keeps, module_in, owns}
 
 abbrev pub Stack : Type 0
-Stack = Stream AnyModule
+Stack = frame.Stack AnyModule
 
 -- what the modules of a stack stand for
 abbrev pub modules_in : StoreValue → Stack → List (plain.Module ℕ)

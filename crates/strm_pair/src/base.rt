@@ -10,7 +10,7 @@ ghost use Rattle.strm_pair.specs.Pairs.{AreHeld, state_in};
 use crate::images::whole::image_into;
 use crate::past::Past;
 use crate::streams::Streams;
-use crate::wiping::{give_back, shorten};
+use crate::zeros::{give_back, shorten};
 use std::mem;
 use strm_blocks::Blocks;
 use strm_types::{Both, Fates};

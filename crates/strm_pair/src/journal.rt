@@ -8,7 +8,7 @@ ghost use Rattle.strm_laws.specs.Restorable.{IsWithinCall};
 ghost use Rattle.strm_types.specs.declared.limits.TheConstants.{BANDS};
 ghost use Rattle.strm_pair.specs.Journals.{IsStored, has_room_for};
 
-use crate::wiping::{forget_all, give_back, shorten};
+use crate::zeros::{forget_all, give_back, shorten};
 use std::alloc::{AllocError, Global};
 use strm_types::{Answer, Caller, Entry, Event, Prio, QueueName, Turn};
 

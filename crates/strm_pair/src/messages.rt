@@ -14,7 +14,7 @@ ghost use Rattle.strm_laws.specs.State.{with_book};
 ghost use Rattle.strm_pair.specs.Parts.{longest_part};
 
 use crate::streams::Streams;
-use crate::writing::with_written;
+use crate::writes::with_written;
 use strm_blocks::Blocks;
 use strm_head::{getmsg, make_message};
 use strm_types::{Answer, Book, Content, Fates, Prio, READ_MAX, Side, Spot, Wanted, Way};

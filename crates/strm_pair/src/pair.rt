@@ -420,7 +420,7 @@ impl<B: Blocks + Drop> Pair<B> {
     }
 }
 
-mod making;
-mod polling;
-mod restoring;
-mod tracing;
+mod calls;
+mod poll;
+mod restore;
+mod trace;

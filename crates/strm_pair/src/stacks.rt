@@ -13,12 +13,12 @@ use crate::ends::StreamEnd;
 use crate::modules::AnyModule;
 use arrayvec::ArrayVec;
 use strm_blocks::Blocks;
-use strm_frame::{Module, Stream};
+use strm_frame::Module;
 use strm_ldterm::Tables;
 use strm_types::{Fates, ModuleName, Note, Place, Rule, Side};
 
 /// The modules of a side's stream.
-pub(crate) type Stack = Stream<AnyModule>;
+pub(crate) type Stack = strm_frame::Stack<AnyModule>;
 
 /// A module that was taken off a stack: its name, which queues before its own have room again, and whether the M_IOCTL that is sought
 /// stood on its write queue.

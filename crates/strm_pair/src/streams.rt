@@ -22,9 +22,10 @@ ghost use Rattle.strm_pair.specs.Streams.{IsBlank, IsSide, stream_in};
 ghost use Rattle.strm_pair.specs.Parts.{longest_part};
 
 use crate::ends::{StreamEnd, first_list};
+use crate::stacks::Stack;
 use std::alloc::{AllocError, Global};
 use strm_blocks::Blocks;
-use strm_frame::{Enabled, Stream};
+use strm_frame::Enabled;
 use strm_head::Head;
 use strm_ldterm::Tables;
 use strm_queue::{HEAD_HIGH, HEAD_LOW, OTHER_HIGH, OTHER_LOW, Queue, Table};
@@ -81,7 +82,7 @@ fn new_end(first: usize, tables: SideTables) -> StreamEnd
     StreamEnd {
         opened: Openness::Never,
         head: Head::new(Queue::new(first, HEAD_HIGH, HEAD_LOW, tables.head)),
-        stack: Stream::new(),
+        stack: Stack::new(),
         driver: Queue::new(first + 1, OTHER_HIGH, OTHER_LOW, tables.driver),
         shelf: Some(tables.modules),
     }

@@ -1,5 +1,5 @@
 -- The first message of a queue, taken off it.
-use Rattle.std.proofs.Common.{ℕ, ◌≡◌, ◌<◌, false, List, [], ◌∷◌, length, map, refl, sym, ap, subst, ◌∙◌, arith}
+use Rattle.std.proofs.Common.{ℕ, ◌≡◌, ◌<◌, false, List, ◌∷◌, length, map, refl, sym, ap, subst, ◌∙◌, arith}
 use Rattle.std.specs.Prelude.{sum_by, Option, None, Some, MatchOption}
 use Rattle.strm_blocks.specs.Blocks.{Block, StoreValue, list_at, in_hand, names_of, total, token}
 use Rattle.strm_blocks.specs.Outcomes.{Popped, Unpopped}
@@ -10,12 +10,22 @@ use Rattle.strm_msg.specs.Messages.{message_of, IsChain, AreMessages}
 use Rattle.strm_queue.specs.declared.queue.Queue.{Queue}
 use Rattle.strm_queue.specs.Flows.{plain_flows}
 use Rattle.strm_queue.specs.Kept.{AreCounted}
-use Rattle.strm_queue.specs.Stored.{messages_on, Holds, IsReady, FreesBlocks, Dequeued}
+use Rattle.strm_queue.specs.Queues.{OnlyCounts}
+use Rattle.strm_queue.specs.Stored.{Holds, IsReady, FreesBlocks, NoneTaken, Dequeued}
 use Rattle.strm_queue.proofs.Holding.{first-chain, rest-messages, rest-holds}
 use Rattle.strm_queue.proofs.Gotten.{left, off, chain-is, before}
 
-pub unpopped : (s t : StoreValue) (k : ℕ) → Unpopped s t k → messages_on s k ≡ []
-unpopped s t k u = ap (map message_of) u.none
+-- where nothing stood there
+pub none-taken : (s t : StoreValue) (q q' : Queue) → IsReady s q → Unpopped s t q.list → AreCounted q'.flows (list_at t q'.list) → plain_flows q'.flows ≡ plain_flows q.flows → OnlyCounts q q' → NoneTaken s t q q'
+none-taken s t q q' ready u counted flows others =
+    let list_is : list_at s q.list ≡ list_at t q'.list = sym (ap (list_at t) others.list ∙ ap (λ v. list_at v q.list) u.same) in
+    record {
+      none = ap (map message_of) u.none;
+      same = u.same;
+      queue = rw (flows, others.want_read, others.no_enable, sym list_is) refl;
+      ready = record { messages = subst AreMessages list_is ready.messages; counted = counted };
+      list = others.list;
+    }
 
 module _ (s t : StoreValue) (q q' : Queue) (i : ℕ) (within : q.list < length s.lists) (p : Popped s t q.list i) where
   -- no block went, and none came
@@ -60,6 +70,6 @@ module _ (s t : StoreValue) (q q' : Queue) (i : ℕ) (within : q.list < length s
 -- whether something was taken or not
 pub taken-first : (s t : StoreValue) (q q' : Queue) (result : Option InHand) → q.list < length s.lists → IsReady s q → MatchOption result (Unpopped s t q.list) (λ m. Popped s t q.list (token m))
     → AreCounted q'.flows (list_at t q'.list) → plain_flows q'.flows ≡ plain_flows q.flows → MatchOption result (q'.want_read ≡ q.want_read) (λ m. q'.want_read ≡ false) → q'.list ≡ q.list → q'.no_enable ≡ q.no_enable
-    → MatchOption result (messages_on s q.list ≡ []) (λ m. Dequeued s t q q' (token m))
-taken-first s t q q' None within ready taken counted flows want_read list no_enable = unpopped s t q.list taken
+    → MatchOption result (NoneTaken s t q q') (λ m. Dequeued s t q q' (token m))
+taken-first s t q q' None within ready taken counted flows want_read list no_enable = none-taken s t q q' ready taken counted flows (record { list = list; want_read = want_read; no_enable = no_enable })
 taken-first s t q q' (Some m) within ready taken counted flows want_read list no_enable = dequeued s t q q' (token m) within taken ready counted flows want_read list no_enable

@@ -19,6 +19,7 @@ pub mod OneMade
 pub mod Renewed
 pub mod Joined
 pub mod Dequeuing
+pub mod Lasting
 pub mod Going
 pub mod Finding
 pub mod Lowest

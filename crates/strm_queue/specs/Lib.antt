@@ -5,6 +5,7 @@ pub mod Lengths
 pub mod Queues
 pub mod Order
 pub mod Stored
+pub mod Taken
 pub mod Choices
 pub mod Sets
 pub mod Rows

@@ -1,5 +1,5 @@
 -- What a store and the queues beside it stand for, and what holds of a queue and its list.
-use Rattle.std.specs.Prelude.{ℕ, Bool, true, false, ◌≡◌, ◌≢◌, ◌≤◌, List, ◌∷◌, map}
+use Rattle.std.specs.Prelude.{ℕ, Bool, true, false, ◌≡◌, ◌≢◌, ◌≤◌, List, [], ◌∷◌, map}
 use Rattle.std.specs.List.{AllByRecursion}
 use Rattle.strm_types.specs.declared.kinds.MsgKind.{MsgKind}
 use Rattle.strm_types.specs.declared.kinds.MsgKind.TheVariants as kinds
@@ -78,6 +78,14 @@ pub record SameFlags (old new : Queue) : Type 0 where
   pub flows : plain_flows new.flows ≡ plain_flows old.flows
   pub want_read : old.want_read ≡ false → new.want_read ≡ false
   pub no_enable : new.no_enable ≡ old.no_enable
+
+-- Nothing stood on a queue from which a message was to be taken, and nothing changed.
+pub record NoneTaken (old new : StoreValue) (q q' : Queue) : Type 0 where
+  pub none : messages_on old q.list ≡ []
+  pub same : new ≡ old
+  pub queue : queue_in new q' ≡ queue_in old q
+  pub ready : IsReady new q'
+  pub list : q'.list ≡ q.list
 
 -- The first message of a queue was taken off it into the hand, beside what was there, and no other queue changed. No fewer blocks
 -- are free.

@@ -16,6 +16,7 @@ mod queue;
 mod share;
 pub mod standing;
 mod table;
+pub mod taking;
 
 pub use flow::Flow;
 pub use flows::Flows;

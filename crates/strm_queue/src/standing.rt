@@ -11,7 +11,7 @@ ghost use Rattle.strm_blocks.specs.Blocks.{Block, StoreValue, IsInHand, block_at
 ghost use Rattle.strm_msg.specs.Messages.{message_of, IsChain};
 ghost use Rattle.strm_queue.specs.Kept.{AreCounted};
 ghost use Rattle.strm_queue.specs.Queues.{OnlyCounts};
-ghost use Rattle.strm_queue.specs.Stored.{queue_in, messages_on, Holds, IsReady, Changes, FreesBlocks, FreesNone, Dequeued};
+ghost use Rattle.strm_queue.specs.Stored.{queue_in, messages_on, Holds, IsReady, Changes, FreesBlocks, FreesNone, NoneTaken, Dequeued};
 
 use crate::queue::Queue;
 use strm_blocks::{Blocks, InHand, Visitor};
@@ -147,7 +147,7 @@ pub fn enqueue<B: Blocks>(store: &mut B, queue: &mut Queue, message: InHand) -> 
 /// stands there.
 pub fn dequeue<B: Blocks>(store: &mut B, queue: &mut Queue) -> Option<InHand>
     requires { IsReady (B.value store.old) queue.old }
-    ensures { MatchOption result (messages_on (B.value store.old) queue.old.list ≡ [])
+    ensures { MatchOption result (NoneTaken (B.value store.old) (B.value store.new) queue.old queue.new)
         (λ m. Dequeued (B.value store.old) (B.value store.new) queue.old queue.new (token m)) }
 {
     store.audit();

@@ -9,7 +9,7 @@ use counter::Counter;
 use std::test::Fail;
 use stock::Stock;
 use strm_blocks::{Blocks, TableStore};
-use strm_frame::{Enabled, Stream, deliver};
+use strm_frame::{Enabled, Stack, deliver};
 use strm_msg::from_bytes;
 use strm_queue::{Queue, Table};
 use strm_types::{Band, Fates, ModuleName, MsgKind, Place, QueueName, Side, Spot, Way};
@@ -33,7 +33,7 @@ fn a_message_is_handed_on_until_an_end_takes_it(rt: HostRuntime) -> Result<(), F
 
 #[test]
 fn a_stack_holds_three_modules_each_name_once(rt: HostRuntime) -> Result<(), Fail> {
-    let mut stack = Stream::new();
+    let mut stack = Stack::new();
     assert!(rt; look(&stack).is_none());
     assert!(rt; stack.pop().is_none());
     for name in [ModuleName::Ptem, ModuleName::Ldterm, ModuleName::Pckt] {
@@ -48,17 +48,17 @@ fn a_stack_holds_three_modules_each_name_once(rt: HostRuntime) -> Result<(), Fai
     Ok(())
 }
 
-fn push(stack: &mut Stream<Stock>, name: ModuleName) -> bool {
+fn push(stack: &mut Stack<Stock>, name: ModuleName) -> bool {
     stack.push(Stock { name, queue: None }).is_ok()
 }
 
-fn look(stack: &Stream<Stock>) -> Option<ModuleName> {
+fn look(stack: &Stack<Stock>) -> Option<ModuleName> {
     stack.look()
 }
 
 #[test]
 fn the_nearest_queue_past_a_place_is_found(rt: HostRuntime) -> Result<(), Fail> {
-    let mut stack = Stream::new();
+    let mut stack = Stack::new();
     for name in [ModuleName::Ptem, ModuleName::Ldterm, ModuleName::Pckt] {
         let queue = Some(Queue::new(0, 512, 128, Table::new(rt.alloc())?));
         assert!(rt; stack.push(Stock { name, queue }).is_ok());
@@ -74,7 +74,7 @@ fn the_nearest_queue_past_a_place_is_found(rt: HostRuntime) -> Result<(), Fail> 
 
 #[test]
 fn a_writer_waits_at_the_nearest_queue(rt: HostRuntime) -> Result<(), Fail> {
-    let mut stack = Stream::new();
+    let mut stack = Stack::new();
     for name in [ModuleName::Ptem, ModuleName::Ldterm] {
         let queue = Some(Queue::new(0, 512, 128, Table::new(rt.alloc())?));
         assert!(rt; stack.push(Stock { name, queue }).is_ok());

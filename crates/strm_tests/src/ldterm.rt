@@ -1,7 +1,6 @@
 //! What is typed at a terminal, with lines and echoes worked out by hand from termio(7I).
 
 mod clearing;
-mod echoing;
 mod sending;
 
 use arrayvec::ArrayVec;

@@ -1,6 +1,6 @@
 //! The text of the modules of a stream, from the top.
 
-ghost use Rattle.std.specs.Prelude.{◌≡◌, [], map};
+ghost use Rattle.std.specs.Prelude.{◌≡◌, map};
 ghost use Rattle.std.specs.List.{AllByRecursion, flat_map};
 ghost use Rattle.strm_blocks.specs.Blocks.{StoreValue};
 ghost use Rattle.strm_image.specs.Modules.{module_format, modules};
@@ -37,9 +37,8 @@ fn put_settings(out: &mut Sink, ldterm: &Ldterm)
     put_line(out, ldterm.line.bytes());
 }
 
-// An ldterm between two calls: it has nothing in hand.
+// An ldterm between two calls.
 fn put_ldterm<'a, B: Blocks>(store: &B, ldterm: &Ldterm, out: Sink<'a>) -> Sink<'a>
-    requires hand { (B.value store.now).hand ≡ [] }
     requires held { stands.IsHeld (B.value store.now) ldterm.now }
     ensures { result ≡ put ((module_format Second).text (OfLdterm (ldterm_in (B.value store.now) ldterm.now))) out.entry }
 {
@@ -52,7 +51,6 @@ fn put_ldterm<'a, B: Blocks>(store: &B, ldterm: &Ldterm, out: Sink<'a>) -> Sink<
 // A module, behind its name.
 #[tactic(auto, using(strm_image::proofs::SinkRows::put_both, strm_image::proofs::WrittenRows::ptem_told, strm_image::proofs::WrittenRows::pckt_told))]
 fn put_module<'a, B: Blocks>(store: &B, any: &AnyModule, out: Sink<'a>) -> Sink<'a>
-    requires hand { (B.value store.now).hand ≡ [] }
     requires held { IsHeld (B.value store.now) any.now }
     ensures { result ≡ put ((module_format Second).text (module_in (B.value store.now) any.now)) out.entry }
 {
@@ -71,7 +69,6 @@ fn put_module<'a, B: Blocks>(store: &B, any: &AnyModule, out: Sink<'a>) -> Sink<
 // Modules, one behind the other.
 #[tactic(auto, using(strm_image::proofs::SinkRows::put_both, strm_image::proofs::SinkRows::put_nothing))]
 fn put_each<'a, B: Blocks>(store: &B, modules: &[AnyModule], out: Sink<'a>) -> Sink<'a>
-    requires hand { (B.value store.now).hand ≡ [] }
     requires held { AllByRecursion (IsHeld (B.value store.now)) modules.now }
     ensures { result ≡ put (flat_map (module_format Second).text (map (module_in (B.value store.now)) modules.now)) out.entry }
 {
@@ -85,7 +82,6 @@ fn put_each<'a, B: Blocks>(store: &B, modules: &[AnyModule], out: Sink<'a>) -> S
 /// Writes the modules of a stream between two calls, with their number in front.
 #[tactic(auto, using(strm_image::proofs::SinkRows::put_both, strm_image::proofs::WrittenRows::modules_told))]
 pub(crate) fn put_modules<'a, B: Blocks>(store: &B, stack: &Stack, out: Sink<'a>) -> Sink<'a>
-    requires hand { (B.value store.now).hand ≡ [] }
     requires held { IsStackHeld (B.value store.now) stack.now }
     ensures { result ≡ put ((modules Second).text (modules_in (B.value store.now) stack.now)) out.entry }
 {

@@ -1,6 +1,6 @@
 //! The text of a stream: its head, its modules from the top, the head's queue, and the driver's.
 
-ghost use Rattle.std.specs.Prelude.{◌≡◌, [], Bool};
+ghost use Rattle.std.specs.Prelude.{◌≡◌, Bool};
 ghost use Rattle.strm_blocks.specs.Blocks.{StoreValue};
 ghost use Rattle.strm_head.specs.Heads.{head_in, plain_slot};
 ghost use Rattle.strm_image.specs.Image.{laid_on};
@@ -69,7 +69,6 @@ fn put_head(out: &mut Sink, head: &Head)
 /// Writes the stream of a side between two calls.
 #[tactic(auto, using(strm_image::proofs::SinkRows::put_both, strm_image::proofs::WrittenRows::laid_told))]
 pub(crate) fn put_stream<'a, B: Blocks>(store: &B, end: &StreamEnd, out: Sink<'a>) -> Sink<'a>
-    requires hand { (B.value store.now).hand ≡ [] }
     requires head { IsReady (B.value store.now) end.now.head.queue }
     requires driver { IsReady (B.value store.now) end.now.driver }
     requires stack { IsStackHeld (B.value store.now) end.now.stack }

@@ -186,6 +186,17 @@ turn s.ldterm.r
   ok 1
 show s
   show s head.r 2 512 ldterm.r 0 0 ldterm.w 2 512 drv.w 0 0
+
+title: The echo of a key may pass 512 bytes, and that of the next one is dropped
+setup: ldterm
+write m "\t\t\t\t\t\t\t\t\t\t\t\t\t\t\t\t\t\t\t\t\x15\t\t\t\x15a"
+  ok 26
+turn m.drv.w
+  ok 26
+turn s.ldterm.r
+  ok 26
+show s
+  show s head.r 0 0 ldterm.r 0 0 ldterm.w 1 575 drv.w 0 0
 "#;
 
 /// What is echoed with a newline in it, which goes out as CR and NL.

@@ -9,14 +9,14 @@ ghost use Rattle.strm_tests.specs.Rigs.{is_end, AreTwo, AtRest};
 use super::stock::Stock;
 use arrayvec::ArrayVec;
 use strm_blocks::{Blocks, InHand};
-use strm_frame::{Enabled, Outbox, Stations, Stream, deliver};
+use strm_frame::{Enabled, Outbox, Stack, Stations, deliver};
 use strm_queue::{Queue, Table};
 use strm_types::{Asks, Band, Fates, ModuleName, Note, QueueName, Side, Spot, Turn, Way};
 
 /// Two modules on a stream, the queues that are enabled, and how many messages have left at the top and at the bottom.
 #[derive(Drop)]
 pub struct Rig {
-    pub modules: Stream<Stock>,
+    pub modules: Stack<Stock>,
     pub enabled: Enabled,
     pub above: usize,
     pub below: usize,
@@ -46,7 +46,7 @@ impl Rig {
             queue: Some(Queue::new(1, 4, 2, lower)),
         });
         Rig {
-            modules: Stream { modules },
+            modules: Stack { modules },
             enabled: Enabled::new(),
             above: 0,
             below: 0,

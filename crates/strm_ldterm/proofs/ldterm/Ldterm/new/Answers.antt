@@ -1,5 +1,6 @@
 -- Its lists are empty, and it keeps nothing.
 use Rattle.std.proofs.Common.{refl, arith, ap, ◌∙◌}
+use Rattle.std.proofs.lemmas.Bool.{false≢true}
 use Rattle.strm_blocks.specs.Blocks.{list_at}
 use Rattle.strm_queue.proofs.Renewed.{fresh-queue}
 use Rattle.strm_ldterm.specs.Stands.{times_kept}
@@ -14,7 +15,7 @@ returns-clause-held c = λ s read write. record {
   apart = omega (arith, c.requires.apart, c.new-3.ensures.list, c.new-4.ensures.list);
   work = tt;
   gathers = tt;
-  echoes = tt;
+  echoes = λ on busy. absurd (false≢true on);
   once_each = λ i. omega arith;
 }
 

@@ -14,4 +14,4 @@ returns g c =
     let x = c.args.ldterm.now in
     c.put_queue.ensures ∙ ap (put ((queue Second queues.LdtermWrite).text (queue_in s x.write_queue)))
     (c.put_queue-out.ensures ∙ ap (put ((queue Second queues.LdtermRead).text (queue_in s x.read_queue))) (c.put_settings.ensures s))
-    ∙ ldterm_written s x c.args.out c.requires.hand c.requires.held
+    ∙ ldterm_written s x c.args.out

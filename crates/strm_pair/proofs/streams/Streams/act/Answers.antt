@@ -11,7 +11,7 @@ use Rattle.strm_laws.proofs.StackStays.{serve-names}
 use Rattle.strm_laws.specs.TurnCalls.{called}
 use Rattle.strm_laws.specs.State as state
 use Rattle.strm_pair.specs.declared.ends.StreamEnd.{StreamEnd}
-use Rattle.strm_pair.specs.declared.calling.Made.{Made}
+use Rattle.strm_pair.specs.declared.service_calls.Made.{Made}
 use Rattle.strm_pair.specs.declared.streams.Streams.{Streams}
 use Rattle.strm_pair.specs.ModuleServed.{between, call_of, stop_in, with_more}
 use Rattle.strm_pair.specs.Pairs.{end_at, state_in}

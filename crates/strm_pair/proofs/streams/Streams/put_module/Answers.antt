@@ -10,7 +10,7 @@ use Rattle.strm_laws.specs.Stacked.{module_name}
 use Rattle.strm_laws.specs.State as state
 use Rattle.strm_laws.proofs.StackStays.{keep-names}
 use Rattle.strm_frame.specs.Outboxes.{message_in}
-use Rattle.strm_pair.specs.declared.calling.Made.{Made}
+use Rattle.strm_pair.specs.declared.service_calls.Made.{Made}
 use Rattle.strm_pair.specs.declared.streams.Streams.{Streams}
 use Rattle.strm_pair.specs.ModuleServed.{between, with_more}
 use Rattle.strm_pair.specs.Pairs.{end_at, state_in}

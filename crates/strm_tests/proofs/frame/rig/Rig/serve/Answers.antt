@@ -4,7 +4,7 @@ use Rattle.strm_types.specs.declared.names.Side.TheVariants.{Slave}
 use Rattle.strm_types.specs.declared.names.Way.TheVariants.{Down}
 use Rattle.strm_types.specs.declared.spots.Spot.{Spot}
 use Rattle.strm_frame.specs.Hands.{Hands}
-use Rattle.strm_frame.specs.declared.stack.Stream.{Stream}
+use Rattle.strm_frame.specs.declared.stack.Stack.{Stack}
 use Rattle.strm_tests.specs.declared.frame.stock.Stock as toy
 use Rattle.strm_frame.specs.Serves.{stop_of}
 use Rattle.strm_frame.specs.Stacks.{all_of}
@@ -72,7 +72,7 @@ returns g c =
     let ys = c.serve-served.new.self.modules.items in
     let zs = c.deliver.new.stations.modules.modules.items in
     let here : Spot = record { side = Slave; at = c.args.at; way = Down } in
-    let carried : Hands t u n (all_of (λ y i. 0) ys) (all_of (λ y i. 0) zs) (λ _. 0) = subst (λ (m : Stream toy.Stock). Hands t u n (all_of (λ y i. 0) m.modules.items) (all_of (λ y i. 0) zs) (λ _. 0)) c.note_all.ensures c.deliver.ensures.delivers.hands in
+    let carried : Hands t u n (all_of (λ y i. 0) ys) (all_of (λ y i. 0) zs) (λ _. 0) = subst (λ (m : Stack toy.Stock). Hands t u n (all_of (λ y i. 0) m.modules.items) (all_of (λ y i. 0) zs) (λ _. 0)) c.note_all.ensures c.deliver.ensures.delivers.hands in
     record {
       are = c.deliver.ensures.delivers.held;
       hand = sent-rest s t (all_of (λ y i. 0) xs) (all_of (λ y i. 0) ys) _ c.requires.rest.hand (kept-none xs) (kept-none ys) c.serve-served.ensures.does.hands c.in-Some.next _ c.in-Some.ensures

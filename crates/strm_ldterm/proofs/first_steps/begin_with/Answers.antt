@@ -1,0 +1,36 @@
+-- Whether the byte starts output.
+use Rattle.std.proofs.Common.{◌≡◌, sym, ap, ◌∙◌}
+use Rattle.std.specs.Prelude.{◌&&◌}
+use Rattle.strm_types.specs.Cells.{plain}
+use Rattle.strm_types.specs.Keys.{restarts}
+use Rattle.strm_types.specs.Typing.{stroke_at}
+use Rattle.strm_ldterm.specs.Stands.{ldterm_in}
+use Rattle.strm_ldterm.proofs.Begun.{begins-quiet, begins-starts, start-plain}
+use Rattle.strm_ldterm.proofs.first_steps.begin_with.Goals.{then-ldterm, else-ldterm}
+use Rattle.strm_ldterm.proofs.first_steps.begin_with.Goals as goal
+
+pub make-message-requires-clause-kind : goal.make-message-requires-clause-kind
+make-message-requires-clause-kind g c = start-plain
+
+pub returns-then-not-started : goal.returns-then-not-started
+returns-then-not-started g c = λ f.
+    let s = g.B.Blocks.value c.args.store.now in
+    let x = c.args.ldterm.now in
+    let is : c.if-ldterm.started ≡ (x.stopped && restarts x.termios (stroke_at plain c.args.here c.args.byte (ldterm_in s x))) =
+    elim c.if-ldterm.branch [
+      | then-ldterm w ↦ w.started-is ∙ w.restarts-started.ensures ∙ ap (λ k. restarts x.termios k) c.stroke_of-stroke.ensures ∙ sym (ap (λ v. v && restarts x.termios (stroke_at plain c.args.here c.args.byte (ldterm_in s x))) w.if-ldterm.true)
+      | else-ldterm w ↦ w.started-is ∙ w.if-ldterm.false ∙ sym (ap (λ v. v && restarts x.termios (stroke_at plain c.args.here c.args.byte (ldterm_in s x))) w.if-ldterm.false)
+    ] in
+    begins-quiet s x c.args.here c.args.byte c.if-ldterm.started _ f c.requires.held is c.if-not-started.true c.none.ensures
+
+pub returns : goal.returns
+returns g c = λ f.
+    let s = g.B.Blocks.value c.args.store.now in
+    let x = c.args.ldterm.now in
+    let is : c.if-ldterm.started ≡ (x.stopped && restarts x.termios (stroke_at plain c.args.here c.args.byte (ldterm_in s x))) =
+    elim c.if-ldterm.branch [
+      | then-ldterm w ↦ w.started-is ∙ w.restarts-started.ensures ∙ ap (λ k. restarts x.termios k) c.stroke_of-stroke.ensures ∙ sym (ap (λ v. v && restarts x.termios (stroke_at plain c.args.here c.args.byte (ldterm_in s x))) w.if-ldterm.true)
+      | else-ldterm w ↦ w.started-is ∙ w.if-ldterm.false ∙ sym (ap (λ v. v && restarts x.termios (stroke_at plain c.args.here c.args.byte (ldterm_in s x))) w.if-ldterm.false)
+    ] in
+    begins-starts s x c.args.here c.args.byte c.if-ldterm.started _ f c.requires.held is (g.B.Blocks.value c.make-message.new.store) (record { to = c.toward.result; message = c.make-message.result })
+    c.if-not-started.false c.requires.kept c.make-message.ensures c.one.ensures c.toward.ensures

@@ -1,0 +1,96 @@
+-- By what becomes of the message.
+use Rattle.std.proofs.Common.{ℕ, ◌≡◌, true, refl, sym, ap, subst, ◌∙◌, arith}
+use Rattle.std.specs.Prelude.{◌||◌}
+use Rattle.std.proofs.lemmas.Bool.{false≢true}
+use Rattle.strm_types.specs.declared.kinds.MsgKind.{MsgKind}
+use Rattle.strm_types.specs.declared.kinds.MsgKind.TheVariants.{Data, Proto}
+use Rattle.strm_types.specs.declared.names.Way.{Way}
+use Rattle.strm_types.specs.Costs.{cost}
+use Rattle.strm_types.specs.Flushing.{is_flush}
+use Rattle.strm_types.specs.LdtermPuts.{goes_behind, waits_on}
+use Rattle.strm_types.specs.Ldterms.{flush_passes, queued_at, waits_there}
+use Rattle.strm_types.specs.Message.{Message, is_held}
+use Rattle.strm_blocks.specs.Blocks.{in_hand, token}
+use Rattle.strm_msg.proofs.Chains.{kind-is}
+use Rattle.strm_frame.specs.Outboxes.{message_in}
+use Rattle.strm_frame.proofs.Handing.{can-in_hand}
+use Rattle.strm_ldterm.specs.Stands.{ldterm_in}
+use Rattle.strm_ldterm.specs.Does.{Puts}
+use Rattle.strm_ldterm.proofs.Last.{waits-low}
+use Rattle.strm_ldterm.proofs.Passing.{puts-flush, puts-pass, puts-wait}
+use Rattle.strm_ldterm.proofs.Spending.{flush-cost, none-cost}
+use Rattle.strm_ldterm.proofs.TakingUp.{does-puts}
+use Rattle.strm_ldterm.proofs.puts.put.Goals as goal
+
+pub kind-kind-requires-clause-in_hand : goal.kind-kind-requires-clause-in_hand
+kind-kind-requires-clause-in_hand g c = can-in_hand _ _ _ c.audit.ensures c.requires.can_put
+
+pub waits_on-requires-clause-in_hand : goal.waits_on-requires-clause-in_hand
+waits_on-requires-clause-in_hand g c = can-in_hand _ _ _ c.audit.ensures c.requires.can_put
+
+pub wait-requires-clause-low : goal.wait-requires-clause-low
+wait-requires-clause-low g c = waits-low c.args.here.way (message_in (g.B.Blocks.value c.args.store.now) (token c.args.message)) (sym c.waits_on.ensures ∙ c.if-waits_on.true)
+
+pub returns-then-waits_on-clause-does : goal.returns-then-waits_on-clause-does
+returns-then-waits_on-clause-does g c =
+    let s = g.B.Blocks.value c.args.store.now in
+    let t = g.B.Blocks.value c.wait.new.store in
+    let x = c.args.ldterm.now in
+    let i = token c.args.message in
+    let f = c.args.told.now in
+    let here = c.args.here in
+    let m = message_in s i in
+    let p = ldterm_in s x in
+    subst (λ a. Puts s t x c.wait.new.ldterm i (cost here m) c.wait.result f f a) (sym (puts-wait here m p (sym c.waits_on.ensures ∙ c.if-waits_on.true)))
+    (does-puts s t x c.wait.new.ldterm i (cost here m) c.wait.result f f (queued_at here.way m p) (c.wait.ensures.does f) (let none = none-cost ℕ in omega arith))
+
+pub pass_flush-requires-clause-kind : goal.pass_flush-requires-clause-kind
+pass_flush-requires-clause-kind g c =
+    let chain = in_hand (g.B.Blocks.value c.args.store.now) (token c.args.message) in
+    ap is_flush (kind-is chain ∙ sym c.kind-kind.ensures) ∙ sym c.is_flush.ensures ∙ c.if-is_flush.true
+
+pub returns-then-is_flush-clause-does : goal.returns-then-is_flush-clause-does
+returns-then-is_flush-clause-does g c =
+    let s = g.B.Blocks.value c.args.store.now in
+    let t = g.B.Blocks.value c.pass_flush.new.store in
+    let x = c.args.ldterm.now in
+    let i = token c.args.message in
+    let f = c.args.told.now in
+    let here = c.args.here in
+    let m = message_in s i in
+    let p = ldterm_in s x in
+    let flush = ap is_flush (kind-is (in_hand s i) ∙ sym c.kind-kind.ensures) ∙ sym c.is_flush.ensures ∙ c.if-is_flush.true in
+    subst (λ a. Puts s t x c.pass_flush.new.ldterm i (cost here m) c.pass_flush.result f c.pass_flush.new.told a) (sym (puts-flush here m p (sym c.waits_on.ensures ∙ c.if-waits_on.false) flush))
+    (does-puts s t x c.pass_flush.new.ldterm i (cost here m) c.pass_flush.result f c.pass_flush.new.told (flush_passes here m p) c.pass_flush.ensures (flush-cost here m p c.requires.inside c.requires.small))
+
+pub returns-clause-does : goal.returns-clause-does
+returns-clause-does g c =
+    let s = g.B.Blocks.value c.args.store.now in
+    let x = c.args.ldterm.now in
+    let i = token c.args.message in
+    let here = c.args.here in
+    let m = message_in s i in
+    let p = ldterm_in s x in
+    let flush = ap is_flush (kind-is (in_hand s i) ∙ sym c.kind-kind.ensures) ∙ sym c.is_flush.ensures ∙ c.if-is_flush.false in
+    subst (λ a. Puts s (g.B.Blocks.value c.pass.new.store) x c.pass.new.ldterm i (cost here m) c.pass.result c.args.told.now c.pass.new.told a) (sym (puts-pass here m p (sym c.waits_on.ensures ∙ c.if-waits_on.false) flush)) c.pass.ensures
+
+-- M_DATA and M_PROTO wait
+held-there : (kind : MsgKind) → is_held kind ≡ true → waits_there kind ≡ true
+unfolding is_held
+held-there Data held = refl
+held-there Proto held = refl
+held-there _ held = absurd (cc)
+
+held-waits : (way : Way) (m : Message ℕ) → is_held m.kind ≡ true → waits_on way m ≡ true
+held-waits way m held = ap (λ b. b || goes_behind way m) (held-there m.kind held)
+
+pub returns-then-waits_on-clause-blocks : goal.returns-then-waits_on-clause-blocks
+returns-then-waits_on-clause-blocks g c = λ held. c.wait.ensures.blocks
+
+pub returns-then-is_flush-clause-blocks : goal.returns-then-is_flush-clause-blocks
+returns-then-is_flush-clause-blocks g c = λ held.
+    absurd (false≢true (sym (sym c.waits_on.ensures ∙ c.if-waits_on.false) ∙ held-waits c.args.here.way (message_in (g.B.Blocks.value c.args.store.now) (token c.args.message)) held))
+
+pub returns-clause-blocks : goal.returns-clause-blocks
+returns-clause-blocks g c = λ held.
+    absurd (false≢true (sym (sym c.waits_on.ensures ∙ c.if-waits_on.false) ∙ held-waits c.args.here.way (message_in (g.B.Blocks.value c.args.store.now) (token c.args.message)) held))

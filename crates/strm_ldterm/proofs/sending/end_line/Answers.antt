@@ -1,5 +1,0 @@
--- The delimiter stands last.
-use Rattle.strm_ldterm.proofs.sending.end_line.Goals as goal
-
-pub returns : goal.returns
-returns g c = c.send_line.ensures

@@ -1,0 +1,114 @@
+-- A message passes whole, or its bytes go out.
+use Rattle.std.proofs.Common.{ℕ, [], length, sym, ap, subst, ◌∙◌}
+use Rattle.std.specs.Prelude.{None, is_some}
+use Rattle.strm_types.specs.Input.{cells_left}
+use Rattle.strm_types.specs.Ldterms as ldterms
+use Rattle.strm_ldterm.specs.Bounds.{passes_whole}
+use Rattle.strm_ldterm.specs.Called.{ServesAs}
+use Rattle.strm_ldterm.specs.Outgone.{output_of}
+use Rattle.strm_ldterm.specs.Stands.{ldterm_in}
+use Rattle.strm_ldterm.proofs.Bytes.{kept-some}
+use Rattle.strm_ldterm.proofs.Joining.{still-kept}
+use Rattle.strm_ldterm.proofs.Outgone.{out-serves}
+use Rattle.strm_ldterm.proofs.Whole.{whole-is}
+use Rattle.strm_ldterm.proofs.WholeOut.{whole-serves-out}
+use Rattle.strm_ldterm.proofs.Turned.{down≢up, down-serves, whole-serves}
+use Rattle.strm_ldterm.proofs.write_turns.serve_output.Goals as goal
+
+pub goes_down-requires-clause-held : goal.goes_down-requires-clause-held
+goes_down-requires-clause-held g c = (c.in-InWork.ensures.works c.args.told.now).held
+
+pub goes_down-requires-clause-bytes : goal.goes_down-requires-clause-bytes
+goes_down-requires-clause-bytes g c = c.in-InWork.ensures.size ∙ sym (ap (λ (q : ldterms.Ldterm ℕ). length (cells_left q)) (c.in-InWork.ensures.works c.args.told.now).state)
+
+pub goes_down-requires-clause-some : goal.goes_down-requires-clause-some
+goes_down-requires-clause-some g c = c.in-InWork.ensures.some
+
+pub post_whole-sent-requires-clause-held : goal.post_whole-sent-requires-clause-held
+post_whole-sent-requires-clause-held g c = (c.in-InWork.ensures.works c.args.told.now).held
+
+pub post_whole-sent-requires-clause-kept : goal.post_whole-sent-requires-clause-kept
+post_whole-sent-requires-clause-kept g c =
+    still-kept (g.B.Blocks.value c.args.store.now) (g.B.Blocks.value c.begin_output.new.store) c.args.ldterm.now c.begin_output.new.ldterm 0 [] c.args.told.now c.args.told.now _ c.audit.ensures
+    (c.in-InWork.ensures.works c.args.told.now) c.requires.kept
+
+pub post_whole-sent-requires-clause-work : goal.post_whole-sent-requires-clause-work
+post_whole-sent-requires-clause-work g c =
+    sym (kept-some (g.B.Blocks.value c.begin_output.new.store) c.begin_output.new.ldterm.in_work) ∙ ap (λ (q : ldterms.Ldterm ℕ). is_some q.in_work) (c.in-InWork.ensures.works c.args.told.now).state
+
+pub post_whole-sent-requires-clause-none : goal.post_whole-sent-requires-clause-none
+post_whole-sent-requires-clause-none g c = ap (λ (q : ldterms.Ldterm ℕ). q.gathered) (c.in-InWork.ensures.works c.args.told.now).state ∙ c.in-InWork.ensures.none
+
+pub post_whole-sent-requires-clause-bytes : goal.post_whole-sent-requires-clause-bytes
+post_whole-sent-requires-clause-bytes g c = c.in-InWork.ensures.size ∙ sym (ap (λ (q : ldterms.Ldterm ℕ). length (cells_left q)) (c.in-InWork.ensures.works c.args.told.now).state)
+
+pub post_whole-sent-requires-clause-some : goal.post_whole-sent-requires-clause-some
+post_whole-sent-requires-clause-some g c = c.in-InWork.ensures.some
+
+pub post_whole-sent-requires-clause-short : goal.post_whole-sent-requires-clause-short
+post_whole-sent-requires-clause-short g c = c.goes_down.ensures.short c.if-goes_down.true
+
+pub post_whole-sent-requires-clause-printed : goal.post_whole-sent-requires-clause-printed
+post_whole-sent-requires-clause-printed g c = c.goes_down.ensures.printed c.if-goes_down.true
+
+pub returns-then-goes_down : goal.returns-then-goes_down
+returns-then-goes_down g c = λ again.
+    let s = g.B.Blocks.value c.args.store.now in
+    let s1 = g.B.Blocks.value c.begin_output.new.store in
+    let s3 = g.B.Blocks.value c.post_whole-sent.new.store in
+    let x = c.args.ldterm.now in
+    let x1 = c.begin_output.new.ldterm in
+    let x3 = c.post_whole-sent.new.ldterm in
+    let told = c.args.told.now in
+    let bytes = c.in-InWork.bytes in
+    let sent = c.post_whole-sent.result in
+    let down = c.if-goes_down.true in
+    let whole = c.of_whole-then-goes_down in
+    let works = (c.in-InWork.ensures.works told).state in
+    subst (λ v. ServesAs s s3 c.args.here x x3 again v told told) (sym (whole-is whole.result sent bytes whole.ensures.sent whole.ensures.bytes whole.ensures.stopped whole.ensures.again))
+    (whole-serves-out s s1 s3 c.args.here x x1 x3 bytes c.in-InWork.band.0 whole.result.acts.notes sent told c.requires.way c.requires.stage c.in-InWork.ensures c.audit.ensures whole.ensures.notes
+    (c.in-InWork.ensures.works told).held c.post_whole-sent.ensures.column (c.goes_down.ensures.short down) (c.in-InWork.ensures.size ∙ sym (ap (λ (q : ldterms.Ldterm ℕ). length (cells_left q)) works))
+    (c.goes_down.ensures.printed down) (c.goes_down.ensures.room down) (c.post_whole-sent.ensures.did told) again)
+
+pub post_bytes-left-requires-clause-held : goal.post_bytes-left-requires-clause-held
+post_bytes-left-requires-clause-held g c = (c.in-InWork.ensures.works c.args.told.now).held
+
+pub post_bytes-left-requires-clause-kept : goal.post_bytes-left-requires-clause-kept
+post_bytes-left-requires-clause-kept g c =
+    still-kept (g.B.Blocks.value c.args.store.now) (g.B.Blocks.value c.begin_output.new.store) c.args.ldterm.now c.begin_output.new.ldterm 0 [] c.args.told.now c.args.told.now _ c.audit.ensures
+    (c.in-InWork.ensures.works c.args.told.now) c.requires.kept
+
+pub post_bytes-left-requires-clause-work : goal.post_bytes-left-requires-clause-work
+post_bytes-left-requires-clause-work g c =
+    sym (kept-some (g.B.Blocks.value c.begin_output.new.store) c.begin_output.new.ldterm.in_work) ∙ ap (λ (q : ldterms.Ldterm ℕ). is_some q.in_work) (c.in-InWork.ensures.works c.args.told.now).state
+
+pub post_bytes-left-requires-clause-bytes : goal.post_bytes-left-requires-clause-bytes
+post_bytes-left-requires-clause-bytes g c = c.in-InWork.ensures.size ∙ sym (ap (λ (q : ldterms.Ldterm ℕ). length (cells_left q)) (c.in-InWork.ensures.works c.args.told.now).state)
+
+pub let_go-sent-requires-clause-kept : goal.let_go-sent-requires-clause-kept
+let_go-sent-requires-clause-kept g c =
+    let s1 = g.B.Blocks.value c.begin_output.new.store in
+    let x1 = c.begin_output.new.ldterm in
+    let told = c.args.told.now in
+    still-kept s1 (g.B.Blocks.value c.post_bytes-left.new.store) x1 c.post_bytes-left.new.ldterm _ [] told c.post_bytes-left.new.told _ c.audit-in-InWork.ensures c.post_bytes-left.ensures.does
+    (still-kept (g.B.Blocks.value c.args.store.now) s1 c.args.ldterm.now x1 0 [] told told _ c.audit.ensures (c.in-InWork.ensures.works told) c.requires.kept)
+
+pub returns-in-Whole : goal.returns-in-Whole
+returns-in-Whole g c = λ again.
+    let s = g.B.Blocks.value c.args.store.now in
+    let s1 = g.B.Blocks.value c.begin_output.new.store in
+    let x = c.args.ldterm.now in
+    let x1 = c.begin_output.new.ldterm in
+    let whole = c.in-Whole.ensures in
+    whole-serves s s1 c.args.here x x1 again c.args.told.now c.of_whole.result c.in-Whole.passed.sent c.in-Whole.passed.bytes (output_of s s1 c.args.here x x1 None)
+    c.of_whole.ensures.notes c.of_whole.ensures.sent c.of_whole.ensures.bytes c.of_whole.ensures.stopped c.of_whole.ensures.again
+    (down-serves c.args.here again None (ldterm_in s x) c.requires.way) (whole.passes None c.args.told.now) (whole.size None) (whole.again None) (λ up. absurd (down≢up (sym c.requires.way ∙ up)))
+    (ap (λ w. passes_whole w again (ldterm_in s x)) c.requires.way ∙ whole.whole again)
+
+pub returns-else-goes_down : goal.returns-else-goes_down
+returns-else-goes_down g c = λ again.
+    let s = g.B.Blocks.value c.args.store.now in
+    let told = c.post_bytes-left.new.told in
+    out-serves s (g.B.Blocks.value c.begin_output.new.store) (g.B.Blocks.value c.post_bytes-left.new.store) (g.B.Blocks.value c.let_go-sent.new.store) c.args.here
+    c.args.ldterm.now c.begin_output.new.ldterm c.post_bytes-left.new.ldterm c.let_go-sent.new.ldterm c.in-InWork.bytes c.post_bytes-left.result c.in-InWork.band.0 c.new.result c.let_go-sent.result c.args.told.now told
+    c.requires.way c.requires.stage c.in-InWork.ensures c.post_bytes-left.ensures (c.let_go-sent.ensures.did told) c.let_go-sent.ensures.blocks c.audit.ensures c.audit-in-InWork.ensures c.new.ensures again

@@ -1,0 +1,117 @@
+//! What an M_FLUSH takes from the module (ldterm(7M); STREAMS Programming Guide, "Flush Handling").
+
+ghost use Rattle.std.specs.Prelude.{◌≡◌, [], ◌∷◌, if◌then◌else◌};
+ghost use Rattle.strm_types.specs.declared.names.Way.TheVariants.{Up, Down};
+ghost use Rattle.strm_types.specs.declared.rules.Rule.TheVariants.{Flushed};
+ghost use Rattle.strm_types.specs.declared.spots.Note.TheVariants.{Room};
+ghost use Rattle.strm_types.specs.Deliver.{Goes, counted_with, tallied};
+ghost use Rattle.strm_types.specs.Emptied.{of_data, cells_gone, queue_behind, writer_goes};
+ghost use Rattle.strm_types.specs.Ldterms.{takes_band_0, line_flushed, read_flushed, write_flushed};
+ghost use Rattle.strm_types.specs.Names.{direction_at};
+ghost use Rattle.strm_blocks.specs.Blocks.{StoreValue};
+ghost use Rattle.strm_queue.specs.Stored.{queue_in, messages_on, IsReady, Changes, FreesBlocks};
+ghost use Rattle.strm_ldterm.specs.Stands.{ldterm_in, IsHeld};
+ghost use Rattle.strm_ldterm.specs.Does.{Flushes};
+
+use crate::ldterm::Ldterm;
+use strm_blocks::Blocks;
+use strm_queue::Queue;
+use strm_queue::emptying::{Chosen, empty, going};
+use strm_types::{Band, Dir, Fates, FlushAsked, Rule, Side, Spot, Way};
+
+/// The direction in which messages go a way on a side's stream.
+pub(crate) fn direction_at(way: Way, side: Side) -> Dir
+    ensures { result ≡ direction_at way side }
+{
+    match way {
+        Way::Down => side.direction(),
+        Way::Up => side.other().direction(),
+    }
+}
+
+// Whether a flush takes band 0.
+fn takes_band_0(band: Option<Band>) -> bool
+    ensures { result ≡ takes_band_0 band }
+{
+    match band {
+        Some(band) => band.0 == 0,
+        None => true,
+    }
+}
+
+// Takes from a queue what a flush takes, and says whether that lets a waiting writer go.
+fn flush_queue<B: Blocks>(
+    store: &mut B,
+    queue: &mut Queue,
+    direction: Dir,
+    band: Option<Band>,
+    told: &mut Fates,
+) -> bool
+    requires ready { IsReady (B.value store.old) queue.old }
+    ensures queue { queue_in (B.value store.new) queue.new ≡ queue_behind (of_data band) (queue_in (B.value store.old) queue.old) }
+    ensures went { result ≡ writer_goes (of_data band) (queue_in (B.value store.old) queue.old) }
+    ensures told { told.new ≡ counted_with
+        (Goes direction Flushed (cells_gone (of_data band) (messages_on (B.value store.old) queue.old.list))) told.old }
+    ensures changes { Changes (B.value store.old) (B.value store.new) queue.old queue.new }
+    ensures frees { FreesBlocks (B.value store.old) (B.value store.new) }
+{
+    let chosen = Chosen::of_data(band);
+    told.tell(direction, Rule::Flushed, going(store, queue, chosen));
+    empty(store, queue, chosen)
+}
+
+/// The unfinished line goes, where a flush takes band 0.
+pub(crate) fn flush_line(ldterm: &mut Ldterm, here: Spot, band: Option<Band>, told: &mut Fates)
+    ensures { (s : StoreValue) → IsHeld s ldterm.old →
+        Flushes s s ldterm.old ldterm.new [] told.old told.new (line_flushed here band (ldterm_in s ldterm.old)) }
+{
+    if !takes_band_0(band) || ldterm.line.len() == 0 {
+        return;
+    }
+    let gone = ldterm.line.clear();
+    told.tell(direction_at(Way::Up, here.side), Rule::Flushed, gone);
+}
+
+/// FLUSHR: what waits to go up goes, and with band 0 the unfinished line. It says whether queues before have room again.
+pub(crate) fn flush_read<B: Blocks>(
+    ldterm: &mut Ldterm,
+    store: &mut B,
+    here: Spot,
+    asked: FlushAsked,
+    told: &mut Fates,
+) -> bool
+    requires held { IsHeld (B.value store.old) ldterm.old }
+    ensures { let s = B.value store.old in
+        Flushes s (B.value store.new) ldterm.old ldterm.new (if result then Room Up ∷ [] else []) told.old told.new
+        (read_flushed here asked (ldterm_in s ldterm.old)) }
+{
+    if !asked.for_read {
+        return false;
+    }
+    let direction = direction_at(Way::Up, here.side);
+    let room = flush_queue(store, &mut ldterm.read_queue, direction, asked.band, told);
+    flush_line(ldterm, here, asked.band, told);
+    room
+}
+
+/// FLUSHW: what waits to go down goes, with the turn's echo where band 0 goes. It says whether queues before have room again.
+pub(crate) fn flush_write<B: Blocks>(
+    ldterm: &mut Ldterm,
+    store: &mut B,
+    here: Spot,
+    asked: FlushAsked,
+    told: &mut Fates,
+) -> bool
+    requires held { IsHeld (B.value store.old) ldterm.old }
+    ensures { let s = B.value store.old in
+        Flushes s (B.value store.new) ldterm.old ldterm.new (if result then Room Down ∷ [] else []) told.old told.new
+        (write_flushed here asked (ldterm_in s ldterm.old)) }
+{
+    if !asked.for_write {
+        return false;
+    }
+    let whole = takes_band_0(asked.band);
+    ldterm.echoing &= !whole;
+    let direction = direction_at(Way::Down, here.side);
+    flush_queue(store, &mut ldterm.write_queue, direction, asked.band, told)
+}

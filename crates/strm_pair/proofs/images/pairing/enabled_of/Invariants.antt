@@ -1,5 +1,0 @@
-use Rattle.std.proofs.Common.{◌≡◌, take}
-use Rattle.strm_pair.proofs.images.pairing.enabled_of.Given as goal
-
-abbrev pub invariant-loop-name : goal.invariant-loop-name
-invariant-loop-name l = record { so_far : l.enabled ≡ take l.name-index l.names }
