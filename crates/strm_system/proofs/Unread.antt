@@ -42,7 +42,7 @@ use Rattle.strm_types.specs.TakenUp.{input_flushed, taken_up, termios_taken}
 use Rattle.strm_types.specs.Typing.{up_alone}
 use Rattle.strm_types.proofs.LdtermPuts as of_ldterm
 use Rattle.strm_types.proofs.PcktPuts as of_pckt
-use Rattle.strm_laws.proofs.PtemPuts as of_ptem
+use Rattle.strm_types.proofs.PtemPuts as of_ptem
 
 -- so many bytes, where both directions are the same
 abbrev pub only_in : Dir → Dir → ℕ → ℕ

@@ -1,8 +1,7 @@
 //! Messages that stay on a queue until its turn, on a stream of two modules over a store of tables, with answers worked out by
 //! hand.
 
-ghost use Rattle.std.specs.Prelude.{◌≡◌, ◌≤◌, ◌∷◌, []};
-ghost use Rattle.strm_blocks.specs.Blocks.{in_hand};
+ghost use Rattle.std.specs.Prelude.{◌≡◌, ◌≤◌, []};
 ghost use Rattle.strm_tests.specs.Rigs.{AtRest};
 
 use super::rig::Rig;
@@ -210,7 +209,7 @@ const ROWS: [Row<'static>; 13] = [
 
 #[test]
 fn a_message_stays_on_a_queue_until_its_turn(rt: HostRuntime) -> Result<(), Fail> {
-    let mut store = TableStore::new(rt.alloc(), 10, 10)?;
+    let mut store = TableStore::new(rt.alloc(), 20, 20)?;
     let mut rig = Rig::new(Table::new(rt.alloc())?, Table::new(rt.alloc())?);
     play_all(&rt, &mut store, &mut rig, &ROWS);
     Ok(())
