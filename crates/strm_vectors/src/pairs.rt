@@ -44,6 +44,16 @@ pub fn restored<B: Reserve>(
     }
 }
 
+// The image of a session's pair.
+fn image_of<B: Reserve>(alloc: Global, session: &Session<B>) -> Result<Vec<u8>, Difference>
+    ensures { IfOk result (λ text. (x : Imaged) × IsTextOf image text.items (Second, x)) }
+{
+    match session.pair() {
+        Some(pair) => Ok(pair.image(alloc)?),
+        None => Err(Difference::NoPair),
+    }
+}
+
 /// The image of the pair that a script leaves.
 pub fn played<B: Reserve>(alloc: Global, script: &[u8]) -> Result<Vec<u8>, Difference>
     ensures { IfOk result (λ text. (x : Imaged) × IsTextOf image text.items (Second, x)) }
@@ -55,8 +65,5 @@ pub fn played<B: Reserve>(alloc: Global, script: &[u8]) -> Result<Vec<u8>, Diffe
     let Ok(()) = session.finish(alloc) else {
         return Err(Difference::Ended);
     };
-    match session.pair() {
-        Some(pair) => Ok(pair.image(alloc)?),
-        None => Err(Difference::NoPair),
-    }
+    image_of(alloc, &session)
 }
