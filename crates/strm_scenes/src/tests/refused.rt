@@ -159,35 +159,74 @@ fn any_one_request_for_memory_may_be_refused(rt: HostRuntime) -> Result<(), Fail
     Ok(makes_all::<TableStore>(&rt, rt.alloc())?)
 }
 
-// Makes each call that asks for memory where all is taken, and once more where it was given back. A heap of which not all can be taken is left out.
-fn refuses_all<B: Reserve>(rt: &impl Abort, alloc: Global) -> Result<(), Fail> {
-    let pair: Pair<B> = opened_pair(rt, alloc)?;
+// Asks for a store where all memory is taken. A heap of which not all can be taken is left out, here and below.
+fn refuses_store<B: Reserve>(rt: &impl Abort, alloc: Global) -> Result<(), AllocError> {
+    let taken = all_memory(alloc)?;
+    if taken.len() >= MOST_TAKEN {
+        return Ok(());
+    }
+    let is_refused = B::reserve(alloc, 1, 1).is_err();
+    drop(taken);
+    assert!(rt; is_refused);
+    Ok(())
+}
+
+// Makes a pair where all memory is taken, and once more where it was given back.
+fn refuses_pair<B: Reserve>(rt: &impl Abort, alloc: Global) -> Result<(), AllocError> {
     let store: B = store_twice(alloc)?;
+    let taken = all_memory(alloc)?;
+    if taken.len() >= MOST_TAKEN {
+        return Ok(());
+    }
+    let came = Pair::new(alloc, SIZES, store);
+    drop(taken);
+    let Err((NoMemory, store)) = came else {
+        panic!(rt; "a pair without memory")
+    };
+    assert_eq!(rt; store.free_blocks(), (SIZES.mblks, SIZES.dblks));
+    let _ = pair_of(rt, alloc, store);
+    Ok(())
+}
+
+// Makes an image where all memory is taken, and once more where it was given back.
+fn refuses_image<B: Reserve>(rt: &impl Abort, alloc: Global) -> Result<(), AllocError> {
+    let pair: Pair<B> = opened_pair(rt, alloc)?;
+    let taken = all_memory(alloc)?;
+    if taken.len() >= MOST_TAKEN {
+        return Ok(());
+    }
+    let is_refused = pair.image(alloc).is_err();
+    drop(taken);
+    assert!(rt; is_refused);
+    image_of(rt, alloc, &pair);
+    Ok(())
+}
+
+// Runs a script where all memory is taken.
+fn refuses_script<B: Reserve>(rt: &impl Abort, alloc: Global) -> Result<(), AllocError> {
     let mut reader = FIRST_RUN;
     let mut written = Vec::new(alloc);
     let taken = all_memory(alloc)?;
     if taken.len() >= MOST_TAKEN {
         return Ok(());
     }
-    let no_store = B::reserve(alloc, 1, 1).is_err();
-    let came = Pair::new(alloc, SIZES, store);
-    let no_image = pair.image(alloc).is_err();
     let ended = runs::<B, _, _>(alloc, &mut reader, &mut written);
     drop(taken);
-    assert!(rt; no_store && no_image);
-    let Err((NoMemory, store)) = came else {
-        panic!(rt; "a pair without memory")
-    };
-    assert_eq!(rt; store.free_blocks(), (SIZES.mblks, SIZES.dblks));
-    let _ = pair_of(rt, alloc, store);
-    image_of(rt, alloc, &pair);
     ends_as(rt, "without memory", 1, ended, NO_MEMORY);
     answers(rt, ended, written.as_slice(), FIRST_ANSWERS);
     Ok(())
 }
 
+// Makes each call that asks for memory where all is taken.
+fn refuses_all<B: Reserve>(rt: &impl Abort, alloc: Global) -> Result<(), AllocError> {
+    refuses_store::<B>(rt, alloc)?;
+    refuses_pair::<B>(rt, alloc)?;
+    refuses_image::<B>(rt, alloc)?;
+    refuses_script::<B>(rt, alloc)
+}
+
 #[test]
 fn what_asks_for_memory_is_refused_where_none_is_left(rt: HostRuntime) -> Result<(), Fail> {
     refuses_all::<RawStore>(&rt, rt.alloc())?;
-    refuses_all::<TableStore>(&rt, rt.alloc())
+    Ok(refuses_all::<TableStore>(&rt, rt.alloc())?)
 }
