@@ -6,14 +6,13 @@ use Rattle.std.proofs.lemmas.List.Sums.{sum_by-cons}
 use Rattle.strm_blocks.specs.Blocks.{Block, Held, StoreValue, IsStore, IsInHand, in_hand, dropped, times_in, without, names_of, token}
 use Rattle.strm_blocks.proofs.Laws.{in_hand-dropped, total-dropped, used-is, free_m-is, free_d-more, references-is}
 use Rattle.strm_msg.proofs.Hands.{other-name}
-use Rattle.strm_types.specs.Message.{Message}
-use Rattle.strm_types.specs.declared.spots.Spot.{Spot}
 use Rattle.strm_frame.specs.declared.parcels.Sent.{Sent}
-use Rattle.strm_types.specs.Deliver.{Parcel, AreLower}
+use Rattle.strm_types.specs.Deliver.{Parcel}
 use Rattle.strm_msg.specs.Messages.{IsChain}
-use Rattle.strm_frame.specs.Hands.{once, AreIn, CanPut, Handles, Hands, HasRoom, MayTake, Spends, Takes}
-use Rattle.strm_types.specs.Costs.{cost_of}
-use Rattle.strm_frame.specs.Outboxes.{times_sent, parcels_in, parcel_in, AreChains}
+use Rattle.strm_frame.specs.Hands.{once, AreIn, CanPut, Handles, Hands, HasRoom, MayDeliver, Spends, Takes}
+use Rattle.strm_types.specs.Budgets.{beyond, cost_of, most}
+use Rattle.strm_types.specs.Shapes.{At}
+use Rattle.strm_frame.specs.Outboxes.{times_sent, parcels_in, parcel_in, spot_in, AreChains}
 use Rattle.strm_frame.specs.Serves.{later_cost}
 
 same-name : (i : ℕ) → eqb i i ≡ true
@@ -110,7 +109,7 @@ module _ (s0 s t : StoreValue) (gone kept keeps keeps' : ℕ → ℕ) (x : Sent)
   pub next-can : CanPut s (token x.message) keeps
   next-can = record { apart = λ i. let c = put.counts i in let a = can.apart i in let e = times-split i in omega arith }
 
-  cost-split : (cost : Spot → Message ℕ → ℕ) → cost_of cost (parcels_in s all) ≡ cost x.to (parcel_in s x).message + cost_of cost (parcels_in s more)
+  cost-split : (cost : At → ℕ) → cost_of cost (parcels_in s all) ≡ cost (spot_in s x.to (token x.message)) + cost_of cost (parcels_in s more)
   unfolding cost_of
   cost-split cost = ap (cost_of cost) next-parts
 
@@ -119,20 +118,14 @@ module _ (s0 s t : StoreValue) (gone kept keeps keeps' : ℕ → ℕ) (x : Sent)
   unfolding AreChains
   next-chain chains = (subst (AreChains s) split chains).0
 
-  -- x has less before it, and so has the rest
-  next-lowers : (height : Spot → Message ℕ → ℕ) (top : ℕ) → AreLower height top (parcels_in s all) → AreLower height top (parcel_in s x ∷ parcels_in s more)
-  next-lowers height top lower = subst (AreLower height top) next-parts lower
-
-  pub next-low : (height : Spot → Message ℕ → ℕ) (top : ℕ) → AreLower height top (parcels_in s all) → height x.to (parcel_in s x).message < top
-  next-low height top lower = (next-lowers height top lower).0
-
   -- what x takes is there
-  pub next-room : (cost : Spot → Message ℕ → ℕ) (most was is : ℕ) → MayTake s0 was most → Takes s0 s was is most (cost_of cost (parcels_in s all)) → MayTake s is (cost x.to (parcel_in s x).message)
-  next-room cost most was is may takes =
+  pub next-may : (cost : At → ℕ) (most was is : ℕ) → MayDeliver s0 was most → Takes s0 s was is most (cost_of cost (parcels_in s all)) → cost_of cost (parcels_in s all) < beyond
+      → MayDeliver s is (cost (spot_in s x.to (token x.message)))
+  next-may cost most was is may takes ends =
       let e = cost-split cost in
       let room = may.room in
       let spends = takes.blocks in
-      record { room = record { mblks = omega arith; dblks = omega arith }; spare = (let a = may.spare in let b = takes.spare in omega arith) }
+      record { room = record { mblks = omega arith; dblks = omega arith }; spare = (let a = may.spare in let b = takes.spare in omega arith); ends = omega (arith, e, ends) }
 
   module _ (carried : Hands s t (token x.message) keeps keeps' (λ _. 0)) where
     -- and then the rest is as if it alone had been sent
@@ -155,11 +148,11 @@ module _ (s0 s t : StoreValue) (gone kept keeps keeps' : ℕ → ℕ) (x : Sent)
         let c = put.counts i in let a = can.apart i in let e = times-split i in let few = st.apart i in
         carried.others i (omega arith) (omega arith) (omega arith)) (subst (AreChains s) split chains).1
 
-    pub next-lower : (height : Spot → Message ℕ → ℕ) (top : ℕ) → AreLower height top (parcels_in s all) → AreLower height top (parcels_in t more)
-    next-lower height top lower = subst (AreLower height top) (sym next-same) (next-lowers height top lower).1
+    pub next-ends : (cost : At → ℕ) → cost_of cost (parcels_in s all) < beyond → cost_of cost (parcels_in t more) < beyond
+    next-ends cost ends = omega (arith, cost-split cost, ap (cost_of cost) next-same, ends)
 
-    pub next-takes : (cost : Spot → Message ℕ → ℕ) (most was is left : ℕ) → Takes s0 s was is most (cost_of cost (parcels_in s all))
-        → Takes s t is left (cost x.to (parcel_in s x).message) 0 → Takes s0 t was left most (cost_of cost (parcels_in t more))
+    pub next-takes : (cost : At → ℕ) (most was is left : ℕ) → Takes s0 s was is most (cost_of cost (parcels_in s all))
+        → Takes s t is left (cost (spot_in s x.to (token x.message))) 0 → Takes s0 t was left most (cost_of cost (parcels_in t more))
     next-takes cost most was is left takes then =
         let e = cost-split cost in
         let f = ap (cost_of cost) next-same in
@@ -167,7 +160,7 @@ module _ (s0 s t : StoreValue) (gone kept keeps keeps' : ℕ → ℕ) (x : Sent)
         let behind = then.blocks in
         record { blocks = record { mblks = omega arith; dblks = omega arith }; spare = (let a = takes.spare in let b = then.spare in omega arith) }
 
-pub no-cost : (s0 s : StoreValue) (cost : Spot → Message ℕ → ℕ) (most was is : ℕ) (all : List Sent) → all ≡ [] → Takes s0 s was is most (cost_of cost (parcels_in s all)) → Takes s0 s was is most 0
+pub no-cost : (s0 s : StoreValue) (cost : At → ℕ) (most was is : ℕ) (all : List Sent) → all ≡ [] → Takes s0 s was is most (cost_of cost (parcels_in s all)) → Takes s0 s was is most 0
 unfolding cost_of parcels_in
 no-cost s0 s cost most was is all none takes =
     let e = ap (λ xs. cost_of cost (parcels_in s xs)) none in
@@ -206,14 +199,11 @@ pub none-chains : (s : StoreValue) (all : List Sent) → all ≡ [] → AreChain
 unfolding AreChains
 none-chains s all none = subst (AreChains s) (sym none) tt
 
-pub none-lower : (s : StoreValue) (height : Spot → Message ℕ → ℕ) (top : ℕ) (all : List Sent) → all ≡ [] → AreLower height top (parcels_in s all)
-none-lower s height top all none = subst (AreLower height top) (sym (no-parts s all none)) tt
-
 -- no call follows
-pub no-room : (s : StoreValue) (cost : Spot → Message ℕ → ℕ) (next : ℕ) (all : List Sent) → all ≡ [] → HasRoom s (later_cost cost false next (parcels_in s all))
+pub no-room : (s : StoreValue) (next : ℕ) (all : List Sent) → all ≡ [] → HasRoom s (later_cost false next (parcels_in s all))
 unfolding cost_of parcels_in
-no-room s cost next all none =
-    let e = ap (λ xs. cost_of cost (parcels_in s xs)) none in
+no-room s next all none =
+    let e = ap (λ xs. cost_of most (parcels_in s xs)) none in
     record { mblks = omega arith; dblks = omega arith }
 
 -- one message is sent on, and it is the one that was put
@@ -232,11 +222,6 @@ pub one-chains : (s : StoreValue) (x : Sent) (all : List Sent) → all ≡ x ∷
 unfolding AreChains
 one-chains s x all one chain = subst (AreChains s) (sym one) (chain, tt)
 
--- what is lower than something is lower than what is no less
-pub lower-more : (height : Spot → Message ℕ → ℕ) (top more : ℕ) (ps : List (Parcel ℕ)) → top ≤ more → AreLower height top ps → AreLower height more ps
-lower-more height top more [] le low = tt
-lower-more height top more (p ∷ ps) le low = (omega (arith, le, low.0), lower-more height top more ps le low.1)
-
 -- What was sent goes on, and all that was kept then is.
 pub hands-on : (s0 s t : StoreValue) (gone sent kept keeps keeps' : ℕ → ℕ) → IsStore s → Handles s0 s gone kept keeps sent → Handles s t sent keeps keeps' (λ _. 0) → Handles s0 t gone kept keeps' (λ _. 0)
 hands-on s0 s t gone sent kept keeps keeps' st put then = record {
@@ -250,17 +235,17 @@ hands-on s0 s t gone sent kept keeps keeps' st put then = record {
 pub sent-in : (s0 s : StoreValue) (gone sent kept keeps : ℕ → ℕ) → AreIn s0 gone kept → Handles s0 s gone kept keeps sent → AreIn s sent keeps
 sent-in s0 s gone sent kept keeps are put = record { apart = λ i. let a = are.apart i in let c = put.counts i in omega arith }
 
-pub takes-on : (s0 s t : StoreValue) (was is left most sent : ℕ) → Takes s0 s was is most sent → Takes s t is left sent 0 → Takes s0 t was left most 0
-takes-on s0 s t was is left most sent first then = record {
-  blocks = record { mblks = (let a = first.blocks.mblks in let b = then.blocks.mblks in omega arith); dblks = (let a = first.blocks.dblks in let b = then.blocks.dblks in omega arith) };
-  spare = (let a = first.spare in let b = then.spare in omega arith);
+-- one takes so much, and another one after it
+pub takes-both : (s0 s t : StoreValue) (was is left one another most : ℕ) → Takes s0 s was is one 0 → Takes s t is left another 0 → one + another ≤ most → Takes s0 t was left most 0
+takes-both s0 s t was is left one another most first then few = record {
+  blocks = record { mblks = omega (arith, first.blocks.mblks, then.blocks.mblks, few); dblks = omega (arith, first.blocks.dblks, then.blocks.dblks, few) };
+  spare = omega (arith, first.spare, then.spare, few);
 }
 
--- what is left of a spare that is another one
-pub may-on : (s0 s : StoreValue) (was is most sent : ℕ) → MayTake s0 was most → Takes s0 s was is most sent → MayTake s is sent
-may-on s0 s was is most sent may takes = record {
-  room = record { mblks = (let a = may.room.mblks in let b = takes.blocks.mblks in omega arith); dblks = (let a = may.room.dblks in let b = takes.blocks.dblks in omega arith) };
-  spare = (let a = may.spare in let b = takes.spare in omega arith);
+pub takes-more : (s0 s : StoreValue) (was is own most : ℕ) → Takes s0 s was is own 0 → own ≤ most → Takes s0 s was is most 0
+takes-more s0 s was is own most takes few = record {
+  blocks = record { mblks = omega (arith, takes.blocks.mblks, few); dblks = omega (arith, takes.blocks.dblks, few) };
+  spare = omega (arith, takes.spare, few);
 }
 
 pub room-on : (s0 s : StoreValue) (most sent : ℕ) → HasRoom s0 most → Spends s0 s most sent → HasRoom s sent

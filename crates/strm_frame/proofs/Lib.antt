@@ -1,4 +1,5 @@
 pub mod Handing
+pub mod Budgeting
 pub mod Shifting
 pub mod Turns
 pub mod Beside

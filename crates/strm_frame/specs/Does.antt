@@ -4,8 +4,7 @@ use Rattle.std.specs.Bool.{OnTrue}
 use Rattle.strm_types.specs.declared.limits.TheConstants.{STOP_BLOCKS}
 use Rattle.strm_types.specs.declared.rules.Fates.{Fates}
 use Rattle.strm_types.specs.declared.spots.Spot.{Spot}
-use Rattle.strm_types.specs.Costs.{cost_of}
-use Rattle.strm_types.specs.Deliver.{Acted, AreLower, Carried, Parcel, Took, tallied}
+use Rattle.strm_types.specs.Deliver.{Acted, Carried, Parcel, Took, tallied}
 use Rattle.strm_types.specs.Dropped.{is_met}
 use Rattle.strm_types.specs.Input.{made_of}
 use Rattle.strm_types.specs.LdtermCalls.{most_made}
@@ -29,17 +28,16 @@ StaysAlone stays p (x ∷ []) = stays p x.to x.message
 StaysAlone stays p (x ∷ y ∷ more) = ⊥
 
 module _ {X P : Type 0} (plain : StoreValue → X → P) (IsHeld : StoreValue → X → Type 0) (keeps : X → ℕ → ℕ) (spare : P → ℕ) where
-  -- A put at a spot did what a definition says: the message has gone, and what is sent on has come in hand, and has less before it. No more was taken
-  -- than the message may take, of blocks and of what else the stations count, and what the messages that are sent on may take is left.
-  pub record PutsAt (height : Spot → Message ℕ → ℕ) (cost : Spot → Message ℕ → ℕ) (old new : StoreValue) (x y : X) (to : Spot) (message : ℕ) (sent_on : List Sent) (t t' : Fates) (is : Took ℕ P) : Type 0 where
+  -- A put at a spot did what a definition says: the message has gone, and what is sent on has come in hand. No more was taken than `own`, of blocks and of
+  -- what else the stations count.
+  pub record PutsAt (own : ℕ) (old new : StoreValue) (x y : X) (message : ℕ) (sent_on : List Sent) (t t' : Fates) (is : Took ℕ P) : Type 0 where
     pub state : plain new y ≡ is.state
     pub sent : parcels_in new sent_on ≡ is.sent
     pub told : t' ≡ tallied is.gone t
     pub held : IsHeld new y
     pub chains : AreChains new sent_on
-    pub falls : AreLower height (height to (message_in old message)) (parcels_in new sent_on)
     pub hands : Hands old new message (keeps x) (keeps y) (λ i. times_sent i sent_on)
-    pub takes : Takes old new (spare (plain old x)) (spare (plain new y)) (cost to (message_in old message)) (cost_of cost (parcels_in new sent_on))
+    pub takes : Takes old new (spare (plain old x)) (spare (plain new y)) own 0
     pub pool : SamePool old new
 
   -- A delivery led to what a definition says: what was delivered has gone, and nothing has come in hand but what the stations keep. No more was
@@ -53,10 +51,9 @@ module _ {X P : Type 0} (plain : StoreValue → X → P) (IsHeld : StoreValue �
     pub pool : SamePool old new
 
 module _ {X P : Type 0} (plain : StoreValue → X → P) (IsHeld : StoreValue → X → Type 0) (owns keeps : X → ℕ → ℕ) where
-  -- A put procedure did what a definition says: the message has gone, and what is sent on has come in hand, and has less before it. Only the module's own
-  -- lists changed. No more blocks of each kind were taken than `most`, and where that many were free, `later` are free behind it. An M_DATA or M_PROTO
-  -- frees none.
-  pub record Puts (height : Spot → Message ℕ → ℕ) (old new : StoreValue) (x y : X) (here : Spot) (message most later : ℕ) (acts : Acts) (t t' : Fates) (is : Acted ℕ P) : Type 0 where
+  -- A put procedure did what a definition says: the message has gone, and what is sent on has come in hand. Only the module's own lists changed. No more
+  -- blocks of each kind were taken than `most`. An M_DATA or M_PROTO frees none.
+  pub record Puts (old new : StoreValue) (x y : X) (message most : ℕ) (acts : Acts) (t t' : Fates) (is : Acted ℕ P) : Type 0 where
     pub state : plain new y ≡ is.state
     pub notes : acts.notes.items ≡ is.notes
     pub sent : parcels_in new (sent_of acts.sent) ≡ is.sent
@@ -64,17 +61,15 @@ module _ {X P : Type 0} (plain : StoreValue → X → P) (IsHeld : StoreValue �
     pub held : IsHeld new y
     pub own : OnlyOwn old new (owns x) (owns y)
     pub chains : AreChains new (sent_of acts.sent)
-    pub falls : AreLower height (height here (message_in old message)) (parcels_in new (sent_of acts.sent))
     pub hands : Hands old new message (keeps x) (keeps y) (λ i. times_sent i (sent_of acts.sent))
-    pub spends : Spends old new most later
+    pub spends : Spends old new most 0
     pub blocks : is_held (message_in old message).kind ≡ true → FreesNone old new
     pub pool : SamePool old new
 
-  -- A call of a service procedure did what a definition says: what is sent has come in hand, beside what the module keeps, and has less than `top` before
-  -- it. Only the module's own lists changed. The call stopped within the message only where fewer than `STOP_BLOCKS` blocks of some kind are left, where it
-  -- may stop, and behind a byte at least if that many were free before; then it isn't called again. Blocks are left for what it sent, and for the next call of
-  -- the turn.
-  pub record Serves (height cost : Spot → Message ℕ → ℕ) (turn_cost : P → ℕ) (MayStop : ℕ → P → Type 0) (old new : StoreValue) (x y : X) (top : ℕ) (served : Served) (t t' : Fates) (is : Serving ℕ P) : Type 0 where
+  -- A call of a service procedure did what a definition says: what is sent has come in hand, beside what the module keeps. Only the module's own lists
+  -- changed. The call stopped within the message only where fewer than `STOP_BLOCKS` blocks of some kind are left, where it may stop, and behind a byte at
+  -- least if that many were free before; then it isn't called again. Blocks are left for what it sent, and for the next call of the turn.
+  pub record Serves (turn_cost : P → ℕ) (MayStop : ℕ → P → Type 0) (old new : StoreValue) (x y : X) (served : Served) (t t' : Fates) (is : Serving ℕ P) : Type 0 where
     pub state : plain new y ≡ is.acted.state
     pub notes : served.acts.notes.items ≡ is.acted.notes
     pub sent : parcels_in new (sent_of served.acts.sent) ≡ is.acted.sent
@@ -88,9 +83,8 @@ module _ {X P : Type 0} (plain : StoreValue → X → P) (IsHeld : StoreValue �
     pub held : IsHeld new y
     pub own : OnlyOwn old new (owns x) (owns y)
     pub chains : AreChains new (sent_of served.acts.sent)
-    pub falls : AreLower height top (parcels_in new (sent_of served.acts.sent))
     pub hands : Handles old new (λ _. 0) (keeps x) (keeps y) (λ i. times_sent i (sent_of served.acts.sent))
-    pub room : HasRoom new (later_cost cost served.again (turn_cost (plain new y)) (parcels_in new (sent_of served.acts.sent)))
+    pub room : HasRoom new (later_cost served.again (turn_cost (plain new y)) (parcels_in new (sent_of served.acts.sent)))
     pub pool : SamePool old new
 
   -- A turn of a queue ended as a definition says, and told whether waiting writers were let go, and whether messages stand there. The module owns and

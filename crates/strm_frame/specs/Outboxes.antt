@@ -1,8 +1,10 @@
 -- Messages on their way, beside the store in which they are in hand.
 use Rattle.std.specs.Prelude.{ℕ, ◌+◌, List, [], ◌∷◌, ◌++◌}
 use Rattle.std.specs.Option.{option_to_list}
+use Rattle.strm_types.specs.declared.spots.Spot.{Spot}
 use Rattle.strm_types.specs.Message.{Message}
 use Rattle.strm_types.specs.Deliver.{Parcel}
+use Rattle.strm_types.specs.Shapes.{At, shape_of}
 use Rattle.strm_blocks.specs.Blocks.{StoreValue, in_hand, token}
 use Rattle.strm_msg.specs.Messages.{message_of, IsChain}
 use Rattle.strm_frame.specs.declared.parcels.Sent.{Sent}
@@ -12,6 +14,10 @@ use Rattle.strm_frame.specs.Hands.{once}
 -- what a name in hand stands for
 abbrev pub message_in : StoreValue → ℕ → Message ℕ
 message_in s name = message_of (in_hand s name)
+
+-- its shape, on its way to a spot
+abbrev pub spot_in : StoreValue → Spot → ℕ → At
+spot_in s to name = record { to = to; shape = shape_of (message_in s name) }
 
 -- the messages of an outbox, the first one first
 abbrev pub sent_of : Outbox → List Sent

@@ -1,13 +1,11 @@
 -- What a service procedure may ask, where it may stop, and what it leaves room for.
 use Rattle.std.specs.Prelude.{ℕ, ◌≡◌, ◌+◌, min, Bool, true, false, if◌then◌else◌, List, map, slice_index_or, Option, None, Some}
-use Rattle.strm_types.specs.declared.spots.Spot.{Spot}
-use Rattle.strm_types.specs.Message.{Message}
 use Rattle.strm_types.specs.Deliver.{Parcel}
 use Rattle.strm_types.specs.Modules.{act_among}
 use Rattle.strm_types.specs.Service.{Serving}
 use Rattle.strm_blocks.specs.Blocks.{StoreValue, free_m, free_d}
 use Rattle.strm_frame.specs.declared.service.Served.{Served}
-use Rattle.strm_types.specs.Costs.{cost_of}
+use Rattle.strm_types.specs.Budgets.{cost_of, most}
 
 -- what is in hand is the same, and the store has as many blocks
 pub record SameHand (old new : StoreValue) : Type 0 where
@@ -28,8 +26,8 @@ abbrev pub stop_of : Served → Option ℕ
 stop_of served = stop_at served.stopped served.bytes
 
 -- how many blocks of each kind are taken at most by what a call has sent, and by the next call of the turn, where one follows
-abbrev pub later_cost : {C : Type 0} → (Spot → Message C → ℕ) → Bool → ℕ → List (Parcel C) → ℕ
-later_cost cost again next sent = cost_of cost sent + (if again then next else 0)
+abbrev pub later_cost : {C : Type 0} → Bool → ℕ → List (Parcel C) → ℕ
+later_cost again next sent = cost_of most sent + (if again then next else 0)
 
 -- a call of the service procedure of one of several modules, counted from the top, from 0
 abbrev pub served_among : {C P : Type 0} → (P → Serving C P) → ℕ → List P → Serving C (List P)

@@ -10,9 +10,11 @@ ghost use Rattle.strm_types.specs.Message.{Message};
 ghost use Rattle.strm_types.specs.Queue.{first_size, Queue, bytes_of, count_of};
 ghost use Rattle.strm_types.specs.declared.keys.TheConstants.{LINE_MAX};
 ghost use Rattle.strm_types.specs.declared.limits.TheConstants.{MODULES};
+ghost use Rattle.strm_types.specs.Budgets.{Table, Within, emits_at, own_at};
 ghost use Rattle.strm_types.specs.Deliver.{Acted};
 ghost use Rattle.strm_types.specs.Refused.{has_no_data};
 ghost use Rattle.strm_types.specs.ModuleQueues.{has_queue, messages_at, full_at, waits, queue_changed};
+ghost use Rattle.strm_types.specs.Shapes.{shape_of};
 ghost use Rattle.strm_types.specs.Service.{Serving, turn_ended, end_relieves, has_more, cleared};
 ghost use Rattle.strm_blocks.specs.Blocks.{StoreValue, in_hand, token};
 ghost use Rattle.strm_msg.specs.Messages.{IsChain};
@@ -105,19 +107,9 @@ pub trait Module: Drop {
     /// of the message.
     ghost MayStop: { Way → Bool → ℕ → Plain → Type 0 };
 
-    /// How often a message can be handed on at most that is put here, with all that it gives rise to.
-    ghost height: { Spot → Message ℕ → ℕ };
-
-    /// How many blocks of each kind have to be free where a message is put here, and how many are left free then.
-    ghost takes: { Spot → Message ℕ → Plain → ℕ };
-
-    ghost leaves: { Spot → Message ℕ → Plain → ℕ };
-
-    /// How many blocks of each kind a message takes at most that its service procedure sends, with all that it gives rise to.
-    ghost cost: { Spot → Message ℕ → ℕ };
-
-    /// How often a message can be handed on, less one, that its service procedure sends.
-    ghost turn_height: { Spot → ℕ };
+    /// What a put does at most, by the way and the shape of what is put: how many blocks of each kind it takes, how often it makes
+    /// bytes, and what it sends on.
+    ghost does: { Plain → Table };
 
     /// How many blocks of each kind a call of its service procedure takes at most, the first one of a turn or one more. That
     /// depends on what is under way in the module.
@@ -138,12 +130,13 @@ pub trait Module: Drop {
         requires held { IsHeld (B.value store.old) self.old }
         requires can_put { CanPut (B.value store.old) (token message) (keeps self.old) }
         requires chain { IsChain (in_hand (B.value store.old) (token message)) }
-        requires room { let s = B.value store.old in HasRoom s (takes here (message_in s (token message)) (plain s self.old)) }
+        requires room { let s = B.value store.old in
+            HasRoom s (own_at (does (plain s self.old)) here (message_in s (token message))) }
         requires inside { 0 < here.at }
         requires small { here.at ≤ MODULES }
         ensures { let s = B.value store.old in let m = message_in s (token message) in let p = plain s self.old in
-            Puts plain IsHeld owns keeps height s (B.value store.new) self.old self.new here (token message)
-            (takes here m p) (leaves here m p) result told.old told.new (puts here m p) };
+            Puts plain IsHeld owns keeps s (B.value store.new) self.old self.new (token message) (own_at (does p) here m) result
+            told.old told.new (puts here m p) };
 
     /// Whether it has a queue of a way, with a service procedure.
     fn has_queue(&self, way: Way) -> bool
@@ -211,8 +204,8 @@ pub trait Module: Drop {
         requires inside { 0 < here.at }
         requires small { here.at ≤ MODULES }
         ensures { let s = B.value store.old in
-            Serves plain IsHeld owns keeps height cost (turn_cost here true) (MayStop here.way again) s (B.value store.new)
-            self.old self.new (turn_height here) result told.old told.new (serves here again (stop_of result) (plain s self.old)) };
+            Serves plain IsHeld owns keeps (turn_cost here true) (MayStop here.way again) s (B.value store.new)
+            self.old self.new result told.old told.new (serves here again (stop_of result) (plain s self.old)) };
 
     /// Ends a turn of its queue of a way, when all is delivered that was sent: want-read is set where the queue is empty and
     /// cleared where it isn't. Where the turn took bytes, waiting writers are let go. A turn that treated nothing ends so
@@ -239,6 +232,10 @@ pub trait Module: Drop {
         ensures { let s = B.value store.old in let p = plain s self.old in
             Clears plain IsHeld owns keeps s (B.value store.new) self.old self.new seeking (messages_at queue_of Down p) result
             told.old told.new (cleared queue_of with_queue line_of without_line side rule p) };
+
+    /// What a put sends on is within its table.
+    ghost within: { (here : Spot) (m : Message ℕ) (p : Plain) →
+        Within (puts here m p).sent (emits_at here (does p here.way (shape_of m))) };
 
     /// It stands for the same, and fits, wherever its own lists are the same and what it keeps in hand is.
     ghost frame: { (s t : StoreValue) (x : Self) → SameOwn s t (owns x) (keeps x) → IsHeld s x →

@@ -3,12 +3,14 @@
 ghost use Rattle.std.specs.Prelude.{ℕ, ◌≡◌};
 ghost use Rattle.strm_types.specs.declared.spots.Spot.{Spot};
 ghost use Rattle.strm_types.specs.Message.{Message};
+ghost use Rattle.strm_types.specs.Budgets.{Costed, Costs};
 ghost use Rattle.strm_types.specs.Deliver.{Took};
+ghost use Rattle.strm_types.specs.Shapes.{At};
 ghost use Rattle.strm_blocks.specs.Blocks.{StoreValue, in_hand, token};
 ghost use Rattle.strm_msg.specs.Messages.{IsChain};
 ghost use Rattle.strm_queue.specs.Stored.{FreesNone};
 ghost use Rattle.strm_frame.specs.Does.{PutsAt, StaysAlone};
-ghost use Rattle.strm_frame.specs.Outboxes.{message_in, sent_of};
+ghost use Rattle.strm_frame.specs.Outboxes.{message_in, sent_of, spot_in};
 ghost use Rattle.strm_frame.specs.Hands.{CanPut, SameFor, MayTake};
 
 use crate::parcels::Outbox;
@@ -32,15 +34,11 @@ pub trait Stations<B: Blocks> {
     /// What a message does that is put at a spot.
     ghost puts: { Spot → Message ℕ → Plain → Took ℕ Plain };
 
-    /// How often a message can be handed on at most that is put at a spot, with all that it gives rise to.
-    ghost height: { Spot → Message ℕ → ℕ };
+    /// What a put at a spot does at most, by the shape of what is put: how many blocks of each kind it takes, and what it sends on.
+    ghost costs: { Plain → At → Costs };
 
-    /// How many blocks of each kind a message takes at most that is put at a spot, with all that it gives rise to. It depends on what no put
-    /// changes.
-    ghost cost: { Plain → Spot → Message ℕ → ℕ };
-
-    /// How much of what else the stations count, as bytes that they make, may come to what is there: in units of which a message takes as
-    /// many as blocks.
+    /// How much of what else the stations count, as bytes that they make, may come to what is there: in units of which a message takes no
+    /// more than blocks.
     ghost spare: { Plain → ℕ };
 
     /// A message that stays, put at a spot: it comes to stand on a queue with its blocks, as it is or in what is made of it, and frees none.
@@ -52,10 +50,10 @@ pub trait Stations<B: Blocks> {
         requires can_put { CanPut (B.value store.old) (token message) (keeps self.old) }
         requires chain { IsChain (in_hand (B.value store.old) (token message)) }
         requires room { let s = B.value store.old in
-            MayTake s (spare (plain s self.old)) (cost (plain s self.old) to (message_in s (token message))) }
+            MayTake s (spare (plain s self.old)) (costs (plain s self.old) (spot_in s to (token message))).own }
         ensures puts { let s = B.value store.old in let p = plain s self.old in
-            PutsAt plain IsHeld keeps spare height (cost p) s (B.value store.new) self.old self.new to (token message) (sent_of result)
-            told.old told.new (puts to (message_in s (token message)) p) }
+            PutsAt plain IsHeld keeps spare (costs p (spot_in s to (token message))).own s (B.value store.new) self.old self.new
+            (token message) (sent_of result) told.old told.new (puts to (message_in s (token message)) p) }
         ensures blocks { let s = B.value store.old in
             stays (plain s self.old) to (message_in s (token message)) → FreesNone s (B.value store.new) };
 
@@ -63,8 +61,8 @@ pub trait Stations<B: Blocks> {
     ghost frame: { (s t : StoreValue) (x : Self) → SameFor s t (keeps x) → IsHeld s x → (plain t x ≡ plain s x) ×
         IsHeld t x };
 
-    /// No put changes what messages cost.
-    ghost cost_stays: { (to : Spot) (m : Message ℕ) (p : Plain) → cost (puts to m p).state ≡ cost p };
+    /// A put sends on no more than that, and no put changes it.
+    ghost costed: { Costed costs puts };
 
     /// A message that stays waits there, or is sent on as one that stays.
     ghost stays_on: { (to : Spot) (m : Message ℕ) (p : Plain) → stays p to m → let t = puts to m p in StaysAlone stays t.state t.sent };

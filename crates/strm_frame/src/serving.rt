@@ -69,9 +69,9 @@ fn serve_among<B: Blocks, M: Module>(
     requires small { here.at ≤ MODULES }
     ensures length { length modules.new ≡ length modules.old }
     ensures does { let s = B.value store.old in
-        Serves (all_in M.plain) (AreHeld M.IsHeld M.owns) (all_of M.owns) (all_of M.keeps) M.height M.cost
+        Serves (all_in M.plain) (AreHeld M.IsHeld M.owns) (all_of M.owns) (all_of M.keeps)
         (λ ps. slice_index_or (map (M.turn_cost here true) ps) at 0) (λ bytes ps. HoldsAt (M.MayStop here.way again bytes) ps at)
-        s (B.value store.new) modules.old modules.new (M.turn_height here) result told.old told.new
+        s (B.value store.new) modules.old modules.new result told.old told.new
         (served_among (M.serves here again (stop_of result)) at (all_in M.plain s modules.old)) }
 {
     store.audit();
@@ -113,9 +113,9 @@ impl<M: Module + Default> Stack<M> {
             (map (M.plain (B.value store.old)) self.old.modules.items)) }
         ensures length { length self.new.modules.items ≡ length self.old.modules.items }
         ensures does { let s = B.value store.old in let xs = self.old.modules.items in
-            Serves (all_in M.plain) (AreHeld M.IsHeld M.owns) (all_of M.owns) (all_of M.keeps) M.height M.cost
+            Serves (all_in M.plain) (AreHeld M.IsHeld M.owns) (all_of M.owns) (all_of M.keeps)
             (at_place (M.turn_cost here true) 0 here.at) (λ bytes ps. HoldsAt (M.MayStop here.way again bytes) ps (here.at - 1))
-            s (B.value store.new) xs self.new.modules.items (M.turn_height here) result told.old told.new
+            s (B.value store.new) xs self.new.modules.items result told.old told.new
             (served_among (M.serves here again (stop_of result)) (here.at - 1) (all_in M.plain s xs)) }
     {
         serve_among(

@@ -3,6 +3,7 @@
 ghost use Rattle.std.specs.Prelude.{◌≡◌, ◌<◌, ◌≤◌, ◌-◌, ◌*◌, [], ◌∷◌, length, map, slice_index_or, sum_by, true, false, MatchOption, MatchResult};
 ghost use Rattle.strm_types.specs.declared.keys.TheConstants.{LINE_MAX};
 ghost use Rattle.strm_types.specs.declared.limits.TheConstants.{MODULES};
+ghost use Rattle.strm_types.specs.Budgets.{own_at};
 ghost use Rattle.strm_types.specs.Modules.{put_among, may_push, stands, top_name};
 ghost use Rattle.strm_blocks.specs.Blocks.{StoreValue, in_hand, token};
 ghost use Rattle.strm_msg.specs.Messages.{IsChain};
@@ -59,14 +60,14 @@ fn put_among<B: Blocks, M: Module>(
     requires can_put { CanPut (B.value store.old) (token message) (all_of M.keeps modules.old) }
     requires chain { IsChain (in_hand (B.value store.old) (token message)) }
     requires room { let s = B.value store.old in
-        HasRoom s (slice_index_or (map (M.takes to (message_in s (token message))) (map (M.plain s) modules.old)) at 0) }
+        HasRoom s (slice_index_or (map (λ p. own_at (M.does p) to (message_in s (token message))) (map (M.plain s) modules.old)) at 0) }
     requires inside { 0 < to.at }
     requires small { to.at ≤ MODULES }
     ensures length { length modules.new ≡ length modules.old }
     ensures does { let s = B.value store.old in let m = message_in s (token message) in let ps = all_in M.plain s modules.old in
-        Puts (all_in M.plain) (AreHeld M.IsHeld M.owns) (all_of M.owns) (all_of M.keeps) M.height s (B.value store.new)
-        modules.old modules.new to (token message) (slice_index_or (map (M.takes to m) ps) at 0)
-        (slice_index_or (map (M.leaves to m) ps) at 0) result told.old told.new (put_among M.puts at to m ps) }
+        Puts (all_in M.plain) (AreHeld M.IsHeld M.owns) (all_of M.owns) (all_of M.keeps) s (B.value store.new)
+        modules.old modules.new (token message) (slice_index_or (map (λ p. own_at (M.does p) to m) ps) at 0)
+        result told.old told.new (put_among M.puts at to m ps) }
 {
     store.audit();
     modules[at].put(store, to, message, told)
@@ -143,12 +144,13 @@ impl<M: Module + Default> Stack<M> {
         requires can_put { CanPut (B.value store.old) (token message) (all_of M.keeps self.old.modules.items) }
         requires chain { IsChain (in_hand (B.value store.old) (token message)) }
         requires room { let s = B.value store.old in
-            HasRoom s (at_place (M.takes to (message_in s (token message))) 0 to.at (map (M.plain s) self.old.modules.items)) }
+            HasRoom s (at_place (λ p. own_at (M.does p) to (message_in s (token message))) 0 to.at
+            (map (M.plain s) self.old.modules.items)) }
         ensures length { length self.new.modules.items ≡ length self.old.modules.items }
         ensures does { let s = B.value store.old in let m = message_in s (token message) in
             let xs = self.old.modules.items in let ps = all_in M.plain s xs in
-            Puts (all_in M.plain) (AreHeld M.IsHeld M.owns) (all_of M.owns) (all_of M.keeps) M.height s (B.value store.new)
-            xs self.new.modules.items to (token message) (at_place (M.takes to m) 0 to.at ps) (at_place (M.leaves to m) 0 to.at ps)
+            Puts (all_in M.plain) (AreHeld M.IsHeld M.owns) (all_of M.owns) (all_of M.keeps) s (B.value store.new)
+            xs self.new.modules.items (token message) (at_place (λ p. own_at (M.does p) to m) 0 to.at ps)
             result told.old told.new (put_among M.puts (to.at - 1) to m ps) }
     {
         put_among(

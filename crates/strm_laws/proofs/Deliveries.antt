@@ -1,5 +1,5 @@
 -- Deliveries in a pair, and with them flushes of a stream, lose no cell, and leave a side that isn't open nothing to be read.
-use Rattle.std.proofs.Common.{◌≡◌, ◌≤◌, ◌+◌, Bool, arith}
+use Rattle.std.proofs.Common.{◌≡◌, ◌+◌, Bool, arith}
 use Rattle.std.specs.Prelude.{Option}
 use Rattle.strm_types.specs.declared.events.FlushQueues.{FlushQueues}
 use Rattle.strm_types.specs.declared.kinds.Band.{Band}
@@ -15,19 +15,24 @@ use Rattle.strm_laws.specs.Kept.{state_weight}
 use Rattle.strm_types.specs.Message.{Message, weight_of}
 use Rattle.strm_laws.specs.Places.{weight_gone, weight_made, direction_to}
 use Rattle.strm_laws.specs.Puts.{SameButMade, delivered, flushed_on, put_in}
-use Rattle.strm_types.specs.Far.{far}
+use Rattle.strm_types.specs.Shapes.{shape_of}
+use Rattle.strm_laws.specs.SideCosts.{costs}
+use Rattle.strm_laws.specs.StackCosts.{stands_of}
 use Rattle.strm_laws.specs.State.{State}
 use Rattle.strm_laws.proofs.DeliveryKeeps.{carried-keeps}
 use Rattle.strm_laws.proofs.PutParts.{delivered-holds}
-use Rattle.strm_laws.proofs.PutsFall.{far-within, puts-fall}
+use Rattle.strm_laws.proofs.Budgeted.{ends}
+use Rattle.strm_laws.proofs.PutsWithin.{puts-costed}
 use Rattle.strm_laws.proofs.PutsKeep.{puts-keep, same-itself, same-stays}
 use Rattle.strm_laws.proofs.PutWeights.{weight-flush}
 
 module _ {C : Type 0} (cells : Cells C) where
-  pub delivered-keeps : (p : Dir → C → Bool) (to : Spot) (m : Message C) (s : State C) → to.at ≤ 4 →
+  pub delivered-keeps : (p : Dir → C → Bool) (to : Spot) (m : Message C) (s : State C) →
       state_weight p (delivered cells to m s).state + weight_gone p (delivered cells to m s).gone
       ≡ state_weight p s + (weight_of (p (direction_to to)) m + weight_made p (delivered cells to m s).gone)
-  delivered-keeps p to m s low = carried-keeps p (state_weight p) far (put_in cells) (puts-keep p cells) (puts-fall cells) HOPS (record { to = to; message = m }) (far-within to m low) s
+  delivered-keeps p to m s =
+      carried-keeps p (state_weight p) (λ (s : State C). costs (stands_of s)) (put_in cells) (puts-keep p cells) (puts-costed cells) HOPS (record { to = to; message = m }) s
+      (ends (stands_of s) (record { to = to; shape = shape_of m }))
 
   pub delivered-same : (to : Spot) (m : Message C) (s : State C) → SameButMade s (delivered cells to m s).state
   delivered-same to m s = delivered-holds (SameButMade s) (same-stays s) cells to m s (same-itself s)
@@ -37,4 +42,4 @@ module _ {C : Type 0} (cells : Cells C) where
       ≡ state_weight p s + weight_made p (flushed_on cells band side what s).gone
   flushed_on-keeps p band side what s =
       let bytes = flush_bytes (asked_of what band) in
-      omega (arith, delivered-keeps p (record { side = side; at = 1; way = Down }) (flush_message bytes) s (omega arith), weight-flush (p (direction_from side)) bytes)
+      omega (arith, delivered-keeps p (record { side = side; at = 1; way = Down }) (flush_message bytes) s, weight-flush (p (direction_from side)) bytes)

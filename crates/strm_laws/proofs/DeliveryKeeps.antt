@@ -1,11 +1,16 @@
 -- A delivery keeps all cells.
-use Rattle.std.proofs.Common.{ℕ, zero, suc, ◌≡◌, ◌<◌, ◌+◌, Bool, List, [], ◌∷◌, ◌++◌, arith}
+use Rattle.std.proofs.Common.{ℕ, zero, suc, ◌≡◌, ◌<◌, ◌+◌, Bool, List, [], ◌∷◌, ◌++◌, refl, subst, ◌∙◌, arith}
+use Rattle.std.specs.Prelude.{min, sum_by}
 use Rattle.std.specs.List.{AllByRecursion}
 use Rattle.strm_types.specs.Message.{Message}
 use Rattle.strm_types.specs.declared.spots.Spot.{Spot}
 use Rattle.strm_types.specs.declared.names.Dir.{Dir}
-use Rattle.strm_types.specs.Deliver.{Parcel, Fate, Took, Carried, in_turn, carried, Falls}
-use Rattle.strm_laws.specs.Places.{weight_sent, weight_gone, weight_made, PutKeeps, CarryKeeps}
+use Rattle.strm_types.specs.Budgets.{Costed, Costs, Within, beyond, budget, cost_of}
+use Rattle.strm_types.specs.Deliver.{Parcel, Fate, Took, Carried, in_turn, carried}
+use Rattle.strm_types.specs.Shapes.{At, at_of}
+use Rattle.strm_types.proofs.CostsOf.{cost-more}
+use Rattle.strm_types.proofs.DeliveryHolds.{PutHolds, carried-holds}
+use Rattle.strm_laws.specs.Places.{weight_sent, weight_gone, weight_made, PutKeeps, CarryKeeps, KeepsFrom}
 
 module _ {C : Type 0} (p : Dir → C → Bool) where
   pub gone-append : (xs ys : List (Fate C)) → weight_gone p (xs ++ ys) ≡ weight_gone p xs + weight_gone p ys
@@ -28,18 +33,40 @@ module _ {C S : Type 0} (p : Dir → C → Bool) (weigh : S → ℕ) where
       let made = made-append p t.gone (in_turn carry qs t.state).gone in
       omega arith
 
-  each : (height : Spot → Message C → ℕ) (n hops : ℕ) (carry : Parcel C → S → Carried C S) → ((q : Parcel C) → height q.to q.message < hops → CarryKeeps p weigh carry q) → n < suc hops →
-      (qs : List (Parcel C)) → AllByRecursion (λ q. height q.to q.message < n) qs → AllByRecursion (CarryKeeps p weigh carry) qs
-  each height n hops carry keeps low [] all = tt
-  each height n hops carry keeps low (q ∷ qs) all = (keeps q (let h = all.0 in omega arith), each height n hops carry keeps low qs all.1)
+  -- a budget that isn't beyond what may be asked is a sum
+  under : (n : ℕ) → min beyond n < beyond → n ≡ min beyond n
+  under n low = omega (arith, low)
 
-  pub carried-keeps : (height : Spot → Message C → ℕ) (put : Spot → Message C → S → Took C S) → PutKeeps p weigh put → Falls height put → (hops : ℕ) (q : Parcel C) → height q.to q.message < hops → CarryKeeps p weigh (carried put hops) q
-  unfolding carried
-  carried-keeps height put keeps falls zero q low = absurd (omega arith)
-  carried-keeps height put keeps falls (suc hops) q low = λ s.
-      let t = put q.to q.message s in
-      let here = keeps q.to q.message s in
-      let rest = in_turn-keeps (carried put hops) t.sent (each height (height q.to q.message) hops (carried put hops) (carried-keeps height put keeps falls hops) low t.sent (falls q.to q.message s)) t.state in
-      let both = gone-append p t.gone (in_turn (carried put hops) t.sent t.state).gone in
-      let made = made-append p t.gone (in_turn (carried put hops) t.sent t.state).gone in
-      omega arith
+  module _ (costs : S → At → Costs) (put : Spot → Message C → S → Took C S) (keeps : PutKeeps p weigh put) (costed : Costed costs put) (table : At → Costs) where
+    abbrev Stands : S → Type 0
+    Stands s = costs s ≡ table
+
+    stays : PutHolds Stands put
+    stays to m s is = costed.stays to m s ∙ is
+
+    turns-keep : (hops : ℕ) → ((q : Parcel C) (s : S) → Stands s → budget table hops (at_of q) < beyond → KeepsFrom p weigh (carried put hops) q s)
+        → (ps : List (Parcel C)) (s : S) → Stands s → cost_of (budget table hops) ps < beyond
+        → weigh (in_turn (carried put hops) ps s).state + weight_gone p (in_turn (carried put hops) ps s).gone ≡ weigh s + (weight_sent p ps + weight_made p (in_turn (carried put hops) ps s).gone)
+    turns-keep hops each [] s is low = omega arith
+    turns-keep hops each (q ∷ qs) s is low =
+        let all = cost-more (budget table hops) q qs in
+        let t = carried put hops q s in
+        let u = in_turn (carried put hops) qs t.state in
+        let first = each q s is (omega (arith, low, all)) in
+        let rest = turns-keep hops each qs t.state (carried-holds Stands put stays hops q s is) (omega (arith, low, all)) in
+        omega (arith, first, rest, gone-append p t.gone u.gone, made-append p t.gone u.gone)
+
+    budget-keeps : (hops : ℕ) (q : Parcel C) (s : S) → Stands s → budget table hops (at_of q) < beyond → KeepsFrom p weigh (carried put hops) q s
+    unfolding carried budget
+    budget-keeps zero q s is low = absurd (omega (arith, low))
+    budget-keeps (suc hops) q s is low =
+        let t = put q.to q.message s in
+        let d = table (at_of q) in
+        let u = in_turn (carried put hops) t.sent t.state in
+        let all = under (d.own + sum_by (budget table hops) d.emits) low in
+        let within = subst (λ (c : At → Costs). Within t.sent (c (at_of q)).emits) is (costed.within q.to q.message s) in
+        let rest = turns-keep hops (budget-keeps hops) t.sent t.state (stays q.to q.message s is) (omega (arith, low, all, within (budget table hops))) in
+        omega (arith, keeps q.to q.message s, rest, gone-append p t.gone u.gone, made-append p t.gone u.gone)
+
+  pub carried-keeps : (costs : S → At → Costs) (put : Spot → Message C → S → Took C S) → PutKeeps p weigh put → Costed costs put → (hops : ℕ) (q : Parcel C) (s : S) → budget (costs s) hops (at_of q) < beyond → KeepsFrom p weigh (carried put hops) q s
+  carried-keeps costs put keeps costed hops q s low = budget-keeps costs put keeps costed (costs s) hops q s refl low

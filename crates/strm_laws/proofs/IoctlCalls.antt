@@ -48,7 +48,7 @@ module _ {C : Type 0} where
         let ioc = asking command s.next_ioctl in
         let m : Message C = ioctl_message ioc body in
         let begun = ioctl_begun side command s in
-        omega (arith, told-keeps side (delivered cells (below side) m begun).state, delivered-keeps cells p (below side) m begun (omega arith), weight-ioctl (p (direction_from side)) ioc body, ioctl-keeps side (Waiting s.next_ioctl command) s)
+        omega (arith, told-keeps side (delivered cells (below side) m begun).state, delivered-keeps cells p (below side) m begun, weight-ioctl (p (direction_from side)) ioc body, ioctl-keeps side (Waiting s.next_ioctl command) s)
 
 module _ {C D : Type 0} (f : C → D) where
   message-forgets : (ioc : Ioc) (body : List ℕ) → map_message f (ioctl_message ioc body) ≡ ioctl_message ioc body

@@ -52,11 +52,12 @@ pub mod PutParts
 pub mod Earlier
 pub mod Noted
 pub mod ModulePuts
-pub mod PutsFall
-pub mod StackBounds
-pub mod StackModules
+pub mod PutsWithin
+pub mod PutsOwn
+pub mod OneSide
+pub mod StacksFit
+pub mod Budgeted
 pub mod StackOnce
-pub mod StackPuts
 pub mod StackSpares
 pub mod StackStays
 pub mod PutWeights
@@ -90,7 +91,6 @@ pub mod LdtermProgress
 pub mod LdtermStops
 pub mod ModuleTurnCalls
 pub mod Booked
-pub mod LdtermSends
 pub mod LdtermPutForgets
 pub mod LdtermTypingForgets
 pub mod LdtermServesForgets

@@ -2,7 +2,6 @@
 -- on, or nothing of one is under way at any module.
 use Rattle.std.proofs.Common.{ℕ, zero, suc, ◌≡◌, ◌≤◌, ◌+◌, ◌-◌, ◌*◌, Bool, true, false, cond, List, [], ◌∷◌, map, refl, sym, subst, ◌∙◌, arith}
 use Rattle.std.specs.Prelude.{Option, None, Some, is_some, slice_index_or}
-use Rattle.std.specs.List.{AllByRecursion}
 use Rattle.std.proofs.lemmas.Bool.{false≢true}
 use Rattle.std.proofs.lemmas.List.Sums.{sum_by-cons}
 use Rattle.strm_types.specs.declared.names.Way.{Way}
@@ -10,7 +9,7 @@ use Rattle.strm_types.specs.declared.names.Way.TheVariants.{Up, Down}
 use Rattle.strm_types.specs.declared.spots.Spot.{Spot}
 use Rattle.strm_types.specs.declared.names.Dir.{Dir}
 use Rattle.strm_types.specs.Cells.{Cells}
-use Rattle.strm_types.specs.Deliver.{Acted, Parcel}
+use Rattle.strm_types.specs.Deliver.{Acted}
 use Rattle.strm_types.specs.Input.{input_begins, is_data, passes, stages_done, treats}
 use Rattle.strm_types.specs.LdtermServes.{ldterm_serves}
 use Rattle.strm_laws.specs.LdtermTurns.{IsItsTurn, IsOrderly}
@@ -25,7 +24,6 @@ use Rattle.strm_laws.specs.Stacked.{Module, OfLdterm, OfPtem, OfPckt, IsAtRest, 
 use Rattle.strm_laws.proofs.LdtermOrderly.{orderly-echo, puts-orderly, serves-orderly}
 use Rattle.strm_laws.proofs.LdtermProgress.{serves-leaves}
 use Rattle.strm_types.proofs.LdtermPutStays.{puts-stay}
-use Rattle.strm_laws.proofs.LdtermSends.{serves-near}
 use Rattle.strm_laws.proofs.LdtermServes.{serves-keep}
 use Rattle.strm_laws.proofs.ModulesIdle.{AllIdle, among-idle, puts-idle}
 
@@ -155,11 +153,6 @@ module _ {C : Type 0} (cells : Cells C) (here : Spot) (made : ℕ) (again : Bool
   abbrev asks : Module C → Bool
   asks l = (module_serves cells here made again (Some left) l).again
 
-  module-near : (q : Module C) → AllByRecursion (λ (x : Parcel C). x.to.at ≤ suc here.at) (acts q).sent
-  module-near (OfLdterm l) = serves-near cells here made again (Some left) l
-  module-near (OfPtem q) = tt
-  module-near (OfPckt q) = tt
-
   module-goes : (q : Module C) → Ready q → asks q ≡ true → IsReadyAt true here.way (left - treated q) (acts q).state
   module-goes (OfLdterm l) ready works = goes-at cells here.way here again made left l ready works
   module-goes (OfPtem q) ready works = tt
@@ -169,11 +162,6 @@ module _ {C : Type 0} (cells : Cells C) (here : Spot) (made : ℕ) (again : Bool
   module-rests (OfLdterm l) ready over = rests-at cells here.way here again made left l ready over
   module-rests (OfPtem q) ready over = tt
   module-rests (OfPckt q) ready over = tt
-
-  pub among-near : (i : ℕ) (ps : List (Module C)) → AllByRecursion (λ (q : Parcel C). q.to.at ≤ suc here.at) (act_among acts i ps).sent
-  among-near i [] = tt
-  among-near zero (l ∷ ls) = module-near l
-  among-near (suc i) (l ∷ ls) = among-near i ls
 
   pub among-goes : (i : ℕ) (ps : List (Module C)) → OneIs Ready i ps → slice_index_or (map asks ps) i false ≡ true
       → OneIs (λ l. IsReadyAt true here.way (left - slice_index_or (map treated ps) i 0) l) i (act_among acts i ps).state

@@ -1,12 +1,10 @@
--- A put at one of the modules of a stream: it loses no cell, makes none but those that it tells, does the same where the origins of cells are forgotten, and
--- sends on nothing but to the next place.
-use Rattle.std.proofs.Common.{ℕ, zero, suc, ◌≡◌, ◌<◌, ◌≤◌, ◌+◌, Bool, true, false, cond, List, [], ◌∷◌, length, map, refl, ap, arith}
+-- A put at one of the modules of a stream: it loses no cell, makes none but those that it tells, and does the same where the origins of cells are forgotten.
+use Rattle.std.proofs.Common.{ℕ, zero, suc, ◌≡◌, ◌<◌, ◌+◌, Bool, true, false, cond, List, [], ◌∷◌, length, map, refl, ap, arith}
 use Rattle.std.specs.Prelude.{◌&&◌, ◌==◌, not, Option, None}
 use Rattle.std.proofs.lemmas.List.Sums.{sum_by-cons}
 use Rattle.strm_types.specs.declared.flushing.FlushAsked.{FlushAsked}
 use Rattle.strm_types.specs.declared.ioctls.TheConstants.{TCSETSF}
 use Rattle.strm_types.specs.declared.kinds.Band.{Band}
-use Rattle.strm_types.specs.declared.limits.TheConstants.{MODULES}
 use Rattle.strm_types.specs.declared.names.Way.TheVariants.{Up, Down}
 use Rattle.strm_types.specs.declared.rules.Rule.TheVariants.{Flushed}
 use Rattle.strm_types.specs.declared.spots.Spot.{Spot}
@@ -14,8 +12,7 @@ use Rattle.strm_types.specs.declared.termios.Termios.{Termios}
 use Rattle.strm_types.specs.declared.names.Dir.{Dir}
 use Rattle.strm_types.specs.Names.{direction_at}
 use Rattle.strm_types.specs.Cells.{AreCells, Cells, plain}
-use Rattle.strm_types.specs.Deliver.{Acted, AreLower, Parcel}
-use Rattle.strm_types.specs.Far.{far}
+use Rattle.strm_types.specs.Deliver.{Acted}
 use Rattle.strm_types.specs.Flushing.{asked_by, flush_message, read_flush}
 use Rattle.strm_types.specs.LdtermPuts.{ldterm_puts}
 use Rattle.strm_types.specs.Ldterms.{Ldterm, both, flush_passes, line_flushed, onward, queue_flushed, read_flushed, sends, takes_band_0, without_line, write_flushed}
@@ -30,11 +27,9 @@ use Rattle.strm_types.specs.Typing.{up_alone}
 use Rattle.strm_laws.proofs.DeliveryKeeps.{made-append}
 use Rattle.strm_types.proofs.LdtermPuts.{either, puts-each}
 use Rattle.strm_laws.proofs.LdtermKeeps.{lost-made, puts-hold}
-use Rattle.strm_types.proofs.LdtermLower.{ldterm-lower}
 use Rattle.strm_laws.proofs.LdtermPutForgets.{puts-forget}
 use Rattle.strm_laws.proofs.PcktKeeps.{puts-keep as pckt-keeps, puts-forget as pckt-forgets}
-use Rattle.strm_types.proofs.PcktPuts.{puts-lower as pckt-lower}
-use Rattle.strm_laws.proofs.PtemPuts.{puts-gone, puts-sent, puts-forget as ptem-forgets, puts-lower as ptem-lower}
+use Rattle.strm_laws.proofs.PtemPuts.{puts-gone, puts-sent, puts-forget as ptem-forgets}
 
 module _ {C : Type 0} (p : Dir → C → Bool) where
   abbrev MakesNone : Acted C (Ldterm C) → Type 0
@@ -118,18 +113,3 @@ module _ {C : Type 0} (cells : Cells C) (are : AreCells cells) (made : ℕ) wher
   among-forgets i here m [] = refl
   among-forgets zero here m (l ∷ ls) = ap (λ (t : Acted ℕ (Module ℕ)). record { state = t.state ∷ map (map_module f) ls; notes = t.notes; sent = t.sent; gone = t.gone }) (module-forgets here m l)
   among-forgets (suc i) here m (l ∷ ls) = ap (λ (t : Acted ℕ (List (Module ℕ))). record { state = map_module f l ∷ t.state; notes = t.notes; sent = t.sent; gone = t.gone }) (among-forgets i here m ls)
-
-module _ {C : Type 0} (here : Spot) (m : Message C) (some : 0 < here.at) (few : here.at ≤ MODULES) where
-  abbrev Lower : List (Parcel C) → Type 0
-  Lower sent = AreLower far (far here m) sent
-
-  module _ (cells : Cells C) (made : ℕ) where
-    module-lower : (q : Module C) → Lower (module_puts cells made here m q).sent
-    module-lower (OfLdterm l) = ldterm-lower here m some few l
-    module-lower (OfPtem q) = ptem-lower here m q some few
-    module-lower (OfPckt q) = pckt-lower cells made here m some few
-
-    pub among-lower : (i : ℕ) (ps : List (Module C)) → Lower (put_among (module_puts cells made) i here m ps).sent
-    among-lower i [] = tt
-    among-lower zero (l ∷ ls) = module-lower l
-    among-lower (suc i) (l ∷ ls) = among-lower i ls

@@ -1,14 +1,12 @@
 -- A turn of a module's queue loses no cell, and behind it nothing of a turn is under way at any module.
-use Rattle.std.proofs.Common.{ℕ, zero, suc, ◌≡◌, ◌≤◌, ◌<◌, ◌+◌, ◌-◌, ◌*◌, Bool, true, false, cond, List, [], ◌∷◌, ◌++◌, length, take, refl, arith}
+use Rattle.std.proofs.Common.{ℕ, zero, suc, ◌≡◌, ◌+◌, ◌-◌, ◌*◌, Bool, true, false, cond, List, [], ◌∷◌, ◌++◌, refl, arith}
 use Rattle.std.specs.Prelude.{◌==◌, not, slice_index_or, Option, None, Some}
 use Rattle.std.specs.List.{AllByRecursion}
 use Rattle.std.proofs.lemmas.Bool.{false≢true}
-use Rattle.std.proofs.lemmas.List.{length-map, length-take}
 use Rattle.strm_types.specs.declared.answers.Turn.{Turn}
 use Rattle.strm_types.specs.declared.answers.Turn.TheVariants.{Moved, Blocked}
-use Rattle.strm_types.specs.declared.limits.TheConstants.{MODULES, HOPS}
+use Rattle.strm_types.specs.declared.limits.TheConstants.{HOPS}
 use Rattle.strm_types.specs.declared.names.Dir.{Dir}
-use Rattle.strm_types.specs.declared.names.Place.{Place}
 use Rattle.strm_types.specs.declared.names.QueueName.{QueueName}
 use Rattle.strm_types.specs.declared.names.Side.{Side}
 use Rattle.strm_types.specs.declared.names.Side.TheVariants.{Master, Slave}
@@ -22,27 +20,25 @@ use Rattle.strm_laws.specs.Kept.{AreIdle, state_weight}
 use Rattle.strm_laws.specs.LdtermWeights.{IgnoresMapping}
 use Rattle.strm_types.specs.Message.{Message}
 use Rattle.strm_types.specs.ModuleQueues.{at_place}
-use Rattle.strm_laws.specs.ModuleTurns.{Calls, again_at, asked_turn, bytes_at, call_at, calls, made_below, module_called, module_turn_ended, module_turned, moved_on, moved_within, named_from, place_named, queue_ended, turned_named, turned_there, waits_there}
+use Rattle.strm_laws.specs.ModuleTurns.{Calls, again_at, asked_turn, bytes_at, call_at, calls, made_below, module_called, module_turn_ended, module_turned, moved_on, moved_within, place_named, queue_ended, turned_named, turned_there, waits_there}
 use Rattle.strm_types.specs.Modules.{put_among}
-use Rattle.strm_types.specs.Names.{place_of, same_place}
 use Rattle.strm_laws.specs.Past.{has_room_past, writer_waits}
 use Rattle.strm_laws.specs.Places.{CarryKeeps, weight_gone, weight_made}
 use Rattle.strm_laws.specs.Puts.{earlier_at, noted, put_in}
-use Rattle.strm_types.specs.Far.{far}
 use Rattle.strm_types.specs.Queue.{Queue}
 use Rattle.strm_types.specs.Service.{turn_ended}
-use Rattle.strm_laws.specs.Stacked.{Module, module_asks, module_name, module_puts, module_rests, modules_weight}
+use Rattle.strm_laws.specs.Stacked.{Module, module_asks, module_puts, module_rests, modules_weight}
 use Rattle.strm_laws.specs.State.{State, stream, with_stream}
 use Rattle.strm_laws.specs.TurnOutcomes.{TurnOutcome, stayed_put}
 use Rattle.strm_types.proofs.DeliveryHolds.{carried-holds, in_turn-holds}
-use Rattle.strm_laws.proofs.DeliveryKeeps.{carried-keeps, gone-append, in_turn-keeps, made-append}
+use Rattle.strm_laws.proofs.Deliveries.{delivered-keeps}
+use Rattle.strm_laws.proofs.DeliveryKeeps.{gone-append, in_turn-keeps, made-append}
 use Rattle.strm_types.proofs.LdtermPuts.{either}
-use Rattle.strm_laws.proofs.ModuleCalls.{IsReadyAt, OneIs, among-goes, among-keeps, among-near, among-rests, first-ready, one-of-idle, one-puts, puts-ready}
+use Rattle.strm_laws.proofs.ModuleCalls.{IsReadyAt, OneIs, among-goes, among-keeps, among-rests, first-ready, one-of-idle, one-puts, puts-ready}
 use Rattle.strm_laws.proofs.ModulesHold.{OnBoth, books-good, puts-good}
 use Rattle.strm_laws.proofs.ModulesIdle.{AllIdle, among-idle}
 use Rattle.strm_laws.proofs.Past.{waits-idle, waits-keeps}
-use Rattle.strm_laws.proofs.PutsFall.{far-within, puts-fall}
-use Rattle.strm_laws.proofs.PutsKeep.{booked-keeps, puts-keep}
+use Rattle.strm_laws.proofs.PutsKeep.{booked-keeps}
 use Rattle.strm_laws.proofs.PutParts.{booked-holds}
 use Rattle.strm_laws.proofs.QueueChanges.{changes-idle, changes-keep}
 use Rattle.strm_types.proofs.BySide.{each-side, set-all}
@@ -117,21 +113,6 @@ module _ {C : Type 0} where
   ended-idle here took s idle =
       let on = queue_ended here took (stream here.side s) in
       set-all (λ of t. AllIdle t.modules) here.side on s.ends (changes-idle (turn_ended took) here.way (here.at - 1) (stream here.side s).modules (idle here.side)) idle
-
--- a module with a name is one of the first three
-named-low : (place : Place) (from : ℕ) (places : List (Option Place)) (at : ℕ) → named_from place from places ≡ Some at → at < from + length places
-named-low place from [] at is = absurd (cc)
-named-low place from (None ∷ places) at is = let low = named-low place (suc from) places at is in omega arith
-named-low place from (Some other ∷ places) at is = by (same_place other place) is (λ more. named-low place (suc from) places at more)
-  where
-    by : (same : Bool) → cond same (Some from) (named_from place (suc from) places) ≡ Some at → (named_from place (suc from) places ≡ Some at → at < suc from + length places) → at < from + suc (length places)
-    by true is low = let same : from ≡ at = cc in omega arith
-    by false is low = let more = low is in omega arith
-
-placed-low : {C : Type 0} (place : Place) (ps : List (Module C)) (at : ℕ) → place_named place ps ≡ Some at → at ≤ MODULES
-placed-low {C} place ps at is =
-    let first = take MODULES ps in
-    omega (arith, named-low place 1 (places_of first) at is, length-map first (λ (p : Module C). place_of (module_name p)), length-take MODULES ps)
 
 module _ {C : Type 0} (cells : Cells C) (here : Spot) where
   -- the module whose queue has the turn is ready for a call
@@ -248,14 +229,12 @@ module _ {C : Type 0} (p : Dir → C → Bool) where
       let ps = (stream here.side s).modules in
       omega (arith, with-keeps here.side (queue_ended here took (stream here.side s)).modules s.enabled s, changes-keep (turn_ended took) p here.side (ended-messages took) here.way (here.at - 1) ps)
 
-  -- what goes to places next to a module's own is delivered
-  carries : (cells : Cells C) (at : ℕ) → at ≤ MODULES → (sent : List (Parcel C)) → AllByRecursion (λ (q : Parcel C). q.to.at ≤ suc at) sent → AllByRecursion (CarryKeeps p (state_weight p) (carried (put_in cells) HOPS)) sent
-  carries cells at low [] near = tt
-  carries cells at low (q ∷ sent) near =
-      let far_less = far-within q.to q.message (let next = near.0 in omega arith) in
-      (carried-keeps p (state_weight p) far (put_in cells) (puts-keep p cells) (puts-fall cells) HOPS q far_less, carries cells at low sent near.1)
+  -- what was sent is delivered
+  carries : (cells : Cells C) (sent : List (Parcel C)) → AllByRecursion (CarryKeeps p (state_weight p) (carried (put_in cells) HOPS)) sent
+  carries cells [] = tt
+  carries cells (q ∷ sent) = (delivered-keeps cells p q.to q.message, carries cells sent)
 
-  module _ (cells : Cells C) (ignores : IgnoresMapping cells p) (here : Spot) (low : here.at ≤ MODULES) where
+  module _ (cells : Cells C) (ignores : IgnoresMapping cells p) (here : Spot) where
     -- a call, with what it sent
     out-keeps : (again : Bool) (left : ℕ) (s : State C) → InTurn here.side (HasCall cells here again left) s → let t = module_called cells here again left s in let u = called_out cells here again left s in
         state_weight p u.state + weight_gone p (t.gone ++ u.gone) ≡ state_weight p s + weight_made p (t.gone ++ u.gone)
@@ -271,7 +250,7 @@ module _ {C : Type 0} (p : Dir → C → Bool) where
           among-keeps cells here made again left p ignores (here.at - 1) ps one,
           booked-keeps p acted.gone (stands_behind here acted s),
           with-keeps here.side acted.state (names_behind here acted s) s,
-          in_turn-keeps p (state_weight p) (carried (put_in cells) HOPS) t.sent (carries cells here.at low t.sent (among-near cells here made again left (here.at - 1) ps)) t.state,
+          in_turn-keeps p (state_weight p) (carried (put_in cells) HOPS) t.sent (carries cells t.sent) t.state,
           gone-append p t.gone u.gone,
           made-append p t.gone u.gone,
         )
@@ -333,8 +312,8 @@ module _ {C : Type 0} (p : Dir → C → Bool) where
 
   pub module_turned-keeps : (cells : Cells C) → IgnoresMapping cells p → (name : QueueName) (turn : Turn) (s : State C) → AreIdle s → let t = module_turned cells name turn s in
       state_weight p t.state + weight_gone p t.gone ≡ state_weight p s + weight_made p t.gone
-  module_turned-keeps cells ignores name turn s idle = named (place_named name.place (stream name.side s).modules) refl
+  module_turned-keeps cells ignores name turn s idle = named (place_named name.place (stream name.side s).modules)
     where
-      named : (o : Option ℕ) → place_named name.place (stream name.side s).modules ≡ o → let t = turned_named cells name turn s o in state_weight p t.state + weight_gone p t.gone ≡ state_weight p s + weight_made p t.gone
-      named None is = omega arith
-      named (Some at) is = there-keeps cells ignores (record { side = name.side; at = at; way = name.way }) (placed-low name.place (stream name.side s).modules at is) name turn s idle
+      named : (o : Option ℕ) → let t = turned_named cells name turn s o in state_weight p t.state + weight_gone p t.gone ≡ state_weight p s + weight_made p t.gone
+      named None = omega arith
+      named (Some at) = there-keeps cells ignores (record { side = name.side; at = at; way = name.way }) name turn s idle

@@ -1,12 +1,10 @@
--- A put at ptem: it loses no cell and makes none, does the same where the origins of cells are forgotten, and sends nothing that has as
--- far to go as what was put.
-use Rattle.std.proofs.Common.{ℕ, ◌≡◌, ◌<◌, ◌≤◌, ◌+◌, ◌-◌, Bool, true, false, cond, List, [], ◌∷◌, ◌++◌, refl, sym, ap, subst, ◌∙◌, arith}
+-- A put at ptem: it loses no cell and makes none, and does the same where the origins of cells are forgotten.
+use Rattle.std.proofs.Common.{ℕ, ◌≡◌, ◌+◌, ◌-◌, Bool, true, false, cond, List, [], ◌∷◌, ◌++◌, refl, sym, ap, ◌∙◌, arith}
 use Rattle.std.specs.Prelude.{◌&&◌, ◌==◌, not, Option, None, Some}
 use Rattle.strm_types.specs.declared.ioctls.Ioc.{Ioc}
 use Rattle.strm_types.specs.declared.ioctls.TheConstants.{TCGETS, TIOCGWINSZ, TIOCSWINSZ, TIOCSIGNAL}
 use Rattle.strm_types.specs.declared.kinds.MsgKind.{MsgKind}
 use Rattle.strm_types.specs.declared.kinds.MsgKind.TheVariants.{Ioctl}
-use Rattle.strm_types.specs.declared.limits.TheConstants.{MODULES}
 use Rattle.strm_types.specs.declared.names.Way.{Way}
 use Rattle.strm_types.specs.declared.names.Way.TheVariants.{Up, Down}
 use Rattle.strm_types.specs.declared.spots.Spot.{Spot}
@@ -17,82 +15,19 @@ use Rattle.strm_laws.proofs.LdtermKeeps.{onward-weighs}
 use Rattle.strm_types.specs.Names.{direction_at}
 use Rattle.strm_types.specs.Acks.{ack_message, payload, telling_message}
 use Rattle.strm_types.specs.Commands.{is_asked, is_ioctl, sets_termios}
-use Rattle.strm_types.specs.Deliver.{Acted, AreLower, Parcel}
+use Rattle.strm_types.specs.Deliver.{Acted}
 use Rattle.strm_types.specs.Ioctls.{read_ioc}
 use Rattle.strm_types.specs.Ldterms.{onward}
 use Rattle.strm_types.specs.Message.{Message, cells_of, has_parts, map_message, weight_of}
 use Rattle.strm_types.specs.Origins.{map_acted}
 use Rattle.strm_laws.specs.Places.{weight_sent}
 use Rattle.strm_types.specs.Ptems.{Ptem, acks, asked_above, asked_below, asked_by_header, asked_on_way, naks, ptem_passes, ptem_puts, ptem_sends, set_above, signal_told, signals_up, sigwinch, termios_set, window_set, window_told}
-use Rattle.strm_types.specs.Far.{far, far_at, is_turned, turns_round}
 use Rattle.strm_types.specs.Signals.{signal_in}
 use Rattle.strm_types.specs.Termios.{read_termios, termios_bytes}
 use Rattle.strm_types.specs.Winsizes.{read_winsize, same_winsize, winsize_bytes}
-use Rattle.strm_types.proofs.Onward.{onward-lower}
+use Rattle.strm_types.proofs.PtemPuts.{puts-each}
 use Rattle.strm_laws.proofs.PutForgets.{parts-forget}
 use Rattle.strm_laws.proofs.PutWeights.{no-parts}
-
--- What holds of each outcome of a put holds of the put.
-module _ {C : Type 0} (here : Spot) (m : Message C) (l : Ptem) (P : Acted C Ptem → Type 0) where
-  pub record Each : Type 0 where
-    pub acked : here.way ≡ Down → (ioc : Ioc) (given : List ℕ) → P (acks Up here ioc given l)
-    pub refused_above : here.way ≡ Down → (ioc : Ioc) → P (naks Up here ioc l)
-    pub set : here.way ≡ Down → (ioc : Ioc) (given : List ℕ) (new : Ptem) → P (set_above here ioc given l new)
-    pub refused_below : here.way ≡ Up → (ioc : Ioc) → P (naks Down here ioc l)
-    pub told : here.way ≡ Up → (ioc : Ioc) (w : Winsize) → P (window_told here ioc (Some w) l)
-    pub signalled : here.way ≡ Up → (ioc : Ioc) (signal : ℕ) → P (signal_told here ioc (Some signal) l)
-
-  module _ (passes : P (ptem_passes here m l)) where
-    module _ (each : Each) where
-      termios-each : here.way ≡ Down → (ioc : Ioc) (given : List ℕ) (o : Option Termios) → P (termios_set here ioc given o l)
-      termios-each way ioc given None = each.refused_above way ioc
-      termios-each way ioc given (Some t) = each.set way ioc given (record l { termios = t })
-
-      window-each : here.way ≡ Down → (ioc : Ioc) (given : List ℕ) (o : Option Winsize) → P (window_set here ioc given o l)
-      window-each way ioc given None = each.refused_above way ioc
-      window-each way ioc given (Some w) = each.set way ioc given (record l { window = w })
-
-      told-each : here.way ≡ Up → (ioc : Ioc) (o : Option Winsize) → P (window_told here ioc o l)
-      told-each way ioc None = each.refused_below way ioc
-      told-each way ioc (Some w) = each.told way ioc w
-
-      signal-each : here.way ≡ Up → (ioc : Ioc) (o : Option ℕ) → P (signal_told here ioc o l)
-      signal-each way ioc None = each.refused_below way ioc
-      signal-each way ioc (Some signal) = each.signalled way ioc signal
-
-      above-each : here.way ≡ Down → (ioc : Ioc) (given : List ℕ) → P (asked_above here ioc given m l)
-      above-each way ioc given = at (ioc.command == TCGETS) (ioc.command == TIOCGWINSZ) (sets_termios ioc.command) (ioc.command == TIOCSWINSZ)
-        where
-          at : (gets gets_window sets sets_window : Bool) → P (cond gets (acks Up here ioc (termios_bytes l.termios) l) (cond gets_window (acks Up here ioc (winsize_bytes l.window) l)
-              (cond sets (termios_set here ioc given (read_termios given) l) (cond sets_window (window_set here ioc given (read_winsize given) l) (ptem_passes here m l)))))
-          at true gets_window sets sets_window = each.acked way ioc (termios_bytes l.termios)
-          at false true sets sets_window = each.acked way ioc (winsize_bytes l.window)
-          at false false true sets_window = termios-each way ioc given (read_termios given)
-          at false false false true = window-each way ioc given (read_winsize given)
-          at false false false false = passes
-
-      below-each : here.way ≡ Up → (ioc : Ioc) (given : List ℕ) → P (asked_below here ioc given m l)
-      below-each way ioc given = at (ioc.command == TIOCSWINSZ) (ioc.command == TIOCSIGNAL)
-        where
-          at : (sets signals : Bool) → P (cond sets (window_told here ioc (read_winsize given) l) (cond signals (signal_told here ioc (signal_in given) l) (ptem_passes here m l)))
-          at true signals = told-each way ioc (read_winsize given)
-          at false true = signal-each way ioc (signal_in given)
-          at false false = passes
-
-      way-each : (way : Way) → here.way ≡ way → (ioc : Ioc) (given : List ℕ) → P (asked_on_way way here ioc given m l)
-      way-each Down is ioc given = above-each is ioc given
-      way-each Up is ioc given = below-each is ioc given
-
-      header-each : (o : Option Ioc) → P (asked_by_header here o m l)
-      header-each None = passes
-      header-each (Some ioc) = way-each here.way refl ioc (payload m.plain)
-
-    pub puts-each : (is_asked m ≡ true → Each) → P (ptem_puts here m l)
-    puts-each each = at (is_asked m) refl
-      where
-        at : (asked : Bool) → is_asked m ≡ asked → P (cond asked (asked_by_header here (read_ioc m.plain) m l) (ptem_passes here m l))
-        at true is = header-each (each is) (read_ioc m.plain)
-        at false is = passes
 
 -- what it looks at is an M_IOCTL without parts
 asked-bare : (a b : Bool) → (a && not b) ≡ true → b ≡ false
@@ -149,40 +84,6 @@ module _ {C : Type 0} (here : Spot) (m : Message C) (l : Ptem) where
     refused_below = λ way ioc. refl;
     told = λ way ioc w. refl;
     signalled = λ way ioc signal. refl;
-  })
-
-module _ {C : Type 0} (here : Spot) (m : Message C) (l : Ptem) (some : 0 < here.at) (few : here.at ≤ MODULES) where
-  -- from a place on the way down, and from one on the way up, where an M_IOCTL may be turned round at the head
-  from-above : (n : ℕ) → here.way ≡ Down → n < 6 + (4 - here.at) → n < far here m
-  from-above n way less = subst (λ w. n < far_at w (is_turned m) here.at) (sym way) less
-
-  from-below : (n : ℕ) → here.way ≡ Up → is_asked m ≡ true → n < here.at + 11 → n < far here m
-  from-below n way is less =
-      let turned : is_turned m ≡ true = ap (λ kind. turns_round kind m.plain) (asked-ioctl m is) in
-      subst (λ w. n < far_at w (is_turned m) here.at) (sym way) (subst (λ b. n < far_at Up b here.at) (sym turned) less)
-
-  signal-lower : (same : Bool) (more : List (Parcel C)) → here.at < far here m → AreLower far (far here m) more → AreLower far (far here m) (cond same [] (signals_up here sigwinch ∷ []) ++ more)
-  signal-lower true more less rest = rest
-  signal-lower false more less rest = (omega (arith, some, less), rest)
-
-  signal-alone : (same : Bool) → here.at < far here m → AreLower far (far here m) (cond {A = List (Parcel C)} same [] (signals_up here sigwinch ∷ []))
-  signal-alone true less = tt
-  signal-alone false less = (omega (arith, some, less), tt)
-
-  pub puts-lower : AreLower far (far here m) (ptem_puts here m l).sent
-  puts-lower = puts-each here m l (λ t. AreLower far (far here m) t.sent) (onward-lower here m some few) (λ is. record {
-    acked = λ way ioc given. (from-above _ way (omega (arith, some, few)), tt);
-    refused_above = λ way ioc. (from-above _ way (omega (arith, some, few)), tt);
-    set = λ way ioc given new. (
-      from-above _ way (omega (arith, some, few)),
-      (
-        from-above _ way (omega (arith, some, few)),
-        signal-alone (same_winsize l.window new.window) (from-above here.at way (omega (arith, few))),
-      ),
-    );
-    refused_below = λ way ioc. (from-below _ way is (omega (arith, some, few)), tt);
-    told = λ way ioc w. signal-lower (same_winsize l.window w) (onward Down here (ack_message ioc []) ∷ []) (from-below here.at way is (omega arith)) (from-below _ way is (omega (arith, some, few)), tt);
-    signalled = λ way ioc signal. (from-below _ way is (omega (arith, some, few)), (from-below _ way is (omega (arith, some, few)), tt));
   })
 
 module _ {C D : Type 0} (f : C → D) where

@@ -46,7 +46,7 @@ module _ {C : Type 0} where
       sent-keeps side n m s =
           let dir = direction_from side in
           let led = (delivered cells (below side) m s).state in
-          omega (arith, delivered-keeps cells p (below side) m s (omega arith), weight-whole (p dir) m)
+          omega (arith, delivered-keeps cells p (below side) m s, weight-whole (p dir) m)
 
       pub put_at-keeps : (side : Side) (prio : Prio) (control body : Option (List ℕ)) (s : State C) → let t = put_at cells side prio control body s in
           state_weight p t.state + weight_gone p t.gone ≡ state_weight p s + (count_by (p (direction_from side)) (cells_of (message_put cells side prio control body s)) + weight_made p t.gone)

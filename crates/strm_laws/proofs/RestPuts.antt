@@ -33,7 +33,8 @@ use Rattle.strm_laws.specs.Rest.{echoes, moves_above, moves_across}
 use Rattle.strm_laws.specs.StackCosts.{Stands}
 use Rattle.strm_types.proofs.PcktPuts.{passed_made, puts-each as pckt-each}
 use Rattle.strm_types.proofs.Ranked.{sum-put}
-use Rattle.strm_laws.proofs.PtemPuts.{asked-ioctl, puts-each as ptem-each}
+use Rattle.strm_types.proofs.PtemPuts.{puts-each as ptem-each}
+use Rattle.strm_laws.proofs.PtemPuts.{asked-ioctl}
 use Rattle.strm_laws.proofs.RestCosts.{at_or_above, at_or_below, costs, down-falls, onward-falls, sinks_by, toll, toll_at}
 
 -- a queue that is flushed has no more than it had

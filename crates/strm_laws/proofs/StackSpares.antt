@@ -1,5 +1,5 @@
 -- A put makes no more than what it takes of blocks says, so that the books have room for what it gives rise to.
-use Rattle.std.proofs.Common.{ℕ, zero, suc, ◌≡◌, ◌<◌, ◌≤◌, ◌+◌, ◌-◌, Bool, true, false, cond, List, [], ◌∷◌, length, map, refl, ap, arith}
+use Rattle.std.proofs.Common.{ℕ, zero, suc, ◌≡◌, ◌<◌, ◌≤◌, ◌+◌, ◌-◌, Bool, true, false, cond, List, [], ◌∷◌, length, map, refl, ap, subst, sym, arith}
 use Rattle.std.specs.Prelude.{min, ◌*◌, ◌^◌, ◌==◌, ◌&&◌, slice_index_or}
 use Rattle.std.specs.Bool.{OnTrue}
 use Rattle.strm_types.specs.declared.books.Book.{Book}
@@ -19,18 +19,21 @@ use Rattle.strm_types.specs.Deliver.{Acted, Comes, Fate, Goes}
 use Rattle.strm_types.specs.Input.{made_of}
 use Rattle.strm_types.specs.LdtermPuts.{ldterm_puts}
 use Rattle.strm_types.specs.Message.{Message}
-use Rattle.strm_types.specs.Pckts.{is_bare_packet, is_packed, pckt_on_way, pckt_packs, pckt_passes, plain_packed}
+use Rattle.strm_types.specs.Costs.{packs_on_way}
+use Rattle.strm_types.specs.Pckts.{is_bare_packet, is_packed, pckt_on_way, pckt_packs, pckt_passes, pckt_puts, plain_packed}
+use Rattle.strm_types.specs.Shapes.{shape_of}
 use Rattle.strm_types.specs.ModuleQueues.{at_place}
 use Rattle.strm_types.specs.Modules.{put_among}
 use Rattle.strm_laws.specs.Puts.{booked, made_above, module_acted, passed_up, put_at_driver, put_at_head, put_at_module, put_behind}
 use Rattle.strm_types.specs.Flushing.{is_bare_flush}
 use Rattle.strm_laws.specs.Refusals.{in_range}
-use Rattle.strm_laws.specs.Spares.{module_packs, packet_most, packs_on_way, spare, spare_behind}
-use Rattle.strm_laws.specs.Stacked.{Module, OfLdterm, OfPtem, OfPckt, module_puts}
+use Rattle.strm_laws.specs.Spares.{module_packs, packet_most, spare, spare_behind}
+use Rattle.strm_laws.specs.Stacked.{Module, OfLdterm, OfPtem, OfPckt, module_name, module_puts}
 use Rattle.strm_laws.specs.State.{State, book, stream, with_book}
 use Rattle.strm_laws.proofs.Balances.{range-low, still-same}
 use Rattle.strm_laws.proofs.ModulePuts.{ldterm-none}
 use Rattle.strm_types.proofs.PcktPuts.{packs-make}
+use Rattle.strm_types.proofs.PcktWithin.{makes-one, pckt-makes}
 use Rattle.strm_laws.proofs.PtemPuts.{puts-gone}
 use Rattle.strm_laws.proofs.PutsBook.{SameBooks, head-same}
 use Rattle.strm_laws.proofs.TurnOrder.{made-all}
@@ -100,23 +103,8 @@ module _ {C : Type 0} where
 
   -- a put at a module
   module _ (cells : Cells C) (made : ℕ) (here : Spot) (m : Message C) (small : length m.plain ≤ 16777216) where
-    abbrev units_by : Way → Bool → ℕ
-    units_by Up packed = cond packed 1 0
-    units_by Down packed = 0
-
     units-one : (q : Module C) → module_packs here m q ≤ 1
-    units-one (OfLdterm l) = omega arith
-    units-one (OfPtem l) = omega arith
-    units-one (OfPckt l) = same here.way
-      where
-        at : (way : Way) (packed : Bool) → units_by way packed ≤ 1
-        at Up true = omega arith
-        at Up false = omega arith
-        at Down packed = omega arith
-
-        same : (way : Way) → packs_on_way way m ≤ 1
-        same Up = at Up (is_packed m.kind)
-        same Down = omega arith
+    units-one q = makes-one (module_name q) here.way (shape_of m)
 
     plain-few : length (plain_packed m) ≤ 16777216
     plain-few = at (is_bare_packet m)
@@ -125,18 +113,21 @@ module _ {C : Type 0} where
         at true = omega arith
         at false = small
 
-    module-makes : (q : Module C) → made_of (module_puts cells made here m q).gone ≤ module_packs here m q * packet_most
-    module-makes (OfLdterm l) = omega (arith, made-all (ldterm_puts here m l).gone, ldterm-none (λ direction c. true) here m l)
-    module-makes (OfPtem l) = omega (arith, ap made_of (puts-gone here m l))
-    module-makes (OfPckt l) = at here.way refl
+    packs-fit : made_of (pckt_puts cells made here m).gone ≤ packs_on_way here.way m * packet_most
+    packs-fit = at here.way
       where
         up : (packed : Bool) → made_of (cond packed (pckt_packs cells made here m) (pckt_passes here m)).gone ≤ cond packed 1 0 * packet_most
         up true = omega (arith, packs-make cells made here m, plain-few)
         up false = omega arith
 
-        at : (way : Way) → here.way ≡ way → made_of (pckt_on_way cells made here way m).gone ≤ packs_on_way way m * packet_most
-        at Up is = up (is_packed m.kind)
-        at Down is = omega arith
+        at : (way : Way) → made_of (pckt_on_way cells made here way m).gone ≤ packs_on_way way m * packet_most
+        at Up = up (is_packed m.kind)
+        at Down = omega arith
+
+    module-makes : (q : Module C) → made_of (module_puts cells made here m q).gone ≤ module_packs here m q * packet_most
+    module-makes (OfLdterm l) = omega (arith, made-all (ldterm_puts here m l).gone, ldterm-none (λ direction c. true) here m l)
+    module-makes (OfPtem l) = omega (arith, ap made_of (puts-gone here m l))
+    module-makes (OfPckt l) = subst (λ (n : ℕ). made_of (pckt_puts cells made here m).gone ≤ n * packet_most) (sym (pckt-makes here m)) packs-fit
 
     pub among-makes : (i : ℕ) (ps : List (Module C)) → made_of (put_among (module_puts cells made) i here m ps).gone ≤ slice_index_or (map (module_packs here m) ps) i 0 * packet_most
     among-makes i [] = omega arith

@@ -1,5 +1,5 @@
 -- A turn loses no cell, and leaves the ends as they are and a side that isn't open nothing to be read.
-use Rattle.std.proofs.Common.{ℕ, ◌≡◌, ◌+◌, Bool, true, false, cond, List, [], ◌∷◌, length, refl, ap, arith}
+use Rattle.std.proofs.Common.{ℕ, ◌≡◌, ◌+◌, Bool, true, false, cond, List, [], ◌∷◌, refl, ap, arith}
 use Rattle.std.specs.Prelude.{◌==◌, not}
 use Rattle.strm_types.specs.declared.answers.Turn.{Turn}
 use Rattle.strm_types.specs.declared.names.Side.{Side}
@@ -23,7 +23,6 @@ use Rattle.strm_laws.proofs.TurnHolds.{any-holds, turn-holds, turns-stay}
 use Rattle.strm_laws.proofs.Deliveries.{delivered-keeps}
 use Rattle.strm_laws.proofs.PutsKeep.{same-itself, same-stays, same-with}
 use Rattle.strm_laws.proofs.ModuleTurnKeeps.{module_turned-keeps}
-use Rattle.strm_laws.proofs.PutsFall.{few-stand}
 use Rattle.strm_types.proofs.Weights.{weight-take}
 use Rattle.strm_laws.specs.Earlier.{driver_place, modules_on}
 use Rattle.strm_laws.proofs.Past.{waits-keeps}
@@ -72,7 +71,7 @@ module _ {C : Type 0} (p : Dir → C → Bool) where
   moved-keeps : (cells : Cells C) (side : Side) (m : Message C) (rest : List (Message C)) (s : State C) → (stream side s).driver.queue.messages ≡ m ∷ rest → Keeps (moved_across cells side m rest s) (state_weight p s)
   moved-keeps cells side m rest s is =
       let from = with_driver side (left_with rest (stream side s).driver.queue) s in
-      omega (arith, ended-keeps side (size_of m) (delivered cells (up_across side from) m from).state, delivered-keeps cells p (up_across side from) m from (omega (arith, few-stand (length (stream (other side) from).modules))), taken-keeps side m rest s is, across-weighs side m (modules_on (other side) from))
+      omega (arith, ended-keeps side (size_of m) (delivered cells (up_across side from) m from).state, delivered-keeps cells p (up_across side from) m from, taken-keeps side m rest s is, across-weighs side m (modules_on (other side) from))
 
   blocked-keeps : (side : Side) (m : Message C) (s : State C) → state_weight p (blocked_across side m s) ≡ state_weight p s
   blocked-keeps side m s = waits-keeps p (other side) Up (driver_place (other side) s) (band_of m) s

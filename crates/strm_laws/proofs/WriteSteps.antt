@@ -70,7 +70,7 @@ module _ {C : Type 0} where
     chunks-keep (suc count) xs s =
         let t = chunk_goes cells side (take 256 xs) s in
         went-keeps (is_full_below 0 side s) xs s t (chunks_sent cells side (chunks_of count (drop 256 xs)) t.state)
-        (let here = delivered-keeps cells p (below_head side) (data_message (take 256 xs)) s (omega arith) in omega (arith, weight-data down (take 256 xs)))
+        (let here = delivered-keeps cells p (below_head side) (data_message (take 256 xs)) s in omega (arith, weight-data down (take 256 xs)))
         (chunks-keep count (drop 256 xs) t.state)
 
     pub cells_sent-keeps : (xs : List C) (s : State C) → WroteKeeps (cells_sent cells side xs s) xs s

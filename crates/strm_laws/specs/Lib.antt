@@ -7,6 +7,7 @@ pub mod Closes
 pub mod Puts
 pub mod Spares
 pub mod StackCosts
+pub mod SideCosts
 pub mod FlushEffect
 pub mod PutEffect
 pub mod Calls

@@ -47,6 +47,9 @@ module _ {C S : Type 0} (p : Dir → C → Bool) (weigh : S → ℕ) where
   PutKeeps put = (to : Spot) (m : Message C) (s : S) →
       weigh (put to m s).state + (weight_sent p (put to m s).sent + weight_gone p (put to m s).gone) ≡ weigh s + (weight_of (p (direction_to to)) m + weight_made p (put to m s).gone)
 
-  -- nor does the carrying of a message
+  -- nor does the carrying of a message, from a state or from any
+  abbrev pub KeepsFrom : (Parcel C → S → Carried C S) → Parcel C → S → Type 0
+  KeepsFrom carry q s = weigh (carry q s).state + weight_gone p (carry q s).gone ≡ weigh s + (weight_of (p (direction_to q.to)) q.message + weight_made p (carry q s).gone)
+
   abbrev pub CarryKeeps : (Parcel C → S → Carried C S) → Parcel C → Type 0
-  CarryKeeps carry q = (s : S) → weigh (carry q s).state + weight_gone p (carry q s).gone ≡ weigh s + (weight_of (p (direction_to q.to)) q.message + weight_made p (carry q s).gone)
+  CarryKeeps carry q = (s : S) → KeepsFrom carry q s

@@ -22,8 +22,10 @@ ghost use Rattle.strm_laws.specs.Puts.{SameButMade};
 ghost use Rattle.strm_laws.specs.TurnOutcomes.{map_turn_outcome};
 ghost use Rattle.strm_laws.specs.Turns.{turned};
 ghost use Rattle.strm_types.specs.declared.spots.Spot.{Spot};
-ghost use Rattle.strm_types.specs.Deliver.{Parcel, Took, Falls, carried};
-ghost use Rattle.strm_laws.specs.Places.{PutKeeps, CarryKeeps, weight_gone, weight_made};
+ghost use Rattle.strm_types.specs.Deliver.{Parcel, Took, carried};
+ghost use Rattle.strm_types.specs.Budgets.{Costed, Costs, beyond, budget};
+ghost use Rattle.strm_types.specs.Shapes.{At, at_of};
+ghost use Rattle.strm_laws.specs.Places.{PutKeeps, KeepsFrom, weight_gone, weight_made};
 ghost use Rattle.strm_types.specs.Origins.{PutsAgree, CarriesAgree};
 ghost use Rattle.strm_types.specs.Journal.{PlainEntry, content_max, event_len, answer_len, request_in, reply_in, entry_in};
 ghost use Rattle.strm_laws.specs.Step.{Step, replay};
@@ -151,13 +153,13 @@ pub fn turns_leave_the_ends<C>()
     ensures { (cells : Cells C) (name : QueueName) (turn : Turn) (s : State C) → SameButMade s (turned cells name turn s).state }
 {}
 
-/// Where no put loses a cell, or makes one that it doesn't tell, and what a put sends on has less before it than what was put, no
-/// delivery does: of any cells, those are held or have gone by a rule that were held before, came with the message, or were made
+/// Where no put loses a cell, or makes one that it doesn't tell, and puts send on no more than tables say, no delivery does that has a
+/// budget by these: of any cells, those are held or have gone by a rule that were held before, came with the message, or were made
 /// on the way.
 pub fn delivery_keeps_cells<C, S>()
-    ensures { (p : Dir → C → Bool) (weigh : S → ℕ) (height : Spot → Message C → ℕ) (put : Spot → Message C → S → Took C S) →
-        PutKeeps p weigh put → Falls height put → (hops : ℕ) (q : Parcel C) → height q.to q.message < hops →
-        CarryKeeps p weigh (carried put hops) q }
+    ensures { (p : Dir → C → Bool) (weigh : S → ℕ) (costs : S → At → Costs) (put : Spot → Message C → S → Took C S) →
+        PutKeeps p weigh put → Costed costs put → (hops : ℕ) (q : Parcel C) (s : S) → budget (costs s) hops (at_of q) < beyond →
+        KeepsFrom p weigh (carried put hops) q s }
 {}
 
 /// Where puts do the same to cells and to what these are mapped to, as where their origins are forgotten, deliveries do.

@@ -1,20 +1,20 @@
 //! What follows from the definition of what pckt does (pckt(7M)). Each law is the contract of a function that does nothing, and holds of
 //! bytes and of bytes with their origin alike.
 
-ghost use Rattle.std.specs.Prelude.{◌≡◌, ◌<◌, ◌≤◌, ℕ, suc, ◌+◌, Bool, true, false, [], length};
-ghost use Rattle.strm_types.specs.declared.limits.TheConstants.{MODULES};
+ghost use Rattle.std.specs.Prelude.{◌≡◌, ◌≤◌, ℕ, suc, ◌+◌, Bool, true, false, [], length};
 ghost use Rattle.strm_types.specs.declared.names.Dir.{Dir};
 ghost use Rattle.strm_types.specs.declared.names.Way.TheVariants.{Up, Down};
 ghost use Rattle.strm_types.specs.declared.spots.Spot.{Spot};
 ghost use Rattle.strm_types.specs.Cells.{AreCells, Cells, plain};
-ghost use Rattle.strm_types.specs.Deliver.{AreLower};
+ghost use Rattle.strm_types.specs.Budgets.{Within, emits_at};
 ghost use Rattle.strm_types.specs.Input.{made_of};
 ghost use Rattle.strm_types.specs.Message.{Message, map_message, weight_of};
 ghost use Rattle.strm_types.specs.Names.{direction_at};
 ghost use Rattle.strm_types.specs.Origins.{map_acted};
 ghost use Rattle.strm_types.specs.Pckts.{Pckt, is_packed, pckt_passes, pckt_puts, plain_packed};
 ghost use Rattle.strm_laws.specs.Places.{weight_gone, weight_made, weight_sent};
-ghost use Rattle.strm_types.specs.Far.{far};
+ghost use Rattle.strm_types.specs.Shapes.{shape_of};
+ghost use Rattle.strm_types.specs.Tables.{pckt_does};
 
 /// pckt holds no cell, loses none, and makes none but those that it tells: of any cells, those that are sent on and that go by a rule are
 /// those of the message that is put, and those that are told as made. No queue's place on the enabled list changes.
@@ -43,8 +43,8 @@ pub fn pckt_forgets<C>()
     ensures plain { (a b : ℕ) (here : Spot) (m : Message ℕ) → pckt_puts plain a here m ≡ pckt_puts plain b here m }
 {}
 
-/// What pckt sends has less before it than what was put, from each place of a module, so that deliveries end.
-pub fn pckt_sends_lower<C>()
-    ensures { (cells : Cells C) (made : ℕ) (here : Spot) (m : Message C) → 0 < here.at → here.at ≤ MODULES →
-        AreLower far (far here m) (pckt_puts cells made here m).sent }
+/// What pckt sends is within its table, by which budgets are reckoned.
+pub fn pckt_keeps_its_table<C>()
+    ensures { (cells : Cells C) (made : ℕ) (here : Spot) (m : Message C) →
+        Within (pckt_puts cells made here m).sent (emits_at here (pckt_does here.way (shape_of m))) }
 {}

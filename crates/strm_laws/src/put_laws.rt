@@ -10,7 +10,7 @@ ghost use Rattle.strm_types.specs.declared.spots.Across.{Across};
 ghost use Rattle.strm_types.specs.declared.spots.Spot.{Spot};
 ghost use Rattle.strm_types.specs.declared.names.Dir.{Dir};
 ghost use Rattle.strm_types.specs.Cells.{AreCells, Cells, plain};
-ghost use Rattle.strm_types.specs.Deliver.{Falls};
+ghost use Rattle.strm_types.specs.Budgets.{Costed, beyond, budget, most};
 ghost use Rattle.strm_types.specs.Drivers.{driver_put};
 ghost use Rattle.strm_laws.specs.Earlier.{NoModules};
 ghost use Rattle.strm_types.specs.Heads.{head_put, Head};
@@ -21,16 +21,19 @@ ghost use Rattle.strm_types.specs.Origins.{PutsAgree};
 ghost use Rattle.strm_laws.specs.Places.{PutKeeps, weight_gone, weight_made};
 ghost use Rattle.strm_laws.specs.PutEffect.{put_effect};
 ghost use Rattle.strm_laws.specs.Puts.{SameButMade, delivered, put_in};
-ghost use Rattle.strm_types.specs.Far.{far};
+ghost use Rattle.strm_laws.specs.SideCosts.{costs};
+ghost use Rattle.strm_laws.specs.StackCosts.{StandOnce, Stands, stands_of};
+ghost use Rattle.strm_types.specs.Shapes.{At};
 ghost use Rattle.strm_types.specs.Queue.{Queue};
 ghost use Rattle.strm_laws.specs.State.{State, map_state};
 ghost use Rattle.strm_laws.specs.Writes.{cells_sent, map_wrote};
 
-/// What a put sends on has less before it than what was put, wherever that was; and from the places of a stream, of which the
-/// driver's is the fourth below the head, no message has more before it than a delivery hands on.
-pub fn puts_fall<C>()
-    ensures fall { (cells : Cells C) → Falls far (put_in cells) }
-    ensures within { (to : Spot) (m : Message C) → to.at ≤ 4 → far to m < HOPS }
+/// A put sends on no more than the tables say of what stands there, wherever that is, and no put changes which modules stand. By these a
+/// delivery ends from any spot, whatever modules stand on the streams; and where each stands on a side once at most it takes few blocks.
+pub fn puts_keep_budgets<C>()
+    ensures within { (cells : Cells C) → Costed (λ (s : State C). costs (stands_of s)) (put_in cells) }
+    ensures ends { (all : Stands) (a : At) → budget (costs all) HOPS a < beyond }
+    ensures few { (all : Stands) → StandOnce all → (a : At) → budget (costs all) HOPS a ≤ most a }
 {}
 
 /// No put loses a cell, or makes one that it doesn't tell: of any cells, those stand on the queues, are sent on, or have gone by a

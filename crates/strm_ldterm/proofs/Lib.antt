@@ -45,7 +45,6 @@ pub mod Calls
 pub mod Freeing
 pub mod Turned
 pub mod Onward
-pub mod Falls
 pub mod Spending
 pub mod Spared
 pub mod Pouring
@@ -53,5 +52,4 @@ pub mod Whole
 pub mod WholeOut
 pub mod Poured
 pub mod Outgone
-pub mod TakenCosts
 pub mod TakingUp

@@ -1,15 +1,14 @@
 -- What is free behind a call of ldterm's service procedure: enough for what it has sent, and for the rest of a byte where it is called again.
-use Rattle.std.proofs.Common.{ℕ, ◌≡◌, ◌≤◌, ◌<◌, ◌+◌, ◌-◌, ◌*◌, Bool, true, false, cond, List, [], ◌∷◌, map, refl, sym, ap, subst, ◌∙◌, arith}
+use Rattle.std.proofs.Common.{ℕ, ◌≡◌, ◌≤◌, ◌+◌, ◌-◌, ◌*◌, Bool, true, false, cond, List, [], ◌∷◌, map, refl, sym, ap, subst, ◌∙◌, arith}
 use Rattle.std.proofs.lemmas.Bool.{false≢true}
-use Rattle.std.proofs.lemmas.Bool.Decides.{nat_tests}
-use Rattle.std.specs.Prelude.{◌==◌, ◌&&◌, not, length, take, Option, None, Some, is_some, unwrap_or, ◌||◌}
+use Rattle.std.specs.Prelude.{◌&&◌, not, length, take, Option, None, Some, is_some, unwrap_or}
 use Rattle.strm_types.specs.declared.kinds.MsgKind.{MsgKind}
 use Rattle.strm_types.specs.declared.kinds.MsgKind.TheVariants as kinds
 use Rattle.strm_types.specs.declared.names.Way.{Way}
 use Rattle.strm_types.specs.declared.names.Way.TheVariants.{Up, Down}
 use Rattle.strm_types.specs.declared.spots.Spot.{Spot}
 use Rattle.strm_types.specs.Cells.{plain}
-use Rattle.strm_types.specs.Costs.{asking_at, cost_of, most_cost, most_down}
+use Rattle.strm_types.specs.Budgets.{cost_of, most, most_on}
 use Rattle.strm_types.specs.Deliver.{Parcel, toward}
 use Rattle.strm_types.specs.Input.{input_begins, is_data, passes, stages_done, to_treat, treats}
 use Rattle.strm_types.specs.LdtermServes.{ldterm_serves}
@@ -20,9 +19,8 @@ use Rattle.strm_types.specs.OutputTurns.{output_dir, output_serves, posted, unch
 use Rattle.strm_types.specs.Queue.{is_none_left, left_with}
 use Rattle.strm_types.specs.Service.{Serving}
 use Rattle.strm_types.specs.Termios.{opost}
-use Rattle.strm_types.specs.Far.{is_turned}
-use Rattle.strm_types.proofs.CostSums.{none-few, one-few}
-use Rattle.strm_types.proofs.MostBounds.{most-few}
+use Rattle.strm_types.specs.Shapes.{shape_by, shape_of}
+use Rattle.strm_types.proofs.CostsOf.{most-few, none-few, one-few}
 use Rattle.strm_blocks.specs.Blocks.{StoreValue}
 use Rattle.strm_queue.specs.Stored.{FreesBlocks}
 use Rattle.strm_frame.specs.Hands.{HasRoom}
@@ -38,40 +36,37 @@ abbrev at_end : Way → ℕ
 at_end Up = 1
 at_end Down = 0
 
-module _ (here : Spot) (inside : 0 < here.at) where
+module _ (here : Spot) where
   -- a call that treats bytes
   pub record Treats (v : Serving ℕ (Ldterm ℕ)) : Type 0 where
     pub up : v.again ≡ true → here.way ≡ Up
     pub more : v.again ≡ true → Leaves here v.acted
-    pub over : v.again ≡ false → cost_of most_cost v.acted.sent ≤ at_end here.way
+    pub over : v.again ≡ false → cost_of most v.acted.sent ≤ at_end here.way
 
   -- a call in which a message passes whole, or none
   pub record Passes (v : Serving ℕ (Ldterm ℕ)) : Type 0 where
     pub over : v.again ≡ false
-    pub few : cost_of most_cost v.acted.sent ≤ 25
+    pub few : cost_of most v.acted.sent ≤ 25
 
   treats-spare : here.way ≡ Up → (bytes : ℕ) (p : Ldterm ℕ) → is_some p.in_work ≡ true → Treats (treats plain here bytes 0 p)
   treats-spare up bytes p work = let spares = stages-spare here (3 * bytes - stages_done p.stage) 0 p work in record { up = λ again. up; more = spares.more; over = λ ends. (let one = spares.over ends in let same = ap at_end up in omega (arith, one, same)) }
 
   passes-few : (way : Way) (m : Message ℕ) (rest : List (Message ℕ)) (p : Ldterm ℕ) → Passes (passes plain here way m rest p)
-  passes-few way m rest p = record { over = refl; few = one-few {C = ℕ} most_cost 25 (toward way here) m (most-few way here m inside) }
+  passes-few way m rest p = record { over = refl; few = one-few {C = ℕ} most 25 (toward way here) m (omega (arith, most-few (record { to = toward way here; shape = shape_of m }))) }
 
-  nothing-few : cost_of (most_cost {C = ℕ}) [] ≤ 25
-  nothing-few = none-few {C = ℕ} most_cost 25
+  nothing-few : cost_of {C = ℕ} most [] ≤ 25
+  nothing-few = none-few {C = ℕ} most 25
 
   -- what is given to go down takes none
-  data-down : (at : ℕ) (kind : MsgKind) → is_data kind ≡ true → most_down at kind ≡ 0
-  data-down at kinds.Data is = refl
-  data-down at _ is = absurd (cc)
+  data-down : (kind : MsgKind) (bytes : List ℕ) → is_data kind ≡ true → most_on Down (shape_by true kind bytes) ≡ 0
+  data-down kinds.Data bytes is = refl
+  data-down _ bytes is = absurd (cc)
 
-  given-free : (given : List ℕ) (m : Message ℕ) → is_data m.kind ≡ true → cost_of most_cost (map (onward Down here) (with_given given m)) ≤ 0
-  given-free [] m is = none-few {C = ℕ} most_cost 0
+  given-free : (given : List ℕ) (m : Message ℕ) → is_data m.kind ≡ true → cost_of most (map (onward Down here) (with_given given m)) ≤ 0
+  given-free [] m is = none-few {C = ℕ} most 0
   given-free (c ∷ given) m is =
       let n : Message ℕ = record m { control = None; body = Some (c ∷ given) } in
-      let below : (here.at + 1 == 0) ≡ false = grind (arith, nat_tests) in
-      let base = ap (λ top. cond {A = ℕ} top (cond {A = ℕ} (is_turned n) 4 0) 0 + cond {A = ℕ} (top || true) 0 (asking_at Down n.kind (here.at + 1))) below in
-      let packs = data-down (here.at + 1) m.kind is in
-      one-few {C = ℕ} most_cost 0 (toward Down here) n (omega (arith, base, packs))
+      one-few {C = ℕ} most 0 (toward Down here) n (omega (arith, data-down m.kind m.plain is))
 
   module _ (again : Bool) (stop : Option ℕ) (p : Ldterm ℕ) where
     abbrev call : Serving ℕ (Ldterm ℕ)
@@ -124,13 +119,13 @@ module _ (here : Spot) (inside : 0 < here.at) where
     output-treats (m ∷ rest) whole = record { up = λ more. absurd (false≢true more); more = λ more. absurd (false≢true more); over = λ ends. ends-free }
       where
         at : (treated output : Bool) (xs : List ℕ) → is_data m.kind ≡ treated → not (treated && (output && not (is_none_left xs))) ≡ false
-            → cost_of most_cost (map (onward Down here) (cond (treated && output) (posted plain here stop 0 xs m p) (unchanged m p)).messages) ≤ 0
+            → cost_of most (map (onward Down here) (cond (treated && output) (posted plain here stop 0 xs m p) (unchanged m p)).messages) ≤ 0
         at false output xs is e = absurd (false≢true (sym e))
         at true false xs is e = absurd (false≢true (sym e))
         at true true [] is e = absurd (false≢true (sym e))
         at true true (x ∷ xs) is e = given-free (posts plain (output_dir plain here) 0 p.termios p.column (take (unwrap_or stop (length (x ∷ xs))) (x ∷ xs))).given m is
 
-        ends-free : cost_of most_cost (output_serves plain here stop 0 (m ∷ rest) p).acted.sent ≤ at_end here.way
+        ends-free : cost_of most (output_serves plain here stop 0 (m ∷ rest) p).acted.sent ≤ at_end here.way
         ends-free = let free = at (is_data m.kind) (opost p.termios) (cells_of m) refl whole in omega (arith, free)
 
     serves-treat : (way : Way) (more : Bool) → here.way ≡ way → again ≡ more → (way ≡ Up → more ≡ true → is_some p.in_work ≡ true) → passes_whole way more p ≡ false → Treats call
@@ -153,14 +148,14 @@ module _ (here : Spot) (inside : 0 < here.at) where
     ends-few Up = omega arith
     ends-few Down = omega arith
 
-    pub call-few : (here.way ≡ Up → again ≡ true → is_some p.in_work ≡ true) → cost_of most_cost call.acted.sent ≤ 31
+    pub call-few : (here.way ≡ Up → again ≡ true → is_some p.in_work ≡ true) → cost_of most call.acted.sent ≤ 31
     call-few work = at (passes_whole here.way again p) refl
       where
-        treated : Treats call → (more : Bool) → call.again ≡ more → cost_of most_cost call.acted.sent ≤ 31
+        treated : Treats call → (more : Bool) → call.again ≡ more → cost_of most call.acted.sent ≤ 31
         treated is true goes = omega (arith, is.more goes, leaves-few call.acted.state.stage)
         treated is false goes = omega (arith, is.over goes, ends-few here.way)
 
-        at : (whole : Bool) → passes_whole here.way again p ≡ whole → cost_of most_cost call.acted.sent ≤ 31
+        at : (whole : Bool) → passes_whole here.way again p ≡ whole → cost_of most call.acted.sent ≤ 31
         at true whole = omega (arith, (serves-pass here.way again refl refl whole).few)
         at false whole = treated (serves-treat here.way again refl refl work whole) call.again refl
 
@@ -175,23 +170,23 @@ module _ (here : Spot) (inside : 0 < here.at) where
     bytes-count Up q up = refl
 
     module _ (old new : StoreValue) (q : Ldterm ℕ) (more : Bool) (sent : List (Parcel ℕ)) (state : q ≡ call.acted.state) (parcels : sent ≡ call.acted.sent) (calls : more ≡ call.again) where
-      same-cost : cost_of most_cost sent ≡ cost_of most_cost call.acted.sent
-      same-cost = ap (cost_of most_cost) parcels
+      same-cost : cost_of most sent ≡ cost_of most call.acted.sent
+      same-cost = ap (cost_of most) parcels
 
-      passed-room : (whole : passes_whole here.way again p ≡ true) → HasRoom old (turn_cost here again p) → FreesBlocks old new → HasRoom new (later_cost most_cost more (turn_cost here true q) sent)
+      passed-room : (whole : passes_whole here.way again p ≡ true) → HasRoom old (turn_cost here again p) → FreesBlocks old new → HasRoom new (later_cost more (turn_cost here true q) sent)
       passed-room whole room frees =
           let passes = serves-pass here.way again refl refl whole in
           let counts = whole-counts here.way again whole in
           let ends : more ≡ false = calls ∙ passes.over in
           let few = passes.few in
           let same = same-cost in
-          let takes : later_cost most_cost more (turn_cost here true q) sent ≡ cost_of most_cost sent + 0 = ap (λ v. cost_of most_cost sent + cond {A = ℕ} v (turn_cost here true q) 0) ends in
+          let takes : later_cost more (turn_cost here true q) sent ≡ cost_of most sent + 0 = ap (λ v. cost_of most sent + cond {A = ℕ} v (turn_cost here true q) 0) ends in
           record {
             mblks = (let r = room.mblks in let f = frees.mblks in omega (arith, counts, few, same, takes, r, f));
             dblks = (let r = room.dblks in let f = frees.dblks in omega (arith, counts, few, same, takes, r, f));
           }
 
-      treated-room : (whole : passes_whole here.way again p ≡ false) → (here.way ≡ Up → again ≡ true → is_some p.in_work ≡ true) → (more ≡ true → HasRoom new (leaves q.stage)) → (here.way ≡ Up → HasRoom new 1) → HasRoom new (later_cost most_cost more (turn_cost here true q) sent)
+      treated-room : (whole : passes_whole here.way again p ≡ false) → (here.way ≡ Up → again ≡ true → is_some p.in_work ≡ true) → (more ≡ true → HasRoom new (leaves q.stage)) → (here.way ≡ Up → HasRoom new 1) → HasRoom new (later_cost more (turn_cost here true q) sent)
       treated-room whole work behind at_last = at more refl
         where
           treats : Treats call
@@ -201,7 +196,7 @@ module _ (here : Spot) (inside : 0 < here.at) where
           last-room Up is = at_last is
           last-room Down is = record { mblks = omega arith; dblks = omega arith }
 
-          at : (v : Bool) → more ≡ v → HasRoom new (cost_of most_cost sent + cond {A = ℕ} v (turn_cost here true q) 0)
+          at : (v : Bool) → more ≡ v → HasRoom new (cost_of most sent + cond {A = ℕ} v (turn_cost here true q) 0)
           at true goes =
               let room = behind goes in
               let left = treats.more (sym calls ∙ goes) in
@@ -220,9 +215,9 @@ module _ (here : Spot) (inside : 0 < here.at) where
               record { mblks = (let r = room.mblks in omega (arith, most, same, r)); dblks = (let r = room.dblks in omega (arith, most, same, r)) }
 
       pub call-room : (here.way ≡ Up → again ≡ true → is_some p.in_work ≡ true) → HasRoom old (turn_cost here again p) → (passes_whole here.way again p ≡ true → FreesBlocks old new)
-          → (more ≡ true → HasRoom new (leaves q.stage)) → (here.way ≡ Up → HasRoom new 1) → HasRoom new (later_cost most_cost more (turn_cost here true q) sent)
+          → (more ≡ true → HasRoom new (leaves q.stage)) → (here.way ≡ Up → HasRoom new 1) → HasRoom new (later_cost more (turn_cost here true q) sent)
       call-room work room frees behind at_last = at (passes_whole here.way again p) refl
         where
-          at : (whole : Bool) → passes_whole here.way again p ≡ whole → HasRoom new (later_cost most_cost more (turn_cost here true q) sent)
+          at : (whole : Bool) → passes_whole here.way again p ≡ whole → HasRoom new (later_cost more (turn_cost here true q) sent)
           at true whole = passed-room whole room (frees whole)
           at false whole = treated-room whole work behind at_last

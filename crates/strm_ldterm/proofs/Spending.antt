@@ -1,65 +1,42 @@
--- What ldterm sends takes no more blocks than may be taken: what passes no more than what was put, and what a call of its service
--- procedure sends no more than is left beside the rest of the byte.
-use Rattle.std.proofs.Common.{ℕ, zero, suc, ◌≡◌, ◌<◌, ◌≤◌, ◌+◌, ◌-◌, ◌*◌, Bool, true, false, cond, List, [], ◌∷◌, ◌++◌, refl, sym, ap, subst, ◌∙◌, arith}
+-- What a call of ldterm's service procedure sends takes no more blocks than are left beside the rest of the byte.
+use Rattle.std.proofs.Common.{ℕ, zero, suc, ◌≡◌, ◌≤◌, ◌+◌, ◌-◌, ◌*◌, Bool, true, false, cond, List, [], ◌∷◌, ◌++◌, refl, sym, ap, ◌∙◌, arith}
 use Rattle.std.proofs.lemmas.Bool.{false≢true}
-use Rattle.std.specs.Prelude.{◌==◌, ◌&&◌, ◌||◌, Option, None, Some, is_some, option_map}
+use Rattle.std.specs.Prelude.{◌&&◌, Option, None, Some, is_some, option_map}
 use Rattle.strm_types.specs.declared.kinds.MsgKind.TheVariants as kinds
-use Rattle.strm_types.specs.declared.limits.TheConstants.{MODULES}
 use Rattle.strm_types.specs.declared.names.Way.{Way}
 use Rattle.strm_types.specs.declared.names.Way.TheVariants.{Up, Down}
 use Rattle.strm_types.specs.declared.spots.Spot.{Spot}
 use Rattle.strm_types.specs.Cells.{cells_made, plain}
-use Rattle.strm_types.specs.Costs.{asking_at, cost, cost_of, most_cost}
+use Rattle.strm_types.specs.Budgets.{cost_of, most}
+use Rattle.strm_types.specs.Shapes.{shape_of}
 use Rattle.strm_types.specs.Deliver.{Acted, Parcel, toward}
 use Rattle.strm_types.specs.Input.{begins_next, cells_left, left_of, made_of, next_stage, stage_at, stages, with_left}
 use Rattle.strm_types.specs.Keys.{restarts}
-use Rattle.strm_types.specs.Ldterms.{Ldterm, Stage, Between, Begun, Answered, flush_passes, onward, sends}
+use Rattle.strm_types.specs.Ldterms.{Ldterm, Stage, Between, Begun, Answered, onward, sends}
 use Rattle.strm_types.specs.Message.{Message, data_message}
 use Rattle.strm_types.specs.Queue.{is_full, is_none_left}
 use Rattle.strm_types.specs.Typing.{bare, echo_dir, echoed, echo_grows, echo_lost, echo_stands, gathered_up, is_lnext, stroke_at, struck}
-use Rattle.strm_types.proofs.CostsBounded.{is_quiet, next-cost}
-use Rattle.strm_types.proofs.CostSums.{more-few, none-few, one-few}
-use Rattle.strm_types.proofs.MostBounds.{most-low}
+use Rattle.strm_types.proofs.CostsOf.{more-few, most-few, none-few, one-few}
 use Rattle.strm_types.proofs.StrikesStay.{strikes-stay}
 use Rattle.strm_ldterm.specs.Turns.{leaves, needs}
-use Rattle.strm_ldterm.proofs.Onward.{flush-sent, struck-sends}
-
-pub none-cost : (C : Type 0) → cost_of (cost {C = C}) [] ≡ 0
-unfolding cost_of
-none-cost C = refl
-
-module _ {C : Type 0} where
-  pub one-cost : (to : Spot) (m : Message C) → cost_of cost (record { to = to; message = m } ∷ []) ≡ cost to m
-  unfolding cost_of
-  one-cost to m = omega arith
-
-  -- a message that goes on costs no more, and so does an M_FLUSH that passes
-  pub goes-cost : (here : Spot) (m : Message C) → 0 < here.at → here.at ≤ MODULES → cost_of cost (onward here.way here m ∷ []) ≤ cost here m
-  goes-cost here m inside small = let one = one-cost (toward here.way here) m in let low = next-cost m here inside small in omega (arith, one, low)
-
-  pub flush-cost : (here : Spot) (m : Message C) (p : Ldterm C) → 0 < here.at → here.at ≤ MODULES → cost_of cost (flush_passes here m p).sent ≤ cost here m
-  flush-cost here m p inside small = subst (λ ps. cost_of cost ps ≤ cost here m) (sym (flush-sent here m p)) (goes-cost here m inside small)
+use Rattle.strm_ldterm.proofs.Onward.{struck-sends}
 
 module _ (here : Spot) where
   abbrev pub Acts : Type 0
   Acts = Acted ℕ (Ldterm ℕ)
 
   abbrev Costs : ℕ → List (Parcel ℕ) → Type 0
-  Costs n ps = cost_of most_cost ps ≤ 8 * n
+  Costs n ps = cost_of most ps ≤ 8 * n
 
   few-none : (n : ℕ) → Costs n []
-  few-none n = none-few {C = ℕ} most_cost (8 * n)
+  few-none n = none-few {C = ℕ} most (8 * n)
 
-  few-more : (way : Way) (m : Message ℕ) (n : ℕ) (ps : List (Parcel ℕ)) → is_quiet m.kind ≡ true → Costs n ps → Costs (suc n) (onward way here m ∷ ps)
-  few-more way m n ps quiet few = more-few {C = ℕ} most_cost (8 * suc n) (toward way here) m ps (let low = most-low (toward way here) m quiet in omega (arith, low, few))
+  few-more : (way : Way) (m : Message ℕ) (n : ℕ) (ps : List (Parcel ℕ)) → Costs n ps → Costs (suc n) (onward way here m ∷ ps)
+  few-more way m n ps few = more-few {C = ℕ} most (8 * suc n) (toward way here) m ps (omega (arith, most-few (record { to = toward way here; shape = shape_of m }), few))
 
   -- output that is started: an M_START goes down
-  start-cost : cost_of most_cost (onward {C = ℕ} Down here (bare kinds.Start []) ∷ []) ≤ 3
-  start-cost = one-few {C = ℕ} most_cost 3 (toward Down here) (bare kinds.Start []) (at (here.at + 1 == 0))
-    where
-      at : (top : Bool) → (cond top (cond false 4 0) 3 + cond (top || false) 0 0) + 0 ≤ 3
-      at true = omega arith
-      at false = omega arith
+  start-cost : cost_of most (onward {C = ℕ} Down here (bare kinds.Start []) ∷ []) ≤ 3
+  start-cost = one-few {C = ℕ} most 3 (toward Down here) (bare kinds.Start []) (omega arith)
 
   -- the message in work stays one
   pub next-works : (made : ℕ) (p : Ldterm ℕ) → is_some (next_stage plain here made p).state.in_work ≡ is_some p.in_work
@@ -103,7 +80,7 @@ module _ (here : Spot) where
 
   -- a stage that has sent something leaves enough for the rest of its byte, beside what is sent
   abbrev pub Leaves : Acts → Type 0
-  Leaves t = cost_of most_cost t.sent + needs t.state.stage ≤ leaves t.state.stage
+  Leaves t = cost_of most t.sent + needs t.state.stage ≤ leaves t.state.stage
 
   next-leaves : (made : ℕ) (p : Ldterm ℕ) → is_none_left (next_stage plain here made p).sent ≡ false → Leaves (next_stage plain here made p)
   next-leaves made p = at p.stage
@@ -142,16 +119,12 @@ module _ (here : Spot) where
   -- its way up, which may become a packet.
   pub record Spares (t : Acts) : Type 0 where
     pub more : is_some t.state.in_work ≡ true → Leaves t
-    pub over : is_some t.state.in_work ≡ false → cost_of most_cost t.sent ≤ 1
+    pub over : is_some t.state.in_work ≡ false → cost_of most t.sent ≤ 1
 
-  gathered-few : (gathered : List ℕ) → cost_of most_cost (gathered_up plain here gathered) ≤ 1
+  gathered-few : (gathered : List ℕ) → cost_of most (gathered_up plain here gathered) ≤ 1
   unfolding data_message
-  gathered-few [] = none-few {C = ℕ} most_cost 1
-  gathered-few (c ∷ rest) = one-few {C = ℕ} most_cost 1 (toward Up here) (data_message (c ∷ rest)) (at (here.at - 1 == 0))
-    where
-      at : (top : Bool) → (cond {A = ℕ} top 0 0 + cond (top || true) 0 (asking_at Up kinds.Data (here.at - 1))) + 1 ≤ 1
-      at true = omega arith
-      at false = omega arith
+  gathered-few [] = none-few {C = ℕ} most 1
+  gathered-few (c ∷ rest) = one-few {C = ℕ} most 1 (toward Up here) (data_message (c ∷ rest)) (omega arith)
 
   step-spares : (n made : ℕ) (p : Ldterm ℕ) → (let t = next_stage plain here made p in
       is_some t.state.in_work ≡ true → Spares (stages plain here n (made + made_of t.gone) t.state) → Spares (stages plain here (suc n) made p))

@@ -9,7 +9,6 @@ use Rattle.strm_types.specs.declared.rules.Fates.{Fates}
 use Rattle.strm_types.specs.declared.spots.Note.{Note}
 use Rattle.strm_types.specs.declared.spots.Spot.{Spot}
 use Rattle.strm_types.specs.declared.termios.Termios.{Termios}
-use Rattle.strm_types.specs.Costs.{cost, cost_of}
 use Rattle.strm_types.specs.Deliver.{Acted, Parcel, toward}
 use Rattle.strm_types.specs.Flush.{is_data_kind}
 use Rattle.strm_types.specs.Flushing.{flush_message, read_flush}
@@ -40,9 +39,9 @@ pub can-kept : (s : StoreValue) (x : Ldterm) (i : ℕ) → CanPut s i (keeps x) 
 can-kept s x i can = record { apart = λ j. let a = can.apart j in omega arith }
 
 -- a put that takes no block
-pub does-puts : (s t : StoreValue) (x x' : Ldterm) (i most : ℕ) (acts : Acts) (f f' : Fates) (is : Acted ℕ (ldterms.Ldterm ℕ)) → Does s t x x' i acts f f' is → cost_of cost is.sent ≤ most
+pub does-puts : (s t : StoreValue) (x x' : Ldterm) (i most : ℕ) (acts : Acts) (f f' : Fates) (is : Acted ℕ (ldterms.Ldterm ℕ)) → Does s t x x' i acts f f' is
     → Puts s t x x' i most acts f f' is
-does-puts s t x x' i most acts f f' is did few = record {
+does-puts s t x x' i most acts f f' is did = record {
   state = did.state;
   notes = did.notes;
   sent = did.sent;
@@ -86,7 +85,7 @@ noted-both s t u x y z n k notes a b f f1 f2 is next st kept none first second =
 -- and the message goes on last
 pub puts-behind : (s u : StoreValue) (x z : Ldterm) (last : Sent) (here : Spot) (takes most : ℕ) (notes : List Note) (sent : List Sent) (acts : Acts) (f f' : Fates) (a : Acted ℕ (ldterms.Ldterm ℕ)) (all : List (Parcel ℕ))
     → IsStore s → CanPut s (token last.message) (keeps x) → IsChain (in_hand s (token last.message)) → last.to ≡ toward Up here → Proceeds s u x z takes notes sent f f' a
-    → acts.notes.items ≡ notes → sent_of acts.sent ≡ sent ++ last ∷ [] → a.sent ++ onward Up here (message_in s (token last.message)) ∷ [] ≡ all → takes + cost_of cost all ≤ most
+    → acts.notes.items ≡ notes → sent_of acts.sent ≡ sent ++ last ∷ [] → a.sent ++ onward Up here (message_in s (token last.message)) ∷ [] ≡ all → takes ≤ most
     → Puts s u x z (token last.message) most acts f f' (record a { sent = all })
 puts-behind s u x z last here takes most notes sent acts f f' a all st can chain place did noted sent_is same few =
     let i = token last.message in
@@ -168,7 +167,7 @@ pub takes-up : (s t u v : StoreValue) (x y z : Ldterm) (here : Spot) (command mo
     → Proceeds s t x y (flush_takes command) notes a f f1 (input_flushed here command (ldterm_in s x))
     → Proceeds t u y z (line_takes y.line) [] b f1 f1 (termios_set here termios (ldterm_in t y))
     → Proceeds u v z z 1 [] (mode ∷ []) f1 f1 (sends (onward Up here (mode_message (read_mode_of termios) (tostop termios)) ∷ []) (ldterm_in u z))
-    → acts.notes.items ≡ notes → sent_of acts.sent ≡ a ++ (b ++ mode ∷ last ∷ []) → 2 + cost_of cost (taken_up here command termios (message_in s (token last.message)) (ldterm_in s x)).sent ≤ most
+    → acts.notes.items ≡ notes → sent_of acts.sent ≡ a ++ (b ++ mode ∷ last ∷ []) → 2 ≤ most
     → Puts s v x z (token last.message) most acts f f1 (taken_up here command termios (message_in s (token last.message)) (ldterm_in s x))
 takes-up s t u v x y z here command most termios notes a b mode last acts f f1 st st_t st_u can chain place flush set told noted sent_is few =
     let p = ldterm_in s x in

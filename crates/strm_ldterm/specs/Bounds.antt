@@ -1,5 +1,5 @@
--- How far what a call of ldterm's service procedure sends may go, and how many blocks a call takes (srv(9E)).
-use Rattle.std.specs.Prelude.{ℕ, ◌+◌, Bool, true, false, not, ◌&&◌, List, [], ◌∷◌}
+-- How many blocks a call of ldterm's service procedure may count on (srv(9E)).
+use Rattle.std.specs.Prelude.{ℕ, Bool, true, false, not, ◌&&◌, List, [], ◌∷◌}
 use Rattle.strm_types.specs.declared.names.Way.{Way}
 use Rattle.strm_types.specs.declared.names.Way.TheVariants.{Up, Down}
 use Rattle.strm_types.specs.declared.spots.Spot.{Spot}
@@ -10,10 +10,6 @@ use Rattle.strm_types.specs.Message.{Message, cells_of}
 use Rattle.strm_types.specs.Queue.{is_none_left}
 use Rattle.strm_types.specs.Termios.{opost}
 use Rattle.strm_ldterm.specs.Turns.{needs}
-
--- How often a message can be handed on, less one, that a call sends: it may go up to the head, be turned round there and go down.
-abbrev pub turn_height : Spot → ℕ
-turn_height here = here.at + 11
 
 -- whether a message goes out byte by byte on the write queue: M_DATA with bytes, under OPOST
 abbrev pub goes_out : Termios → Message ℕ → Bool

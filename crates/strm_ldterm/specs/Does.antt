@@ -2,7 +2,6 @@
 use Rattle.std.specs.Prelude.{ℕ, ◌≡◌, ◌≤◌, ◌+◌, List}
 use Rattle.strm_types.specs.declared.rules.Fates.{Fates}
 use Rattle.strm_types.specs.declared.spots.Note.{Note}
-use Rattle.strm_types.specs.Costs.{cost, cost_of}
 use Rattle.strm_types.specs.Deliver.{Acted, tallied}
 use Rattle.strm_types.specs.Ldterms as plain
 use Rattle.strm_blocks.specs.Blocks.{StoreValue, free_m, free_d}
@@ -36,7 +35,7 @@ pub record Does (old new : StoreValue) (x x' : Ldterm) (message : ℕ) (acts : A
   pub frees : FreesBlocks old new
   pub pool : SamePool old new
 
--- The same, where at most so many blocks of each kind were taken, with what is sent.
+-- The same, where at most so many blocks of each kind were taken.
 pub record Puts (old new : StoreValue) (x x' : Ldterm) (message most : ℕ) (acts : Acts) (t t' : Fates) (is : Acted ℕ (plain.Ldterm ℕ)) : Type 0 where
   pub state : ldterm_in new x' ≡ is.state
   pub notes : acts.notes.items ≡ is.notes
@@ -46,7 +45,7 @@ pub record Puts (old new : StoreValue) (x x' : Ldterm) (message most : ℕ) (act
   pub own : OnlyOwn old new (owns x) (owns x')
   pub chains : AreChains new (sent_of acts.sent)
   pub hands : Hands old new message (keeps x) (keeps x') (λ i. times_sent i (sent_of acts.sent))
-  pub spends : Spends old new most (cost_of cost is.sent)
+  pub spends : Spends old new most 0
   pub pool : SamePool old new
 
 -- The module altered as a definition says, what has gone was told, and nothing was sent.

@@ -8,9 +8,10 @@ ghost use Rattle.strm_types.specs.declared.names.Way.TheVariants.{Up};
 ghost use Rattle.strm_types.specs.declared.rules.Fates.{Fates};
 ghost use Rattle.strm_types.specs.declared.spots.Note.TheVariants.{Room};
 ghost use Rattle.strm_types.specs.Commands.{is_acked, is_iocack};
-ghost use Rattle.strm_types.specs.Costs.{cost};
+ghost use Rattle.strm_types.specs.Budgets.{own_at};
 ghost use Rattle.strm_types.specs.LdtermPuts.{goes_on, passes_on_way, told_by_header};
 ghost use Rattle.strm_types.specs.Options.{mode_number, tostop_number};
+ghost use Rattle.strm_types.specs.Tables.{ldterm_does};
 ghost use Rattle.strm_types.specs.TakenUp.{ends_lines, input_flushed, read_mode_of, taken_up};
 ghost use Rattle.strm_types.specs.Termios.{tostop};
 ghost use Rattle.strm_blocks.specs.Blocks.{in_hand, block_at, token};
@@ -85,7 +86,7 @@ fn go_on<B: Blocks>(ldterm: &Ldterm, store: &B, here: Spot, message: InHand) -> 
     requires inside { 0 < here.at }
     requires small { here.at ≤ MODULES }
     ensures { (f : Fates) → let s = B.value store.now in let m = message_in s (token message) in
-        Puts s s ldterm.now ldterm.now (token message) (cost here m) result f f
+        Puts s s ldterm.now ldterm.now (token message) (own_at ldterm_does here m) result f f
         (goes_on here m (ldterm_in s ldterm.now)) }
 {
     pass_on(ldterm, store, here, ArrayVec::new(), message)
@@ -172,7 +173,7 @@ fn take_up<B: Blocks>(
     requires small { here.at ≤ MODULES }
     requires room { HasRoom (B.value store.old) 2 }
     ensures { let s = B.value store.old in let m = message_in s (token message) in
-        Puts s (B.value store.new) ldterm.old ldterm.new (token message) (cost here m) result told.old told.new
+        Puts s (B.value store.new) ldterm.old ldterm.new (token message) (own_at ldterm_does here m) result told.old told.new
         (taken_up here set.0 set.1 m (ldterm_in s ldterm.old)) }
 {
     store.audit();
@@ -219,7 +220,7 @@ fn obey<B: Blocks>(
     requires small { here.at ≤ MODULES }
     requires room { HasRoom (B.value store.old) 2 }
     ensures { let s = B.value store.old in let m = message_in s (token message) in
-        Puts s (B.value store.new) ldterm.old ldterm.new (token message) (cost here m) result told.old told.new
+        Puts s (B.value store.new) ldterm.old ldterm.new (token message) (own_at ldterm_does here m) result told.old told.new
         (told_by_header here (Some ioc) m (ldterm_in s ldterm.old)) }
 {
     store.audit();
@@ -249,9 +250,9 @@ fn pass_up<B: Blocks>(
     requires up { here.way ≡ Up }
     requires inside { 0 < here.at }
     requires small { here.at ≤ MODULES }
-    requires room { HasRoom (B.value store.old) (cost here (message_in (B.value store.old) (token message))) }
+    requires room { HasRoom (B.value store.old) (own_at ldterm_does here (message_in (B.value store.old) (token message))) }
     ensures { let s = B.value store.old in let m = message_in s (token message) in
-        Puts s (B.value store.new) ldterm.old ldterm.new (token message) (cost here m) result told.old told.new
+        Puts s (B.value store.new) ldterm.old ldterm.new (token message) (own_at ldterm_does here m) result told.old told.new
         (passes_on_way Up here m (ldterm_in s ldterm.old)) }
 {
     store.audit();
@@ -279,9 +280,9 @@ pub(crate) fn pass<B: Blocks>(
     requires kind { kind ≡ (block_at 0 (in_hand (B.value store.old) (token message))).kind }
     requires inside { 0 < here.at }
     requires small { here.at ≤ MODULES }
-    requires room { HasRoom (B.value store.old) (cost here (message_in (B.value store.old) (token message))) }
+    requires room { HasRoom (B.value store.old) (own_at ldterm_does here (message_in (B.value store.old) (token message))) }
     ensures { let s = B.value store.old in let m = message_in s (token message) in
-        Puts s (B.value store.new) ldterm.old ldterm.new (token message) (cost here m) result told.old told.new
+        Puts s (B.value store.new) ldterm.old ldterm.new (token message) (own_at ldterm_does here m) result told.old told.new
         (passes_on_way here.way here m (ldterm_in s ldterm.old)) }
 {
     match here.way {

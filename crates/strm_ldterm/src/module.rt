@@ -14,12 +14,11 @@ use strm_types::{Asks, Band, Fates, ModuleName, Rule, Side, Spot, Way};
 impl Module for Ldterm {
     ghost use Rattle.strm_types.specs.Asking as asking;
     ghost use Rattle.strm_types.specs.Cells as cells;
-    ghost use Rattle.strm_types.specs.Costs as costs;
     ghost use Rattle.strm_types.specs.LdtermServes.{ldterm_serves};
     ghost use Rattle.strm_types.specs.LdtermPuts.{ldterm_puts};
     ghost use Rattle.strm_types.specs.Ldterms as plain;
-    ghost use Rattle.strm_types.specs.Far.{far};
-    ghost use Rattle.strm_types.specs.Costs.{most_cost};
+    ghost use Rattle.strm_types.specs.Tables.{ldterm_does};
+    ghost use Rattle.strm_types.proofs.LdtermWithin.{ldterm-within};
     ghost use Rattle.strm_types.specs.LdtermCalls.{Ends};
     ghost use Rattle.strm_ldterm.specs.Bounds as bounds;
     ghost use Rattle.strm_ldterm.specs.Calls as calls;
@@ -60,15 +59,7 @@ impl Module for Ldterm {
 
     ghost MayStop = { λ way again bytes p. Ends way again p bytes };
 
-    ghost height = { far };
-
-    ghost takes = { λ here m p. costs.cost here m };
-
-    ghost leaves = { λ here m p. costs.cost_of costs.cost (ldterm_puts here m p).sent };
-
-    ghost cost = { most_cost };
-
-    ghost turn_height = { bounds.turn_height };
+    ghost does = { λ p. ldterm_does };
 
     ghost turn_cost = { bounds.turn_cost };
 
@@ -171,6 +162,8 @@ impl Module for Ldterm {
     ) -> LetGo {
         pops::clear(self, store, side, rule, seeking, told)
     }
+
+    ghost within = { λ here m p. ldterm-within here m p };
 
     ghost frame = { λ s t x same held. ldterm-frame s t x same held };
 

@@ -6,9 +6,10 @@ ghost use Rattle.strm_types.specs.declared.rules.Fates.{Fates};
 ghost use Rattle.strm_types.specs.declared.limits.TheConstants.{MODULES};
 ghost use Rattle.strm_types.specs.LdtermPuts.{ldterm_puts, waits_on};
 ghost use Rattle.strm_types.specs.Ldterms.{queued_at, sends, onward, flush_passes};
-ghost use Rattle.strm_types.specs.Costs.{cost};
+ghost use Rattle.strm_types.specs.Budgets.{own_at};
 ghost use Rattle.strm_types.specs.Flushing.{is_flush};
 ghost use Rattle.strm_types.specs.declared.spots.Note.TheVariants.{Room};
+ghost use Rattle.strm_types.specs.Tables.{ldterm_does};
 ghost use Rattle.strm_types.specs.Message.{Message, is_held, is_high_priority};
 ghost use Rattle.strm_types.specs.Ldterms.{waits_there};
 ghost use Rattle.strm_blocks.specs.Blocks.{IsInHand, in_hand, block_at, token};
@@ -205,11 +206,11 @@ pub fn put<B: Blocks>(
     requires held { IsHeld (B.value store.old) ldterm.old }
     requires can_put { CanPut (B.value store.old) (token message) (keeps ldterm.old) }
     requires chain { IsChain (in_hand (B.value store.old) (token message)) }
-    requires room { HasRoom (B.value store.old) (cost here (message_in (B.value store.old) (token message))) }
+    requires room { HasRoom (B.value store.old) (own_at ldterm_does here (message_in (B.value store.old) (token message))) }
     requires inside { 0 < here.at }
     requires small { here.at ≤ MODULES }
     ensures does { let s = B.value store.old in let m = message_in s (token message) in
-        Puts s (B.value store.new) ldterm.old ldterm.new (token message) (cost here m) result told.old told.new
+        Puts s (B.value store.new) ldterm.old ldterm.new (token message) (own_at ldterm_does here m) result told.old told.new
         (ldterm_puts here m (ldterm_in s ldterm.old)) }
     ensures blocks { is_held (message_in (B.value store.old) (token message)).kind ≡ true → FreesNone (B.value store.old) (B.value store.new) }
 {

@@ -9,7 +9,7 @@ use Rattle.strm_types.specs.Names.{direction_from}
 use Rattle.strm_laws.specs.Calls.{Outcome, wrote, write_sent}
 use Rattle.strm_types.specs.Deliver.{tallied}
 use Rattle.strm_types.specs.Message.{data_message}
-use Rattle.strm_types.specs.Costs.{most_cost}
+use Rattle.strm_types.specs.Budgets.{most_of}
 use Rattle.strm_laws.specs.State.{State, book, with_book}
 use Rattle.strm_types.specs.Write.{chunk_count, chunks_of}
 use Rattle.strm_laws.specs.Writes.{Wrote, below_head, cells_sent, chunks_sent, is_full_below}
@@ -18,7 +18,7 @@ use Rattle.strm_laws.proofs.WriteSteps.{chunk_goes, went}
 use Rattle.strm_ldterm.proofs.Flushed.{tallied-append}
 
 -- a chunk on its way down takes no block but its own, and no packet comes of it
-pub chunk-free : (side : Side) (chunk : List ℕ) → most_cost (below_head side) (data_message chunk) ≡ 0
+pub chunk-free : (side : Side) (chunk : List ℕ) → most_of (below_head side) (data_message chunk) ≡ 0
 unfolding data_message
 chunk-free side chunk = refl
 

@@ -3,7 +3,7 @@ use Rattle.std.proofs.Common.{ℕ, ◌≡◌, ◌≤◌, ◌+◌, ◌∷◌, sym
 use Rattle.strm_types.specs.declared.rules.Fates.{Fates}
 use Rattle.strm_types.specs.declared.spots.Spot.{Spot}
 use Rattle.strm_types.specs.Cells.{plain}
-use Rattle.strm_types.specs.Costs.{most_cost}
+use Rattle.strm_types.specs.Budgets.{most_of}
 use Rattle.strm_types.specs.Deliver.{Carried, tallied}
 use Rattle.strm_types.specs.Message.{Message}
 use Rattle.strm_laws.specs.Kept.{AreIdle}
@@ -54,6 +54,6 @@ module _ (s t : StoreValue) (p : Streams) (at_rest : AreAtRest s p) (i : ℕ) (a
       }
 
   -- and what the books have left behind it, where that message becomes so many packets at most
-  pub made-left : (u : StoreValue) (q : Streams) (to : Spot) (m : Message ℕ) (n : ℕ) → message_of (in_hand t i) ≡ m → most_cost to m ≤ n
-      → Takes t u (spare (state_in t p)) (spare (state_in u q)) (most_cost to (message_of (in_hand t i))) 0 → spare (state_in s p) ≤ spare (state_in u q) + n
-  made-left u q to m n shows few takes = omega (arith, takes.spare, ap spare made-state, ap (most_cost to) shows, few)
+  pub made-left : (u : StoreValue) (q : Streams) (to : Spot) (m : Message ℕ) (n : ℕ) → message_of (in_hand t i) ≡ m → most_of to m ≤ n
+      → Takes t u (spare (state_in t p)) (spare (state_in u q)) (most_of to (message_of (in_hand t i))) 0 → spare (state_in s p) ≤ spare (state_in u q) + n
+  made-left u q to m n shows few takes = omega (arith, takes.spare, ap spare made-state, ap (most_of to) shows, few)

@@ -11,8 +11,6 @@ pub mod Dropping
 pub mod Puttings
 pub mod ModulePushed
 pub mod Modes
-pub mod PutsCost
-pub mod ModuleCosts
 pub mod PlaceCosts
 pub mod PutSteps
 pub mod ModuleSteps

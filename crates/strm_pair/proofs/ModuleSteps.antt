@@ -23,7 +23,7 @@ use Rattle.strm_types.specs.Names.{other}
 use Rattle.strm_types.proofs.BySide.{get-map, get-set-same}
 use Rattle.strm_laws.specs.Puts.{earlier_at, made_above, module_acted, noted, put_at_module}
 use Rattle.strm_laws.specs.Spares.{module_packs, packet_most, spare, spare_behind}
-use Rattle.strm_laws.specs.StackCosts.{EachOnce, module_leaves, module_takes}
+use Rattle.strm_laws.specs.StackCosts.{EachOnce, module_takes}
 use Rattle.strm_laws.specs.Stacked.{Module, module_name}
 use Rattle.strm_laws.specs.State.{State, Stream, book, stream, with_stream}
 use Rattle.strm_laws.proofs.Booked.{between-counts, booked-on, made-within, made_in, master-told, slave-told}
@@ -43,7 +43,7 @@ use Rattle.strm_pair.specs.Framing.{kept-parts, kept-with}
 use Rattle.strm_pair.specs.Lists.{first_list}
 use Rattle.strm_pair.specs.Pairs.{state_in, end_at, with_end, AreBeside, Stays, kept_by}
 use Rattle.strm_pair.specs.ModuleServed.{BookTakes, between, with_more}
-use Rattle.strm_pair.specs.PutBy.{PutAs, StackTakes, taken_at}
+use Rattle.strm_pair.specs.PutBy.{PutBy, StackTakes, taken_at}
 use Rattle.strm_pair.specs.Streams.{stream_in, IsSide}
 use Rattle.strm_pair.proofs.Sides.{OtherStays, modules-are, never-both, one-beside, one-state, queue-same, stream-is}
 use Rattle.strm_pair.specs.Stacks.{modules_in, IsStackHeld, stack_owns, stack_keeps, Stack}
@@ -186,7 +186,7 @@ pub module-by : (s t : StoreValue) (p q : Streams) (x : Stack) (i : ℕ) (to : S
       enabled = noted to.side place earlier acts.notes.items p.enabled;
       books = with_more a b p.books;
     }
-    → PutAs s t p q i (at_place (module_takes to m) 0 to.at ms) (at_place (module_leaves to m) 0 to.at ms) (sent_of acts.sent) f f' (put_at_module plain to m st)
+    → PutBy s t p q i (at_place (module_takes to m) 0 to.at ms) (sent_of acts.sent) f f' (put_at_module plain to m st)
 module-by s t p q x i to place earlier acts f f' a b store can place_is earlier_is beside e a_is b_is q_is =
     let m = message_in s i in
     let st = state_in s p in
@@ -197,7 +197,7 @@ module-by s t p q x i to place earlier acts f f' a b store can place_is earlier_
     (e.state ∙ ap (λ ls. (taken_at to m ls).state) same) (e.notes ∙ ap (λ ls. (taken_at to m ls).notes) same) (keep-names plain 0 (to.at - 1) to m ms)
     e.held e.own e.hands e.pool a_is b_is q_is in
     let books : (Acted ℕ (List (Module ℕ))) → Took ℕ (State ℕ) = λ t. module_acted to t st in
-    subst (λ w. PutAs s t p q i (at_place (module_takes to m) 0 to.at ms) (at_place (module_leaves to m) 0 to.at ms) (sent_of acts.sent) f f' w)
+    subst (λ w. PutBy s t p q i (at_place (module_takes to m) 0 to.at ms) (sent_of acts.sent) f f' w)
     (ap books (among-same 0 (made_above to.side st) to m (to.at - 1) ms))
     (record {
       state = r.state;
@@ -206,7 +206,7 @@ module-by s t p q x i to place earlier acts f f' a b store can place_is earlier_
       beside = r.beside;
       chains = e.chains;
       hands = r.hands;
-      spends = subst (λ ls. Spends s t (at_place (module_takes to m) 0 to.at ls) (at_place (module_leaves to m) 0 to.at ls)) same e.spends;
+      spends = subst (λ ls. Spends s t (at_place (module_takes to m) 0 to.at ls) 0) same e.spends;
       pool = e.pool;
     })
 

@@ -1,6 +1,6 @@
 -- Puts at the heads and the drivers of a pair, step by step.
-use Rattle.std.proofs.Common.{ℕ, ◌≡◌, ◌≤◌, ◌<◌, ◌+◌, Bool, true, false, cond, List, [], ◌∷◌, refl, sym, ap, subst, ◌∙◌, arith}
-use Rattle.std.specs.Prelude.{◌==◌, nat_le, Option, None, Some}
+use Rattle.std.proofs.Common.{ℕ, suc, ◌≡◌, ◌≤◌, ◌<◌, ◌+◌, Bool, true, false, cond, List, [], ◌∷◌, refl, sym, ap, subst, ◌∙◌, arith}
+use Rattle.std.specs.Prelude.{◌==◌, ◌&&◌, nat_le, Option, None, Some}
 use Rattle.std.proofs.lemmas.Bool.Decides.{nat_tests}
 use Rattle.strm_types.specs.declared.flushing.FlushAsked.{FlushAsked}
 use Rattle.strm_types.specs.declared.kinds.MsgKind.{MsgKind}
@@ -38,7 +38,6 @@ use Rattle.strm_types.specs.Message.{Message, cells_of, has_parts, is_held}
 use Rattle.strm_types.specs.Names.{direction_at, enable_some, is_open}
 use Rattle.strm_laws.specs.Pair.{IsKeptAhead}
 use Rattle.strm_laws.specs.Puts.{across_of, earlier_at, noted, passed_up, put_at_driver, put_at_head, put_at_module, put_behind, put_below, put_in}
-use Rattle.strm_types.specs.Far.{is_turned, turns_round}
 use Rattle.strm_types.specs.Reads.{is_there}
 use Rattle.strm_laws.specs.State.{State, stream, with_stream, with_driver_queue}
 use Rattle.strm_blocks.specs.Blocks.{StoreValue, in_hand}
@@ -56,15 +55,19 @@ use Rattle.strm_frame.proofs.Shifting.{shifts-both, shifts-as}
 use Rattle.strm_pty.specs.Does.{Makes, Swaps}
 use Rattle.strm_pty.proofs.Doing.{times-one}
 use Rattle.strm_pair.specs.declared.streams.Streams.{Streams}
-use Rattle.strm_types.specs.Costs.{cost, cost_of, head_takes, below_takes, is_across}
+use Rattle.strm_types.specs.declared.limits.TheConstants.{MODULES}
+use Rattle.strm_types.specs.Costs.{head_takes, is_turned, turns_round, up_takes}
+use Rattle.strm_types.specs.Shapes.{Shape, FlushR, FlushRW, FlushW, flush_shape, is_flushing, shape_by, shape_of}
+use Rattle.strm_types.specs.Tables.{driver_does, driver_own, head_does}
+use Rattle.strm_types.proofs.ShapesOf.{same-flushing}
 use Rattle.strm_types.specs.ModuleQueues.{at_place}
-use Rattle.strm_laws.specs.StackCosts.{module_leaves, module_takes, stack_cost, stands_of}
+use Rattle.strm_laws.specs.SideCosts.{behind_costs, rises, side_drives}
+use Rattle.strm_laws.specs.StackCosts.{module_takes}
 use Rattle.strm_pair.specs.Pairs.{state_in, AreBeside, Stays, kept_by}
 use Rattle.strm_pair.specs.Framing.{kept-parts, kept-with, same-state, same-beside}
-use Rattle.strm_pair.specs.PutBy.{PutAs, PutBy, CameBy}
+use Rattle.strm_pair.specs.PutBy.{PutBy, CameBy}
 use Rattle.strm_pair.specs.Staying.{ComesToStand}
-use Rattle.strm_pair.proofs.PlaceCosts.{place-cost}
-use Rattle.strm_pair.proofs.PutsCost.{behind-stack, behind-takes, head-stack}
+use Rattle.strm_laws.proofs.PutsOwn.{behind-own, head-own, own, place-own}
 
 -- what a head sends down is nothing where nothing is turned round
 sent-nothing : (S : Type 0) (b : Bool) (one another : Acted ℕ S) → one.sent ≡ [] → another.sent ≡ [] → (cond b one another).sent ≡ []
@@ -154,12 +157,6 @@ kept-head p side h i = kept-with side (record (end_at side p) { head = h }) p i 
 kept-driver : (p : Streams) (side : Side) (d : Queue) (i : ℕ) → kept_by (with_end side (record (end_at side p) { driver = d }) p) i ≡ kept_by p i
 kept-driver p side d i = kept-with side (record (end_at side p) { driver = d }) p i ∙ sym (kept-parts side p i)
 
--- behind the head there is room for what a put takes itself, and so for what stands there: on the way down nothing goes by what was sent across
-pub behind-room : (way : Way) (s : StoreValue) (i : ℕ) (to : Spot) → let m = message_in s i in to.way ≡ way → (to.at ≡ 0 → ⊥) → HasRoom s (cost to m) → HasRoom s (below_takes way (has_parts m) (is_across to m))
-behind-room way s i to is inside room =
-    let m = message_in s i in
-    subst (λ w. HasRoom s (below_takes w (has_parts m) (is_across to m))) is (room-for s (cost to m) (below_takes to.way (has_parts m) (is_across to m)) (behind-takes to m inside) room)
-
 -- a waiting writer is let go where the head says so
 noted-room : (side : Side) (earlier : Way → Option QueueName) (lets_go : Bool) (names : List QueueName) → noted side (Some places.Head) earlier (notes_of lets_go) names ≡ enable_some lets_go (earlier Up) names
 noted-room side earlier true names = refl
@@ -237,23 +234,51 @@ at_driver side at s t = record {
   gone = t.gone;
 }
 
--- a driver takes no more than may be taken of a message of that kind
-kind-low : (way : Way) (kind : MsgKind) → driver_cost way kind ≤ below_takes way (is_data_kind kind) true
+-- a driver takes no more than its table says of a message of that kind, and so does a head
+either-flush : (P : Shape → Type 0) → P FlushR → P FlushW → P FlushRW → (asked : FlushAsked) → P (flush_shape asked)
+either-flush P r w rw asked = at asked.for_write asked.for_read
+  where
+    at : (write read : Bool) → P (cond write (cond read FlushRW FlushW) FlushR)
+    at true true = rw
+    at true false = w
+    at false read = r
+
+kind-low : (way : Way) (kind : MsgKind) (bytes : List ℕ) → driver_cost way kind ≤ (driver_does way (shape_by (is_data_kind kind) kind bytes)).own
 unfolding is_data_kind
-kind-low Down Flush = omega arith
-kind-low Down Ioctl = omega arith
-kind-low Up Flush = omega arith
-kind-low Down kind = omega arith
-kind-low Up kind = omega arith
+kind-low Down Flush bytes = either-flush (λ s. 2 ≤ (driver_does Down s).own) (omega arith) (omega arith) (omega arith) (asked_by bytes)
+kind-low Down Ioctl bytes = omega arith
+kind-low Up Flush bytes = omega arith
+kind-low Down kind bytes = omega arith
+kind-low Up kind bytes = omega arith
 
-cost-low : (way : Way) (s : StoreValue) (i : ℕ) → IsChain (in_hand s i) → let m = message_in s i in driver_cost way m.kind ≤ below_takes way (has_parts m) true
-cost-low way s i chain =
-    let parts : has_parts (message_in s i) ≡ is_data_kind (message_in s i).kind = parts-same (in_hand s i) chain ∙ ap is_data_kind (sym (kind-is (in_hand s i))) in
-    subst (λ b. driver_cost way (message_in s i).kind ≤ below_takes way b true) (sym parts) (kind-low way (message_in s i).kind)
+kind-turned : (kind : MsgKind) (bytes : List ℕ) → cond (turns_round kind bytes) 1 0 ≤ (head_does (shape_by (is_data_kind kind) kind bytes)).own
+unfolding is_data_kind
+kind-turned Flush bytes = at (asked_by bytes).for_write (asked_by bytes).for_read
+  where
+    at : (write read : Bool) → cond write 1 0 ≤ (head_does (cond write (cond read FlushRW FlushW) FlushR)).own
+    at true true = omega arith
+    at true false = omega arith
+    at false read = omega arith
+kind-turned Ioctl bytes = omega arith
+kind-turned kind bytes = omega arith
 
-pub driver-room : (way : Way) (s : StoreValue) (i : ℕ) → IsChain (in_hand s i) → let m = message_in s i in HasRoom s (below_takes way (has_parts m) true) → HasRoom s (driver_cost way m.kind)
+module _ (s : StoreValue) (i : ℕ) (chain : IsChain (in_hand s i)) where
+  parts-of : has_parts (message_in s i) ≡ is_data_kind (message_in s i).kind
+  parts-of = parts-same (in_hand s i) chain ∙ ap is_data_kind (sym (kind-is (in_hand s i)))
+
+  cost-low : (way : Way) → driver_cost way (message_in s i).kind ≤ driver_own way (message_in s i)
+  cost-low way =
+      let m = message_in s i in
+      subst (λ b. driver_cost way m.kind ≤ (driver_does way (shape_by b m.kind m.plain)).own) (sym parts-of) (kind-low way m.kind m.plain)
+
+  pub turned-low : head_takes (message_in s i) ≤ (head_does (shape_of (message_in s i))).own
+  turned-low =
+      let m = message_in s i in
+      subst (λ b. head_takes m ≤ (head_does (shape_by b m.kind m.plain)).own) (sym parts-of) (kind-turned m.kind m.plain)
+
+pub driver-room : (way : Way) (s : StoreValue) (i : ℕ) → IsChain (in_hand s i) → HasRoom s (driver_own way (message_in s i)) → HasRoom s (driver_cost way (message_in s i).kind)
 driver-room way s i chain room =
-    let low = cost-low way s i chain in
+    let low = cost-low s i chain way in
     record { mblks = (let a = room.mblks in omega (arith, a, low)); dblks = (let a = room.dblks in omega (arith, a, low)) }
 
 -- the driver takes the message
@@ -263,14 +288,14 @@ pub driver-by : (side : Side) (s t : StoreValue) (p q : Streams) (d : Queue) (i 
     → f' ≡ tallied did.gone f → OnlyQueue s t (end_at side p).driver d → AreChains t (sent_of acts.sent) → Hands s t i (λ _. 0) (λ _. 0) (λ j. times_sent j (sent_of acts.sent))
     → Spends s t (driver_cost to.way m.kind) 0 → SamePool s t
     → q ≡ record (with_end side (record (end_at side p) { driver = d }) p) { enabled = noted side (Some places.Driver) (earlier_at side at st) acts.notes.items p.enabled }
-    → PutBy s t p q i (below_takes to.way (has_parts m) true) (sent_of acts.sent) f f' (put_at_driver to.side to m st)
+    → PutBy s t p q i (driver_own to.way m) (sent_of acts.sent) f f' (put_at_driver to.side to m st)
 driver-by side s t p q d i to at across acts f f' store can chain is at_is across_is beside state notes sent told only chains hands spends pool q_is =
     let m = message_in s i in
     let st = state_in s p in
     let queue = queue_in s (end_at side p).driver in
     let did = driver_put to.side across (record to { at = at }) m queue in
     let names = noted side (Some places.Driver) (earlier_at side at st) acts.notes.items p.enabled in
-    let low = cost-low to.way s i chain in
+    let low = cost-low s i chain to.way in
     let stays : Stays s t (kept_by p) = record {
       mblks = pool.mblks;
       dblks = pool.dblks;
@@ -282,7 +307,7 @@ driver-by side s t p q d i to at across acts f f' store can chain is at_is acros
     ∙ ap (λ x. at_driver side there st (driver_put to.side x (record to { at = there }) m queue)) across_is
     ∙ ap (λ x. at_driver side there st (driver_put to.side (across_of to.side st) (record to { at = there }) m x)) (sym (driver-is s p side))
     ∙ ap (λ sd. at_driver sd there st (driver_put to.side (across_of to.side st) (record to { at = there }) m (stream sd st).driver.queue)) (sym is) in
-    subst (λ w. PutBy s t p q i (below_takes to.way (has_parts m) true) (sent_of acts.sent) f f' w) here
+    subst (λ w. PutBy s t p q i (driver_own to.way m) (sent_of acts.sent) f f' w) here
     (record {
       state = ap (λ x. state_in t x) q_is
           ∙ ap (λ (x : State ℕ). record x { enabled = names }) (driver-state s t p beside stays side d only ∙ ap (λ x. with_stream side (with_driver_queue x (stream side st)) st) state)
@@ -330,10 +355,10 @@ passed-put s p x sent_on f to beside chain on one = record {
   pool = record { mblks = refl; dblks = refl };
 }
 
--- what a put takes, with all that it gives rise to
-with-later : (s t : StoreValue) (p q : Streams) (m takes all later : ℕ) (sent_on : List Sent) (f f' : Fates) (is : Took ℕ (State ℕ)) → takes + later ≤ all
-    → PutBy s t p q m takes sent_on f f' is → PutAs s t p q m all later sent_on f f' is
-with-later s t p q m takes all later sent_on f f' is low put = record {
+-- what takes no more than so much takes no more than what is more
+put-more : (s t : StoreValue) (p q : Streams) (m takes all : ℕ) (sent_on : List Sent) (f f' : Fates) (is : Took ℕ (State ℕ)) → takes ≤ all
+    → PutBy s t p q m takes sent_on f f' is → PutBy s t p q m all sent_on f f' is
+put-more s t p q m takes all sent_on f f' is low put = record {
   state = put.state;
   sent = put.sent;
   tells = put.tells;
@@ -346,21 +371,23 @@ with-later s t p q m takes all later sent_on f f' is low put = record {
 
 -- a put at a spot
 abbrev PutIn : (s t : StoreValue) (p q : Streams) (i : ℕ) (to : Spot) (sent_on : List Sent) (f f' : Fates) → Took ℕ (State ℕ) → Type 0
-PutIn s t p q i to sent_on f f' is =
-    let each = stack_cost (stands_of (state_in s p)) in
-    PutAs s t p q i (each to (message_in s i)) (cost_of each is.sent) sent_on f f' is
+PutIn s t p q i to sent_on f f' is = PutBy s t p q i (own to (shape_of (message_in s i)) (state_in s p)) sent_on f f' is
 
 -- at the head
-pub head-put : (s t : StoreValue) (p q : Streams) (i : ℕ) (to : Spot) (sent_on : List Sent) (f f' : Fates) → let m = message_in s i in to.at ≡ 0
+pub head-room : (s : StoreValue) (i : ℕ) (to : Spot) (st : State ℕ) → IsChain (in_hand s i) → to.at ≡ 0 → HasRoom s (own to (shape_of (message_in s i)) st) → HasRoom s (head_takes (message_in s i))
+head-room s i to st chain top room =
+    let m = message_in s i in
+    let at : (to.at == 0) ≡ true = grind (arith, nat_tests) in
+    room-for s (own to (shape_of m) st) (head_takes m) (omega (arith, turned-low s i chain, head-own to (shape_of m) st at)) room
+
+pub head-put : (s t : StoreValue) (p q : Streams) (i : ℕ) (to : Spot) (sent_on : List Sent) (f f' : Fates) → let m = message_in s i in IsChain (in_hand s i) → to.at ≡ 0
     → PutBy s t p q i (head_takes m) sent_on f f' (put_at_head to.side to m (state_in s p)) → PutIn s t p q i to sent_on f f' (put_in cells.plain to m (state_in s p))
-head-put s t p q i to sent_on f f' top put =
+head-put s t p q i to sent_on f f' chain top put =
     let m = message_in s i in
     let st = state_in s p in
-    let all = stands_of st in
-    let is = put_at_head to.side to m st in
     let at : (to.at == 0) ≡ true = grind (arith, nat_tests) in
     subst (λ b. PutIn s t p q i to sent_on f f' (cond b (put_at_head to.side to m st) (put_below cells.plain to.way to m st))) (sym at)
-    (with-later s t p q i (head_takes m) (stack_cost all to m) (cost_of (stack_cost all) is.sent) sent_on f f' is (head-stack all to m st top) put)
+    (put-more s t p q i (head_takes m) (own to (shape_of m) st) sent_on f f' (put_at_head to.side to m st) (omega (arith, turned-low s i chain, head-own to (shape_of m) st at)) put)
 
 -- below the head, by whether a module stands at the place
 below-put : (s t : StoreValue) (p q : Streams) (i : ℕ) (to : Spot) (sent_on : List Sent) (f f' : Fates) (stands : Bool) → let m = message_in s i in let st = state_in s p in
@@ -375,34 +402,46 @@ below-put s t p q i to sent_on f f' stands inside place put =
 
 pub module-put : (s t : StoreValue) (p q : Streams) (i : ℕ) (to : Spot) (sent_on : List Sent) (f f' : Fates) → let m = message_in s i in let st = state_in s p in
     let ms = (stream to.side st).modules in (to.at ≡ 0 → ⊥) → nat_le to.at (modules_on to.side st) ≡ true
-    → PutAs s t p q i (at_place (module_takes to m) 0 to.at ms) (at_place (module_leaves to m) 0 to.at ms) sent_on f f' (put_at_module cells.plain to m st)
+    → PutBy s t p q i (at_place (module_takes to m) 0 to.at ms) sent_on f f' (put_at_module cells.plain to m st)
     → PutIn s t p q i to sent_on f f' (put_in cells.plain to m st)
 module-put s t p q i to sent_on f f' inside stands put =
     let m = message_in s i in
     let st = state_in s p in
-    let some : 0 < to.at = grind (arith, nat_tests) in
-    let low : to.at ≤ modules_on to.side st = grind (arith, nat_tests) in
-    let fits = place-cost to m st some low in
-    below-put s t p q i to sent_on f f' true inside stands record {
-      state = put.state;
-      sent = put.sent;
-      tells = put.tells;
-      beside = put.beside;
-      chains = put.chains;
-      hands = put.hands;
-      spends = record { mblks = omega (arith, put.spends.mblks, fits); dblks = omega (arith, put.spends.dblks, fits) };
-      pool = put.pool;
-    }
+    let below : (to.at == 0) ≡ false = grind (arith, nat_tests) in
+    below-put s t p q i to sent_on f f' true inside stands
+    (put-more s t p q i (at_place (module_takes to m) 0 to.at (stream to.side st).modules) (own to (shape_of m) st) sent_on f f' (put_at_module cells.plain to m st) (omega (arith, place-own to m st below stands)) put)
+
+-- behind the modules
+abbrev pub behind_takes : Way → Spot → Message ℕ → ℕ
+behind_takes Down to m = driver_own Down m
+behind_takes Up to m = up_takes to m
+
+behind-is : (way : Way) (to : Spot) (m : Message ℕ) (st : State ℕ) → to.way ≡ way → (to.at ≡ 0 → ⊥) → nat_le to.at (modules_on to.side st) ≡ false → own to (shape_of m) st ≡ behind_takes way to m
+behind-is way to m st is inside past =
+    let below : (to.at == 0) ≡ false = grind (arith, nat_tests) in
+    behind-own to (shape_of m) st below past ∙ ap (λ (w : Way). (behind_costs (modules_on to.side st) w to.at (shape_of m)).own) is ∙ at way
+  where
+    up : (across : Bool) → (cond across (side_drives (modules_on to.side st) (driver_does Up (shape_of m))) (record { own = 0; emits = rises (modules_on to.side st) (shape_of m) ∷ []; across = [] })).own ≡ cond across 1 0
+    up true = refl
+    up false = refl
+
+    at : (way : Way) → (behind_costs (modules_on to.side st) way to.at (shape_of m)).own ≡ behind_takes way to m
+    at Down = refl
+    at Up = up (is_flushing (shape_of m) && to.at == suc MODULES) ∙ ap (λ (b : Bool). cond {A = ℕ} (b && to.at == suc MODULES) 1 0) (same-flushing m)
+
+pub behind-room : (way : Way) (s : StoreValue) (i : ℕ) (to : Spot) (st : State ℕ) → to.way ≡ way → (to.at ≡ 0 → ⊥) → nat_le to.at (modules_on to.side st) ≡ false
+    → HasRoom s (own to (shape_of (message_in s i)) st) → HasRoom s (behind_takes way to (message_in s i))
+behind-room way s i to st is inside past room = subst (λ (n : ℕ). HasRoom s n) (behind-is way to (message_in s i) st is inside past) room
 
 pub behind-put : (way : Way) (s t : StoreValue) (p q : Streams) (i : ℕ) (to : Spot) (sent_on : List Sent) (f f' : Fates) → let m = message_in s i in let st = state_in s p in
     to.way ≡ way → (to.at ≡ 0 → ⊥) → nat_le to.at (modules_on to.side st) ≡ false
-    → PutBy s t p q i (below_takes way (has_parts m) (is_across to m)) sent_on f f' (put_behind way to m st) → PutIn s t p q i to sent_on f f' (put_in cells.plain to m st)
+    → PutBy s t p q i (behind_takes way to m) sent_on f f' (put_behind way to m st) → PutIn s t p q i to sent_on f f' (put_in cells.plain to m st)
 behind-put way s t p q i to sent_on f f' is inside past put =
     let m = message_in s i in
     let st = state_in s p in
     below-put s t p q i to sent_on f f' false inside past
-    (with-later s t p q i (below_takes to.way (has_parts m) (is_across to m)) (stack_cost (stands_of st) to m) (cost_of (stack_cost (stands_of st)) (put_behind to.way to m st).sent) sent_on f f' (put_behind to.way to m st) (behind-stack (stands_of st) to m st inside past)
-    (subst (λ w. PutBy s t p q i (below_takes w (has_parts m) (is_across to m)) sent_on f f' (put_behind w to m st)) (sym is) put))
+    (put-more s t p q i (behind_takes way to m) (own to (shape_of m) st) sent_on f f' (put_behind to.way to m st) (omega (arith, behind-is way to m st is inside past))
+    (subst (λ w. PutBy s t p q i (behind_takes way to m) sent_on f f' (put_behind w to m st)) (sym is) put))
 
 -- what a head sends down is made
 pub came-put : (s t u : StoreValue) (p q : Streams) (m n k : ℕ) (down : List (Parcel ℕ)) (made : List Sent) (f f' : Fates) (is : Took ℕ (State ℕ))

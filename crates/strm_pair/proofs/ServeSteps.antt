@@ -14,7 +14,7 @@ use Rattle.strm_types.specs.declared.limits.TheConstants.{HOPS, STOP_BLOCKS}
 use Rattle.strm_types.specs.declared.rules.Fates.{Fates}
 use Rattle.strm_types.specs.declared.spots.Spot.{Spot}
 use Rattle.strm_types.specs.Cells.{plain}
-use Rattle.strm_types.specs.Costs.{cost_of, most_cost}
+use Rattle.strm_types.specs.Budgets.{budget, cost_of, most}
 use Rattle.strm_types.specs.Deliver.{Carried, Fate, Parcel, carried, in_turn, tallied}
 use Rattle.strm_laws.specs.Earlier.{places_of}
 use Rattle.strm_types.specs.Input.{made_of}
@@ -24,12 +24,13 @@ use Rattle.strm_types.specs.Modules.{act_among}
 use Rattle.strm_laws.specs.Pair.{IsKeptAhead}
 use Rattle.strm_laws.specs.Puts.{earlier_at, module_acted, noted, put_in}
 use Rattle.strm_laws.specs.Spares.{spare, spare_behind}
-use Rattle.strm_laws.specs.StackCosts.{stack_cost, stands_of}
+use Rattle.strm_laws.specs.SideCosts.{costs}
+use Rattle.strm_laws.specs.StackCosts.{stands_of}
 use Rattle.strm_laws.specs.Stacked.{Module, OfLdterm, OfPtem, OfPckt, module_serves}
 use Rattle.strm_laws.specs.State.{State, book, stream}
 use Rattle.strm_types.specs.LdtermCalls.{Begins, Ends, bytes_left, most_made}
 use Rattle.strm_laws.specs.TurnCalls.{asks_on, called, ldterm_of, module_at, treated}
-use Rattle.strm_types.proofs.CostSums.{none-few}
+use Rattle.strm_types.proofs.CostsOf.{none-few}
 use Rattle.strm_laws.proofs.StackSpares.{acted-falls, units-fit}
 use Rattle.strm_laws.proofs.StackStays.{serve-names}
 use Rattle.strm_laws.proofs.Booked.{between-counts, made-within, made_in, master-told, slave-told}
@@ -38,7 +39,7 @@ use Rattle.strm_laws.proofs.ModuleTurnCalls.{UnderWay, index-map, none_there, se
 use Rattle.strm_blocks.specs.Blocks.{IsStore, StoreValue}
 use Rattle.strm_frame.specs.declared.service.Served.{Served}
 use Rattle.strm_frame.specs.declared.parcels.Sent.{Sent}
-use Rattle.strm_frame.specs.Hands.{AreIn, Handles, HasRoom, MayTake, SamePool, Spends, Takes}
+use Rattle.strm_frame.specs.Hands.{AreIn, Handles, HasRoom, MayDeliver, SamePool, Spends, Takes}
 use Rattle.strm_frame.specs.Outboxes.{sent_of, times_sent, parcels_in}
 use Rattle.strm_frame.specs.Serves.{later_cost, least_free, stop_at}
 use Rattle.strm_ldterm.specs.Turns.{needs}
@@ -210,9 +211,8 @@ module _ (s t : StoreValue) (p q : Streams) (x : Stack) (here : Spot) (again : B
         some = e.some;
         beside = r.beside;
         chains = e.chains;
-        falls = e.falls;
         hands = r.hands;
-        room = subst (λ ls. HasRoom t (later_cost most_cost served.again (at_place (turn_cost here true) 0 here.at ls) (parcels_in t (sent_of served.acts.sent)))) (sym (ap (λ y. (stream here.side (state_in t y)).modules) q_is ∙ stack-modules here.side t p x (noted here.side place earlier served.acts.notes.items p.enabled) (with_more m n p.books))) e.room;
+        room = subst (λ ls. HasRoom t (later_cost served.again (at_place (turn_cost here true) 0 here.at ls) (parcels_in t (sent_of served.acts.sent)))) (sym (ap (λ y. (stream here.side (state_in t y)).modules) q_is ∙ stack-modules here.side t p x (noted here.side place earlier served.acts.notes.items p.enabled) (with_more m n p.books))) e.room;
         pool = e.pool;
       }
 
@@ -222,13 +222,13 @@ begins-work Up true l begins up more = begins
 begins-work Up false l begins up more = absurd (false≢true more)
 begins-work Down again l begins up more = absurd (cc)
 
-module _ (here : Spot) (inside : 0 < here.at) (again : Bool) (stop : Option ℕ) where
-  one-sends : (p : Module ℕ) → Begins here.way again (ldterm_of p) → cost_of most_cost (module_serves plain here 0 again stop p).acted.sent ≤ 31
-  one-sends (OfLdterm l) begins = call-few here inside again stop l (begins-work here.way again l begins)
-  one-sends (OfPtem p) begins = none-few {C = ℕ} most_cost 31
-  one-sends (OfPckt p) begins = none-few {C = ℕ} most_cost 31
+module _ (here : Spot) (again : Bool) (stop : Option ℕ) where
+  one-sends : (p : Module ℕ) → Begins here.way again (ldterm_of p) → cost_of most (module_serves plain here 0 again stop p).acted.sent ≤ 31
+  one-sends (OfLdterm l) begins = call-few here again stop l (begins-work here.way again l begins)
+  one-sends (OfPtem p) begins = none-few {C = ℕ} most 31
+  one-sends (OfPckt p) begins = none-few {C = ℕ} most 31
 
-  among-sends : (i : ℕ) (ps : List (Module ℕ)) → i < length ps → Begins here.way again (ldterm_of (slice_index_or ps i none_there)) → cost_of most_cost (act_among (λ p. (module_serves plain here 0 again stop p).acted) i ps).sent ≤ 31
+  among-sends : (i : ℕ) (ps : List (Module ℕ)) → i < length ps → Begins here.way again (ldterm_of (slice_index_or ps i none_there)) → cost_of most (act_among (λ p. (module_serves plain here 0 again stop p).acted) i ps).sent ≤ 31
   among-sends i [] low begins = absurd (omega (arith, low))
   among-sends zero (p ∷ ps) low begins = one-sends p begins
   among-sends (suc i) (p ∷ ps) low begins = among-sends i ps (omega (arith, low)) begins
@@ -261,23 +261,24 @@ module _ (r s : StoreValue) (o p : Streams) (here : Spot) (again : Bool) (call :
     (a : ActsAs r s o p here again call sent_on f f') where
   -- what its messages take, by the modules that stand there
   abbrev takes : ℕ
-  takes = cost_of (stack_cost (stands_of (state_in s p))) (parcels_in s sent_on)
+  takes = cost_of (budget (costs (stands_of (state_in s p))) HOPS) (parcels_in s sent_on)
 
-  takes-most : takes ≤ cost_of most_cost (parcels_in s sent_on)
+  takes-most : takes ≤ cost_of most (parcels_in s sent_on)
   takes-most = sent-most (stands_of (state_in s p)) (once-stands s p a.beside) (parcels_in s sent_on)
 
   takes-few : takes ≤ 31
   takes-few =
-      let few = among-sends here inside again (stop_in call) (here.at - 1) (stream here.side (state_in r o)).modules low begins in
-      omega (arith, takes-most, few, ap (cost_of (most_cost {C = ℕ})) a.sent)
+      let few = among-sends here again (stop_in call) (here.at - 1) (stream here.side (state_in r o)).modules low begins in
+      omega (arith, takes-most, few, ap (cost_of {C = ℕ} most) a.sent)
 
   acted-spare : spare (state_in r o) ≤ spare (state_in s p) + (3 * call.bytes + 2)
   acted-spare = omega (arith, acted-left here again call (state_in r o) a.itself begins low, ap spare a.state)
 
-  pub calls-may : MayBook here again (state_in r o) → MayTake s (spare (state_in s p)) takes
+  pub calls-may : MayBook here again (state_in r o) → MayDeliver s (spare (state_in s p)) takes
   calls-may may = record {
     room = record { mblks = omega (arith, a.room.mblks, takes-most); dblks = omega (arith, a.room.dblks, takes-most) };
     spare = omega (arith, may, call-within here again call (state_in r o) a.itself begins low, acted-spare, takes-few);
+    ends = omega (arith, takes-few);
   }
 
   -- a call that stopped leaves few blocks free, where what it sent frees none
@@ -311,7 +312,7 @@ module _ (r s : StoreValue) (o p : Streams) (here : Spot) (again : Bool) (call :
         some = a.some;
         beside = beside;
         hand = λ i. omega (arith, all i, a.hands.counts i, hands.counts i);
-        room = next-room s t call.again (cost_of most_cost (parcels_in s sent_on)) (next_cost here (state_in s p)) (next_cost here (state_in t q))
+        room = next-room s t call.again (cost_of most (parcels_in s sent_on)) (next_cost here (state_in s p)) (next_cost here (state_in t q))
             (ap (next_cost here) led_state ∙ sent-cost here w.sent w.state ∙ ap (next_cost here) (sym a.state)) a.room
             (record { mblks = omega (arith, spends.blocks.mblks, takes-most); dblks = omega (arith, spends.blocks.dblks, takes-most) });
         left = omega (arith, acted-spare, spends.spare, takes-few);

@@ -1,22 +1,19 @@
 -- A turn of a driver, step by step.
-use Rattle.std.proofs.Common.{ℕ, ◌≡◌, ◌≤◌, ◌<◌, ◌+◌, Bool, true, false, cond, List, [], ◌∷◌, map, refl, sym, ap, ◌∙◌, arith}
-use Rattle.std.specs.Prelude.{not, ◌&&◌, ◌||◌, ◌==◌, Option, None, Some, MatchOption}
+use Rattle.std.proofs.Common.{ℕ, ◌≡◌, ◌≤◌, Bool, true, false, List, [], ◌∷◌, map, refl, sym, ap, ◌∙◌, arith}
+use Rattle.std.specs.Prelude.{not, ◌&&◌, Option, None, Some, MatchOption}
 use Rattle.strm_types.specs.declared.answers.Turn.TheVariants.{Blocked, Idle}
-use Rattle.strm_types.specs.declared.kinds.MsgKind.{MsgKind}
-use Rattle.strm_types.specs.declared.kinds.MsgKind.TheVariants.{Flush, Iocack, Ioctl}
 use Rattle.strm_types.specs.declared.names.Side.{Side}
 use Rattle.strm_types.specs.declared.names.Way.{Way}
 use Rattle.strm_types.specs.declared.names.Way.TheVariants.{Up}
 use Rattle.strm_types.specs.Cells as cells
-use Rattle.strm_types.specs.Costs.{asking_at, most_cost, most_up}
+use Rattle.strm_types.specs.Budgets.{most_of}
+use Rattle.strm_types.specs.Shapes.{shape_of}
+use Rattle.strm_types.proofs.CostsOf.{most-few}
 use Rattle.strm_laws.specs.Earlier.{driver_place}
-use Rattle.strm_types.specs.Flushing.{asked_by, is_flush}
 use Rattle.strm_laws.specs.Kept.{AreIdle}
-use Rattle.strm_types.specs.Message.{Message, band_of, has_parts, is_held}
+use Rattle.strm_types.specs.Message.{Message, band_of, is_held}
 use Rattle.strm_types.specs.Names.{other, is_open}
 use Rattle.strm_laws.specs.Past.{has_room_past, writer_waits}
-use Rattle.strm_types.specs.Pckts.{is_packed}
-use Rattle.strm_types.specs.Far.{far_at, is_turned, turns_round}
 use Rattle.strm_types.specs.Queue as plain
 use Rattle.strm_types.specs.Queue.{left_with}
 use Rattle.strm_laws.specs.Spares.{spare}
@@ -79,42 +76,9 @@ abbrev first_message : List (Message ℕ) → Message ℕ → Message ℕ
 first_message [] m = m
 first_message (x ∷ q) m = x
 
--- what comes up from a driver has fewer places before it than a delivery may go, and takes eight blocks of each kind at most
-pub up-near : (turned : Bool) (at : ℕ) → at ≤ 3 → far_at Up turned at < 16
-up-near true at low = omega arith
-up-near false at low = omega arith
-
-few-blocks : (top turned flush bare driver : Bool) → cond top (cond turned 4 0) (cond turned 4 (cond ((flush && bare) && driver) 1 0)) ≤ cond {A = ℕ} turned 4 (cond flush 1 0)
-few-blocks true true flush bare driver = omega arith
-few-blocks true false flush bare driver = omega arith
-few-blocks false true flush bare driver = omega arith
-few-blocks false false false bare driver = omega arith
-few-blocks false false true false driver = omega arith
-few-blocks false false true true true = omega arith
-few-blocks false false true true false = omega arith
-
--- an M_IOCTL is turned round, and an M_IOCACK isn't; each becomes packets at most where pckt stands once
-few-asked : (kind : MsgKind) (bytes : List ℕ) (at : ℕ) → cond {A = ℕ} (turns_round kind bytes) 4 (cond (is_flush kind) 1 0) + asking_at Up kind at + most_up kind (asked_by bytes).for_write ≤ 8
-few-asked Flush bytes at = by (asked_by bytes).for_write
-  where
-    by : (writes : Bool) → cond {A = ℕ} writes 4 1 + 0 + cond writes 4 1 ≤ 8
-    by true = omega arith
-    by false = omega arith
-few-asked Ioctl bytes at = omega arith
-few-asked Iocack bytes at = omega arith
-few-asked kind bytes at = by (is_packed kind)
-  where
-    by : (packed : Bool) → 0 + 0 + cond {A = ℕ} packed 1 0 ≤ 8
-    by true = omega arith
-    by false = omega arith
-
-not-more : (b : Bool) (n : ℕ) → cond b 0 n ≤ n
-not-more true n = omega arith
-not-more false n = omega arith
-
-pub up-few : (side : Side) (at : ℕ) (m : Message ℕ) → most_cost (record { side = side; at = at; way = Up }) m ≤ 8
-up-few side at m =
-    omega (arith, few-blocks (at == 0) (is_turned m) (is_flush m.kind) (not (has_parts m)) (at == 4), few-asked m.kind m.plain at, not-more (at == 0 || has_parts m) (asking_at Up m.kind at))
+-- what comes up from a driver takes eight blocks of each kind at most
+pub up-few : (side : Side) (at : ℕ) (m : Message ℕ) → most_of (record { side = side; at = at; way = Up }) m ≤ 8
+up-few side at m = most-few (record { to = record { side = side; at = at; way = Up }; shape = shape_of m })
 
 -- the books stay where a message is taken off a driver's queue, where a turn ends, and where a writer waits
 pub taken-spare : (side : Side) (q : plain.Queue ℕ) (s : State ℕ) → spare (with_driver side q s) ≡ spare s

@@ -5,19 +5,14 @@ use Rattle.std.specs.List.{AllByRecursion}
 use Rattle.strm_types.specs.declared.both.Both.{Both}
 use Rattle.strm_types.specs.declared.names.Side.{Side}
 use Rattle.strm_types.specs.declared.names.Side.TheVariants.{Master, Slave}
-use Rattle.strm_types.specs.declared.spots.Spot.{Spot}
 use Rattle.strm_types.specs.Cells as cells
 use Rattle.strm_laws.specs.Kept.{AreIdle}
-use Rattle.strm_types.specs.Message.{Message}
 use Rattle.strm_types.specs.Names.{other}
 use Rattle.strm_types.proofs.BySide.{map-same}
-use Rattle.strm_laws.specs.Puts.{put_in}
-use Rattle.strm_laws.specs.StackCosts.{Stands, stack_cost, stands_of}
 use Rattle.strm_laws.specs.Stacked as plain
 use Rattle.strm_laws.specs.Stacked.{IsAtRest}
 use Rattle.strm_laws.specs.State as state
 use Rattle.strm_laws.specs.State.{State}
-use Rattle.strm_laws.proofs.StackStays.{puts-stand}
 use Rattle.strm_blocks.specs.Blocks.{StoreValue, in_hand, list_at}
 use Rattle.strm_frame.specs.Hands.{SameFor}
 use Rattle.strm_head.specs.Heads.{head_in}
@@ -116,8 +111,3 @@ pub streams-frame : (s t : StoreValue) (p : Streams) → SameFor s t (kept_by p)
 streams-frame s t p same beside =
     let stays : Stays s t (kept_by p) = record { mblks = same.mblks; dblks = same.dblks; kept = same.kept } in
     (same-state s t same.lists p beside stays, same-beside s t same.lists p beside stays)
-
--- No put changes what messages cost, as the modules stay.
-pub costs-stay : (to : Spot) (m : Message ℕ) (s : State ℕ)
-    → ◌≡◌ {A = Spot → Message ℕ → ℕ} (λ there n. stack_cost (stands_of (put_in cells.plain to m s).state) there n) (λ there n. stack_cost (stands_of s) there n)
-costs-stay to m s = ap {B = Spot → Message ℕ → ℕ} (λ (all : Stands) there n. stack_cost all there n) (puts-stand (stands_of s) cells.plain to m s refl)

@@ -10,15 +10,13 @@ use Rattle.strm_types.specs.declared.rules.Fates.{Fates}
 use Rattle.strm_types.specs.declared.spots.Spot.{Spot}
 use Rattle.strm_types.specs.Books.{with_made}
 use Rattle.strm_types.specs.Cells.{plain}
-use Rattle.strm_types.specs.Deliver.{AreLower, Fate, Took, tallied}
+use Rattle.strm_types.specs.Deliver.{Fate, Took, tallied}
 use Rattle.strm_types.specs.Input.{made_of}
 use Rattle.strm_types.specs.ModuleQueues.{at_place}
 use Rattle.strm_laws.specs.ModuleTurns.{module_turn_ended, moved_on}
 use Rattle.strm_laws.specs.Pair.{IsKeptAhead}
-use Rattle.strm_types.specs.Far.{far}
 use Rattle.strm_laws.specs.Puts.{module_acted}
 use Rattle.strm_laws.specs.Spares.{spare}
-use Rattle.strm_types.specs.Costs.{most_cost}
 use Rattle.strm_laws.specs.State.{State, stream}
 use Rattle.strm_types.specs.LdtermCalls.{Begins, Ends, bytes_left, most_made}
 use Rattle.strm_laws.specs.TurnCalls.{asks_on, called, ldterm_of, led, module_at, treated}
@@ -28,7 +26,6 @@ use Rattle.strm_frame.specs.declared.service.Served.{Served}
 use Rattle.strm_frame.specs.Hands.{Handles, HasRoom, OnlyOwn, SamePool}
 use Rattle.strm_frame.specs.Outboxes.{AreChains, parcels_in, sent_of, times_sent}
 use Rattle.strm_frame.specs.Serves.{later_cost, least_free, stop_at, stop_of}
-use Rattle.strm_ldterm.specs.Bounds.{turn_height}
 use Rattle.strm_pair.specs.AnyModules.{turn_cost}
 use Rattle.strm_pair.specs.declared.service_calls.Call.{Call}
 use Rattle.strm_pair.specs.declared.streams.Streams.{Streams}
@@ -108,9 +105,8 @@ pub record StackServes (old new : StoreValue) (x y : Stack) (here : Spot) (again
   pub held : IsStackHeld new y
   pub own : OnlyOwn old new (stack_owns x) (stack_owns y)
   pub chains : AreChains new (sent_of served.acts.sent)
-  pub falls : AreLower far (turn_height here) (parcels_in new (sent_of served.acts.sent))
   pub hands : Handles old new (λ _. 0) (stack_keeps x) (stack_keeps y) (λ i. times_sent i (sent_of served.acts.sent))
-  pub room : HasRoom new (later_cost most_cost served.again (at_place (turn_cost here true) 0 here.at (modules_in new y)) (parcels_in new (sent_of served.acts.sent)))
+  pub room : HasRoom new (later_cost served.again (at_place (turn_cost here true) 0 here.at (modules_in new y)) (parcels_in new (sent_of served.acts.sent)))
   pub pool : SamePool old new
 
 -- what a served call tells of itself
@@ -128,9 +124,8 @@ pub record ActsAs (old new : StoreValue) (p q : Streams) (here : Spot) (again : 
   pub some : OnTrue call.stopped (HasRoom old STOP_BLOCKS → 0 < call.bytes)
   pub beside : AreBeside new q
   pub chains : AreChains new sent_on
-  pub falls : AreLower far (turn_height here) (parcels_in new sent_on)
   pub hands : Handles old new (λ _. 0) (kept_by p) (kept_by q) (λ i. times_sent i sent_on)
-  pub room : HasRoom new (later_cost most_cost call.again (next_cost here (state_in new q)) (parcels_in new sent_on))
+  pub room : HasRoom new (later_cost call.again (next_cost here (state_in new q)) (parcels_in new sent_on))
   pub pool : SamePool old new
 
 -- A call that stopped left few blocks free, where what it sent is kept ahead.

@@ -4,11 +4,10 @@ use Rattle.strm_types.specs.declared.rules.Fates.{Fates}
 use Rattle.strm_types.specs.declared.spots.Spot.{Spot}
 use Rattle.strm_types.specs.Cells.{plain}
 use Rattle.strm_types.specs.Deliver.{Acted, Parcel, Took, tallied}
-use Rattle.strm_types.specs.Far.{far}
 use Rattle.strm_types.specs.Message.{Message, is_held}
 use Rattle.strm_types.specs.ModuleQueues.{at_place}
 use Rattle.strm_types.specs.Modules.{put_among}
-use Rattle.strm_laws.specs.StackCosts.{module_leaves, module_takes}
+use Rattle.strm_laws.specs.StackCosts.{module_takes}
 use Rattle.strm_laws.specs.Stacked.{Module, module_puts}
 use Rattle.strm_laws.specs.State.{State}
 use Rattle.strm_blocks.specs.Blocks.{StoreValue}
@@ -25,20 +24,16 @@ use Rattle.strm_pair.specs.Pairs.{state_in, AreBeside, kept_by}
 use Rattle.strm_pair.specs.Stacks.{modules_in, Stack}
 
 -- A put did what a definition says: the message has gone, and what is sent on has come in hand, beside what the stacks keep. No more
--- blocks of each kind were taken than `most`, and where that many were free, `later` are free behind it.
-pub record PutAs (old new : StoreValue) (p q : Streams) (message most later : ℕ) (sent_on : List Sent) (told told' : Fates) (is : Took ℕ (State ℕ)) : Type 0 where
+-- blocks of each kind were taken than `takes`.
+pub record PutBy (old new : StoreValue) (p q : Streams) (message takes : ℕ) (sent_on : List Sent) (told told' : Fates) (is : Took ℕ (State ℕ)) : Type 0 where
   pub state : state_in new q ≡ is.state
   pub sent : parcels_in new sent_on ≡ is.sent
   pub tells : told' ≡ tallied is.gone told
   pub beside : AreBeside new q
   pub chains : AreChains new sent_on
   pub hands : Handles old new (once message) (kept_by p) (kept_by q) (λ i. times_sent i sent_on)
-  pub spends : Spends old new most later
+  pub spends : Spends old new takes 0
   pub pool : SamePool old new
-
--- the same where no more were taken than `takes`
-abbrev pub PutBy : (old new : StoreValue) → (p q : Streams) → (message takes : ℕ) → List Sent → (told told' : Fates) → Took ℕ (State ℕ) → Type 0
-PutBy old new p q message takes sent_on told told' is = PutAs old new p q message takes 0 sent_on told told' is
 
 -- A put at an open head did what a definition says: the message has gone, and this is to be sent down. No block was taken, the stacks keep what
 -- they did, and an M_DATA or M_PROTO frees none.
@@ -60,5 +55,5 @@ abbrev pub StackTakes : (old new : StoreValue) → (x y : Stack) → (message : 
 StackTakes old new x y message to acts told told' =
     let m = message_in old message in
     let ms = modules_in old x in
-    Puts (all_in module_in) (AreHeld IsHeld owns) (all_of owns) (all_of keeps) far old new x.modules.items y.modules.items to message (at_place (module_takes to m) 0 to.at ms)
-    (at_place (module_leaves to m) 0 to.at ms) acts told told' (taken_at to m ms)
+    Puts (all_in module_in) (AreHeld IsHeld owns) (all_of owns) (all_of keeps) old new x.modules.items y.modules.items message (at_place (module_takes to m) 0 to.at ms)
+    acts told told' (taken_at to m ms)

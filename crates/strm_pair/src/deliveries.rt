@@ -1,12 +1,9 @@
 //! Messages that calls and turns send (STREAMS Programming Guide, "Put Procedures").
 
-ghost use Rattle.std.specs.Prelude.{◌<◌};
 ghost use Rattle.strm_types.specs.Cells.{plain};
-ghost use Rattle.strm_types.specs.declared.limits.TheConstants.{HOPS};
 ghost use Rattle.strm_laws.specs.Puts.{delivered};
-ghost use Rattle.strm_types.specs.Far.{far};
 ghost use Rattle.strm_laws.specs.Spares.{spare};
-ghost use Rattle.strm_types.specs.Costs.{most_cost};
+ghost use Rattle.strm_types.specs.Budgets.{most_of};
 ghost use Rattle.strm_frame.specs.Hands.{MayTake, Takes};
 ghost use Rattle.strm_frame.specs.Outboxes.{message_in};
 ghost use Rattle.strm_pair.specs.Alone.{IsAlone};
@@ -31,13 +28,12 @@ impl Streams {
         told: &mut Fates,
     )
         requires alone { IsAlone (B.value store.old) self.old (token message) }
-        requires low { far to (message_in (B.value store.old) (token message)) < HOPS }
         requires room { let s = B.value store.old in
-            MayTake s (spare (state_in s self.old)) (most_cost to (message_in s (token message))) }
+            MayTake s (spare (state_in s self.old)) (most_of to (message_in s (token message))) }
         ensures leads { let s = B.value store.old in let is = delivered plain to (message_in s (token message)) (state_in s self.old) in
             Leads s (B.value store.new) self.new told.old told.new is.state is.gone }
         ensures takes { let s = B.value store.old in let t = B.value store.new in
-            Takes s t (spare (state_in s self.old)) (spare (state_in t self.new)) (most_cost to (message_in s (token message))) 0 }
+            Takes s t (spare (state_in s self.old)) (spare (state_in t self.new)) (most_of to (message_in s (token message))) 0 }
     {
         deliver(store, self, HOPS, to, message, told);
     }

@@ -74,13 +74,11 @@ impl AnyModule {
 
 impl Module for AnyModule {
     ghost use Rattle.strm_types.specs.Cells as cells;
-    ghost use Rattle.strm_types.specs.Costs.{most_cost};
-    ghost use Rattle.strm_laws.specs.StackCosts as costs;
-    ghost use Rattle.strm_types.specs.Far.{far};
+    ghost use Rattle.strm_types.specs.Tables.{name_does};
+    ghost use Rattle.strm_laws.proofs.PutsWithin.{module-within};
     ghost use Rattle.strm_laws.specs.Stacked as plain;
     ghost use Rattle.strm_types.specs.LdtermCalls.{Ends};
     ghost use Rattle.strm_laws.specs.TurnCalls.{ldterm_of};
-    ghost use Rattle.strm_ldterm.specs.Bounds.{turn_height};
     ghost use Rattle.strm_pair.specs.AnyModules as any;
 
     ghost Plain = { plain.Module ℕ };
@@ -113,15 +111,7 @@ impl Module for AnyModule {
 
     ghost MayStop = { λ way again bytes p. Ends way again (ldterm_of p) bytes };
 
-    ghost height = { far };
-
-    ghost takes = { costs.module_takes };
-
-    ghost leaves = { costs.module_leaves };
-
-    ghost cost = { most_cost };
-
-    ghost turn_height = { turn_height };
+    ghost does = { λ p. name_does (plain.module_name p) };
 
     ghost turn_cost = { any.turn_cost };
 
@@ -255,6 +245,8 @@ impl Module for AnyModule {
             AnyModule::Pckt(pckt) => pckt.clear(store, side, rule, seeking, told),
         }
     }
+
+    ghost within = { λ here m p. module-within cells.plain 0 here m p };
 
     ghost frame = { λ s t x same held. any.module-frame s t x same held };
 

@@ -8,25 +8,25 @@ ghost use Rattle.strm_types.specs.declared.names.Way.TheVariants.{Up};
 ghost use Rattle.strm_types.specs.Cells.{plain};
 ghost use Rattle.strm_laws.specs.Earlier.{modules_on};
 ghost use Rattle.strm_types.specs.Flushing.{is_flush};
-ghost use Rattle.strm_types.specs.Message.{has_parts};
 ghost use Rattle.strm_types.specs.Names.{is_open};
 ghost use Rattle.strm_laws.specs.Puts.{across_of, put_at_head, put_at_module, put_at_driver, passed_up, put_behind, put_in};
-ghost use Rattle.strm_types.specs.Far.{far};
+ghost use Rattle.strm_types.specs.Tables.{driver_own};
 ghost use Rattle.strm_laws.specs.State.{stream};
 ghost use Rattle.strm_blocks.specs.Blocks.{in_hand, token};
 ghost use Rattle.strm_msg.specs.Messages.{IsChain};
 ghost use Rattle.strm_queue.specs.Stored.{FreesNone};
 ghost use Rattle.strm_frame.specs.Hands.{HasRoom, MayTake};
-ghost use Rattle.strm_frame.specs.Outboxes.{message_in, sent_of};
+ghost use Rattle.strm_frame.specs.Outboxes.{message_in, sent_of, spot_in};
 ghost use Rattle.strm_types.specs.Reads.{is_there};
 ghost use Rattle.strm_head.specs.Heads.{down_message, sent_down};
 ghost use Rattle.strm_pty.specs.Does.{Makes, MadeOne};
-ghost use Rattle.strm_types.specs.Costs.{below_takes, cost_of, head_takes, is_across};
+ghost use Rattle.strm_types.specs.Costs.{head_takes, up_takes};
 ghost use Rattle.strm_types.specs.ModuleQueues.{at_place};
 ghost use Rattle.strm_laws.specs.Spares.{module_packs, spare};
-ghost use Rattle.strm_laws.specs.StackCosts.{module_leaves, module_takes, stack_cost, stands_of};
+ghost use Rattle.strm_laws.specs.SideCosts.{costs};
+ghost use Rattle.strm_laws.specs.StackCosts.{module_takes, stands_of};
 ghost use Rattle.strm_pair.specs.Effects.{MayPut};
-ghost use Rattle.strm_pair.specs.PutBy.{PutAs, PutBy, CameBy, StackTakes};
+ghost use Rattle.strm_pair.specs.PutBy.{PutBy, CameBy, StackTakes};
 ghost use Rattle.strm_pair.specs.Staying.{KeepsBlocks};
 
 use crate::service_calls::Made;
@@ -197,8 +197,8 @@ impl Streams {
         requires within { (s : StoreValue) → to.at ≤ modules_on to.side (state_in s self.old) }
         ensures does { let s = B.value store.old in let m = message_in s (token message) in let st = state_in s self.old in
             let ms = (stream to.side st).modules in
-            PutAs s (B.value store.new) self.old self.new (token message) (at_place (module_takes to m) 0 to.at ms)
-            (at_place (module_leaves to m) 0 to.at ms) (sent_of result) told.old told.new (put_at_module plain to m st) }
+            PutBy s (B.value store.new) self.old self.new (token message) (at_place (module_takes to m) 0 to.at ms)
+            (sent_of result) told.old told.new (put_at_module plain to m st) }
         ensures blocks { KeepsBlocks (B.value store.old) (B.value store.new) self.old to (token message) }
     {
         store.audit();
@@ -220,9 +220,9 @@ impl Streams {
         told: &mut Fates,
     ) -> Outbox
         requires may { MayPut (B.value store.old) self.old (token message) }
-        requires room { HasRoom (B.value store.old) (below_takes to.way (has_parts (message_in (B.value store.old) (token message))) true) }
+        requires room { HasRoom (B.value store.old) (driver_own to.way (message_in (B.value store.old) (token message))) }
         ensures does { let s = B.value store.old in let m = message_in s (token message) in
-            PutBy s (B.value store.new) self.old self.new (token message) (below_takes to.way (has_parts m) true)
+            PutBy s (B.value store.new) self.old self.new (token message) (driver_own to.way m)
             (sent_of result) told.old told.new (put_at_driver to.side to m (state_in s self.old)) }
         ensures blocks { to.way ≡ ways.Down → KeepsBlocks (B.value store.old) (B.value store.new) self.old to (token message) }
     {
@@ -267,11 +267,10 @@ impl Streams {
         told: &mut Fates,
     ) -> Outbox
         requires may { MayPut (B.value store.old) self.old (token message) }
-        requires room { let m = message_in (B.value store.old) (token message) in
-            HasRoom (B.value store.old) (below_takes Up (has_parts m) (is_across to m)) }
+        requires room { HasRoom (B.value store.old) (up_takes to (message_in (B.value store.old) (token message))) }
         requires up { to.way ≡ Up }
         ensures does { let s = B.value store.old in let m = message_in s (token message) in
-            PutBy s (B.value store.new) self.old self.new (token message) (below_takes Up (has_parts m) (is_across to m))
+            PutBy s (B.value store.new) self.old self.new (token message) (up_takes to m)
             (sent_of result) told.old told.new (put_behind Up to m (state_in s self.old)) }
         ensures blocks { KeepsBlocks (B.value store.old) (B.value store.new) self.old to (token message) }
     {
@@ -292,11 +291,10 @@ impl Streams {
     ) -> Outbox
         requires may { MayPut (B.value store.old) self.old (token message) }
         requires room { let s = B.value store.old in let st = state_in s self.old in
-            MayTake s (spare st) (stack_cost (stands_of st) to (message_in s (token message))) }
+            MayTake s (spare st) (costs (stands_of st) (spot_in s to (token message))).own }
         ensures does { let s = B.value store.old in let m = message_in s (token message) in let st = state_in s self.old in
-            let is = put_in plain to m st in
-            PutAs s (B.value store.new) self.old self.new (token message) (stack_cost (stands_of st) to m)
-            (cost_of (stack_cost (stands_of st)) is.sent) (sent_of result) told.old told.new is }
+            PutBy s (B.value store.new) self.old self.new (token message) (costs (stands_of st) (spot_in s to (token message))).own
+            (sent_of result) told.old told.new (put_in plain to m st) }
         ensures blocks { KeepsBlocks (B.value store.old) (B.value store.new) self.old to (token message) }
     {
         if to.at == 0 {
@@ -316,7 +314,8 @@ impl<B: Blocks> Stations<B> for Streams {
     ghost use Rattle.std.specs.Prelude.{ℕ};
     ghost use Rattle.strm_laws.specs.State.{State};
     ghost use Rattle.strm_pair.specs.Pairs.{state_in, AreBeside, kept_by};
-    ghost use Rattle.strm_pair.specs.Framing.{costs-stay, streams-frame};
+    ghost use Rattle.strm_laws.proofs.PutsWithin.{puts-costed};
+    ghost use Rattle.strm_pair.specs.Framing.{streams-frame};
     ghost use Rattle.strm_pair.specs.Staying.{ComesToStand, comes-on};
 
     ghost Plain = { State ℕ };
@@ -329,9 +328,7 @@ impl<B: Blocks> Stations<B> for Streams {
 
     ghost puts = { put_in plain };
 
-    ghost height = { far };
-
-    ghost cost = { λ s to m. stack_cost (stands_of s) to m };
+    ghost costs = { λ s. costs (stands_of s) };
 
     ghost spare = { spare };
 
@@ -344,7 +341,7 @@ impl<B: Blocks> Stations<B> for Streams {
 
     ghost frame = { streams-frame };
 
-    ghost cost_stays = { λ to m p. costs-stay to m p };
+    ghost costed = { puts-costed plain };
 
     ghost stays_on = { λ to m p is. comes-on to m p is };
 }

@@ -1,30 +1,22 @@
 -- What a stack of modules wants of a put at pckt: the blocks that it takes are those of the packet, and of what is passed of an M_FLUSH.
-use Rattle.std.proofs.Common.{ℕ, ◌<◌, ◌≤◌, sym, subst, arith}
-use Rattle.strm_types.specs.declared.limits.TheConstants.{MODULES}
+use Rattle.std.proofs.Common.{ℕ, arith}
 use Rattle.strm_types.specs.declared.rules.Fates.{Fates}
 use Rattle.strm_types.specs.declared.spots.Spot.{Spot}
-use Rattle.strm_types.specs.Cells.{plain}
 use Rattle.strm_types.specs.Costs.{pckt_takes}
-use Rattle.strm_types.specs.Deliver.{AreLower}
 use Rattle.strm_types.specs.Message.{Message}
-use Rattle.strm_types.specs.Far.{far}
-use Rattle.strm_types.proofs.PcktPuts.{puts-lower}
 use Rattle.strm_blocks.specs.Blocks.{StoreValue}
 use Rattle.strm_frame.specs.declared.modules.Acts.{Acts}
 use Rattle.strm_frame.specs.Hands.{Hands, Spends}
-use Rattle.strm_frame.specs.Outboxes.{message_in, parcels_in, sent_of, times_sent}
+use Rattle.strm_frame.specs.Outboxes.{message_in, sent_of, times_sent}
 use Rattle.strm_pty.specs.Packs.{Packs, pckt_in, puts}
 
-module _ (s t : StoreValue) (i : ℕ) (here : Spot) (acts : Acts) (f f' : Fates) (some : 0 < here.at) (few : here.at ≤ MODULES)
+module _ (s t : StoreValue) (i : ℕ) (here : Spot) (acts : Acts) (f f' : Fates)
     (packs : Packs s t i (pckt_takes here (message_in s i)) acts f f' (puts here (message_in s i) pckt_in)) where
   abbrev m : Message ℕ
   m = message_in s i
 
   pub packs-spends : Spends s t (pckt_takes here m) 0
   packs-spends = record { mblks = (let h = packs.swaps.hands.mblks in omega arith); dblks = (let h = packs.swaps.hands.dblks in omega arith) }
-
-  pub packs-fall : AreLower far (far here m) (parcels_in t (sent_of acts.sent))
-  packs-fall = subst (AreLower far (far here m)) (sym packs.swaps.sent) (puts-lower plain 0 here m some few)
 
   pub packs-hands : Hands s t i (λ _. 0) (λ _. 0) (λ j. times_sent j (sent_of acts.sent))
   packs-hands = record {

@@ -1,5 +1,5 @@
 -- Puts at ptem, step by step.
-use Rattle.std.proofs.Common.{ℕ, ◌≡◌, ◌<◌, ◌≤◌, ◌+◌, Bool, true, false, cond, List, [], ◌∷◌, refl, sym, ap, subst, ◌∙◌, take, arith}
+use Rattle.std.proofs.Common.{ℕ, ◌≡◌, ◌<◌, ◌≤◌, Bool, true, false, cond, List, [], ◌∷◌, refl, sym, ap, subst, ◌∙◌, take, arith}
 use Rattle.std.specs.Prelude.{Option, Some}
 use Rattle.strm_types.specs.declared.kinds.MsgKind.TheVariants.{Ioctl, Iocack, Pcsig}
 use Rattle.strm_types.specs.declared.ioctls.Ioc.{Ioc}
@@ -15,10 +15,10 @@ use Rattle.strm_types.specs.Ioctls.{nak_message, read_ioc}
 use Rattle.strm_types.specs.Ldterms.{onward}
 use Rattle.strm_types.specs.Message.{Message}
 use Rattle.strm_types.specs.Ptems as plain
-use Rattle.strm_types.specs.Costs.{cost, cost_of}
+use Rattle.strm_types.specs.Budgets.{own_at}
+use Rattle.strm_types.specs.Tables.{ptem_does}
 use Rattle.strm_types.specs.Ptems.{acks, asked_above, asked_below, asked_by_header, asked_on_way, naks, ptem_passes, ptem_puts, ptem_sends, set_above, window_signal}
 use Rattle.strm_types.specs.Winsizes.{same_winsize}
-use Rattle.strm_types.proofs.CostsBounded.{next-cost}
 use Rattle.strm_blocks.specs.Blocks.{StoreValue, in_hand, token}
 use Rattle.strm_msg.specs.Messages.{IsChain}
 use Rattle.strm_frame.specs.declared.modules.Acts.{Acts}
@@ -30,7 +30,7 @@ use Rattle.strm_frame.proofs.Handing.{one-chains, one-hands, one-parts}
 use Rattle.strm_pty.specs.declared.ptem.Ptem.{Ptem}
 use Rattle.strm_pty.specs.Beside.{Answers, MayAnswer, MayPass, ptem_in}
 use Rattle.strm_pty.specs.Does.{Makes, Swaps}
-use Rattle.strm_pty.proofs.Costing.{ack-cost, nak-above-cost, nak-below-cost, room-above, room-below, set-cost}
+use Rattle.strm_pty.proofs.Costing.{above-own, below-own}
 use Rattle.strm_pty.proofs.Doing.{makes-none, room-less}
 
 -- the kinds that ptem makes have no parts
@@ -69,7 +69,7 @@ no-signal s here v w is = rw is (makes-none s 1 [] refl)
 
 -- an M_IOCTL was freed, and what is sent was made
 pub swaps-answers : (s t : StoreValue) (x : Ptem) (i n most : ℕ) (acts : Acts) (ps : List (Parcel ℕ)) → acts.notes.items ≡ [] → Swaps s t i n (sent_of acts.sent) ps
-    → n + cost_of cost ps ≤ most → Answers s t x i most acts (ptem_sends ps (ptem_in x))
+    → n ≤ most → Answers s t x i most acts (ptem_sends ps (ptem_in x))
 swaps-answers s t x i n most acts ps none swaps few = record {
   state = refl;
   notes = none;
@@ -87,11 +87,9 @@ swaps-answers s t x i n most acts ps none swaps few = record {
 -- a message goes on
 pub passes-answers : (s : StoreValue) (x : Ptem) (sent : Sent) (acts : Acts) (here : Spot) → acts.notes.items ≡ [] → sent_of acts.sent ≡ sent ∷ [] → sent.to ≡ toward here.way here
     → IsChain (in_hand s (token sent.message)) → 0 < here.at → here.at ≤ MODULES
-    → Answers s s x (token sent.message) (cost here (message_in s (token sent.message))) acts (ptem_passes here (message_in s (token sent.message)) (ptem_in x))
-unfolding cost_of
+    → Answers s s x (token sent.message) (own_at ptem_does here (message_in s (token sent.message))) acts (ptem_passes here (message_in s (token sent.message)) (ptem_in x))
 passes-answers s x sent acts here none one place chain some few =
     let m = message_in s (token sent.message) in
-    let low = next-cost m here some few in
     record {
       state = refl;
       notes = none;
@@ -104,13 +102,13 @@ passes-answers s x sent acts here none one place chain some few =
     }
 
 -- an M_IOCTL that is put may be answered
-module _ (s : StoreValue) (i : ℕ) (here : Spot) (passes : MayPass s i here) (room : HasRoom s (cost here (message_in s i))) (asked : is_asked (message_in s i) ≡ true) where
+module _ (s : StoreValue) (i : ℕ) (here : Spot) (passes : MayPass s i here) (room : HasRoom s (own_at ptem_does here (message_in s i))) (asked : is_asked (message_in s i) ≡ true) where
   pub may-above : here.way ≡ Down → MayAnswer s i here Down
   may-above way = record {
     passes = passes;
     asked = asked;
     goes = way;
-    room = room-less s (cost here (message_in s i)) 3 (room-above here (message_in s i) asked passes.inside way) room;
+    room = room-less s (own_at ptem_does here (message_in s i)) 3 (omega (arith, above-own here (message_in s i) asked way)) room;
   }
 
   pub may-below : here.way ≡ Up → MayAnswer s i here Up
@@ -118,7 +116,7 @@ module _ (s : StoreValue) (i : ℕ) (here : Spot) (passes : MayPass s i here) (r
     passes = passes;
     asked = asked;
     goes = way;
-    room = room-less s (cost here (message_in s i)) 2 (room-below here (message_in s i) asked passes.inside way) room;
+    room = room-less s (own_at ptem_does here (message_in s i)) 2 (omega (arith, below-own here (message_in s i) asked way)) room;
   }
 
 -- what was read of the first bytes of a payload is read of it all, and where that says something, they are it all
@@ -132,30 +130,30 @@ module _ {A : Type 0} (read : List ℕ → Option A) (k : ℕ) (p bytes : List �
 -- an M_IOCTL was freed, and its answer was made
 module _ (s t : StoreValue) (i : ℕ) (here : Spot) (ioc : Ioc) (acts : Acts) (none : acts.notes.items ≡ []) where
   pub ack-answers : (x : Ptem) (bytes given : List ℕ) → MayAnswer s i here Down → bytes ≡ given → Swaps s t i 1 (sent_of acts.sent) (onward Up here (ack_message ioc bytes) ∷ [])
-      → Answers s t x i (cost here (message_in s i)) acts (acks Up here ioc given (ptem_in x))
+      → Answers s t x i (own_at ptem_does here (message_in s i)) acts (acks Up here ioc given (ptem_in x))
   ack-answers x bytes given may is swaps =
-      swaps-answers s t x i 1 (cost here (message_in s i)) acts (onward Up here (ack_message ioc given) ∷ []) none
+      swaps-answers s t x i 1 (own_at ptem_does here (message_in s i)) acts (onward Up here (ack_message ioc given) ∷ []) none
       (subst (λ xs. Swaps s t i 1 (sent_of acts.sent) (onward Up here (ack_message ioc xs) ∷ [])) is swaps)
-      (ack-cost here (message_in s i) may.asked may.passes.inside ioc given may.goes may.passes.small)
+      (omega (arith, above-own here (message_in s i) may.asked may.goes))
 
   pub refuse-above : (x : Ptem) → MayAnswer s i here Down → Swaps s t i 1 (sent_of acts.sent) (onward Up here (nak_message ioc) ∷ [])
-      → Answers s t x i (cost here (message_in s i)) acts (naks Up here ioc (ptem_in x))
+      → Answers s t x i (own_at ptem_does here (message_in s i)) acts (naks Up here ioc (ptem_in x))
   refuse-above x may swaps =
-      swaps-answers s t x i 1 (cost here (message_in s i)) acts (onward Up here (nak_message ioc) ∷ []) none swaps
-      (nak-above-cost here (message_in s i) may.asked may.passes.inside ioc may.goes)
+      swaps-answers s t x i 1 (own_at ptem_does here (message_in s i)) acts (onward Up here (nak_message ioc) ∷ []) none swaps
+      (omega (arith, above-own here (message_in s i) may.asked may.goes))
 
   pub refuse-below : (x : Ptem) → MayAnswer s i here Up → Swaps s t i 1 (sent_of acts.sent) (onward Down here (nak_message ioc) ∷ [])
-      → Answers s t x i (cost here (message_in s i)) acts (naks Down here ioc (ptem_in x))
+      → Answers s t x i (own_at ptem_does here (message_in s i)) acts (naks Down here ioc (ptem_in x))
   refuse-below x may swaps =
-      swaps-answers s t x i 1 (cost here (message_in s i)) acts (onward Down here (nak_message ioc) ∷ []) none swaps
-      (nak-below-cost here (message_in s i) may.asked may.passes.inside ioc may.goes)
+      swaps-answers s t x i 1 (own_at ptem_does here (message_in s i)) acts (onward Down here (nak_message ioc) ∷ []) none swaps
+      (omega (arith, below-own here (message_in s i) may.asked may.goes))
 
   -- what it set is told, too
   pub set-answers : (x x' : Ptem) (bytes given : List ℕ) → MayAnswer s i here Down → bytes ≡ given
       → Swaps s t i 3 (sent_of acts.sent) (onward Up here (ack_message ioc bytes) ∷ (onward Down here (telling_message ioc bytes) ∷ window_signal here x.window x'.window))
-      → Answers s t x' i (cost here (message_in s i)) acts (set_above here ioc given (ptem_in x) (ptem_in x'))
+      → Answers s t x' i (own_at ptem_does here (message_in s i)) acts (set_above here ioc given (ptem_in x) (ptem_in x'))
   set-answers x x' bytes given may is swaps =
       let sends = λ (xs : List ℕ). onward Up here (ack_message ioc xs) ∷ (onward Down here (telling_message ioc xs) ∷ window_signal here x.window x'.window) in
-      swaps-answers s t x' i 3 (cost here (message_in s i)) acts (sends given) none
+      swaps-answers s t x' i 3 (own_at ptem_does here (message_in s i)) acts (sends given) none
       (subst (λ xs. Swaps s t i 3 (sent_of acts.sent) (sends xs)) is swaps)
-      (set-cost here (message_in s i) may.asked may.passes.inside ioc given x.window x'.window may.goes may.passes.small)
+      (omega (arith, above-own here (message_in s i) may.asked may.goes))

@@ -8,7 +8,8 @@ use Rattle.strm_types.specs.Commands.{is_asked}
 use Rattle.strm_types.specs.Deliver.{Acted}
 use Rattle.strm_types.specs.Message.{Message}
 use Rattle.strm_types.specs.Ptems as plain
-use Rattle.strm_types.specs.Costs.{cost, cost_of}
+use Rattle.strm_types.specs.Budgets.{own_at}
+use Rattle.strm_types.specs.Tables.{ptem_does}
 use Rattle.strm_types.specs.Service.{Serving}
 use Rattle.strm_blocks.specs.Blocks.{StoreValue, IsInHand, in_hand}
 use Rattle.strm_msg.specs.Messages.{IsChain}
@@ -21,8 +22,8 @@ use Rattle.strm_pty.specs.declared.ptem.Ptem.{Ptem}
 abbrev pub ptem_in : Ptem → plain.Ptem
 ptem_in x = record { termios = x.termios; window = x.window }
 
--- A put did what a definition says: `message` has gone, and what is sent on has come in hand. No list of the store changed. With what is sent on no more
--- blocks of each kind are taken than `most`.
+-- A put did what a definition says: `message` has gone, and what is sent on has come in hand. No list of the store changed. No more blocks of each
+-- kind were taken than `most`.
 pub record Answers (old new : StoreValue) (x' : Ptem) (message most : ℕ) (acts : Acts) (is : Acted ℕ plain.Ptem) : Type 0 where
   pub state : ptem_in x' ≡ is.state
   pub notes : acts.notes.items ≡ is.notes
@@ -30,12 +31,12 @@ pub record Answers (old new : StoreValue) (x' : Ptem) (message most : ℕ) (acts
   pub lists : new.lists ≡ old.lists
   pub chains : AreChains new (sent_of acts.sent)
   pub hands : Hands old new message (λ _. 0) (λ _. 0) (λ i. times_sent i (sent_of acts.sent))
-  pub spends : Spends old new most (cost_of cost is.sent)
+  pub spends : Spends old new most 0
   pub pool : SamePool old new
 
 -- that, of a message that is put here, as a definition says of it and of what was set before
 abbrev pub Puts : StoreValue → StoreValue → Ptem → Ptem → ℕ → Spot → Acts → (Message ℕ → plain.Ptem → Acted ℕ plain.Ptem) → Type 0
-Puts old new x x' message here acts is = let m = message_in old message in Answers old new x' message (cost here m) acts (is m (ptem_in x))
+Puts old new x x' message here acts is = let m = message_in old message in Answers old new x' message (own_at ptem_does here m) acts (is m (ptem_in x))
 
 -- how many blocks of each kind the answers to an M_IOCTL take at most, by the way that it goes
 abbrev pub answer_blocks : Way → ℕ

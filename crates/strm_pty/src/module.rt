@@ -12,9 +12,10 @@ impl Module for Pckt {
     ghost use Rattle.std.specs.Prelude.{◌≡◌, refl, None, [], false};
     ghost use Rattle.strm_types.specs.declared.names.ModuleName.TheVariants as names;
     ghost use Rattle.strm_types.specs.declared.spots.Asks.TheVariants.{Empty};
-    ghost use Rattle.strm_types.specs.Costs as costs;
+    ghost use Rattle.strm_types.specs.Cells as cells;
     ghost use Rattle.strm_types.specs.Pckts as plain;
-    ghost use Rattle.strm_types.specs.Far.{far};
+    ghost use Rattle.strm_types.specs.Tables.{pckt_does};
+    ghost use Rattle.strm_types.proofs.PcktWithin.{pckt-within};
     ghost use Rattle.strm_types.specs.Service.{unserved};
     ghost use Rattle.strm_pty.specs.Packs.{pckt_in, puts};
 
@@ -48,15 +49,7 @@ impl Module for Pckt {
 
     ghost MayStop = { λ way again bytes p. ⊥ };
 
-    ghost height = { far };
-
-    ghost takes = { λ here m p. costs.pckt_takes here m };
-
-    ghost leaves = { λ here m p. 0 };
-
-    ghost cost = { costs.cost };
-
-    ghost turn_height = { λ here. 0 };
+    ghost does = { λ p. pckt_does };
 
     ghost turn_cost = { λ here again p. 0 };
 
@@ -145,6 +138,8 @@ impl Module for Pckt {
         LetGo::nothing()
     }
 
+    ghost within = { λ here m p. pckt-within cells.plain 0 here m };
+
     ghost frame = { λ s t x same held. (refl, held) };
 
     ghost rests = { λ s x way i held may. refl };
@@ -164,9 +159,9 @@ impl Module for Ptem {
     ghost use Rattle.std.specs.Prelude.{◌≡◌, refl, None, [], false};
     ghost use Rattle.strm_types.specs.declared.names.ModuleName.TheVariants as names;
     ghost use Rattle.strm_types.specs.declared.spots.Asks.TheVariants.{Empty};
-    ghost use Rattle.strm_types.specs.Costs as costs;
     ghost use Rattle.strm_types.specs.Ptems as plain;
-    ghost use Rattle.strm_types.specs.Far.{far};
+    ghost use Rattle.strm_types.specs.Tables.{ptem_does};
+    ghost use Rattle.strm_types.proofs.PtemWithin.{ptem-within};
     ghost use Rattle.strm_pty.specs.Beside.{idle, ptem_in};
 
     ghost Plain = { plain.Ptem };
@@ -199,15 +194,7 @@ impl Module for Ptem {
 
     ghost MayStop = { λ way again bytes p. ⊥ };
 
-    ghost height = { far };
-
-    ghost takes = { λ here m p. costs.cost here m };
-
-    ghost leaves = { λ here m p. costs.cost_of costs.cost (plain.ptem_puts here m p).sent };
-
-    ghost cost = { costs.cost };
-
-    ghost turn_height = { λ here. 0 };
+    ghost does = { λ p. ptem_does };
 
     ghost turn_cost = { λ here again p. 0 };
 
@@ -295,6 +282,8 @@ impl Module for Ptem {
     ) -> LetGo {
         LetGo::nothing()
     }
+
+    ghost within = { λ here m p. ptem-within here m p };
 
     ghost frame = { λ s t x same held. (refl, held) };
 

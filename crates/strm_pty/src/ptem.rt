@@ -4,10 +4,11 @@ ghost use Rattle.std.specs.Prelude.{◌≡◌, ◌<◌, ◌≤◌, drop, true};
 ghost use Rattle.strm_types.specs.declared.limits.TheConstants.{MODULES};
 ghost use Rattle.strm_types.specs.declared.names.Way.TheVariants.{Up, Down};
 ghost use Rattle.strm_types.specs.Acks.{payload};
-ghost use Rattle.strm_types.specs.Costs.{cost};
+ghost use Rattle.strm_types.specs.Budgets.{own_at};
 ghost use Rattle.strm_types.specs.Ptems.{acks, asked_above, asked_below, new_ptem};
 ghost use Rattle.strm_types.specs.Ptems.{ptem_passes, ptem_puts, signal_told, termios_set, window_set, window_told};
 ghost use Rattle.strm_types.specs.Signals.{signal_in};
+ghost use Rattle.strm_types.specs.Tables.{ptem_does};
 ghost use Rattle.strm_types.specs.Termios.{read_termios, termios_bytes};
 ghost use Rattle.strm_types.specs.Winsizes.{read_winsize, winsize_bytes};
 ghost use Rattle.strm_types.specs.Message.{is_held};
@@ -232,7 +233,7 @@ fn put_below<B: Blocks>(
 pub fn put<B: Blocks>(ptem: &mut Ptem, store: &mut B, here: Spot, message: InHand) -> Acts
     requires in_hand { IsInHand (B.value store.old) (token message) }
     requires chain { IsChain (in_hand (B.value store.old) (token message)) }
-    requires room { let s = B.value store.old in HasRoom s (cost here (message_in s (token message))) }
+    requires room { let s = B.value store.old in HasRoom s (own_at ptem_does here (message_in s (token message))) }
     requires inside { 0 < here.at }
     requires small { here.at ≤ MODULES }
     ensures does { Puts (B.value store.old) (B.value store.new) ptem.old ptem.new (token message) here result

@@ -1,34 +1,35 @@
--- How many blocks a delivery takes at most, and a put itself, case by case.
+-- What puts do at most by their tables, how many blocks a delivery takes by them, and a put at pckt itself, case by case.
 use Rattle.std.proofs.Common.{ℕ, ◌≡◌, List, [], ◌∷◌, map, refl}
 use Rattle.std.specs.Prelude.{Some}
-use Rattle.strm_types.specs.declared.kinds.MsgKind.TheVariants.{Flush, Ioctl, Iocack}
-use Rattle.strm_types.specs.declared.names.Side.TheVariants.{Slave}
+use Rattle.strm_types.specs.declared.kinds.MsgKind.TheVariants.{Flush, Ioctl, Iocack, Iocnak, Sig}
+use Rattle.strm_types.specs.declared.names.ModuleName.TheVariants as names
+use Rattle.strm_types.specs.declared.names.Side.{Side}
+use Rattle.strm_types.specs.declared.names.Side.TheVariants.{Master, Slave}
 use Rattle.strm_types.specs.declared.names.Way.{Way}
 use Rattle.strm_types.specs.declared.names.Way.TheVariants.{Up, Down}
 use Rattle.strm_types.specs.declared.spots.Spot.{Spot}
-use Rattle.strm_types.specs.Costs.{cost, pckt_takes, takes}
+use Rattle.strm_types.specs.Budgets.{Table, budget, most, own_at}
+use Rattle.strm_types.specs.Costs.{head_takes, pckt_takes, up_takes}
 use Rattle.strm_types.specs.Message.{Message}
-use Rattle.strm_laws.proofs.Samples.{header, ordinary, proto, urgent, without_parts}
+use Rattle.strm_types.specs.Shapes.{Shape, Held, Asking, Acking, FlushR, FlushW, FlushRW, FlushMixed, Packed, Passing, shape_of}
+use Rattle.strm_types.specs.Tables.{ToDriver, ToReaders, driver_does, head_does, ldterm_does, name_does, pckt_does, ptem_does}
+use Rattle.strm_laws.specs.SideCosts.{costs}
+use Rattle.strm_laws.specs.StackCosts.{Stands}
+use Rattle.strm_laws.proofs.Samples.{header, options, ordinary, proto, urgent, without_parts}
 
 -- at the head, at each of three modules, and behind them
 abbrev at_each : (Spot → ℕ) → Way → List ℕ
 at_each count way = map (λ at. count (record { side = Slave; at = at; way = way })) (0 ∷ 1 ∷ 2 ∷ 3 ∷ 4 ∷ [])
 
-abbrev costs : Way → Message ℕ → List ℕ
-costs way m = at_each (λ here. cost here m) way
-
-abbrev own : Way → Message ℕ → List ℕ
-own way m = at_each (λ here. takes here m) way
-
--- an M_IOCTL, an M_IOCACK, an M_FLUSH with FLUSHR, and one with FLUSHR and FLUSHW
-abbrev asks : Message ℕ
-asks = without_parts Ioctl (header 1 7 0)
-
+-- an M_IOCACK, an M_FLUSH with FLUSHR, with FLUSHW, and with both
 abbrev answers : Message ℕ
 answers = without_parts Iocack (header 1 7 0)
 
 abbrev reads : Message ℕ
 reads = without_parts Flush (1 ∷ [])
+
+abbrev writes : Message ℕ
+writes = without_parts Flush (2 ∷ [])
 
 abbrev both : Message ℕ
 both = without_parts Flush (3 ∷ [])
@@ -37,76 +38,103 @@ both = without_parts Flush (3 ∷ [])
 abbrev parted : Message ℕ → Message ℕ
 parted m = record m { body = Some (97 ∷ []) }
 
--- M_DATA, M_PROTO and M_PCPROTO
+abbrev shapes : List Shape
+shapes = Held ∷ Asking ∷ Acking ∷ FlushR ∷ FlushW ∷ FlushRW ∷ FlushMixed ∷ Packed ∷ Passing ∷ []
 
-pub data-down : costs Down (ordinary (97 ∷ [])) ≡ 0 ∷ 0 ∷ 0 ∷ 0 ∷ 0 ∷ []
-data-down = refl
+-- the shapes of messages
 
-pub empty-data-down : costs Down (ordinary []) ≡ 0 ∷ 0 ∷ 0 ∷ 0 ∷ 0 ∷ []
-empty-data-down = refl
+pub bare-shapes : map shape_of (ordinary (97 ∷ []) ∷ ordinary [] ∷ proto ∷ without_parts Ioctl (header 1 7 0) ∷ answers ∷ reads ∷ writes ∷ both ∷ without_parts Flush [] ∷ [])
+    ≡ Held ∷ Held ∷ Held ∷ Asking ∷ Acking ∷ FlushR ∷ FlushW ∷ FlushRW ∷ FlushR ∷ []
+bare-shapes = refl
 
-pub data-up : costs Up (ordinary (97 ∷ [])) ≡ 0 ∷ 0 ∷ 0 ∷ 0 ∷ 0 ∷ []
-data-up = refl
+pub other-shapes : map shape_of (urgent ∷ options ∷ without_parts Iocnak (header 1 7 1) ∷ without_parts Sig (2 ∷ []) ∷ []) ≡ Packed ∷ Passing ∷ Passing ∷ Passing ∷ []
+other-shapes = refl
 
-pub proto-down : costs Down proto ≡ 0 ∷ 0 ∷ 0 ∷ 0 ∷ 0 ∷ []
-proto-down = refl
+pub parted-shapes : map (λ m. shape_of (parted m)) (without_parts Ioctl [] ∷ answers ∷ reads ∷ writes ∷ both ∷ [])
+    ≡ Packed ∷ Passing ∷ Packed ∷ FlushMixed ∷ FlushMixed ∷ []
+parted-shapes = refl
 
-pub urgent-down : costs Down urgent ≡ 0 ∷ 0 ∷ 0 ∷ 0 ∷ 0 ∷ []
-urgent-down = refl
+-- what each takes, makes and sends on
 
-pub data-takes : own Down (ordinary (97 ∷ [])) ≡ 0 ∷ 0 ∷ 0 ∷ 0 ∷ 0 ∷ []
-data-takes = refl
+abbrev owns : Table → Way → List ℕ
+owns table way = map (λ shape. (table way shape).own) shapes
 
--- what is answered, or makes others
+pub ldterm-takes : map (owns ldterm_does) (Up ∷ Down ∷ []) ≡ (0 ∷ 0 ∷ 2 ∷ 0 ∷ 0 ∷ 0 ∷ 0 ∷ 0 ∷ 0 ∷ []) ∷ (0 ∷ 0 ∷ 0 ∷ 0 ∷ 0 ∷ 0 ∷ 0 ∷ 0 ∷ 0 ∷ []) ∷ []
+ldterm-takes = refl
 
-pub ioctl-down : costs Down asks ≡ 4 ∷ 24 ∷ 17 ∷ 10 ∷ 3 ∷ []
-ioctl-down = refl
+pub ptem-takes : map (owns ptem_does) (Up ∷ Down ∷ []) ≡ (0 ∷ 2 ∷ 0 ∷ 0 ∷ 0 ∷ 0 ∷ 0 ∷ 0 ∷ 0 ∷ []) ∷ (0 ∷ 3 ∷ 0 ∷ 0 ∷ 0 ∷ 0 ∷ 0 ∷ 0 ∷ 0 ∷ []) ∷ []
+ptem-takes = refl
 
-pub ioctl-up : costs Up asks ≡ 4 ∷ 5 ∷ 5 ∷ 5 ∷ 5 ∷ []
-ioctl-up = refl
+pub pckt-takes : map (owns pckt_does) (Up ∷ Down ∷ []) ≡ (1 ∷ 1 ∷ 0 ∷ 1 ∷ 2 ∷ 2 ∷ 2 ∷ 1 ∷ 0 ∷ []) ∷ (0 ∷ 0 ∷ 0 ∷ 0 ∷ 0 ∷ 0 ∷ 0 ∷ 0 ∷ 0 ∷ []) ∷ []
+pckt-takes = refl
 
-pub reads-down : costs Down reads ≡ 0 ∷ 3 ∷ 3 ∷ 3 ∷ 3 ∷ []
-reads-down = refl
+pub packets-are-made : map (λ name. map (λ shape. (name_does name Up shape).makes) shapes) (names.Ldterm ∷ names.Ptem ∷ names.Pckt ∷ [])
+    ≡ (0 ∷ 0 ∷ 0 ∷ 0 ∷ 0 ∷ 0 ∷ 0 ∷ 0 ∷ 0 ∷ []) ∷ (0 ∷ 0 ∷ 0 ∷ 0 ∷ 0 ∷ 0 ∷ 0 ∷ 0 ∷ 0 ∷ []) ∷ (1 ∷ 1 ∷ 0 ∷ 1 ∷ 1 ∷ 1 ∷ 1 ∷ 1 ∷ 0 ∷ []) ∷ []
+packets-are-made = refl
 
-pub reads-up : costs Up reads ≡ 0 ∷ 0 ∷ 0 ∷ 0 ∷ 1 ∷ []
-reads-up = refl
+pub heads-and-drivers-take : map (λ shape. (head_does shape).own) shapes ∷ map (λ shape. (driver_does Up shape).own) shapes ∷ map (λ shape. (driver_does Down shape).own) shapes ∷ []
+    ≡ (0 ∷ 1 ∷ 0 ∷ 0 ∷ 1 ∷ 1 ∷ 0 ∷ 0 ∷ 0 ∷ []) ∷ (1 ∷ 1 ∷ 1 ∷ 1 ∷ 1 ∷ 1 ∷ 1 ∷ 1 ∷ 1 ∷ []) ∷ (0 ∷ 1 ∷ 0 ∷ 2 ∷ 2 ∷ 2 ∷ 0 ∷ 0 ∷ 0 ∷ []) ∷ []
+heads-and-drivers-take = refl
 
-pub both-up : costs Up both ≡ 4 ∷ 4 ∷ 4 ∷ 4 ∷ 4 ∷ []
-both-up = refl
+pub what-drivers-do : map (driver_does Down) (FlushR ∷ FlushW ∷ FlushRW ∷ Asking ∷ []) ∷ map (driver_does Up) (FlushR ∷ []) ∷ []
+    ≡ (record { own = 2; ups = []; across = ToDriver ∷ [] } ∷ record { own = 2; ups = []; across = ToReaders ∷ [] } ∷ record { own = 2; ups = []; across = ToReaders ∷ ToDriver ∷ [] }
+    ∷ record { own = 1; ups = Passing ∷ []; across = [] } ∷ [])
+    ∷ (record { own = 1; ups = []; across = ToReaders ∷ [] } ∷ []) ∷ []
+what-drivers-do = refl
 
-pub ioctl-takes : own Down asks ≡ 1 ∷ 2 ∷ 2 ∷ 2 ∷ 2 ∷ []
-ioctl-takes = refl
+pub what-goes-on : (ldterm_does Up Acking).emits ∷ (ptem_does Down Asking).emits ∷ (pckt_does Up FlushRW).emits ∷ (pckt_does Down FlushRW).emits ∷ (head_does FlushRW).emits ∷ []
+    ≡ ((Up, FlushR) ∷ (Up, Held) ∷ (Up, Passing) ∷ (Up, Acking) ∷ []) ∷ ((Up, Acking) ∷ (Down, Asking) ∷ (Up, Passing) ∷ []) ∷ ((Up, Held) ∷ (Up, FlushW) ∷ [])
+    ∷ ((Down, FlushRW) ∷ []) ∷ ((Down, FlushW) ∷ []) ∷ []
+what-goes-on = refl
 
-pub reads-take : own Up reads ≡ 0 ∷ 0 ∷ 0 ∷ 0 ∷ 1 ∷ []
+-- How many blocks a delivery takes at most by them: where ldterm stands above ptem on the slave's stream, and pckt on the master's, and where each
+-- place has the same module.
+
+abbrev terminal : Stands
+terminal = record { master = names.Pckt ∷ []; slave = names.Ldterm ∷ names.Ptem ∷ [] }
+
+abbrev repeated : Stands
+repeated = record { master = names.Pckt ∷ names.Pckt ∷ names.Pckt ∷ []; slave = names.Ptem ∷ names.Ptem ∷ names.Ptem ∷ [] }
+
+abbrev budgets : Stands → Side → ℕ → Way → List ℕ
+budgets all side at way = map (λ shape. budget (costs all) 16 (record { to = record { side = side; at = at; way = way }; shape = shape })) shapes
+
+pub slave-budgets : budgets terminal Slave 1 Down ∷ budgets terminal Slave 3 Up ∷ budgets terminal Slave 4 Up ∷ [] ≡ (0 ∷ 6 ∷ 0 ∷ 3 ∷ 3 ∷ 4 ∷ 0 ∷ 0 ∷ 0 ∷ []) ∷ (0 ∷ 3 ∷ 2 ∷ 0 ∷ 4 ∷ 4 ∷ 0 ∷ 0 ∷ 0 ∷ []) ∷ (0 ∷ 3 ∷ 2 ∷ 2 ∷ 2 ∷ 2 ∷ 0 ∷ 0 ∷ 0 ∷ []) ∷ []
+unfolding budget
+slave-budgets = refl
+
+pub master-budgets : budgets terminal Master 1 Down ∷ budgets terminal Master 3 Up ∷ budgets terminal Master 4 Up ∷ [] ≡ (0 ∷ 1 ∷ 0 ∷ 4 ∷ 2 ∷ 4 ∷ 0 ∷ 0 ∷ 0 ∷ []) ∷ (1 ∷ 1 ∷ 0 ∷ 1 ∷ 5 ∷ 5 ∷ 5 ∷ 1 ∷ 0 ∷ []) ∷ (1 ∷ 1 ∷ 0 ∷ 1 ∷ 1 ∷ 1 ∷ 5 ∷ 1 ∷ 0 ∷ []) ∷ []
+unfolding budget
+master-budgets = refl
+
+pub repeated-budgets : budgets repeated Slave 1 Down ∷ budgets repeated Slave 3 Up ∷ budgets repeated Master 1 Down ∷ budgets repeated Master 3 Up ∷ [] ≡ (0 ∷ 10 ∷ 0 ∷ 3 ∷ 5 ∷ 6 ∷ 0 ∷ 0 ∷ 0 ∷ []) ∷ (0 ∷ 7 ∷ 0 ∷ 0 ∷ 6 ∷ 6 ∷ 0 ∷ 0 ∷ 0 ∷ []) ∷ (0 ∷ 1 ∷ 0 ∷ 6 ∷ 2 ∷ 6 ∷ 0 ∷ 0 ∷ 0 ∷ []) ∷ (3 ∷ 3 ∷ 0 ∷ 3 ∷ 12 ∷ 12 ∷ 12 ∷ 3 ∷ 0 ∷ []) ∷ []
+unfolding budget
+repeated-budgets = refl
+
+-- with too few hops left that is beyond what any call asks
+pub budgets-of-few-hops : map (λ hops. budget (costs terminal) hops (record { to = record { side = Slave; at = 1; way = Down }; shape = Asking })) (0 ∷ 1 ∷ 5 ∷ 6 ∷ 7 ∷ [])
+    ≡ 1000 ∷ 1000 ∷ 1000 ∷ 6 ∷ 6 ∷ []
+unfolding budget
+budgets-of-few-hops = refl
+
+-- how many blocks each shape takes at most, wherever each module stands on a side once
+pub most-blocks : map (λ way. map (λ shape. most (record { to = record { side = Slave; at = 1; way = way }; shape = shape })) shapes) (Up ∷ Down ∷ [])
+    ≡ (1 ∷ 3 ∷ 4 ∷ 2 ∷ 6 ∷ 6 ∷ 6 ∷ 1 ∷ 0 ∷ []) ∷ (0 ∷ 8 ∷ 0 ∷ 4 ∷ 4 ∷ 5 ∷ 0 ∷ 0 ∷ 0 ∷ []) ∷ []
+most-blocks = refl
+
+-- what a head takes itself, and what is taken of what comes up behind it and was sent across
+
+pub heads-take : map head_takes (without_parts Ioctl (header 1 7 0) ∷ answers ∷ reads ∷ writes ∷ both ∷ []) ≡ 1 ∷ 0 ∷ 0 ∷ 1 ∷ 1 ∷ []
+heads-take = refl
+
+pub reads-take : map (λ m. at_each (λ here. up_takes here m) Up) (reads ∷ parted reads ∷ []) ≡ (0 ∷ 0 ∷ 0 ∷ 0 ∷ 1 ∷ []) ∷ (0 ∷ 0 ∷ 0 ∷ 0 ∷ 0 ∷ []) ∷ []
 reads-take = refl
 
--- what an M_IOCACK gives rise to on its way up
-pub answer-up : costs Up answers ≡ 0 ∷ 2 ∷ 4 ∷ 6 ∷ 6 ∷ []
-answer-up = refl
-
-pub answer-down : costs Down answers ≡ 0 ∷ 3 ∷ 3 ∷ 3 ∷ 3 ∷ []
-answer-down = refl
-
-pub parted-answer : (costs Up (parted answers) ∷ costs Down (parted answers) ∷ []) ≡ (0 ∷ 0 ∷ 0 ∷ 0 ∷ 0 ∷ []) ∷ (0 ∷ 0 ∷ 0 ∷ 0 ∷ 0 ∷ []) ∷ []
-parted-answer = refl
-
--- that parts take nothing is so on the way down behind the head, and elsewhere they take what the same kind takes at a head
-
-pub parted-down : costs Down (parted asks) ≡ 4 ∷ 0 ∷ 0 ∷ 0 ∷ 0 ∷ []
-parted-down = refl
-
-pub parted-up : costs Up (parted asks) ≡ 4 ∷ 4 ∷ 4 ∷ 4 ∷ 4 ∷ []
-parted-up = refl
-
-pub parted-reads-up : costs Up (parted reads) ≡ 0 ∷ 0 ∷ 0 ∷ 0 ∷ 0 ∷ []
-parted-reads-up = refl
-
-pub parted-takes : own Down (parted asks) ≡ 1 ∷ 0 ∷ 0 ∷ 0 ∷ 0 ∷ []
-parted-takes = refl
-
-pub parted-reads-take : own Up (parted reads) ≡ 0 ∷ 0 ∷ 0 ∷ 0 ∷ 0 ∷ []
-parted-reads-take = refl
+-- pckt itself, which its table says no less of
 
 pub packets-take : map (at_each (λ here. pckt_takes here both)) (Up ∷ Down ∷ []) ∷ map (at_each (λ here. pckt_takes here reads)) (Up ∷ Down ∷ []) ∷ map (at_each (λ here. pckt_takes here answers)) (Up ∷ Down ∷ []) ∷ []
     ≡ ((2 ∷ 2 ∷ 2 ∷ 2 ∷ 2 ∷ []) ∷ (0 ∷ 0 ∷ 0 ∷ 0 ∷ 0 ∷ []) ∷ []) ∷ ((1 ∷ 1 ∷ 1 ∷ 1 ∷ 1 ∷ []) ∷ (0 ∷ 0 ∷ 0 ∷ 0 ∷ 0 ∷ []) ∷ []) ∷ ((0 ∷ 0 ∷ 0 ∷ 0 ∷ 0 ∷ []) ∷ (0 ∷ 0 ∷ 0 ∷ 0 ∷ 0 ∷ []) ∷ []) ∷ []
 packets-take = refl
+
+pub tables-of-messages : map (at_each (λ here. own_at pckt_does here both)) (Up ∷ Down ∷ []) ≡ (2 ∷ 2 ∷ 2 ∷ 2 ∷ 2 ∷ []) ∷ (0 ∷ 0 ∷ 0 ∷ 0 ∷ 0 ∷ []) ∷ []
+tables-of-messages = refl

@@ -14,11 +14,11 @@ use Rattle.strm_types.specs.declared.refusals.Refusal.{Refusal}
 use Rattle.strm_types.specs.declared.refusals.Refusal.TheVariants.{Einval, Eagain, Enxio, Ebadmsg, Enosr, Erange, JournalFull, NoMinor, NoMemory, StillShared, Eio}
 use Rattle.strm_types.specs.declared.slots.Slot.TheVariants.{Free, Waiting, Answered}
 use Rattle.strm_types.specs.declared.spots.Spot.{Spot}
+use Rattle.strm_types.specs.Costs.{turns_round}
 use Rattle.strm_types.specs.Deliver.{Acted}
 use Rattle.strm_types.specs.Heads.{head_put, Head}
 use Rattle.strm_types.specs.Ioctls.{asking, ioctl_message, nak_message}
 use Rattle.strm_types.specs.Numbers.{number_of, refusal_numbered}
-use Rattle.strm_types.specs.Far.{far, turns_round}
 use Rattle.strm_types.specs.Slots.{PlainSlot, answer_bytes, is_free, map_slot, result_refusal, slot_answered, slot_behind, told_of}
 use Rattle.strm_laws.proofs.Samples.{flow, head_with, header, proto, queue, without_parts}
 
@@ -147,6 +147,3 @@ kinds-that-turn-round = refl
 
 pub bytes-that-turn-round : map (λ kind. map (turns_round kind) ([] ∷ (1 ∷ []) ∷ (3 ∷ []) ∷ (6 ∷ 2 ∷ []) ∷ [])) (kinds.Flush ∷ kinds.Ioctl ∷ []) ≡ (false ∷ false ∷ true ∷ true ∷ []) ∷ (true ∷ true ∷ true ∷ true ∷ []) ∷ []
 bytes-that-turn-round = refl
-
-pub far-for-an-ioctl : map (λ to. far {C = ℕ} to (without_parts kinds.Ioctl [])) (spot Slave 0 Up ∷ spot Slave 4 Up ∷ spot Slave 1 Down ∷ []) ∷ map (λ to. far {C = ℕ} to (without_parts kinds.Iocnak [])) (spot Slave 0 Up ∷ spot Slave 1 Down ∷ []) ∷ [] ≡ (11 ∷ 15 ∷ 9 ∷ []) ∷ (1 ∷ 9 ∷ []) ∷ []
-far-for-an-ioctl = refl

@@ -9,7 +9,6 @@ use Rattle.strm_types.specs.declared.spots.Spot.{Spot}
 use Rattle.strm_types.specs.declared.termios.Termios.{Termios}
 use Rattle.strm_types.specs.Acks.{ack_message, payload, telling_message}
 use Rattle.strm_types.specs.Commands.{sets_termios}
-use Rattle.strm_types.specs.Costs.{cost}
 use Rattle.strm_types.specs.Deliver.{Acted, Parcel}
 use Rattle.strm_types.specs.Message.{Message}
 use Rattle.strm_types.specs.Ptems.{Ptem, new_ptem, ptem_puts}
@@ -165,16 +164,3 @@ others-go-up = refl
 pub master-has-one : ptem_puts (record { side = Master; at = 1; way = Down }) (ioctl 5 []) new_ptem
     ≡ does (record { to = record { side = Master; at = 0; way = Up }; message = without_parts Iocack (header 5 7 0 ++ replicate 8 0) } ∷ []) new_ptem
 master-has-one = refl
-
--- How many blocks a message takes at most, from each place: an M_IOCTL on its way down and on its way up, at the head first, where nothing goes
--- down; others.
-abbrev place : ℕ → Way → Spot
-place n way = record { side = Slave; at = n; way = way }
-
-pub blocks-of-ioctls : map (λ n. cost (place n Down) (ioctl 6 [])) (1 ∷ 2 ∷ 3 ∷ 4 ∷ []) ∷ map (λ n. cost (place n Up) (ioctl 6 [])) (0 ∷ 1 ∷ 2 ∷ 3 ∷ []) ∷ []
-    ≡ (24 ∷ 17 ∷ 10 ∷ 3 ∷ []) ∷ (4 ∷ 5 ∷ 5 ∷ 5 ∷ []) ∷ []
-blocks-of-ioctls = refl
-
-pub blocks-of-others : map (λ m. cost (place 2 Down) m) (ordinary [] ∷ without_parts Iocack [] ∷ without_parts Flush (3 ∷ []) ∷ []) ∷ map (λ m. cost (place 2 Up) m) (ordinary [] ∷ without_parts Iocack [] ∷ without_parts Flush (3 ∷ []) ∷ []) ∷ []
-    ≡ (0 ∷ 3 ∷ 3 ∷ []) ∷ (0 ∷ 4 ∷ 4 ∷ []) ∷ []
-blocks-of-others = refl

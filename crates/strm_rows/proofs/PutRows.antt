@@ -30,7 +30,6 @@ use Rattle.strm_types.specs.Heads.{head_put, Head}
 use Rattle.strm_types.specs.Message.{Message, band_of, cells_of, is_held, is_high_priority, rank_of, size_of}
 use Rattle.strm_types.specs.Names.{driver_of}
 use Rattle.strm_laws.specs.Puts.{delivered, put_in}
-use Rattle.strm_types.specs.Far.{far}
 use Rattle.strm_laws.specs.State.{State, Stream}
 use Rattle.strm_laws.specs.Turns.{driver_serves}
 use Rattle.strm_laws.proofs.Samples.{flow, head_with, ordinary, proto, queue, urgent}
@@ -186,13 +185,6 @@ nothing-crosses-any-more = refl
 pub room-at-a-head : (put_in plain here (flush_message (1 ∷ [])) (pair (end Open [] []) (record (end Open [] []) { head = head_with (queue (one 3) (flow 9 1 true ∷ [])) false }) [])).state.enabled ≡ driver_of Master ∷ []
 unfolding is_data_kind cells_of size_of band_of is_high_priority
 room-at-a-head = refl
-
--- how far a message has to go: up to the head, down again where it is turned round, and down to the driver
-pub far-to-go : map (λ to. far to (ordinary [])) (here ∷ spot Slave 4 Up ∷ spot Slave 1 Down ∷ spot Slave 4 Down ∷ []) ≡ 1 ∷ 5 ∷ 9 ∷ 6 ∷ []
-far-to-go = refl
-
-pub far-to-go-and-back : map (λ bytes. far {C = ℕ} here (flush_message bytes)) ((1 ∷ []) ∷ (2 ∷ []) ∷ (3 ∷ []) ∷ []) ≡ 1 ∷ 11 ∷ 11 ∷ []
-far-to-go-and-back = refl
 
 -- an M_FLUSH for both that comes up to the slave: its head, and what FLUSHW does on the way down, its driver and the head across
 pub flush-goes-round : delivered plain here (flush_message (3 ∷ [])) (ones Open)

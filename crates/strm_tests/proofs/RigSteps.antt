@@ -1,24 +1,30 @@
 -- A turn of a stream of two modules, step by step.
-use Rattle.std.proofs.Common.{ℕ, zero, suc, ◌≡◌, ◌≢◌, ◌≤◌, ◌<◌, ◌+◌, true, cond, Bool, Option, Some, List, [], ◌∷◌, length, get_or, map, refl, sym, ap, subst, ◌∙◌, arith}
+use Rattle.std.proofs.Common.{ℕ, zero, suc, ◌≡◌, ◌≢◌, ◌≤◌, ◌+◌, true, cond, Bool, Option, Some, List, [], ◌∷◌, length, get_or, map, refl, sym, ap, subst, ◌∙◌, arith}
+use Rattle.std.specs.Prelude.{◌&&◌, min, nat_le, sum_by}
+use Rattle.std.proofs.lemmas.Bool.{and_parts}
+use Rattle.std.proofs.lemmas.Bool.Decides.{nat_tests}
 use Rattle.std.proofs.lemmas.List.Sums.{sum_by-cons}
 use Rattle.strm_types.specs.declared.names.Way.{Way}
 use Rattle.strm_types.specs.declared.names.Way.TheVariants.{Up, Down}
 use Rattle.strm_types.specs.declared.spots.Spot.{Spot}
 use Rattle.strm_types.specs.Message.{Message}
-use Rattle.strm_types.specs.Deliver.{Acted, AreLower}
+use Rattle.strm_types.specs.declared.names.Side.{Side}
+use Rattle.strm_types.specs.Budgets.{beyond, budget, emits_at}
+use Rattle.strm_types.specs.Shapes.{At, Shape}
+use Rattle.strm_types.specs.Deliver.{Acted}
 use Rattle.strm_types.specs.Modules.{act_among}
-use Rattle.strm_blocks.specs.Blocks.{StoreValue, empty_store, in_hand, list_at, times_in, token}
+use Rattle.strm_blocks.specs.Blocks.{StoreValue, empty_store, free_d, free_m, in_hand, list_at, times_in, token}
 use Rattle.strm_msg.specs.Messages.{IsChain, AreMessages}
 use Rattle.strm_queue.specs.declared.queue.Queue.{Queue}
 use Rattle.strm_queue.specs.Kept.{AreCounted}
 use Rattle.strm_queue.specs.Stored.{IsReady}
 use Rattle.strm_frame.specs.declared.parcels.Sent.{Sent}
-use Rattle.strm_frame.specs.Hands.{once, CanPut, Handles, Hands}
+use Rattle.strm_frame.specs.Hands.{once, CanPut, Handles, Hands, HasRoom, MayDeliver}
 use Rattle.strm_frame.specs.Outboxes.{times_sent, parcels_in, AreChains}
 use Rattle.strm_frame.specs.Stacks.{all_of}
-use Rattle.strm_tests.specs.Toys.{Stock, far, far_at, stock_serves, serves_of}
+use Rattle.strm_tests.specs.Toys.{Stock, stock_does, stock_serves, serves_of}
 use Rattle.strm_tests.specs.ToyLaws.{IsStocked, owned}
-use Rattle.strm_tests.specs.Rigs.{is_end, took_at, left_at, rig_puts, AtRest}
+use Rattle.strm_tests.specs.Rigs.{is_end, rig_costs, took_at, left_at, rig_puts, AtRest}
 use Rattle.strm_frame.proofs.Handing.{once-self, no-hand}
 use Rattle.strm_msg.proofs.Hands.{other-name}
 
@@ -28,18 +34,42 @@ none-taken [] i = refl
 none-taken (p ∷ ps) zero = refl
 none-taken (p ∷ ps) (suc i) = none-taken ps i
 
+pub eight-taken : {P : Type 0} (ps : List P) (i : ℕ) → get_or (map {B = ℕ} (λ p. 8) ps) i 0 ≤ 8
+eight-taken [] i = omega arith
+eight-taken (p ∷ ps) zero = omega arith
+eight-taken (p ∷ ps) (suc i) = eight-taken ps i
+
 -- nothing is kept
 pub kept-none : {X : Type 0} (xs : List X) (i : ℕ) → all_of (λ x j. 0) xs i ≡ 0
 kept-none [] i = refl
 kept-none (x ∷ xs) i = let c = sum_by-cons (λ y. 0) x xs in let ih = kept-none xs i in omega arith
 
--- a message has not far to go
-pub near-low : (to : Spot) (m : Message ℕ) → to.at ≤ 3 → far to m < 16
-near-low to m near = by-way to.way
-  where
-    by-way : (way : Way) → far_at way to.at < 16
-    by-way Up = omega arith
-    by-way Down = omega arith
+-- from each spot a delivery ends, and takes no block
+ends-past : (hops : ℕ) (a : At) → is_end a.to.at ≡ true → budget rig_costs (suc hops) a ≡ 0
+unfolding budget
+ends-past hops a is = ap (λ (b : Bool). min beyond (0 + sum_by (budget rig_costs hops) (cond b [] (emits_at a.to (stock_does a.to.way a.shape))))) is ∙ omega arith
+
+ends-from : (side : Side) (at : ℕ) (way : Way) (shape : Shape) → budget rig_costs 16 (record { to = record { side = side; at = at; way = way }; shape = shape }) ≡ 0
+unfolding budget
+ends-from side zero way shape = refl
+ends-from side (suc zero) Up shape = refl
+ends-from side (suc zero) Down shape = refl
+ends-from side (suc (suc zero)) Up shape = refl
+ends-from side (suc (suc zero)) Down shape = refl
+ends-from side (suc (suc (suc at))) way shape = ends-past 15 (record { to = record { side = side; at = suc (suc (suc at)); way = way }; shape = shape }) (let past : is_end (suc (suc (suc at))) ≡ true = grind (arith, nat_tests) in past)
+
+pub rig-may : (s : StoreValue) (to : Spot) (shape : Shape) → MayDeliver s 0 (budget rig_costs 16 (record { to = to; shape = shape }))
+rig-may s to shape =
+    let none = ends-from to.side to.at to.way shape in
+    record { room = record { mblks = omega (arith, none); dblks = omega (arith, none) }; spare = omega (arith, none); ends = omega (arith, none) }
+
+-- there is room where it is seen
+pub room-seen : (s : StoreValue) → (nat_le 8 (free_m s) && nat_le 8 (free_d s)) ≡ true → HasRoom s 8
+room-seen s is =
+    let both = and_parts (nat_le 8 (free_m s)) (nat_le 8 (free_d s)) is in
+    let first = both.0 in
+    let second = both.1 in
+    record { mblks = grind (arith, nat_tests); dblks = grind (arith, nat_tests) }
 
 -- one message at most is sent by a service procedure
 few-of : (here : Spot) (p : Stock) (all : List (Message ℕ)) → length (serves_of here p all).acted.sent ≤ 1
@@ -70,10 +100,6 @@ module _ (s t : StoreValue) (kept keeps : ℕ → ℕ) (all : List Sent) (empty 
     pub sent-chain : AreChains t all → IsChain (in_hand t (token x.message))
     unfolding AreChains
     sent-chain chains = (subst (AreChains t) split chains).0
-
-    pub sent-low : (here : Spot) → AreLower (far {C = ℕ}) (far_at Down here.at) (parcels_in t all) → far_at x.to.way x.to.at < 16
-    unfolding parcels_in
-    sent-low here lower = let low = (subst (λ ps. AreLower (far {C = ℕ}) (far_at Down here.at) ps) (ap (parcels_in t) split) lower).0 in omega arith
 
     only-one : (more : List Sent) → length (parcels_in t (x ∷ more)) ≤ 1 → more ≡ []
     unfolding parcels_in

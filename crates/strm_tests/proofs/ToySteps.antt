@@ -1,12 +1,12 @@
 -- What toys do, step by step.
-use Rattle.std.proofs.Common.{ℕ, ◌≡◌, ◌<◌, ◌≤◌, ◌==◌, eqb, true, false, Bool, List, [], ◌∷◌, Option, Some, None, ◌∙◌, cond, ap, refl, subst, sym, arith}
-use Rattle.strm_types.specs.declared.limits.TheConstants.{MODULES}
+use Rattle.std.specs.Prelude.{min, sum_by}
+use Rattle.std.proofs.Common.{ℕ, zero, suc, ◌+◌, ◌≡◌, ◌<◌, ◌≤◌, ◌==◌, eqb, true, false, Bool, List, [], ◌∷◌, Option, Some, None, ◌∙◌, cond, ap, refl, subst, sym, arith}
 use Rattle.strm_types.specs.declared.kinds.MsgKind.{MsgKind}
 use Rattle.strm_types.specs.declared.names.ModuleName.{ModuleName}
 use Rattle.strm_types.specs.declared.names.Way.{Way}
 use Rattle.strm_types.specs.declared.names.Way.TheVariants.{Up, Down}
 use Rattle.strm_types.specs.declared.spots.Spot.{Spot}
-use Rattle.strm_types.specs.Deliver.{Parcel, AreLower, toward}
+use Rattle.strm_types.specs.Deliver.{toward}
 use Rattle.strm_types.specs.ModuleQueues.{messages_at}
 use Rattle.strm_types.specs.Queue.{first_size}
 use Rattle.std.proofs.lemmas.Bool.Decides.{nat_tests}
@@ -21,34 +21,17 @@ use Rattle.strm_msg.proofs.Chains.{kind-is}
 use Rattle.strm_msg.proofs.Hands.{stays-chain}
 use Rattle.std.proofs.lemmas.List.Sums.{sum_by-cons}
 use Rattle.strm_frame.specs.declared.parcels.Sent.{Sent}
-use Rattle.strm_types.specs.Costs.{cost_of}
-use Rattle.strm_frame.specs.Outboxes.{message_in, times_sent, parcels_in, parcel_in}
+use Rattle.strm_types.specs.Budgets.{beyond, budget, cost_of, most}
+use Rattle.strm_types.specs.Shapes.{Shape}
+use Rattle.strm_types.proofs.CostsOf.{most-few}
+use Rattle.strm_frame.specs.Outboxes.{message_in, spot_in, times_sent, parcels_in}
 use Rattle.strm_frame.specs.Serves.{later_cost}
 use Rattle.strm_frame.specs.Hands.{once, OnlyOwn, CanPut, Handles, Hands, SameFor, HasRoom, Spends, Takes}
-use Rattle.strm_frame.proofs.Handing.{alone-can, once-apart, one-parts}
+use Rattle.strm_frame.proofs.Handing.{alone-can, once-apart}
 use Rattle.strm_frame.proofs.FirstSizes.{first-few}
 use Rattle.strm_frame.proofs.Shifting.{shifts-joined}
-use Rattle.strm_tests.specs.Toys.{Stock, is_flush, onward, far_at, counts, nothing, stays, stocked, stocks, stock_queue, turns, idle, stock_sends, serves_of, stock_serves}
+use Rattle.strm_tests.specs.Toys.{Stock, count_costs, counts, stays, stocked, stocks, stock_queue, turns, idle, stock_sends, serves_of, stock_serves}
 use Rattle.strm_tests.specs.ToyLaws.{stock_in, IsStocked, owned}
-
--- a message that comes up, turned or not
-up-falls : (turned : Bool) (here : Spot) → 0 < here.at → here.at ≤ 3 →
-    far_at (cond {A = Way} turned Down Up) (toward (cond {A = Way} turned Down Up) here).at < far_at Up here.at
-up-falls true here some few = omega arith
-up-falls false here some few = omega arith
-
-falls-by : (way : Way) (kind : MsgKind) (here : Spot) → 0 < here.at → here.at ≤ 3 → far_at (onward kind way) (toward (onward kind way) here).at < far_at way here.at
-falls-by Up kind here some few = up-falls (is_flush kind) here some few
-falls-by Down kind here some few = omega arith
-
-far-way : (way : Way) (here : Spot) → (toward way here).way ≡ way
-far-way Up here = refl
-far-way Down here = refl
-
-pub onward-falls : (kind : MsgKind) (here to : Spot) → 0 < here.at → here.at ≤ MODULES → to ≡ toward (onward kind here.way) here → far_at to.way to.at < far_at here.way here.at
-onward-falls kind here to some few is =
-    subst (λ (t : Spot). far_at t.way t.at < far_at here.way here.at) (sym is)
-    (subst (λ w. far_at w (toward (onward kind here.way) here).at < far_at here.way here.at) (sym (far-way (onward kind here.way) here)) (falls-by here.way kind here some few))
 
 -- at the top nothing is sent on, and before it the message goes up
 pub counts-top : (to : Spot) (m : Message ℕ) (n : ℕ) → to.at ≡ 0 → (counts to m n).sent ≡ []
@@ -77,27 +60,12 @@ freed-same s i keeps st can =
       kept = λ j some. let a = can.apart j in let few = st.apart j in in_hand-dropped s i j (once-apart i j (omega arith));
     }
 
--- how much is spent, and how far it is, where nothing is sent or one message
-pub none-spends : (s0 s : StoreValue) (cost : Spot → Message ℕ → ℕ) (most : ℕ) (all : List Sent) → all ≡ [] → Spends s0 s most 0 → Spends s0 s most (cost_of cost (parcels_in s all))
-unfolding cost_of parcels_in
-none-spends s0 s cost most all none spends = let e = ap (λ xs. cost_of cost (parcels_in s xs)) none in record { mblks = omega arith; dblks = omega arith }
-
-pub one-spends : (s : StoreValue) (x : Sent) (cost : Spot → Message ℕ → ℕ) (most : ℕ) (all : List Sent) → all ≡ x ∷ [] → cost x.to (parcel_in s x).message ≤ most → Spends s s most (cost_of cost (parcels_in s all))
-unfolding cost_of
-one-spends s x cost most all one few = let e = ap (cost_of cost) (one-parts s x all one) in record { mblks = omega arith; dblks = omega arith }
-
-pub one-lower : (s : StoreValue) (x : Sent) (height : Spot → Message ℕ → ℕ) (top : ℕ) (all : List Sent) → all ≡ x ∷ [] → height x.to (parcel_in s x).message < top → AreLower height top (parcels_in s all)
-one-lower s x height top all one low = subst (AreLower height top) (sym (one-parts s x all one)) (low, tt)
-
 -- nothing but the queue's own list changes
 pub own-list : (s t : StoreValue) (q q' : Queue) → Changes s t q q' → OnlyOwn s t (once q.list) (once q'.list)
 own-list s t q q' is = record {
   lists = λ k none. is.others k (λ e. once-apart q.list k none (sym e));
   owns_same = λ k. ap (λ l. once l k) is.list;
 }
-
-pub down-falls : (here to : Spot) → 0 < here.at → here.at ≤ MODULES → to ≡ toward Down here → far_at to.way to.at < far_at Down here.at
-down-falls here to some few is = subst (λ (t : Spot). far_at t.way t.at < far_at Down here.at) (sym is) (omega arith)
 
 -- a message that stays, and one that doesn't
 pub kind-stays : (s : StoreValue) (i : ℕ) (way : Way) (kind : MsgKind) (answer is : Bool) → kind ≡ (block_at 0 (in_hand s i)).kind → answer ≡ stays kind way → answer ≡ is → stays (message_in s i).kind way ≡ is
@@ -157,17 +125,30 @@ took-hands s t q q' x all one d =
           ∙ stays-chain s n (in_hand t n) j (λ e. (let f = d.fresh in let w = ap (λ k. times_in k s.hand) e in absurd (omega arith)));
     }
 
-pub one-room : (s : StoreValue) (next : ℕ) (x : Sent) (all : List Sent) → all ≡ x ∷ [] → HasRoom s (later_cost nothing false next (parcels_in s all))
+-- there is room still for the one message that a turn sends
+pub one-room : (s t : StoreValue) (next : ℕ) (x : Sent) (all : List Sent) → all ≡ x ∷ [] → HasRoom s 8 → FreesBlocks s t → HasRoom t (later_cost false next (parcels_in t all))
 unfolding cost_of parcels_in
-one-room s next x all one =
-    let e = ap (λ xs. cost_of (nothing {C = ℕ}) (parcels_in s xs)) one in
-    record { mblks = omega arith; dblks = omega arith }
+one-room s t next x all one room frees =
+    let e = ap (λ xs. cost_of most (parcels_in t xs)) one in
+    let few = most-few (spot_in t x.to (token x.message)) in
+    record { mblks = omega (arith, e, few, room.mblks, frees.mblks); dblks = omega (arith, e, few, room.dblks, frees.dblks) }
 
--- what costs nothing
-pub nothing-free : (ps : List (Parcel ℕ)) → cost_of nothing ps ≡ 0
-unfolding cost_of
-nothing-free [] = refl
-nothing-free (p ∷ ps) = let rest = nothing-free ps in omega arith
+-- where no block is taken
+pub free-takes : (s t : StoreValue) → Spends s t 0 0 → Takes s t 0 0 0 0
+free-takes s t spends = record { blocks = spends; spare = omega arith }
 
-pub free-takes : (s t : StoreValue) (ps : List (Parcel ℕ)) → Spends s t 0 (cost_of nothing ps) → Takes s t 0 0 0 (cost_of nothing ps)
-free-takes s t ps spends = let none = nothing-free ps in record { blocks = spends; spare = omega arith }
+pub still-spends : (s : StoreValue) → Spends s s 0 0
+still-spends s = record { mblks = omega arith; dblks = omega arith }
+
+-- a counter's message ends at the top
+pub count-ends : (hops : ℕ) (to : Spot) (shape : Shape) → to.at < hops → budget count_costs hops (record { to = to; shape = shape }) ≡ 0
+unfolding budget
+count-ends zero to shape low = absurd (omega (arith, low))
+count-ends (suc hops) to shape low = at (to.at == 0) refl
+  where
+    at : (top : Bool) → (to.at == 0) ≡ top → min beyond (0 + sum_by (budget count_costs hops) (cond top [] (record { to = toward Up to; shape = shape } ∷ []))) ≡ 0
+    at true is = omega arith
+    at false is =
+        let some : 0 < to.at = grind (arith, nat_tests) in
+        let rest = count-ends hops (toward Up to) shape (omega (arith, some, low)) in
+        omega (arith, rest)

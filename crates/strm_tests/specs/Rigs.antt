@@ -1,18 +1,20 @@
 -- Two modules with queues on a stream, as stations at which messages are put.
-use Rattle.std.specs.Prelude.{ℕ, ◌≡◌, ◌==◌, ◌||◌, nat_lt, ◌-◌, Bool, if◌then◌else◌, List, [], length, map, Option}
+use Rattle.std.specs.Prelude.{ℕ, zero, suc, ◌≡◌, ◌≤◌, ◌==◌, ◌||◌, nat_lt, ◌-◌, Bool, if◌then◌else◌, List, [], ◌∷◌, length, map, sum_by, Option}
 use Rattle.strm_types.specs.declared.names.ModuleName.{ModuleName}
 use Rattle.strm_types.specs.declared.spots.Spot.{Spot}
 use Rattle.strm_types.specs.Message.{Message}
+use Rattle.strm_types.specs.Budgets.{Costed, Costs, Within, cost_of, emits_at}
 use Rattle.strm_types.specs.Deliver.{Took}
+use Rattle.strm_types.specs.Shapes.{At, shape_of}
 use Rattle.strm_types.specs.Modules.{put_among}
-use Rattle.std.proofs.Common.{ap}
+use Rattle.std.proofs.Common.{true, false, cond, refl, ap, arith}
 use Rattle.strm_blocks.specs.Blocks.{StoreValue, list_at}
 use Rattle.strm_queue.specs.declared.queue.Queue.{Queue}
 use Rattle.strm_frame.specs.Hands.{SameFor, SameOwn}
 use Rattle.strm_frame.specs.Stacks.{all_of, AreHeld}
 use Rattle.strm_frame.specs.StackLaws.{stack-stays}
-use Rattle.strm_tests.specs.Toys.{Stock, stocks}
-use Rattle.strm_tests.specs.ToyLaws.{stock_in, IsStocked, owned, stock-frame}
+use Rattle.strm_tests.specs.Toys.{Stock, stock_does, stocks}
+use Rattle.strm_tests.specs.ToyLaws.{stock_in, IsStocked, owned, stock-frame, stocks-within}
 
 -- no module stands at such a place
 abbrev pub is_end : ℕ → Bool
@@ -30,6 +32,27 @@ left_at ps = record { state = ps; sent = []; gone = [] }
 
 abbrev pub rig_puts : Spot → Message ℕ → List Stock → Took ℕ (List Stock)
 rig_puts to m ps = if is_end to.at then left_at ps else took_at to m ps
+
+-- what it sends on at most
+abbrev pub rig_costs : At → Costs
+rig_costs a = record { own = 0; emits = if is_end a.to.at then [] else emits_at a.to (stock_does a.to.way a.shape) }
+
+among-within : (i : ℕ) (to : Spot) (m : Message ℕ) (ps : List Stock) (cost : At → ℕ) → cost_of cost (put_among stocks i to m ps).sent ≤ sum_by cost (emits_at to (stock_does to.way (shape_of m)))
+unfolding cost_of
+among-within i to m [] cost = omega arith
+among-within zero to m (p ∷ ps) cost = stocks-within to m p cost
+among-within (suc i) to m (p ∷ ps) cost = among-within i to m ps cost
+
+pub rig-costed : Costed (λ (ps : List Stock). rig_costs) rig_puts
+unfolding cost_of
+rig-costed = record { within = λ to m ps. sends to m ps; stays = λ to m ps. refl }
+  where
+    sends : (to : Spot) (m : Message ℕ) (ps : List Stock) → Within (rig_puts to m ps).sent (rig_costs (record { to = to; shape = shape_of m })).emits
+    sends to m ps cost = at (is_end to.at)
+      where
+        at : (end : Bool) → cost_of cost (cond end (left_at ps) (took_at to m ps)).sent ≤ sum_by cost (cond end [] (emits_at to (stock_does to.way (shape_of m))))
+        at true = omega arith
+        at false = among-within (to.at - 1) to m ps cost
 
 -- Two modules fit the store, each with its own queue.
 pub record AreTwo {X : Type 0} (queue : X → Option Queue) (s : StoreValue) (xs : List X) : Type 0 where

@@ -1,9 +1,14 @@
 -- What holds of the toys: a module with a queue stands for the same where the queue's list is the same, and a turn of it is one call.
-use Rattle.std.specs.Prelude.{ℕ, ◌≡◌, false, List, [], ◌∷◌, map, Option, None, Some}
+use Rattle.std.specs.Prelude.{ℕ, ◌≡◌, ◌≤◌, ◌+◌, ◌%◌, ◌^◌, ◌==◌, Bool, false, List, [], ◌∷◌, map, sum_by, Option, None, Some}
 use Rattle.std.proofs.Common.{true, eqb, cond, refl, sym, ap, subst, arith}
 use Rattle.std.proofs.lemmas.Bool.Decides.{nat_tests}
 use Rattle.strm_types.specs.declared.names.ModuleName.{ModuleName}
+use Rattle.strm_types.specs.declared.names.Way.{Way}
+use Rattle.strm_types.specs.declared.names.Way.TheVariants.{Up, Down}
 use Rattle.strm_types.specs.declared.spots.Spot.{Spot}
+use Rattle.strm_types.specs.Budgets.{Costed, Within, cost_of, emits_at}
+use Rattle.strm_types.specs.Deliver.{Took, toward}
+use Rattle.strm_types.specs.Shapes.{shape_of}
 use Rattle.strm_types.specs.Message.{Message}
 use Rattle.strm_types.specs.Queue as plain
 use Rattle.strm_blocks.specs.Blocks.{StoreValue, list_at}
@@ -13,7 +18,7 @@ use Rattle.strm_queue.specs.Flows.{plain_flows}
 use Rattle.strm_queue.specs.Kept.{AreCounted}
 use Rattle.strm_queue.specs.Stored.{queue_in, IsReady}
 use Rattle.strm_frame.specs.Hands.{once, SameOwn}
-use Rattle.strm_tests.specs.Toys.{Stock, serves_of}
+use Rattle.strm_tests.specs.Toys.{Stock, count_costs, counts, is_flush, onward, serves_of, stays, stock_does, stocked, stocks, turns}
 
 -- what a queue stands for; without one nothing stands there, and no writer can wait
 abbrev pub stocked_in : StoreValue → Option Queue → plain.Queue ℕ
@@ -47,6 +52,39 @@ stock-frame s t name (Some q) keeps same ready =
       record { messages = subst AreMessages (sym e) ready.messages; counted = subst (AreCounted q.flows) (sym e) ready.counted },
     )
 stock-frame s t name None keeps same ready = absurd ready
+
+-- what it sends is within its table
+pub stocks-within : (here : Spot) (m : Message ℕ) (p : Stock) → Within (stocks here m p).sent (emits_at here (stock_does here.way (shape_of m)))
+unfolding cost_of
+stocks-within here m p cost = at (stays m.kind here.way)
+  where
+    up : (turned : Bool) → cost (record { to = toward (cond turned Down Up) here; shape = shape_of m }) + 0 ≤ sum_by cost (emits_at here (stock_does Up (shape_of m)))
+    up true = omega arith
+    up false = omega arith
+
+    on : (way : Way) → cost (record { to = toward (onward m.kind way) here; shape = shape_of m }) + 0 ≤ sum_by cost (emits_at here (stock_does way (shape_of m)))
+    on Up = up (is_flush m.kind)
+    on Down = omega arith
+
+    at : (waits : Bool) → cost_of cost (cond waits (stocked m p) (turns here m p)).sent ≤ sum_by cost (emits_at here (stock_does here.way (shape_of m)))
+    at true = omega arith
+    at false = on here.way
+
+-- so is what a counter sends
+pub counts-costed : Costed (λ (n : ℕ). count_costs) counts
+unfolding cost_of
+counts-costed = record { within = λ to m n. sends to m n; stays = λ to m n. refl }
+  where
+    sends : (to : Spot) (m : Message ℕ) (n : ℕ) → Within (counts to m n).sent (count_costs (record { to = to; shape = shape_of m })).emits
+    sends to m n cost = at (to.at == 0)
+      where
+        next : ℕ
+        next = (n + 1) % 2 ^ 64
+
+        at : (top : Bool) → cost_of cost (cond {A = Took ℕ ℕ} top (record { state = next; sent = []; gone = [] }) (record { state = next; sent = record { to = toward Up to; message = m } ∷ []; gone = [] })).sent
+            ≤ sum_by cost (cond top [] (record { to = toward Up to; shape = shape_of m } ∷ []))
+        at true = omega arith
+        at false = omega arith
 
 -- a turn of its queue is one call
 pub one-call : (here : Spot) (p : Stock) (messages : List (Message ℕ)) → (serves_of here p messages).again ≡ false

@@ -1,5 +1,5 @@
 -- What the toys of the tests do.
-use Rattle.std.specs.Prelude.{ℕ, List, Option, None, Some, ◌+◌, ◌-◌, ◌%◌, ◌^◌, ◌==◌, if◌then◌else◌, Bool, true, false, [], ◌∷◌}
+use Rattle.std.specs.Prelude.{ℕ, List, Option, None, Some, ◌+◌, ◌%◌, ◌^◌, ◌==◌, if◌then◌else◌, Bool, true, false, [], ◌∷◌}
 use Rattle.strm_types.specs.declared.kinds.MsgKind.{MsgKind}
 use Rattle.strm_types.specs.declared.kinds.MsgKind.TheVariants.{Data, Flush}
 use Rattle.strm_types.specs.declared.names.ModuleName.{ModuleName}
@@ -9,7 +9,9 @@ use Rattle.strm_types.specs.declared.spots.Spot.{Spot}
 use Rattle.strm_types.specs.declared.spots.Note.TheVariants.{Enable}
 use Rattle.strm_types.specs.Queue.{Queue, put_on, put_enables, left_with, is_none_left}
 use Rattle.strm_types.specs.Message.{Message, size_of}
+use Rattle.strm_types.specs.Budgets.{Costs, Table}
 use Rattle.strm_types.specs.Deliver.{Took, Acted, toward}
+use Rattle.strm_types.specs.Shapes.{At, Shape}
 use Rattle.strm_types.specs.Service.{Serving}
 use Rattle.strm_types.specs.declared.spots.Asks.{Asks}
 use Rattle.strm_types.specs.declared.spots.Asks.TheVariants as asked
@@ -23,17 +25,13 @@ abbrev pub onward : MsgKind → Way → Way
 onward kind Up = if is_flush kind then Down else Up
 onward kind Down = Down
 
--- how far a message has to go, where it may be turned once
-abbrev pub far_at : Way → ℕ → ℕ
-far_at Up at = at + 11
-far_at Down at = 10 - at
+-- no block is taken, and what comes up may be turned once
+abbrev pub stock_emits : Way → Shape → List (Way × Shape)
+stock_emits Up shape = (Up, shape) ∷ (Down, shape) ∷ []
+stock_emits Down shape = (Down, shape) ∷ []
 
-abbrev pub far : {C : Type 0} → Spot → Message C → ℕ
-far here m = far_at here.way here.at
-
--- no block is taken
-abbrev pub nothing : {C : Type 0} → Spot → Message C → ℕ
-nothing here m = 0
+abbrev pub stock_does : Table
+stock_does way shape = record { own = 0; makes = 0; emits = stock_emits way shape }
 
 -- the next message of a module that turns flushes
 abbrev pub turns : {C P : Type 0} → Spot → Message C → P → Acted C P
@@ -51,9 +49,9 @@ counts to m n =
     if to.at == 0 then record { state = next; sent = []; gone = [] }
     else record { state = next; sent = record { to = toward Up to; message = m } ∷ []; gone = [] }
 
--- how far it is to the top
-abbrev pub upward : {C : Type 0} → Spot → Message C → ℕ
-upward to m = to.at
+-- no block is taken, and it goes on upward
+abbrev pub count_costs : At → Costs
+count_costs a = record { own = 0; emits = if a.to.at == 0 then [] else record { to = toward Up a.to; shape = a.shape } ∷ [] }
 
 -- a service procedure that has nothing to do
 abbrev pub idle : {C P : Type 0} → P → Serving C P
@@ -116,7 +114,3 @@ serves_of here p (m ∷ rest) = stock_sends here p m rest
 -- it stops nowhere
 abbrev pub stock_serves : Spot → Bool → Option ℕ → Stock → Serving ℕ Stock
 stock_serves here again stop p = serves_of here p p.queue.messages
-
--- how far a message has to go from there that the service procedure sends
-abbrev pub stock_far : Spot → ℕ
-stock_far here = far_at Down here.at

@@ -1,24 +1,21 @@
--- A put at pckt: how many cells it makes, and that it sends nothing that has as far to go as what was put.
-use Rattle.std.proofs.Common.{ℕ, suc, ◌≡◌, ◌<◌, ◌≤◌, ◌+◌, ◌-◌, Bool, true, false, cond, List, [], ◌∷◌, ◌++◌, length, refl, ap, ◌∙◌, arith}
+-- A put at pckt: how many cells it makes.
+use Rattle.std.proofs.Common.{ℕ, suc, ◌≡◌, ◌+◌, ◌-◌, Bool, true, false, cond, List, [], ◌∷◌, ◌++◌, length, refl, ap, ◌∙◌, arith}
 use Rattle.std.specs.Prelude.{Option, None, Some}
 use Rattle.strm_types.specs.declared.kinds.MsgKind.{MsgKind}
-use Rattle.strm_types.specs.declared.kinds.MsgKind.TheVariants.{Flush, Proto}
-use Rattle.strm_types.specs.declared.limits.TheConstants.{MODULES}
+use Rattle.strm_types.specs.declared.kinds.MsgKind.TheVariants.{Proto}
 use Rattle.strm_types.specs.declared.names.Way.{Way}
 use Rattle.strm_types.specs.declared.names.Way.TheVariants.{Up, Down}
 use Rattle.strm_types.specs.declared.spots.Spot.{Spot}
 use Rattle.strm_types.specs.Cells.{Cells, plain}
-use Rattle.strm_types.specs.Deliver.{Acted, AreLower, Comes, Parcel}
-use Rattle.strm_types.specs.Flushing.{asked_by, flush_bytes}
+use Rattle.strm_types.specs.Deliver.{Acted, Comes, Parcel}
+use Rattle.strm_types.specs.Flushing.{asked_by}
 use Rattle.strm_types.specs.Input.{made_of}
 use Rattle.strm_types.specs.Kinds.{kind_number}
 use Rattle.strm_types.specs.Ldterms.{onward}
 use Rattle.strm_types.specs.Message.{Message, band_of, cells_of}
-use Rattle.strm_types.specs.Pckts.{Pckt, flush_passed, is_bare_packet, is_flush_passed, is_packed, pckt_dir, pckt_on_way, pckt_packs, pckt_passes, pckt_puts, plain_packed, writers_flush}
+use Rattle.strm_types.specs.Pckts.{Pckt, flush_passed, is_bare_packet, is_packed, pckt_dir, pckt_on_way, pckt_packs, pckt_passes, pckt_puts, plain_packed, writers_flush}
 use Rattle.strm_types.specs.Names.{direction_at}
-use Rattle.strm_types.specs.Far.{far, far_at, is_turned, turns_round}
 use Rattle.strm_types.proofs.MadeCells.{made-long, made-same}
-use Rattle.strm_types.proofs.Onward.{onward-lower}
 
 -- an M_PROTO for a packet, whose control part is one cell, and the M_FLUSH that is passed
 abbrev pub proto_made : {E : Type 0} → ℕ → E → Option (List E) → Message E
@@ -47,11 +44,6 @@ module _ {C : Type 0} (cells : Cells C) (made : ℕ) (here : Spot) (m : Message 
       at Up is = kinds is (is_packed m.kind) refl
       at Down is = passes
 
--- what is passed of an M_FLUSH was turned round before too
-pub passed-turned : (kind : MsgKind) (bytes : List ℕ) → is_flush_passed kind bytes ≡ true → turns_round kind bytes ≡ true
-passed-turned Flush bytes is = is
-passed-turned _ bytes is = absurd (cc)
-
 module _ {C : Type 0} (cells : Cells C) (made : ℕ) (here : Spot) (m : Message C) where
   pub puts-notes : (pckt_puts cells made here m).notes ≡ []
   puts-notes = puts-each cells made here m (λ t. t.notes ≡ []) refl (λ way is. refl)
@@ -75,32 +67,6 @@ module _ {C : Type 0} (cells : Cells C) (made : ℕ) (here : Spot) (m : Message 
       at : (way : Way) → pckt_on_way cells made here way m ≡ pckt_passes here m
       at Up = ap (λ b. cond b (pckt_packs cells made here m) (pckt_passes here m)) is
       at Down = refl
-
-  module _ (some : 0 < here.at) (few : here.at ≤ MODULES) where
-    -- on its way up a message has the places to the head before it at least, and what is turned round there the way down too
-    up-least : (way : Way) (turned : Bool) → way ≡ Up → here.at < far_at way turned here.at
-    up-least Up true is = omega arith
-    up-least Up false is = omega arith
-    up-least Down turned is = absurd (cc)
-
-    up-most : (turned : Bool) → far_at Up turned (here.at - 1) < here.at + 11
-    up-most true = omega (arith, some)
-    up-most false = omega (arith, some)
-
-    passed-lower : here.way ≡ Up → AreLower far (far here m) (flush_passed {C = C} here m.kind m.plain)
-    passed-lower way = at (is_flush_passed m.kind m.plain) refl
-      where
-        at : (goes : Bool) → is_flush_passed m.kind m.plain ≡ goes → AreLower {C = C} far (far here m) (passed_made here m.plain goes)
-        at true is =
-            let turned : is_turned m ≡ true = passed-turned m.kind m.plain is in
-            let this : far here m ≡ here.at + 11 = ap (λ way. far_at way (is_turned m) here.at) way ∙ ap (λ b. far_at Up b here.at) turned in
-            let next = up-most (asked_by (flush_bytes (record (asked_by m.plain) { for_read = false }))).for_write in
-            (omega (arith, this, next), tt)
-        at false is = tt
-
-    pub puts-lower : AreLower far (far here m) (pckt_puts cells made here m).sent
-    puts-lower = puts-each cells made here m (λ t. AreLower far (far here m) t.sent) (onward-lower here m some few)
-        (λ way is. (let least = up-least here.way (is_turned m) way in omega (arith, least, some), passed-lower way))
 
 -- Plain bytes are the same whichever cells were made before.
 pub puts-same : (a b : ℕ) (here : Spot) (m : Message ℕ) → pckt_puts plain a here m ≡ pckt_puts plain b here m

@@ -1,7 +1,6 @@
 -- Delivery: a message that is put at a spot changes what stands there and gives rise to others, and each is carried in
 -- turn with all that it gives rise to, until queues or ends have taken it (STREAMS Programming Guide, "Put Procedures").
-use Rattle.std.specs.Prelude.{ℕ, zero, suc, ◌+◌, ◌-◌, ◌<◌, List, [], ◌∷◌, ◌++◌, length}
-use Rattle.std.specs.List.{AllByRecursion}
+use Rattle.std.specs.Prelude.{ℕ, zero, suc, ◌+◌, ◌-◌, List, [], ◌∷◌, ◌++◌, length}
 use Rattle.strm_types.specs.declared.names.Dir.{Dir}
 use Rattle.strm_types.specs.declared.names.Way.{Way}
 use Rattle.strm_types.specs.declared.names.Way.TheVariants.{Up, Down}
@@ -61,13 +60,6 @@ carried put (suc hops) p s =
     let t = put p.to p.message s in
     let u = in_turn (carried put hops) t.sent t.state in
     record { state = u.state; gone = t.gone ++ u.gone }
-
--- What a put sends on has less before it than what was put: so deliveries end.
-abbrev pub AreLower : {C : Type 0} → (Spot → Message C → ℕ) → ℕ → List (Parcel C) → Type 0
-AreLower height top sent = AllByRecursion (λ q. height q.to q.message < top) sent
-
-abbrev pub Falls : {C S : Type 0} → (Spot → Message C → ℕ) → (Spot → Message C → S → Took C S) → Type 0
-Falls height put = (to : Spot) (m : Message _) (s : _) → AreLower height (height to m) (put to m s).sent
 
 -- the counts with cells that have gone, or were made
 abbrev pub counted_with : {C : Type 0} → Fate C → Fates → Fates

@@ -26,8 +26,10 @@ pub mod Termios
 pub mod Drivers
 pub mod Dropped
 pub mod Heads
-pub mod Far
 pub mod Costs
+pub mod Shapes
+pub mod Budgets
+pub mod Tables
 pub mod Events
 pub mod Refused
 pub mod Needs

@@ -11,7 +11,8 @@ pub struct Counter {
 
 impl<B: Blocks> Stations<B> for Counter {
     ghost use Rattle.std.specs.Prelude.{ℕ, refl};
-    ghost use Rattle.strm_tests.specs.Toys.{counts, upward, nothing};
+    ghost use Rattle.strm_tests.specs.Toys.{count_costs, counts};
+    ghost use Rattle.strm_tests.specs.ToyLaws.{counts-costed};
 
     ghost Plain = { ℕ };
 
@@ -23,9 +24,7 @@ impl<B: Blocks> Stations<B> for Counter {
 
     ghost puts = { counts };
 
-    ghost height = { upward };
-
-    ghost cost = { λ p. nothing };
+    ghost costs = { λ p. count_costs };
 
     ghost spare = { λ p. 0 };
 
@@ -50,7 +49,7 @@ impl<B: Blocks> Stations<B> for Counter {
 
     ghost frame = { λ s t x same held. (refl, held) };
 
-    ghost cost_stays = { λ to m p. refl };
+    ghost costed = { counts-costed };
 
     ghost stays_on = { λ to m p stays. absurd stays };
 }

@@ -1,8 +1,8 @@
 //! A stream of two modules with queues, as a pair has one: what a put sends on is delivered, and turns move what stands on
 //! the queues.
 
-ghost use Rattle.std.specs.Prelude.{ℕ, ◌≡◌, ◌<◌, ◌≤◌, ◌∷◌, [], true, false};
-ghost use Rattle.strm_blocks.specs.Blocks.{in_hand, empty_store, token};
+ghost use Rattle.std.specs.Prelude.{ℕ, ◌≡◌, ◌<◌, ◌≤◌, ◌&&◌, ◌∷◌, [], nat_le, true, false};
+ghost use Rattle.strm_blocks.specs.Blocks.{in_hand, empty_store, free_d, free_m, token};
 ghost use Rattle.strm_msg.specs.Messages.{IsChain};
 ghost use Rattle.strm_tests.specs.Rigs.{is_end, AreTwo, AtRest};
 
@@ -28,6 +28,14 @@ fn is_end(at: usize) -> bool
     ensures inside { result ≡ false → (0 < at) × (at ≤ 2) }
 {
     at == 0 || at > 2
+}
+
+// Whether as many blocks of each kind are free as any message may take that is sent in a turn.
+fn has_room<B: Blocks>(store: &B) -> bool
+    ensures { result ≡ (nat_le 8 (free_m (B.value store.now)) && nat_le 8 (free_d (B.value store.now))) }
+{
+    let (mblks, dblks) = store.free_blocks();
+    mblks >= 8 && dblks >= 8
 }
 
 impl Rig {
@@ -140,13 +148,16 @@ impl Rig {
     }
 
     // Calls the service procedure of the module at a place, which sends one message at most, and delivers what it sends. The
-    // answer is how many bytes it treated.
+    // answer is how many bytes it treated: none where there is no room for what any message may take.
     fn serve<B: Blocks>(&mut self, store: &mut B, at: usize) -> usize
         requires rest { AtRest (λ x. x.queue) (B.value store.old) self.old.modules.modules.items }
         requires inside { 0 < at }
         requires within { at ≤ 2 }
         ensures { AtRest (λ x. x.queue) (B.value store.new) self.new.modules.modules.items }
     {
+        if !has_room(store) {
+            return 0;
+        }
         let here = Spot {
             side: Side::Slave,
             at: at as u8,
@@ -203,9 +214,8 @@ impl<B: Blocks> Stations<B> for Rig {
     ghost use Rattle.std.specs.Prelude.{List, map, length, refl};
     ghost use Rattle.strm_frame.specs.Hands.{once};
     ghost use Rattle.strm_frame.specs.Stacks.{all_of};
-    ghost use Rattle.strm_tests.specs.Toys.{far, nothing};
     ghost use Rattle.strm_tests.specs.ToyLaws.{stock_in};
-    ghost use Rattle.strm_tests.specs.Rigs.{AreTwo, rig_puts, rig-frame};
+    ghost use Rattle.strm_tests.specs.Rigs.{AreTwo, rig_costs, rig_puts, rig-costed, rig-frame};
 
     ghost Plain = { List Rattle.strm_tests.specs.Toys.Stock };
 
@@ -217,9 +227,7 @@ impl<B: Blocks> Stations<B> for Rig {
 
     ghost puts = { rig_puts };
 
-    ghost height = { far };
-
-    ghost cost = { λ p. nothing };
+    ghost costs = { λ p. rig_costs };
 
     ghost spare = { λ p. 0 };
 
@@ -239,7 +247,7 @@ impl<B: Blocks> Stations<B> for Rig {
 
     ghost frame = { λ s t x same held. rig-frame (λ y. y.name) (λ y. y.queue) s t x.modules.modules.items same held };
 
-    ghost cost_stays = { λ to m p. refl };
+    ghost costed = { rig-costed };
 
     ghost stays_on = { λ to m p stays. absurd stays };
 }

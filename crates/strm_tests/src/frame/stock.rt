@@ -68,8 +68,8 @@ fn stays(kind: MsgKind, way: Way) -> bool
 
 impl Module for Stock {
     ghost use Rattle.std.specs.Prelude.{refl, false};
-    ghost use Rattle.strm_tests.specs.Toys.{stocks, far, nothing, stock_queue, with_stock, stock_asks, stock_serves, stock_far};
-    ghost use Rattle.strm_tests.specs.ToyLaws.{stock_in, IsStocked, owned, stock-frame, one-call};
+    ghost use Rattle.strm_tests.specs.Toys.{stocks, stock_does, stock_queue, with_stock, stock_asks, stock_serves};
+    ghost use Rattle.strm_tests.specs.ToyLaws.{stock_in, IsStocked, owned, stock-frame, stocks-within, one-call};
 
     ghost Plain = { Rattle.strm_tests.specs.Toys.Stock };
 
@@ -101,17 +101,9 @@ impl Module for Stock {
 
     ghost MayStop = { λ way again bytes p. ⊥ };
 
-    ghost turn_height = { stock_far };
+    ghost turn_cost = { λ here again p. 8 };
 
-    ghost turn_cost = { λ here again p. 0 };
-
-    ghost height = { far };
-
-    ghost takes = { λ here m p. 0 };
-
-    ghost leaves = { λ here m p. 0 };
-
-    ghost cost = { nothing };
+    ghost does = { λ p. stock_does };
 
     fn name(&self) -> ModuleName {
         self.name
@@ -271,6 +263,8 @@ impl Module for Stock {
             met: gone.met,
         }
     }
+
+    ghost within = { λ here m p. stocks-within here m p };
 
     ghost frame = { λ s t x same held. stock-frame s t x.name x.queue (λ _. 0) same held };
 

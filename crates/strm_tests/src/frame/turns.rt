@@ -210,7 +210,7 @@ const ROWS: [Row<'static>; 13] = [
 
 #[test]
 fn a_message_stays_on_a_queue_until_its_turn(rt: HostRuntime) -> Result<(), Fail> {
-    let mut store = TableStore::new(rt.alloc(), 10, 10)?;
+    let mut store = TableStore::new(rt.alloc(), 20, 20)?;
     let mut rig = Rig::new(Table::new(rt.alloc())?, Table::new(rt.alloc())?);
     play_all(&rt, &mut store, &mut rig, &ROWS);
     Ok(())

@@ -1,16 +1,32 @@
 -- Each message that was sent is carried in turn, and the rest is as if it alone had been sent.
-use Rattle.std.proofs.Common.{ℕ, suc, ◌≡◌, ◌-◌, refl, sym, ap, subst, ◌∙◌, arith}
+use Rattle.std.proofs.Common.{ℕ, suc, ◌≡◌, ◌-◌, List, refl, sym, ap, subst, ◌∙◌, arith}
 use Rattle.strm_types.specs.Deliver.{Parcel, carried}
 use Rattle.strm_types.proofs.DeliveryHolds.{carried-holds}
-use Rattle.strm_frame.specs.Hands.{once, MayTake, Takes}
-use Rattle.strm_types.specs.Costs.{cost_of}
-use Rattle.strm_frame.specs.Outboxes.{message_in, sent_of, times_sent, parcels_in, parcel_in}
+use Rattle.strm_frame.specs.Hands.{once, MayDeliver, Takes}
+use Rattle.strm_types.specs.Budgets.{Costs, Within, budget, cost_of}
+use Rattle.strm_types.specs.Shapes.{At}
+use Rattle.strm_frame.specs.Outboxes.{message_in, sent_of, spot_in, times_sent, parcels_in, parcel_in}
 use Rattle.strm_frame.specs.Does.{StaysAlone}
 use Rattle.strm_frame.proofs.Staying.{only-stays}
-use Rattle.strm_frame.proofs.Handing.{hands-on, lower-more, next-chain, next-chains, next-low, next-lower, next-room, next-takes, no-cost, next-parts, next-can, next-hands, next-same, no-more, no-parts, may-on, sent-in, still-sent, takes-on}
+use Rattle.strm_frame.proofs.Budgeting.{budget-parts, own-few, own-may, sent-few, sent-may}
+use Rattle.strm_frame.proofs.Handing.{hands-on, next-chain, next-chains, next-ends, next-may, next-takes, no-cost, next-parts, next-can, next-hands, next-same, no-more, no-parts, sent-in, still-sent, takes-both, takes-more}
 use Rattle.strm_frame.proofs.Turns.{begins-state, begins-told, goes-state, goes-told, stops-state, stops-told}
 use Rattle.strm_frame.proofs.carrying.+delivery.Goals as goal
 use Rattle.strm_blocks.specs.Blocks.{token}
+
+pub deliver-put_at-sent-requires-clause-room : goal.deliver-put_at-sent-requires-clause-room
+deliver-put_at-sent-requires-clause-room g t c =
+    let w = g.S.Stations in
+    let s = g.B.Blocks.value c.args.store.now in
+    let p = w.plain s c.args.stations.now in
+    own-may (w.costs p) c.args.hops (spot_in s c.args.to (token c.args.message)) s (w.spare p) c.requires.may
+
+pub deliver-overflow_sub-left : goal.deliver-overflow_sub-left
+deliver-overflow_sub-left g t c =
+    let w = g.S.Stations in
+    let s = g.B.Blocks.value c.args.store.now in
+    let parts = budget-parts (w.costs (w.plain s c.args.stations.now)) c.args.hops (spot_in s c.args.to (token c.args.message)) c.requires.may.ends in
+    omega (arith, parts.some)
 
 pub deliver-deliver_all-requires : goal.deliver-deliver_all-requires
 deliver-deliver_all-requires g t c κs within =
@@ -19,17 +35,19 @@ deliver-deliver_all-requires g t c κs within =
     let s0 = value c.args.store.now in
     let s = value c.put_at-sent.new.store in
     let m = message_in s0 (token c.args.message) in
+    let a = spot_in s0 c.args.to (token c.args.message) in
     let e = c.put_at-sent.ensures.puts in
     let all = sent_of c.put_at-sent.result in
-    let top = c.requires.low in
     let in_hand = sent-in s0 s (once (token c.args.message)) (λ i. times_sent i all) (w.keeps c.args.stations.now) (w.keeps c.put_at-sent.new.self) c.requires.can_put e.hands in
-    let low = lower-more w.height (w.height c.args.to m) (c.args.hops - 1) (parcels_in s all) (omega arith) e.falls in
     let before = w.plain s0 c.args.stations.now in
     let behind = w.plain s c.put_at-sent.new.self in
-    let same : w.cost behind ≡ w.cost before = ap w.cost e.state ∙ g.met.S.Stations.cost_stays c.args.to m before in
-    let left = may-on s0 s (w.spare before) (w.spare behind) (w.cost before c.args.to m) (cost_of (w.cost before) (parcels_in s all)) c.requires.room e.takes in
-    let room = subst (λ cost. MayTake s (w.spare behind) (cost_of cost (parcels_in s all))) (sym same) left in
-    (omega arith, (within.0, (within.1, (e.held, (in_hand, (e.chains, (low, room)))))))
+    let table = w.costs before in
+    let some = (budget-parts table c.args.hops a c.requires.may.ends).some in
+    let same : w.costs behind ≡ table = ap w.costs e.state ∙ g.met.S.Stations.costed.stays c.args.to m before in
+    let sent = subst (λ (ps : List (Parcel ℕ)). Within ps (table a).emits) (sym e.sent) (g.met.S.Stations.costed.within c.args.to m before) in
+    let left = sent-may table c.args.hops a s0 (w.spare before) c.requires.may (parcels_in s all) sent s (w.spare behind) e.takes in
+    let may = subst (λ (costs : At → Costs). MayDeliver s (w.spare behind) (cost_of (budget costs (c.args.hops - 1)) (parcels_in s all))) (sym same) left in
+    (omega (arith, some), (within.0, (within.1, (e.held, (in_hand, (e.chains, may))))))
 
 pub deliver-returns-clause-delivers : goal.deliver-returns-clause-delivers
 deliver-returns-clause-delivers g t c =
@@ -39,6 +57,7 @@ deliver-returns-clause-delivers g t c =
     let s = value c.put_at-sent.new.store in
     let u = value c.deliver_all.new.store in
     let m = message_in s0 (token c.args.message) in
+    let a = spot_in s0 c.args.to (token c.args.message) in
     let p : Parcel ℕ = record { to = c.args.to; message = m } in
     let e = c.put_at-sent.ensures.puts in
     let f = c.deliver_all.ensures.delivers in
@@ -47,16 +66,19 @@ deliver-returns-clause-delivers g t c =
     let after = w.plain u c.deliver_all.new.stations in
     let all = sent_of c.put_at-sent.result in
     let sent = parcels_in s all in
-    let low = c.requires.low in
-    let next : c.args.hops ≡ suc (c.args.hops - 1) = omega arith in
-    let same : w.cost behind ≡ w.cost before = ap w.cost e.state ∙ g.met.S.Stations.cost_stays c.args.to m before in
-    let then = subst (λ cost. Takes s u (w.spare behind) (w.spare after) (cost_of cost sent) 0) same f.takes in
+    let table = w.costs before in
+    let some = (budget-parts table c.args.hops a c.requires.may.ends).some in
+    let next : c.args.hops ≡ suc (c.args.hops - 1) = omega (arith, some) in
+    let same : w.costs behind ≡ table = ap w.costs e.state ∙ g.met.S.Stations.costed.stays c.args.to m before in
+    let within = subst (λ (ps : List (Parcel ℕ)). Within ps (table a).emits) (sym e.sent) (g.met.S.Stations.costed.within c.args.to m before) in
+    let few = sent-few table c.args.hops a s0 (w.spare before) c.requires.may sent within in
+    let then = subst (λ (costs : At → Costs). Takes s u (w.spare behind) (w.spare after) (cost_of (budget costs (c.args.hops - 1)) sent) 0) same f.takes in
     record {
       state = f.state ∙ begins-state w.puts c.args.hops (c.args.hops - 1) p before behind sent next e.state e.sent;
       told = f.told ∙ begins-told w.puts c.args.hops (c.args.hops - 1) p before behind sent _ _ next e.state e.sent e.told;
       held = f.held;
       hands = hands-on s0 s u (once (token c.args.message)) (λ i. times_sent i all) (w.keeps c.args.stations.now) (w.keeps c.put_at-sent.new.self) (w.keeps c.deliver_all.new.stations) c.audit.ensures e.hands f.hands;
-      takes = takes-on s0 s u (w.spare before) (w.spare behind) (w.spare after) (w.cost before c.args.to m) (cost_of (w.cost before) sent) e.takes then;
+      takes = takes-both s0 s u (w.spare before) (w.spare behind) (w.spare after) (table a).own (cost_of (budget table (c.args.hops - 1)) sent) (budget table c.args.hops a) e.takes then few;
       pool = record { mblks = f.pool.mblks ∙ e.pool.mblks; dblks = f.pool.dblks ∙ e.pool.dblks };
     }
 
@@ -93,8 +115,10 @@ deliver-returns-then-is_empty-clause-delivers g t c =
     let behind = w.plain s c.put_at-sent.new.self in
     let all = sent_of c.put_at-sent.result in
     let sent = parcels_in s all in
-    let low = c.requires.low in
-    let next : c.args.hops ≡ suc (c.args.hops - 1) = omega arith in
+    let a = spot_in s0 c.args.to (token c.args.message) in
+    let table = w.costs before in
+    let some = (budget-parts table c.args.hops a c.requires.may.ends).some in
+    let next : c.args.hops ≡ suc (c.args.hops - 1) = omega (arith, some) in
     let empty = c.if-is_empty.ensures.0 refl in
     let none = no-parts s all empty in
     let carry = carried w.puts (c.args.hops - 1) in
@@ -104,7 +128,7 @@ deliver-returns-then-is_empty-clause-delivers g t c =
           ∙ begins-told w.puts c.args.hops (c.args.hops - 1) p before behind sent c.args.told.now c.put_at-sent.new.told next e.state e.sent e.told;
       held = e.held;
       hands = no-more s0 s (once (token c.args.message)) (w.keeps c.args.stations.now) (w.keeps c.put_at-sent.new.self) all empty e.hands;
-      takes = no-cost s0 s (w.cost before) (w.cost before c.args.to m) (w.spare before) (w.spare behind) all empty e.takes;
+      takes = takes-more s0 s (w.spare before) (w.spare behind) (table a).own (budget table c.args.hops a) e.takes (own-few table c.args.hops a s0 (w.spare before) c.requires.may);
       pool = e.pool;
     }
 
@@ -116,7 +140,7 @@ deliver_all-loop-next-init g t c =
       told = refl;
       held = c.requires.held;
       chains = c.requires.chains;
-      lower = c.requires.low;
+      ends = c.requires.may.ends;
       hands = record { counts = λ i. omega arith; others = λ i gone kept some. refl };
       costs = refl;
       takes = record { blocks = record { mblks = omega arith; dblks = omega arith }; spare = omega arith };
@@ -146,22 +170,22 @@ deliver_all-loop-next-preserved g t c =
     let before = w.plain s0 c.args.stations.now in
     let now = w.plain s c.loop-next.stations in
     let after = w.plain s' c.deliver.new.stations in
-    let cost = w.cost before in
+    let cost = budget (w.costs before) c.args.hops in
     let most = cost_of cost (parcels_in s0 (sent_of c.args.sent)) in
     let parcel = parcel_in s x in
-    let behind : w.cost after ≡ w.cost now =
-    ap w.cost c.deliver.ensures.delivers.state
-    ∙ carried-holds (λ p. w.cost p ≡ w.cost now) w.puts (λ to m p is. g.met.S.Stations.cost_stays to m p ∙ is) c.args.hops parcel now refl in
+    let behind : w.costs after ≡ w.costs now =
+    ap w.costs c.deliver.ensures.delivers.state
+    ∙ carried-holds (λ p. w.costs p ≡ w.costs now) w.puts (λ to m p is. g.met.S.Stations.costed.stays to m p ∙ is) c.args.hops parcel now refl in
     record {
       state = goes-state carry (parcels_in s all) (parcels_in s more) (parcels_in s' more) (parcel_in s x) (w.plain s c.loop-next.stations) _ parts same c.deliver.ensures.delivers.state ∙ i.state;
       told = goes-told carry (parcels_in s all) (parcels_in s more) (parcels_in s' more) (parcel_in s x) (w.plain s c.loop-next.stations) _ _ _ parts same c.deliver.ensures.delivers.state c.deliver.ensures.delivers.told ∙ i.told;
       held = c.deliver.ensures.delivers.held;
       chains = next-chains s0 s s' first k0 k k' x more all split c.audit.ensures c.requires.are_in i.hands c.deliver.ensures.delivers.hands i.chains;
-      lower = next-lower s0 s s' first k0 k k' x more all split c.audit.ensures c.requires.are_in i.hands c.deliver.ensures.delivers.hands w.height c.args.hops i.lower;
+      ends = next-ends s0 s s' first k0 k k' x more all split c.audit.ensures c.requires.are_in i.hands c.deliver.ensures.delivers.hands cost i.ends;
       hands = next-hands s0 s s' first k0 k k' x more all split c.audit.ensures c.requires.are_in i.hands c.deliver.ensures.delivers.hands;
       costs = behind ∙ i.costs;
       takes = next-takes s0 s s' first k0 k k' x more all split c.audit.ensures c.requires.are_in i.hands c.deliver.ensures.delivers.hands cost most (w.spare before) (w.spare now) (w.spare after) i.takes
-          (subst (λ cost. Takes s s' (w.spare now) (w.spare after) (cost x.to (parcel_in s x).message) 0) i.costs c.deliver.ensures.delivers.takes);
+          (subst (λ (costs : At → Costs). Takes s s' (w.spare now) (w.spare after) (budget costs c.args.hops (spot_in s x.to (token x.message))) 0) i.costs c.deliver.ensures.delivers.takes);
       blocks = λ alone.
           let was = i.blocks alone in
           let only = only-stays w.stays s s' now x more all split was.0 in
@@ -186,12 +210,12 @@ deliver_all-deliver-requires g t c κs within =
     let can = next-can s0 s s first k0 k k x more all c.in-Some.ensures c.audit.ensures c.requires.are_in i.hands in
     let before = w.plain s0 c.args.stations.now in
     let now = w.plain s c.loop-next.stations in
-    let most = cost_of (w.cost before) (parcels_in s0 (sent_of c.args.sent)) in
-    let left = next-room s0 s s first k0 k k x more all c.in-Some.ensures c.audit.ensures c.requires.are_in i.hands (w.cost before) most (w.spare before) (w.spare now) c.requires.room i.takes in
-    let room = subst (λ cost. MayTake s (w.spare now) (cost x.to (parcel_in s x).message)) (sym i.costs) left in
+    let cost = budget (w.costs before) c.args.hops in
+    let most = cost_of cost (parcels_in s0 (sent_of c.args.sent)) in
+    let left = next-may s0 s s first k0 k k x more all c.in-Some.ensures c.audit.ensures c.requires.are_in i.hands cost most (w.spare before) (w.spare now) c.requires.may i.takes i.ends in
+    let may = subst (λ (costs : At → Costs). MayDeliver s (w.spare now) (budget costs c.args.hops (spot_in s x.to (token x.message)))) (sym i.costs) left in
     let chain = next-chain s0 s s first k0 k k x more all c.in-Some.ensures c.audit.ensures c.requires.are_in i.hands i.chains in
-    let low = next-low s0 s s first k0 k k x more all c.in-Some.ensures c.audit.ensures c.requires.are_in i.hands w.height c.args.hops i.lower in
-    (omega arith, (within.0, (within.1, (i.held, (can, (chain, (low, room)))))))
+    (omega arith, (within.0, (within.1, (i.held, (can, (chain, may))))))
 
 pub deliver_all-returns-clause-delivers : goal.deliver_all-returns-clause-delivers
 deliver_all-returns-clause-delivers g t c =
@@ -211,7 +235,7 @@ deliver_all-returns-clause-delivers g t c =
       told = sym (stops-told (carried w.puts c.args.hops) all now c.loop-next.told none) ∙ i.told;
       held = i.held;
       hands = no-more s0 s first (w.keeps c.args.stations.now) (w.keeps c.loop-next.stations) left empty i.hands;
-      takes = no-cost s0 s (w.cost before) (cost_of (w.cost before) (parcels_in s0 (sent_of c.args.sent))) (w.spare before) (w.spare now) left empty i.takes;
+      takes = no-cost s0 s (budget (w.costs before) c.args.hops) (cost_of (budget (w.costs before) c.args.hops) (parcels_in s0 (sent_of c.args.sent))) (w.spare before) (w.spare now) left empty i.takes;
       pool = i.pool;
     }
 

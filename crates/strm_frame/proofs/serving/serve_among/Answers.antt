@@ -70,9 +70,8 @@ returns-clause-does g c =
       held = row-held w.plain w.IsHeld w.owns w.keeps g.met.M.Module.frame s t (λ _. 0) x d y sent c.audit.ensures e.own e.hands e.pool xs i c.requires.within refl c.requires.held c.requires.kept e.held;
       own = own-all w.owns s t xs i x d y c.requires.within refl e.own;
       chains = e.chains;
-      falls = e.falls;
       hands = row-hands w.plain w.IsHeld w.owns w.keeps g.met.M.Module.frame s t (λ _. 0) x d y sent c.audit.ensures e.own e.hands e.pool xs i c.requires.within refl c.requires.held c.requires.kept e.held;
-      room = subst (λ n. HasRoom t (later_cost w.cost r.again n (parcels_in t (sent_of r.acts.sent))))
+      room = subst (λ n. HasRoom t (later_cost r.again n (parcels_in t (sent_of r.acts.sent))))
           (sym (said-set (w.plain t) (w.turn_cost c.args.here true) xs i y 0 c.requires.within)) e.room;
       pool = e.pool;
     }

@@ -1,7 +1,7 @@
 -- One module changes, and the others stand for the same.
 use Rattle.std.proofs.Common.{ℕ, get_or, map, refl, sym, ap, subst, ◌∙◌}
-use Rattle.std.specs.Prelude.{slice_index_or}
 use Rattle.std.proofs.Math.ListN.{set}
+use Rattle.strm_types.specs.Budgets.{own_at}
 use Rattle.strm_types.specs.Deliver.{tallied}
 use Rattle.strm_frame.specs.Hands.{once, HasRoom, Spends}
 use Rattle.strm_frame.specs.Outboxes.{message_in, sent_of, times_sent}
@@ -15,7 +15,7 @@ put-requires-clause-room g c =
     let w = g.M.Module in
     let d = c.index-modules-at.result in
     let xs = c.args.modules.now in
-    subst (HasRoom s) (said-of (w.plain s) (w.takes c.args.to (message_in s (token c.args.message))) xs c.args.at (get_or xs c.args.at d) d 0 c.requires.within refl) c.requires.room
+    subst (HasRoom s) (said-of (w.plain s) (λ p. own_at (w.does p) c.args.to (message_in s (token c.args.message))) xs c.args.at (get_or xs c.args.at d) d 0 c.requires.within refl) c.requires.room
 
 pub returns-clause-does : goal.returns-clause-does
 returns-clause-does g c =
@@ -43,10 +43,8 @@ returns-clause-does g c =
       held = row-held w.plain w.IsHeld w.owns w.keeps g.met.M.Module.frame s t (once n) x d y sent c.audit.ensures e.own e.hands e.pool xs i c.requires.within refl c.requires.held c.requires.can_put e.held;
       own = own-all w.owns s t xs i x d y c.requires.within refl e.own;
       chains = e.chains;
-      falls = e.falls;
       hands = row-hands w.plain w.IsHeld w.owns w.keeps g.met.M.Module.frame s t (once n) x d y sent c.audit.ensures e.own e.hands e.pool xs i c.requires.within refl c.requires.held c.requires.can_put e.held;
-      spends = subst (λ k. Spends s t k (slice_index_or (map (w.leaves c.args.to m) (map (w.plain s) xs)) i 0)) (said (w.takes c.args.to m))
-          (subst (λ k. Spends s t (w.takes c.args.to m (w.plain s x)) k) (said (w.leaves c.args.to m)) e.spends);
+      spends = subst (λ k. Spends s t k 0) (said (λ p. own_at (w.does p) c.args.to m)) e.spends;
       blocks = e.blocks;
       pool = e.pool;
     }

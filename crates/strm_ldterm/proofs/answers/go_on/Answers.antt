@@ -1,10 +1,10 @@
--- It costs no more from the next place on.
+-- It takes nothing.
 use Rattle.std.proofs.Common.{◌∙◌}
-use Rattle.strm_types.specs.Costs.{cost}
+use Rattle.strm_types.specs.Budgets.{own_at}
+use Rattle.strm_types.specs.Tables.{ldterm_does}
 use Rattle.strm_types.specs.LdtermPuts.{goes_on}
 use Rattle.strm_frame.specs.Outboxes.{message_in}
 use Rattle.strm_ldterm.specs.Stands.{ldterm_in}
-use Rattle.strm_ldterm.proofs.Spending.{goes-cost}
 use Rattle.strm_ldterm.proofs.TakingUp.{does-puts}
 use Rattle.strm_ldterm.proofs.answers.go_on.Goals as goal
 use Rattle.strm_blocks.specs.Blocks.{token}
@@ -16,6 +16,5 @@ returns g c = λ f.
     let i = token c.args.message in
     let m = message_in s i in
     let did = c.pass_on.ensures f in
-    does-puts s s x x i (cost c.args.here m) c.pass_on.result f f (goes_on c.args.here m (ldterm_in s x))
+    does-puts s s x x i (own_at ldterm_does c.args.here m) c.pass_on.result f f (goes_on c.args.here m (ldterm_in s x))
     (record { state = did.state; notes = did.notes ∙ c.new.ensures; sent = did.sent; told = did.told; held = did.held; own = did.own; chains = did.chains; hands = did.hands; frees = did.frees; pool = did.pool })
-    (goes-cost c.args.here m c.requires.inside c.requires.small)

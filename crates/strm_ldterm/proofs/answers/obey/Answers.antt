@@ -3,7 +3,8 @@ use Rattle.std.proofs.Common.{◌≡◌, Bool, cond, sym, ap, subst, ◌∙◌, 
 use Rattle.std.specs.Prelude.{Option, None, Some}
 use Rattle.strm_types.specs.declared.termios.Termios.{Termios}
 use Rattle.strm_types.specs.Acks.{payload}
-use Rattle.strm_types.specs.Costs.{cost}
+use Rattle.strm_types.specs.Budgets.{own_at}
+use Rattle.strm_types.specs.Tables.{ldterm_does}
 use Rattle.strm_types.specs.LdtermPuts.{goes_on, told_termios}
 use Rattle.strm_types.specs.Termios.{read_termios}
 use Rattle.strm_frame.specs.Outboxes.{message_in}
@@ -24,7 +25,7 @@ returns-then-not-sets_termios g c =
     let m = message_in s i in
     let p = ldterm_in s x in
     let f = c.args.told.now in
-    subst (λ (b : Bool). Puts s s x x i (cost here m) c.go_on.result f f (cond b (told_termios here c.args.ioc (read_termios (payload m.plain)) m p) (goes_on here m p))) (sym c.if-not-sets_termios.true ∙ c.sets_termios.ensures) (c.go_on.ensures f)
+    subst (λ (b : Bool). Puts s s x x i (own_at ldterm_does here m) c.go_on.result f f (cond b (told_termios here c.args.ioc (read_termios (payload m.plain)) m p) (goes_on here m p))) (sym c.if-not-sets_termios.true ∙ c.sets_termios.ensures) (c.go_on.ensures f)
 
 pub payload_of-given-requires-clause-in_hand : goal.payload_of-given-requires-clause-in_hand
 payload_of-given-requires-clause-in_hand g c = can-in_hand _ _ _ c.audit.ensures c.requires.can_put
@@ -45,8 +46,8 @@ returns-in_default g c =
     let said : c.read.result ≡ read_termios given = c.read.ensures ∙ ap read_termios (c.as_slice.ensures.value ∙ c.payload_of-given.ensures) ∙ first-tell termios_read 35 36 given (omega arith) in
     let none : read_termios given ≡ None = sym said ∙ c.in_default.is in
     let acts = c.go_on-in_default.result in
-    subst (λ (b : Bool). Puts s s x x i (cost here m) acts f f (cond b (told_termios here c.args.ioc (read_termios given) m p) (goes_on here m p))) (sym c.if-not-sets_termios.false ∙ c.sets_termios.ensures)
-    (subst (λ (o : Option Termios). Puts s s x x i (cost here m) acts f f (told_termios here c.args.ioc o m p)) (sym none) (c.go_on-in_default.ensures f))
+    subst (λ (b : Bool). Puts s s x x i (own_at ldterm_does here m) acts f f (cond b (told_termios here c.args.ioc (read_termios given) m p) (goes_on here m p))) (sym c.if-not-sets_termios.false ∙ c.sets_termios.ensures)
+    (subst (λ (o : Option Termios). Puts s s x x i (own_at ldterm_does here m) acts f f (told_termios here c.args.ioc o m p)) (sym none) (c.go_on-in_default.ensures f))
 
 pub returns : goal.returns
 returns g c =
@@ -64,5 +65,5 @@ returns g c =
     let said : c.read.result ≡ read_termios given = c.read.ensures ∙ ap read_termios (c.as_slice.ensures.value ∙ c.payload_of-given.ensures) ∙ first-tell termios_read 35 36 given (omega arith) in
     let some : read_termios given ≡ Some c.in-Some.termios = sym said ∙ c.in-Some.is in
     let acts = c.take_up.result in
-    subst (λ (b : Bool). Puts s t x y i (cost here m) acts f f' (cond b (told_termios here c.args.ioc (read_termios given) m p) (goes_on here m p))) (sym c.if-not-sets_termios.false ∙ c.sets_termios.ensures)
-    (subst (λ (o : Option Termios). Puts s t x y i (cost here m) acts f f' (told_termios here c.args.ioc o m p)) (sym some) c.take_up.ensures)
+    subst (λ (b : Bool). Puts s t x y i (own_at ldterm_does here m) acts f f' (cond b (told_termios here c.args.ioc (read_termios given) m p) (goes_on here m p))) (sym c.if-not-sets_termios.false ∙ c.sets_termios.ensures)
+    (subst (λ (o : Option Termios). Puts s t x y i (own_at ldterm_does here m) acts f f' (told_termios here c.args.ioc o m p)) (sym some) c.take_up.ensures)

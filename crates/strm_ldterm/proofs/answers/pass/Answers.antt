@@ -1,6 +1,7 @@
 -- By the way.
 use Rattle.std.proofs.Common.{sym, subst}
-use Rattle.strm_types.specs.Costs.{cost}
+use Rattle.strm_types.specs.Budgets.{own_at}
+use Rattle.strm_types.specs.Tables.{ldterm_does}
 use Rattle.strm_types.specs.LdtermPuts.{passes_on_way}
 use Rattle.strm_frame.specs.Outboxes.{message_in}
 use Rattle.strm_ldterm.specs.Does.{Puts}
@@ -16,7 +17,7 @@ returns-in-Down g c =
     let here = c.args.here in
     let m = message_in s i in
     let f = c.args.told.now in
-    subst (λ w. Puts s s x x i (cost here m) c.go_on.result f f (passes_on_way w here m (ldterm_in s x))) (sym c.in-Down.is) (c.go_on.ensures f)
+    subst (λ w. Puts s s x x i (own_at ldterm_does here m) c.go_on.result f f (passes_on_way w here m (ldterm_in s x))) (sym c.in-Down.is) (c.go_on.ensures f)
 
 pub returns-in-Up : goal.returns-in-Up
 returns-in-Up g c =
@@ -25,4 +26,4 @@ returns-in-Up g c =
     let i = token c.args.message in
     let here = c.args.here in
     let m = message_in s i in
-    subst (λ w. Puts s (g.B.Blocks.value c.pass_up.new.store) x c.pass_up.new.ldterm i (cost here m) c.pass_up.result c.args.told.now c.pass_up.new.told (passes_on_way w here m (ldterm_in s x))) (sym c.in-Up.is) c.pass_up.ensures
+    subst (λ w. Puts s (g.B.Blocks.value c.pass_up.new.store) x c.pass_up.new.ldterm i (own_at ldterm_does here m) c.pass_up.result c.args.told.now c.pass_up.new.told (passes_on_way w here m (ldterm_in s x))) (sym c.in-Up.is) c.pass_up.ensures

@@ -3,7 +3,8 @@ use Rattle.std.proofs.Common.{◌≡◌, Bool, true, false, cond, sym, subst, �
 use Rattle.std.specs.Prelude.{Option, None, Some}
 use Rattle.strm_types.specs.declared.ioctls.Ioc.{Ioc}
 use Rattle.strm_types.specs.Commands.{is_acked}
-use Rattle.strm_types.specs.Costs.{cost}
+use Rattle.strm_types.specs.Budgets.{own_at}
+use Rattle.strm_types.specs.Tables.{ldterm_does}
 use Rattle.strm_types.specs.Ioctls.{read_ioc}
 use Rattle.strm_types.specs.LdtermPuts.{goes_on, told_by_header}
 use Rattle.strm_frame.specs.Outboxes.{message_in}
@@ -11,7 +12,7 @@ use Rattle.strm_frame.proofs.Asked.{acked-is, acked-not, acked-plain}
 use Rattle.strm_frame.proofs.Handing.{can-in_hand}
 use Rattle.strm_ldterm.specs.Does.{Puts}
 use Rattle.strm_ldterm.specs.Stands.{ldterm_in}
-use Rattle.strm_ldterm.proofs.TakenCosts.{ack-room}
+use Rattle.strm_types.proofs.LdtermWithin.{acked-own}
 use Rattle.strm_ldterm.proofs.answers.pass_up.Goals as goal
 use Rattle.strm_blocks.specs.Blocks.{token}
 
@@ -25,7 +26,7 @@ returns-then-not-is_iocack g c =
     let p = ldterm_in s x in
     let f = c.args.told.now in
     let other : is_acked m ≡ false = acked-not s i c.args.kind c.requires.kind (sym c.is_iocack.ensures ∙ c.if-not-is_iocack.true) in
-    subst (λ (b : Bool). Puts s s x x i (cost here m) c.go_on.result f f (cond b (told_by_header here (read_ioc m.plain) m p) (goes_on here m p))) (sym other) (c.go_on.ensures f)
+    subst (λ (b : Bool). Puts s s x x i (own_at ldterm_does here m) c.go_on.result f f (cond b (told_by_header here (read_ioc m.plain) m p) (goes_on here m p))) (sym other) (c.go_on.ensures f)
 
 pub header_of-requires-clause-in_hand : goal.header_of-requires-clause-in_hand
 header_of-requires-clause-in_hand g c = can-in_hand _ _ _ c.audit.ensures c.requires.can_put
@@ -48,8 +49,8 @@ returns-in_default g c =
     let acked : is_acked m ≡ true = acked-is s i c.args.kind c.requires.chain c.requires.kind (sym c.is_iocack.ensures ∙ c.if-not-is_iocack.false) in
     let none : read_ioc m.plain ≡ None = sym c.header_of.ensures ∙ c.in_default.is in
     let acts = c.go_on-in_default.result in
-    subst (λ (b : Bool). Puts s s x x i (cost here m) acts f f (cond b (told_by_header here (read_ioc m.plain) m p) (goes_on here m p))) (sym acked)
-    (subst (λ (o : Option Ioc). Puts s s x x i (cost here m) acts f f (told_by_header here o m p)) (sym none) (c.go_on-in_default.ensures f))
+    subst (λ (b : Bool). Puts s s x x i (own_at ldterm_does here m) acts f f (cond b (told_by_header here (read_ioc m.plain) m p) (goes_on here m p))) (sym acked)
+    (subst (λ (o : Option Ioc). Puts s s x x i (own_at ldterm_does here m) acts f f (told_by_header here o m p)) (sym none) (c.go_on-in_default.ensures f))
 
 pub obey-requires-clause-acked : goal.obey-requires-clause-acked
 obey-requires-clause-acked g c =
@@ -60,7 +61,7 @@ obey-requires-clause-room g c =
     let s = g.B.Blocks.value c.args.store.now in
     let i = token c.args.message in
     let acked = acked-is s i c.args.kind c.requires.chain c.requires.kind (sym c.is_iocack.ensures ∙ c.if-not-is_iocack.false) in
-    let two = ack-room c.args.here (message_in s i) acked c.requires.up c.requires.inside c.requires.small in
+    let two = acked-own c.args.here (message_in s i) c.requires.up acked in
     record { mblks = (let r = c.requires.room.mblks in omega arith); dblks = (let r = c.requires.room.dblks in omega arith) }
 
 pub returns : goal.returns
@@ -78,5 +79,5 @@ returns g c =
     let acked : is_acked m ≡ true = acked-is s i c.args.kind c.requires.chain c.requires.kind (sym c.is_iocack.ensures ∙ c.if-not-is_iocack.false) in
     let some : read_ioc m.plain ≡ Some c.in-Some.ioc = sym c.header_of.ensures ∙ c.in-Some.is in
     let acts = c.obey.result in
-    subst (λ (b : Bool). Puts s t x y i (cost here m) acts f f' (cond b (told_by_header here (read_ioc m.plain) m p) (goes_on here m p))) (sym acked)
-    (subst (λ (o : Option Ioc). Puts s t x y i (cost here m) acts f f' (told_by_header here o m p)) (sym some) c.obey.ensures)
+    subst (λ (b : Bool). Puts s t x y i (own_at ldterm_does here m) acts f f' (cond b (told_by_header here (read_ioc m.plain) m p) (goes_on here m p))) (sym acked)
+    (subst (λ (o : Option Ioc). Puts s t x y i (own_at ldterm_does here m) acts f f' (told_by_header here o m p)) (sym some) c.obey.ensures)

@@ -1,11 +1,12 @@
 -- Input is flushed, the termios is set, the mode is told, and the message goes on.
-use Rattle.std.proofs.Common.{ℕ, List, [], ◌∷◌, ◌∙◌, ap, cond, refl, subst}
+use Rattle.std.proofs.Common.{ℕ, List, [], ◌∷◌, ◌∙◌, ap, cond, refl, subst, arith}
 use Rattle.std.specs.Option.{option_to_list}
 use Rattle.strm_types.specs.declared.kinds.MsgKind.TheVariants.{Setopts}
 use Rattle.strm_types.specs.declared.names.Way.TheVariants.{Up}
 use Rattle.strm_types.specs.declared.spots.Note.{Note}
 use Rattle.strm_types.specs.declared.spots.Note.TheVariants.{Room}
-use Rattle.strm_types.specs.Costs.{cost}
+use Rattle.strm_types.specs.Budgets.{own_at}
+use Rattle.strm_types.specs.Tables.{ldterm_does}
 use Rattle.strm_types.specs.Ldterms.{onward, sends}
 use Rattle.strm_types.specs.Options.{mode_number}
 use Rattle.strm_types.specs.TakenUp.{read_mode_of}
@@ -15,7 +16,7 @@ use Rattle.strm_frame.specs.Outboxes.{message_in}
 use Rattle.strm_ldterm.specs.Does.{Proceeds}
 use Rattle.strm_ldterm.specs.Stands.{ldterm_in}
 use Rattle.strm_ldterm.specs.TakingUp.{flush_takes, line_takes}
-use Rattle.strm_ldterm.proofs.TakenCosts.{taken-cost}
+use Rattle.strm_types.proofs.LdtermWithin.{acked-own}
 use Rattle.strm_ldterm.proofs.TakingUp.{can-kept, mode-plain, noted-kept, noted-room, room-left, takes-up}
 use Rattle.strm_ldterm.proofs.answers.take_up.Goals as goal
 use Rattle.strm_blocks.specs.Blocks.{token}
@@ -66,6 +67,6 @@ returns g c =
     let last : Sent = record { to = c.toward.result; message = c.args.message } in
     let mode = c.send_up-mode.result in
     let told = subst (λ (bytes : List ℕ). Proceeds u v z z 1 [] (mode ∷ []) f1 f1 (sends (onward Up here (bare Setopts bytes) ∷ []) (ldterm_in u z))) (ap (λ n. n ∷ c.tostop_of.result ∷ []) c.mode_of.ensures ∙ ap (λ n. mode_number (read_mode_of termios) ∷ n ∷ []) c.tostop_of.ensures) (c.send_up-mode.ensures f1) in
-    takes-up s t u v x y z here c.args.set.0 (cost here m) termios (cond {A = List Note} c.flush_input-room.result.0 (Room Up ∷ []) []) (option_to_list c.flush_input-room.result.1) (option_to_list c.set_termios-line.result) mode last _ c.args.told.now f1
+    takes-up s t u v x y z here c.args.set.0 (own_at ldterm_does here m) termios (cond {A = List Note} c.flush_input-room.result.0 (Room Up ∷ []) []) (option_to_list c.flush_input-room.result.1) (option_to_list c.set_termios-line.result) mode last _ c.args.told.now f1
     c.audit.ensures c.audit-2.ensures c.audit-3.ensures c.requires.can_put c.requires.chain c.toward.ensures c.flush_input-room.ensures (c.set_termios-line.ensures f1) told c.note_if.ensures refl
-    (taken-cost here m c.requires.acked c.requires.up c.requires.inside c.requires.small c.args.set.0 termios (ldterm_in s x))
+    (omega (arith, acked-own here m c.requires.up c.requires.acked))

@@ -5,7 +5,8 @@ use Rattle.std.proofs.lemmas.Bool.{false≢true}
 use Rattle.strm_types.specs.declared.kinds.MsgKind.{MsgKind}
 use Rattle.strm_types.specs.declared.kinds.MsgKind.TheVariants.{Data, Proto}
 use Rattle.strm_types.specs.declared.names.Way.{Way}
-use Rattle.strm_types.specs.Costs.{cost}
+use Rattle.strm_types.specs.Budgets.{own_at}
+use Rattle.strm_types.specs.Tables.{ldterm_does}
 use Rattle.strm_types.specs.Flushing.{is_flush}
 use Rattle.strm_types.specs.LdtermPuts.{goes_behind, waits_on}
 use Rattle.strm_types.specs.Ldterms.{flush_passes, queued_at, waits_there}
@@ -18,7 +19,6 @@ use Rattle.strm_ldterm.specs.Stands.{ldterm_in}
 use Rattle.strm_ldterm.specs.Does.{Puts}
 use Rattle.strm_ldterm.proofs.Last.{waits-low}
 use Rattle.strm_ldterm.proofs.Passing.{puts-flush, puts-pass, puts-wait}
-use Rattle.strm_ldterm.proofs.Spending.{flush-cost, none-cost}
 use Rattle.strm_ldterm.proofs.TakingUp.{does-puts}
 use Rattle.strm_ldterm.proofs.puts.put.Goals as goal
 
@@ -41,8 +41,8 @@ returns-then-waits_on-clause-does g c =
     let here = c.args.here in
     let m = message_in s i in
     let p = ldterm_in s x in
-    subst (λ a. Puts s t x c.wait.new.ldterm i (cost here m) c.wait.result f f a) (sym (puts-wait here m p (sym c.waits_on.ensures ∙ c.if-waits_on.true)))
-    (does-puts s t x c.wait.new.ldterm i (cost here m) c.wait.result f f (queued_at here.way m p) (c.wait.ensures.does f) (let none = none-cost ℕ in omega arith))
+    subst (λ a. Puts s t x c.wait.new.ldterm i (own_at ldterm_does here m) c.wait.result f f a) (sym (puts-wait here m p (sym c.waits_on.ensures ∙ c.if-waits_on.true)))
+    (does-puts s t x c.wait.new.ldterm i (own_at ldterm_does here m) c.wait.result f f (queued_at here.way m p) (c.wait.ensures.does f))
 
 pub pass_flush-requires-clause-kind : goal.pass_flush-requires-clause-kind
 pass_flush-requires-clause-kind g c =
@@ -60,8 +60,8 @@ returns-then-is_flush-clause-does g c =
     let m = message_in s i in
     let p = ldterm_in s x in
     let flush = ap is_flush (kind-is (in_hand s i) ∙ sym c.kind-kind.ensures) ∙ sym c.is_flush.ensures ∙ c.if-is_flush.true in
-    subst (λ a. Puts s t x c.pass_flush.new.ldterm i (cost here m) c.pass_flush.result f c.pass_flush.new.told a) (sym (puts-flush here m p (sym c.waits_on.ensures ∙ c.if-waits_on.false) flush))
-    (does-puts s t x c.pass_flush.new.ldterm i (cost here m) c.pass_flush.result f c.pass_flush.new.told (flush_passes here m p) c.pass_flush.ensures (flush-cost here m p c.requires.inside c.requires.small))
+    subst (λ a. Puts s t x c.pass_flush.new.ldterm i (own_at ldterm_does here m) c.pass_flush.result f c.pass_flush.new.told a) (sym (puts-flush here m p (sym c.waits_on.ensures ∙ c.if-waits_on.false) flush))
+    (does-puts s t x c.pass_flush.new.ldterm i (own_at ldterm_does here m) c.pass_flush.result f c.pass_flush.new.told (flush_passes here m p) c.pass_flush.ensures)
 
 pub returns-clause-does : goal.returns-clause-does
 returns-clause-does g c =
@@ -72,7 +72,7 @@ returns-clause-does g c =
     let m = message_in s i in
     let p = ldterm_in s x in
     let flush = ap is_flush (kind-is (in_hand s i) ∙ sym c.kind-kind.ensures) ∙ sym c.is_flush.ensures ∙ c.if-is_flush.false in
-    subst (λ a. Puts s (g.B.Blocks.value c.pass.new.store) x c.pass.new.ldterm i (cost here m) c.pass.result c.args.told.now c.pass.new.told a) (sym (puts-pass here m p (sym c.waits_on.ensures ∙ c.if-waits_on.false) flush)) c.pass.ensures
+    subst (λ a. Puts s (g.B.Blocks.value c.pass.new.store) x c.pass.new.ldterm i (own_at ldterm_does here m) c.pass.result c.args.told.now c.pass.new.told a) (sym (puts-pass here m p (sym c.waits_on.ensures ∙ c.if-waits_on.false) flush)) c.pass.ensures
 
 -- M_DATA and M_PROTO wait
 held-there : (kind : MsgKind) → is_held kind ≡ true → waits_there kind ≡ true

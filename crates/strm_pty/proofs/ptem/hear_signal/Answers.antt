@@ -1,16 +1,17 @@
 -- What is no signal is refused; else it goes up.
-use Rattle.std.proofs.Common.{◌≡◌, [], ◌∷◌, sym, ap, subst, ◌∙◌}
+use Rattle.std.proofs.Common.{◌≡◌, [], ◌∷◌, sym, ap, subst, ◌∙◌, arith}
 use Rattle.strm_types.specs.declared.names.Way.TheVariants.{Down}
 use Rattle.strm_types.specs.Acks.{ack_message, payload}
 use Rattle.strm_types.specs.Ldterms.{onward}
-use Rattle.strm_types.specs.Costs.{cost}
+use Rattle.strm_types.specs.Budgets.{own_at}
+use Rattle.strm_types.specs.Tables.{ptem_does}
 use Rattle.strm_types.specs.Ptems.{signal_told, signals_up}
 use Rattle.strm_types.specs.Signals.{signal_in}
 use Rattle.strm_frame.specs.Outboxes.{message_in}
 use Rattle.strm_pty.specs.Beside.{Answers, ptem_in}
 use Rattle.strm_frame.proofs.Asked.{asked-plain}
 use Rattle.strm_frame.proofs.Behind.{signal-first}
-use Rattle.strm_pty.proofs.Costing.{raise-cost}
+use Rattle.strm_pty.proofs.Costing.{below-own}
 use Rattle.strm_pty.proofs.Replied.{refuse-below, swaps-answers}
 use Rattle.strm_pty.proofs.ptem.hear_signal.Goals as goal
 use Rattle.strm_blocks.specs.Blocks.{token}
@@ -27,7 +28,7 @@ returns-in-None g c =
     let p = payload (message_in s i).plain in
     let x = c.args.ptem.now in
     let said : c.signal_in.result ≡ signal_in p = c.signal_in.ensures ∙ ap signal_in (c.as_slice.ensures.value ∙ c.payload_of-given.ensures) ∙ signal-first p in
-    subst (λ o. Answers s t x i (cost here (message_in s i)) c.nak.result (signal_told here c.args.ioc o (ptem_in x))) (sym c.in-None.is ∙ said)
+    subst (λ o. Answers s t x i (own_at ptem_does here (message_in s i)) c.nak.result (signal_told here c.args.ioc o (ptem_in x))) (sym c.in-None.is ∙ said)
     (refuse-below s t i here c.args.ioc c.nak.result c.nak.ensures.notes x c.requires c.nak.ensures.swaps)
 
 pub returns-in-Some : goal.returns-in-Some
@@ -42,6 +43,6 @@ returns-in-Some g c =
     let x = c.args.ptem.now in
     let signal = c.in-Some.signal in
     let said : c.signal_in.result ≡ signal_in p = c.signal_in.ensures ∙ ap signal_in (c.as_slice.ensures.value ∙ c.payload_of-given.ensures) ∙ signal-first p in
-    subst (λ o. Answers s t x i (cost here m) c.raise.result (signal_told here ioc o (ptem_in x))) (sym c.in-Some.is ∙ said)
-    (swaps-answers s t x i 2 (cost here m) c.raise.result (signals_up here signal ∷ (onward Down here (ack_message ioc []) ∷ [])) c.raise.ensures.notes c.raise.ensures.swaps
-    (raise-cost here m c.requires.asked c.requires.passes.inside ioc signal c.requires.goes))
+    subst (λ o. Answers s t x i (own_at ptem_does here m) c.raise.result (signal_told here ioc o (ptem_in x))) (sym c.in-Some.is ∙ said)
+    (swaps-answers s t x i 2 (own_at ptem_does here m) c.raise.result (signals_up here signal ∷ (onward Down here (ack_message ioc []) ∷ [])) c.raise.ensures.notes c.raise.ensures.swaps
+    (omega (arith, below-own here m c.requires.asked c.requires.goes)))

@@ -4,14 +4,15 @@ use Rattle.std.specs.Prelude.{None, Some}
 use Rattle.strm_types.specs.declared.names.Way.TheVariants.{Down}
 use Rattle.strm_types.specs.Acks.{ack_message, payload}
 use Rattle.strm_types.specs.Ldterms.{onward}
-use Rattle.strm_types.specs.Costs.{cost}
+use Rattle.strm_types.specs.Budgets.{own_at}
+use Rattle.strm_types.specs.Tables.{ptem_does}
 use Rattle.strm_types.specs.Ptems.{window_signal, window_told}
 use Rattle.strm_types.specs.Winsizes.{read_winsize}
 use Rattle.strm_frame.specs.Outboxes.{message_in}
 use Rattle.strm_pty.specs.Beside.{Answers, ptem_in}
 use Rattle.strm_frame.proofs.Asked.{asked-plain}
 use Rattle.strm_frame.proofs.Behind.{window_read}
-use Rattle.strm_pty.proofs.Costing.{hear-cost}
+use Rattle.strm_pty.proofs.Costing.{below-own}
 use Rattle.strm_pty.proofs.Replied.{read-all, refuse-below, swaps-answers}
 use Rattle.strm_pty.proofs.ptem.hear_window.Goals as goal
 use Rattle.strm_blocks.specs.Blocks.{token}
@@ -28,7 +29,7 @@ returns-in_default g c =
     let p = payload (message_in s i).plain in
     let x = c.args.ptem.now in
     let none : read_winsize p ≡ None = read-all window_read 8 p _ _ (omega arith) c.read.ensures (c.as_slice.ensures.value ∙ c.payload_of-given.ensures) None c.in_default.is in
-    subst (λ o. Answers s t x i (cost here (message_in s i)) c.nak.result (window_told here c.args.ioc o (ptem_in x))) (sym none)
+    subst (λ o. Answers s t x i (own_at ptem_does here (message_in s i)) c.nak.result (window_told here c.args.ioc o (ptem_in x))) (sym none)
     (refuse-below s t i here c.args.ioc c.nak.result c.nak.ensures.notes x c.requires c.nak.ensures.swaps)
 
 pub returns : goal.returns
@@ -44,6 +45,6 @@ returns g c =
     let v = c.in-Some.window in
     let x' = record x { window = v } in
     let said : read_winsize p ≡ Some v = read-all window_read 8 p _ _ (omega arith) c.read.ensures (c.as_slice.ensures.value ∙ c.payload_of-given.ensures) (Some v) c.in-Some.is in
-    subst (λ o. Answers s t x' i (cost here m) c.hear.result (window_told here ioc o (ptem_in x))) (sym said)
-    (swaps-answers s t x' i 2 (cost here m) c.hear.result (window_signal here x.window v ++ onward Down here (ack_message ioc []) ∷ []) c.hear.ensures.notes c.hear.ensures.swaps
-    (hear-cost here m c.requires.asked c.requires.passes.inside ioc x.window v c.requires.goes))
+    subst (λ o. Answers s t x' i (own_at ptem_does here m) c.hear.result (window_told here ioc o (ptem_in x))) (sym said)
+    (swaps-answers s t x' i 2 (own_at ptem_does here m) c.hear.result (window_signal here x.window v ++ onward Down here (ack_message ioc []) ∷ []) c.hear.ensures.notes c.hear.ensures.swaps
+    (omega (arith, below-own here m c.requires.asked c.requires.goes)))

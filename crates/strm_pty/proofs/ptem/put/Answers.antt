@@ -2,7 +2,8 @@
 use Rattle.std.proofs.Common.{◌≡◌, sym, subst, ◌∙◌, arith}
 use Rattle.std.specs.Prelude.{Some}
 use Rattle.strm_types.specs.Ioctls.{read_ioc}
-use Rattle.strm_types.specs.Costs.{cost}
+use Rattle.strm_types.specs.Budgets.{own_at}
+use Rattle.strm_types.specs.Tables.{ptem_does}
 use Rattle.strm_frame.specs.Outboxes.{message_in, sent_of}
 use Rattle.strm_pty.specs.Beside.{Answers, MayPass, ptem_in}
 use Rattle.strm_frame.proofs.Asked.{asked-is, asked-not, asked-plain}
@@ -19,7 +20,7 @@ returns-then-not-is_ioctl-clause-does g c =
     let m = message_in s i in
     let x = c.args.ptem.now in
     let other = asked-not s i c.kind-kind.result c.kind-kind.ensures (sym c.is_ioctl.ensures ∙ c.if-not-is_ioctl.true) in
-    subst (λ is. Answers s s x i (cost c.args.here m) c.pass_on.result is) (sym (puts-other c.args.here m (ptem_in x) other)) c.pass_on.ensures
+    subst (λ is. Answers s s x i (own_at ptem_does c.args.here m) c.pass_on.result is) (sym (puts-other c.args.here m (ptem_in x) other)) c.pass_on.ensures
 
 pub header_of-requires-clause-kind : goal.header_of-requires-clause-kind
 header_of-requires-clause-kind g c =
@@ -48,7 +49,7 @@ returns-in-Down-clause-does g c =
     let m = message_in s i in
     let asked = asked-is s i c.kind-kind.result c.requires.chain c.kind-kind.ensures (sym c.is_ioctl.ensures ∙ c.if-not-is_ioctl.false) in
     let header : read_ioc m.plain ≡ Some c.in-Some.ioc = sym c.header_of.ensures ∙ c.in-Some.is in
-    subst (λ is. Answers s (g.B.Blocks.value c.put_above.new.store) c.put_above.new.ptem i (cost c.args.here m) c.put_above.result is)
+    subst (λ is. Answers s (g.B.Blocks.value c.put_above.new.store) c.put_above.new.ptem i (own_at ptem_does c.args.here m) c.put_above.result is)
     (sym (puts-above c.args.here m (ptem_in c.args.ptem.now) c.in-Some.ioc asked header c.in-Down.is)) c.put_above.ensures.does
 
 pub returns-in-Up-clause-does : goal.returns-in-Up-clause-does
@@ -58,7 +59,7 @@ returns-in-Up-clause-does g c =
     let m = message_in s i in
     let asked = asked-is s i c.kind-kind.result c.requires.chain c.kind-kind.ensures (sym c.is_ioctl.ensures ∙ c.if-not-is_ioctl.false) in
     let header : read_ioc m.plain ≡ Some c.in-Some.ioc = sym c.header_of.ensures ∙ c.in-Some.is in
-    subst (λ is. Answers s (g.B.Blocks.value c.put_below.new.store) c.put_below.new.ptem i (cost c.args.here m) c.put_below.result is)
+    subst (λ is. Answers s (g.B.Blocks.value c.put_below.new.store) c.put_below.new.ptem i (own_at ptem_does c.args.here m) c.put_below.result is)
     (sym (puts-below c.args.here m (ptem_in c.args.ptem.now) c.in-Some.ioc asked header c.in-Up.is)) c.put_below.ensures
 
 pub returns-then-not-is_ioctl-clause-shared : goal.returns-then-not-is_ioctl-clause-shared

@@ -2,7 +2,8 @@
 use Rattle.std.proofs.Common.{◌≡◌, sym, subst, ◌∙◌, arith}
 use Rattle.std.specs.Prelude.{None, Some}
 use Rattle.strm_types.specs.Acks.{payload}
-use Rattle.strm_types.specs.Costs.{cost}
+use Rattle.strm_types.specs.Budgets.{own_at}
+use Rattle.strm_types.specs.Tables.{ptem_does}
 use Rattle.strm_types.specs.Ptems.{termios_set}
 use Rattle.strm_types.specs.Termios.{read_termios}
 use Rattle.strm_frame.specs.Outboxes.{message_in, sent_of}
@@ -35,7 +36,7 @@ returns-in_default-clause-does g c =
     let p = payload (message_in s i).plain in
     let x = c.args.ptem.now in
     let none : read_termios p ≡ None = read-all termios_read 35 p _ _ (omega arith) c.read.ensures (c.as_slice.ensures.value ∙ c.payload_of-given.ensures) None c.in_default.is in
-    subst (λ o. Answers s t x i (cost here (message_in s i)) c.nak.result (termios_set here c.args.ioc p o (ptem_in x))) (sym none)
+    subst (λ o. Answers s t x i (own_at ptem_does here (message_in s i)) c.nak.result (termios_set here c.args.ioc p o (ptem_in x))) (sym none)
     (refuse-above s t i here c.args.ioc c.nak.result c.nak.ensures.notes x c.requires c.nak.ensures.swaps)
 
 pub returns-clause-does : goal.returns-clause-does
@@ -50,7 +51,7 @@ returns-clause-does g c =
     let x' = record x { termios = v } in
     let said : read_termios p ≡ Some v = read-all termios_read 35 p _ _ (omega arith) c.read.ensures (c.as_slice.ensures.value ∙ c.payload_of-given.ensures) (Some v) c.in-Some.is in
     let whole = read-whole termios_read 35 p _ _ (omega arith) c.read.ensures (c.as_slice.ensures.value ∙ c.payload_of-given.ensures) v c.in-Some.is in
-    subst (λ o. Answers s t x' i (cost here (message_in s i)) c.confirm.result (termios_set here c.args.ioc p o (ptem_in x))) (sym said)
+    subst (λ o. Answers s t x' i (own_at ptem_does here (message_in s i)) c.confirm.result (termios_set here c.args.ioc p o (ptem_in x))) (sym said)
     (set-answers s t i here c.args.ioc c.confirm.result c.confirm.ensures.notes x x' c.as_slice-2.result.now p c.requires (c.as_slice-2.ensures.value ∙ sym c.as_slice.ensures.value ∙ whole) c.confirm.ensures.swaps)
 
 pub returns-in_default-clause-shared : goal.returns-in_default-clause-shared

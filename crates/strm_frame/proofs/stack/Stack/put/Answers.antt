@@ -1,6 +1,7 @@
 -- The modules are taken as a slice, and written back whole.
 use Rattle.std.proofs.Common.{◌-◌, ◌∙◌, List, ap, sym, subst, length, map, arith}
 use Rattle.std.specs.Prelude.{slice_index_or}
+use Rattle.strm_types.specs.Budgets.{own_at}
 use Rattle.strm_types.specs.Modules.{put_among}
 use Rattle.strm_frame.specs.Does.{Puts}
 use Rattle.strm_frame.specs.Hands.{CanPut, HasRoom}
@@ -27,7 +28,7 @@ put_among-requires-clause-room g c =
     let w = g.M.Module in
     let s = g.B.Blocks.value c.args.store.now in
     let m = message_in s (token c.args.message) in
-    subst (λ xs. HasRoom s (slice_index_or (map (w.takes c.args.to m) (map (w.plain s) xs)) (c.args.to.at - 1) 0)) (sym c.as_mut_slice.ensures.value) c.requires.room
+    subst (λ xs. HasRoom s (slice_index_or (map (λ p. own_at (w.does p) c.args.to m) (map (w.plain s) xs)) (c.args.to.at - 1) 0)) (sym c.as_mut_slice.ensures.value) c.requires.room
 
 pub returns-clause-length : goal.returns-clause-length
 returns-clause-length g c =
@@ -47,6 +48,6 @@ returns-clause-does g c =
     let same = refilled c.args.self.now.modules.items ys (c.put_among.ensures.length ∙ ap length before) in
     let said = λ (say : w.Plain → _) (xs : List _). slice_index_or (map say (all_in w.plain s xs)) (to.at - 1) 0 in
     let These = λ (xs zs : List _).
-    Puts (all_in w.plain) (AreHeld w.IsHeld w.owns) (all_of w.owns) (all_of w.keeps) w.height s t xs zs to n (said (w.takes to m) xs) (said (w.leaves to m) xs)
+    Puts (all_in w.plain) (AreHeld w.IsHeld w.owns) (all_of w.owns) (all_of w.keeps) s t xs zs n (said (λ p. own_at (w.does p) to m) xs)
     c.put_among.result c.args.told.now c.put_among.new.told (put_among w.puts (to.at - 1) to m (all_in w.plain s xs)) in
     subst (These c.args.self.now.modules.items) (sym same) (subst (λ xs. These xs ys) before c.put_among.ensures.does)

@@ -19,7 +19,7 @@ returns-clause-does g c =
     let ys = c.serve_among.new.modules in
     let same = refilled c.args.self.now.modules.items ys (c.serve_among.ensures.length ∙ ap length before) in
     let These = λ (xs zs : List _).
-    Serves (all_in w.plain) (AreHeld w.IsHeld w.owns) (all_of w.owns) (all_of w.keeps) w.height w.cost (at_place (w.turn_cost here true) 0 here.at)
-    (λ bytes ps. HoldsAt (w.MayStop here.way c.args.again bytes) ps (here.at - 1)) s t xs zs (w.turn_height here) r c.args.told.now c.serve_among.new.told
+    Serves (all_in w.plain) (AreHeld w.IsHeld w.owns) (all_of w.owns) (all_of w.keeps) (at_place (w.turn_cost here true) 0 here.at)
+    (λ bytes ps. HoldsAt (w.MayStop here.way c.args.again bytes) ps (here.at - 1)) s t xs zs r c.args.told.now c.serve_among.new.told
     (served_among (w.serves here c.args.again (stop_of r)) (here.at - 1) (all_in w.plain s xs)) in
     subst (These c.args.self.now.modules.items) (sym same) (subst (λ xs. These xs ys) before c.serve_among.ensures.does)

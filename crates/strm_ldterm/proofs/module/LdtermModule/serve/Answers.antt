@@ -1,18 +1,14 @@
-use Rattle.std.proofs.Common.{ℕ, ◌≤◌, List, sym, subst}
+use Rattle.std.proofs.Common.{◌≤◌, sym, subst}
 use Rattle.std.proofs.lemmas.Bool.{OnTrue_from}
 use Rattle.strm_types.specs.Cells.{plain}
-use Rattle.strm_types.specs.Deliver.{AreLower, Parcel}
 use Rattle.strm_types.specs.Input.{made_of}
 use Rattle.strm_types.specs.LdtermServes.{ldterm_serves}
-use Rattle.strm_types.specs.Far.{far}
 use Rattle.strm_types.specs.LdtermCalls.{most_made}
 use Rattle.strm_types.proofs.LdtermMakes.{serves-makes}
 use Rattle.strm_frame.specs.Outboxes.{parcels_in, sent_of}
 use Rattle.strm_frame.specs.Serves.{stop_of}
-use Rattle.strm_ldterm.specs.Bounds.{turn_height}
 use Rattle.strm_ldterm.specs.ServedLaws.{again-works}
 use Rattle.strm_ldterm.specs.Stands.{ldterm_in}
-use Rattle.strm_ldterm.proofs.Falls.{serves-lower}
 use Rattle.strm_ldterm.proofs.Spared.{call-room}
 use Rattle.strm_ldterm.proofs.module.LdtermModule.serve.Goals as goal
 
@@ -41,9 +37,8 @@ returns g c =
       held = e.does.held;
       own = e.does.own;
       chains = e.does.chains;
-      falls = subst (λ (ps : List (Parcel ℕ)). AreLower far (turn_height here) ps) (sym e.does.parcels) (serves-lower here again stop p c.requires.inside);
       hands = e.does.hands;
-      room = call-room here c.requires.inside again stop p s t q r.again (parcels_in t (sent_of r.acts.sent)) e.does.state e.does.parcels e.again_is
+      room = call-room here again stop p s t q r.again (parcels_in t (sent_of r.acts.sent)) e.does.state e.does.parcels e.again_is
           (λ up more. again-works here.way again p up more c.requires.turn) c.requires.room e.whole e.room e.over;
       pool = e.does.pool;
     }

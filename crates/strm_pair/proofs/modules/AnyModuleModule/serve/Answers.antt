@@ -1,8 +1,8 @@
 -- An ldterm keeps what the module does.
 use Rattle.std.proofs.Common.{ℕ, ◌≡◌, Bool, false, List, [], subst, arith, rules}
 use Rattle.strm_types.specs.Deliver.{Parcel}
-use Rattle.strm_types.specs.Costs.{most_cost}
-use Rattle.strm_types.proofs.CostSums.{none-few}
+use Rattle.strm_types.specs.Budgets.{most}
+use Rattle.strm_types.proofs.CostsOf.{none-few}
 use Rattle.strm_blocks.specs.Blocks.{StoreValue}
 use Rattle.strm_frame.specs.Hands.{AreIn, HasRoom}
 use Rattle.strm_frame.specs.Outboxes.{parcels_in, sent_of}
@@ -14,8 +14,8 @@ pub serve-requires-clause-kept : goal.serve-requires-clause-kept
 serve-requires-clause-kept g c = subst (λ x. AreIn (g.B.Blocks.value c.args.store.now) (λ _. 0) (keeps x)) c.in-Ldterm.is c.requires.kept
 
 -- the others send nothing
-none-sent : (s : StoreValue) (again : Bool) (next : ℕ) (ps : List (Parcel ℕ)) → again ≡ false → ps ≡ [] → HasRoom s (later_cost most_cost again next ps)
-none-sent s again next ps ends none = rw (ends, none) (let free = none-few {C = ℕ} most_cost 0 in record { mblks = omega (arith, free); dblks = omega (arith, free) })
+none-sent : (s : StoreValue) (again : Bool) (next : ℕ) (ps : List (Parcel ℕ)) → again ≡ false → ps ≡ [] → HasRoom s (later_cost again next ps)
+none-sent s again next ps ends none = rw (ends, none) (let free = none-few {C = ℕ} most 0 in record { mblks = omega (arith, free); dblks = omega (arith, free) })
 
 pub returns-in-Ptem : goal.returns-in-Ptem
 returns-in-Ptem g c =
@@ -36,7 +36,6 @@ returns-in-Ptem g c =
       held = search rules;
       own = search rules;
       chains = e.chains;
-      falls = search rules;
       hands = search rules;
       room = none-sent t r.again _ (parcels_in t (sent_of r.acts.sent)) e.again e.sent;
       pool = e.pool;
@@ -61,7 +60,6 @@ returns-in-Pckt g c =
       held = search rules;
       own = search rules;
       chains = e.chains;
-      falls = search rules;
       hands = search rules;
       room = none-sent t r.again _ (parcels_in t (sent_of r.acts.sent)) e.again e.sent;
       pool = e.pool;

@@ -7,8 +7,8 @@ use Rattle.strm_pair.specs.Pairs.{state_in}
 use Rattle.strm_pair.proofs.ServeSteps.{calls-by, calls-may}
 use Rattle.strm_pair.proofs.streams.Streams.call_module.Goals as goal
 
-pub deliver_all-requires-clause-room : goal.deliver_all-requires-clause-room
-deliver_all-requires-clause-room g c =
+pub deliver_all-requires-clause-may : goal.deliver_all-requires-clause-may
+deliver_all-requires-clause-may g c =
     let st = state_in (g.B.Blocks.value c.args.store.now) c.args.self.now in
     let low : c.args.here.at - 1 < length (stream c.args.here.side st).modules = let inside = c.requires.may.inside in let within = c.requires.may.within in omega arith in
     calls-may (g.B.Blocks.value c.args.store.now) (g.B.Blocks.value c.act-served.new.store) c.args.self.now c.act-served.new.self c.args.here c.args.again

@@ -3,13 +3,15 @@ use Rattle.std.proofs.Common.{sym, subst, arith}
 use Rattle.strm_types.specs.Cells.{plain}
 use Rattle.strm_laws.specs.Kept.{AreIdle}
 use Rattle.strm_laws.specs.StackCosts.{stands_of}
+use Rattle.strm_laws.proofs.Budgeted.{ends, keeps-most}
 use Rattle.strm_laws.proofs.ModulesIdle.{delivered-idle}
 use Rattle.strm_blocks.specs.Blocks.{in_hand, token}
 use Rattle.strm_msg.specs.Messages.{message_of}
+use Rattle.strm_frame.specs.Outboxes.{spot_in}
 use Rattle.strm_frame.proofs.Handing.{alone-can, none-left}
 use Rattle.strm_pair.specs.Framing.{rests}
 use Rattle.strm_pair.specs.Pairs.{kept_by, state_in}
-use Rattle.strm_pair.proofs.PlaceCosts.{once-stands, stack-most}
+use Rattle.strm_pair.proofs.PlaceCosts.{once-stands}
 use Rattle.strm_pair.proofs.streams.Streams.deliver_alone.Goals as goal
 
 pub deliver-requires-clause-can_put : goal.deliver-requires-clause-can_put
@@ -20,28 +22,28 @@ deliver-requires-clause-can_put g c =
     let is = c.requires.alone in
     alone-can s i (in_hand s i) (kept_by p) is.hand (rests s p is.beside is.idle)
 
-pub deliver-requires-clause-room : goal.deliver-requires-clause-room
-deliver-requires-clause-room g c =
+pub deliver-requires-clause-may : goal.deliver-requires-clause-may
+deliver-requires-clause-may g c =
     let s = g.B.Blocks.value c.args.store.now in
     let p = c.args.self.now in
-    let m = message_of (in_hand s (token c.args.message)) in
-    let most = stack-most (stands_of (state_in s p)) (once-stands s p c.requires.alone.beside) c.args.to m in
+    let a = spot_in s c.args.to (token c.args.message) in
+    let few = keeps-most (stands_of (state_in s p)) (once-stands s p c.requires.alone.beside) a in
     let may = c.requires.room in
     record {
-      room = record { mblks = omega (arith, may.room.mblks, most); dblks = omega (arith, may.room.dblks, most) };
-      spare = omega (arith, may.spare, most);
+      room = record { mblks = omega (arith, may.room.mblks, few); dblks = omega (arith, may.room.dblks, few) };
+      spare = omega (arith, may.spare, few);
+      ends = ends (stands_of (state_in s p)) a;
     }
 
 pub returns-clause-takes : goal.returns-clause-takes
 returns-clause-takes g c =
     let s = g.B.Blocks.value c.args.store.now in
     let p = c.args.self.now in
-    let m = message_of (in_hand s (token c.args.message)) in
-    let most = stack-most (stands_of (state_in s p)) (once-stands s p c.requires.alone.beside) c.args.to m in
+    let few = keeps-most (stands_of (state_in s p)) (once-stands s p c.requires.alone.beside) (spot_in s c.args.to (token c.args.message)) in
     let takes = c.deliver.ensures.delivers.takes in
     record {
-      blocks = record { mblks = omega (arith, takes.blocks.mblks, most); dblks = omega (arith, takes.blocks.dblks, most) };
-      spare = omega (arith, takes.spare, most);
+      blocks = record { mblks = omega (arith, takes.blocks.mblks, few); dblks = omega (arith, takes.blocks.dblks, few) };
+      spare = omega (arith, takes.spare, few);
     }
 
 pub returns-clause-leads : goal.returns-clause-leads

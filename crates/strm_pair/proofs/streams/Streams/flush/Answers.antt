@@ -1,12 +1,13 @@
 -- The M_FLUSH is alone in hand.
-use Rattle.std.proofs.Common.{ℕ, ◌≡◌, ◌≤◌, ap, ◌∙◌, arith}
+use Rattle.std.proofs.Common.{ℕ, ◌≡◌, ◌≤◌, Bool, true, false, cond, ap, ◌∙◌, arith}
 use Rattle.strm_types.specs.declared.flushing.FlushAsked.{FlushAsked}
 use Rattle.strm_types.specs.declared.names.Side.{Side}
 use Rattle.strm_types.specs.declared.names.Way.TheVariants.{Down}
 use Rattle.strm_types.specs.declared.spots.Spot.{Spot}
-use Rattle.strm_types.specs.Flushing.{asked_of, flush_bytes, flush_message}
+use Rattle.strm_types.specs.Shapes.{FlushR, FlushRW, FlushW}
+use Rattle.strm_types.specs.Flushing.{asked_by, asked_of, flush_bytes, flush_message}
 use Rattle.strm_laws.specs.Spares.{spare}
-use Rattle.strm_types.specs.Costs.{most_cost}
+use Rattle.strm_types.specs.Budgets.{most_of, most_on}
 use Rattle.strm_laws.proofs.StackSpares.{range-spare}
 use Rattle.strm_blocks.specs.Blocks.{in_hand, token}
 use Rattle.strm_msg.specs.Messages.{message_of}
@@ -21,8 +22,13 @@ deliver_alone-requires-clause-alone g c =
     made-alone (g.B.Blocks.value c.args.store.now) (g.B.Blocks.value c.make_flush-message.new.store) c.args.self.now c.requires.rests (token c.make_flush-message.result) sends.after sends.chain
 
 -- an M_FLUSH on its way down
-flush-few : (side : Side) (asked : FlushAsked) → most_cost {C = ℕ} (record { side = side; at = 1; way = Down }) (flush_message (flush_bytes asked)) ≤ 5
-flush-few side asked = omega arith
+flush-few : (side : Side) (asked : FlushAsked) → most_of {C = ℕ} (record { side = side; at = 1; way = Down }) (flush_message (flush_bytes asked)) ≤ 5
+flush-few side asked = at (asked_by (flush_bytes asked)).for_write (asked_by (flush_bytes asked)).for_read
+  where
+    at : (write read : Bool) → most_on Down (cond write (cond read FlushRW FlushW) FlushR) ≤ 5
+    at true true = omega arith
+    at true false = omega arith
+    at false read = omega arith
 
 pub deliver_alone-requires-clause-room : goal.deliver_alone-requires-clause-room
 deliver_alone-requires-clause-room g c =

@@ -11,7 +11,6 @@ use Rattle.strm_types.specs.Message.{size_of}
 use Rattle.strm_types.specs.Names.{other}
 use Rattle.strm_laws.specs.Puts.{delivered}
 use Rattle.strm_laws.specs.Earlier.{modules_on}
-use Rattle.strm_types.specs.Far.{is_turned}
 use Rattle.strm_types.specs.Queue.{left_with}
 use Rattle.strm_laws.specs.Spares.{spare}
 use Rattle.strm_laws.specs.State.{stream, State}
@@ -21,7 +20,7 @@ use Rattle.strm_msg.specs.Messages.{message_of}
 use Rattle.strm_msg.proofs.Bounds.{bytes-few}
 use Rattle.strm_msg.proofs.Chains.{size-shown}
 use Rattle.strm_pair.specs.Pairs.{state_in}
-use Rattle.strm_pair.proofs.TurnSteps.{ended-spare, taken-idle, taken-spare, up-few, up-near}
+use Rattle.strm_pair.proofs.TurnSteps.{ended-spare, taken-idle, taken-spare, up-few}
 use Rattle.strm_blocks.specs.Blocks.{in_hand, token}
 use Rattle.strm_pair.proofs.streams.Streams.move_across.Goals as goal
 
@@ -36,11 +35,6 @@ deliver_alone-requires-clause-alone g c =
       beside = e.beside;
       idle = subst AreIdle (sym e.state) (taken-idle c.args.side _ (state_in (g.B.Blocks.value c.args.store.now) c.args.self.now) c.requires.may.rests.idle);
     }
-
--- It goes up from the lowest place on the other side's stream.
-pub deliver_alone-requires-clause-low : goal.deliver_alone-requires-clause-low
-deliver_alone-requires-clause-low g c =
-    up-near (is_turned (message_of (in_hand (g.B.Blocks.value c.take_first.new.store) (token c.in-Some.message)))) c.modules_on-at.result c.modules_on-at.ensures.few
 
 pub deliver_alone-requires-clause-room : goal.deliver_alone-requires-clause-room
 deliver_alone-requires-clause-room g c =

@@ -1,30 +1,24 @@
 -- What stands at a place takes the message: the head, a module, or behind the modules what is below them.
-use Rattle.std.proofs.Common.{ℕ, zero, suc, ◌≡◌, ◌≤◌, ◌<◌, true, false, refl, sym, subst, arith}
-use Rattle.std.specs.Prelude.{nat_le}
+use Rattle.std.proofs.Common.{ℕ, ◌≡◌, ◌≤◌, ◌<◌, true, false, sym, subst, arith}
+use Rattle.std.specs.Prelude.{◌==◌, nat_le}
 use Rattle.std.proofs.lemmas.Bool.Decides.{nat_tests}
 use Rattle.strm_types.specs.declared.names.Way.TheVariants.{Up, Down}
-use Rattle.strm_types.specs.Costs.{below_takes, cost, head_takes}
-use Rattle.strm_types.specs.Message.{has_parts}
-use Rattle.strm_types.specs.ModuleQueues.{at_place}
+use Rattle.strm_types.specs.Tables.{driver_own}
 use Rattle.strm_laws.specs.Puts.{put_at_driver}
-use Rattle.strm_laws.specs.StackCosts.{module_takes, stack_cost, stands_of}
-use Rattle.strm_laws.specs.State.{stream}
+use Rattle.strm_laws.proofs.PutsOwn.{place-makes, place-own}
 use Rattle.strm_frame.specs.Hands.{HasRoom}
 use Rattle.strm_frame.specs.Outboxes.{message_in, sent_of}
 use Rattle.strm_pair.specs.Pairs.{state_in}
 use Rattle.strm_pair.specs.PutBy.{PutBy}
-use Rattle.strm_pair.proofs.PutSteps.{behind-put, behind-room, head-put, module-put, room-for}
-use Rattle.strm_pair.proofs.PlaceCosts.{place-books, place-room}
-use Rattle.strm_pair.proofs.PutsCost.{head-stack}
+use Rattle.strm_pair.proofs.PutSteps.{behind-put, behind-room, head-put, head-room, module-put}
 use Rattle.strm_pair.proofs.streams.Streams.put.Goals as goal
 use Rattle.strm_blocks.specs.Blocks.{token}
 
 stands-at : (at count : ℕ) → at ≤ count → nat_le at count ≡ true
 stands-at at count low = grind (arith, nat_tests)
 
-above-top : (at : ℕ) → (at ≡ 0 → ⊥) → 0 < at
-above-top zero not = absurd (not refl)
-above-top (suc n) not = omega arith
+not-top : (at : ℕ) → (at ≡ 0 → ⊥) → (at == 0) ≡ false
+not-top at not = grind (arith, nat_tests)
 
 stands-above : (at count : ℕ) → count < at → nat_le at count ≡ false
 stands-above at count past = grind (arith, nat_tests)
@@ -32,9 +26,7 @@ stands-above at count past = grind (arith, nat_tests)
 pub put_head-requires-clause-room : goal.put_head-requires-clause-room
 put_head-requires-clause-room g c =
     let s = g.B.Blocks.value c.args.store.now in
-    let st = state_in s c.args.self.now in
-    let m = message_in s (token c.args.message) in
-    room-for s (stack_cost (stands_of st) c.args.to m) (head_takes m) (omega (arith, head-stack (stands_of st) c.args.to m st c.if-to-eq0.true)) c.requires.room.room
+    head-room s (token c.args.message) c.args.to (state_in s c.args.self.now) c.requires.may.chain c.if-to-eq0.true c.requires.room.room
 
 pub put_module-requires-clause-room : goal.put_module-requires-clause-room
 put_module-requires-clause-room g c =
@@ -42,8 +34,9 @@ put_module-requires-clause-room g c =
     let st = state_in s c.args.self.now in
     let to = c.args.to in
     let m = message_in s (token c.args.message) in
-    room-for s (stack_cost (stands_of st) to m) (at_place (module_takes to m) 0 to.at (stream to.side st).modules)
-    (place-room to m st (above-top to.at c.if-to-eq0.false) (omega (arith, c.if-to-modules_on.true, c.modules_on.ensures.on s))) c.requires.room.room
+    let below : (to.at == 0) ≡ false = not-top to.at c.if-to-eq0.false in
+    let stands = subst (λ n. nat_le to.at n ≡ true) (c.modules_on.ensures.on s) (stands-at to.at c.modules_on.result c.if-to-modules_on.true) in
+    subst (λ (n : ℕ). HasRoom s n) (sym (place-own to m st below stands)) c.requires.room.room
 
 pub put_module-requires-clause-books : goal.put_module-requires-clause-books
 put_module-requires-clause-books g c =
@@ -51,31 +44,31 @@ put_module-requires-clause-books g c =
     let st = state_in s c.args.self.now in
     let to = c.args.to in
     let m = message_in s (token c.args.message) in
-    let books = place-books to m st (above-top to.at c.if-to-eq0.false) (omega (arith, c.if-to-modules_on.true, c.modules_on.ensures.on s)) in
-    omega (arith, books, c.requires.room.spare)
+    let below : (to.at == 0) ≡ false = not-top to.at c.if-to-eq0.false in
+    let stands = subst (λ n. nat_le to.at n ≡ true) (c.modules_on.ensures.on s) (stands-at to.at c.modules_on.result c.if-to-modules_on.true) in
+    omega (arith, place-makes to m st below stands, c.requires.room.spare)
 
 pub put_driver-requires-clause-room : goal.put_driver-requires-clause-room
 put_driver-requires-clause-room g c =
     let s = g.B.Blocks.value c.args.store.now in
     let st = state_in s c.args.self.now in
     let i = token c.args.message in
-    let m = message_in s i in
-    subst (λ way. HasRoom s (below_takes way (has_parts m) true)) (sym c.in-Down.is)
-    (behind-room Down s i c.args.to c.in-Down.is c.if-to-eq0.false (room-for s (stack_cost (stands_of st) c.args.to m) (cost c.args.to m) (omega arith) c.requires.room.room))
+    let to = c.args.to in
+    let past = subst (λ n. nat_le to.at n ≡ false) (c.modules_on.ensures.on s) (stands-above to.at c.modules_on.result c.if-to-modules_on.false) in
+    subst (λ way. HasRoom s (driver_own way (message_in s i))) (sym c.in-Down.is) (behind-room Down s i to st c.in-Down.is c.if-to-eq0.false past c.requires.room.room)
 
 pub put_up-requires-clause-room : goal.put_up-requires-clause-room
 put_up-requires-clause-room g c =
     let s = g.B.Blocks.value c.args.store.now in
-    let st = state_in s c.args.self.now in
-    let i = token c.args.message in
-    let m = message_in s i in
-    behind-room Up s i c.args.to c.in-Up.is c.if-to-eq0.false (room-for s (stack_cost (stands_of st) c.args.to m) (cost c.args.to m) (omega arith) c.requires.room.room)
+    let to = c.args.to in
+    let past = subst (λ n. nat_le to.at n ≡ false) (c.modules_on.ensures.on s) (stands-above to.at c.modules_on.result c.if-to-modules_on.false) in
+    behind-room Up s (token c.args.message) to (state_in s c.args.self.now) c.in-Up.is c.if-to-eq0.false past c.requires.room.room
 
 pub returns-then-to-eq0-clause-does : goal.returns-then-to-eq0-clause-does
 returns-then-to-eq0-clause-does g c =
     let s = g.B.Blocks.value c.args.store.now in
     head-put s (g.B.Blocks.value c.put_head.new.store) c.args.self.now c.put_head.new.self (token c.args.message) c.args.to (sent_of c.put_head.result) c.args.told.now c.put_head.new.told
-    c.if-to-eq0.true c.put_head.ensures.does
+    c.requires.may.chain c.if-to-eq0.true c.put_head.ensures.does
 
 pub returns-then-to-modules_on-clause-does : goal.returns-then-to-modules_on-clause-does
 returns-then-to-modules_on-clause-does g c =
@@ -96,7 +89,7 @@ returns-in-Down-clause-does g c =
     let told = c.put_driver.new.told in
     behind-put Down s t p q i to sent c.args.told.now told c.in-Down.is c.if-to-eq0.false
     (subst (λ n. nat_le to.at n ≡ false) (c.modules_on.ensures.on s) (stands-above to.at c.modules_on.result c.if-to-modules_on.false))
-    (subst (λ way. PutBy s t p q i (below_takes way (has_parts (message_in s i)) true) sent c.args.told.now told (put_at_driver to.side to (message_in s i) (state_in s p))) c.in-Down.is c.put_driver.ensures.does)
+    (subst (λ way. PutBy s t p q i (driver_own way (message_in s i)) sent c.args.told.now told (put_at_driver to.side to (message_in s i) (state_in s p))) c.in-Down.is c.put_driver.ensures.does)
 
 pub returns-in-Up-clause-does : goal.returns-in-Up-clause-does
 returns-in-Up-clause-does g c =

@@ -8,7 +8,7 @@ use Rattle.strm_types.specs.Flush.{is_data_kind}
 use Rattle.strm_types.specs.Options.{mode_message}
 use Rattle.strm_laws.specs.Pushes.{head_above}
 use Rattle.strm_laws.specs.Spares.{spare}
-use Rattle.strm_types.specs.Costs.{most_cost}
+use Rattle.strm_types.specs.Budgets.{most_of}
 use Rattle.strm_laws.specs.State.{State}
 use Rattle.strm_blocks.specs.Blocks.{in_hand, token}
 use Rattle.strm_msg.specs.Messages.{message_of}
@@ -29,7 +29,7 @@ deliver_alone-requires-clause-alone g c =
     made-alone (g.B.Blocks.value c.args.store.now) (g.B.Blocks.value c.make-message.new.store) c.args.self.now c.requires.rests (token c.make-message.result) made.after made.chain
 
 -- at a head it takes none
-mode-free : (side : Side) (bytes : List ℕ) → most_cost {C = ℕ} (head_above side) (record { kind = Setopts; band = 0; control = None; body = None; plain = bytes }) ≤ 0
+mode-free : (side : Side) (bytes : List ℕ) → most_of {C = ℕ} (head_above side) (record { kind = Setopts; band = 0; control = None; body = None; plain = bytes }) ≤ 0
 mode-free side bytes = omega arith
 
 pub deliver_alone-requires-clause-room : goal.deliver_alone-requires-clause-room

@@ -5,7 +5,6 @@ use Rattle.std.proofs.lemmas.Bool.Decides.{nat_tests}
 use Rattle.std.specs.Prelude.{◌&&◌, ◌==◌, not}
 use Rattle.strm_types.specs.declared.kinds.MsgKind.{MsgKind}
 use Rattle.strm_types.specs.declared.kinds.MsgKind.TheVariants.{Flush, Data, Proto, Pcproto}
-use Rattle.strm_types.specs.declared.names.Way.TheVariants.{Up}
 use Rattle.strm_types.specs.Flush.{is_data_kind}
 use Rattle.strm_types.specs.Flushing.{is_flush, is_bare_flush}
 use Rattle.strm_types.specs.Message.{has_parts}
@@ -18,7 +17,8 @@ use Rattle.strm_msg.proofs.MadePlain.{parts-same}
 use Rattle.strm_frame.specs.Hands.{HasRoom}
 use Rattle.strm_frame.specs.Outboxes.{message_in, sent_of}
 use Rattle.strm_frame.proofs.Handing.{can-in_hand}
-use Rattle.strm_types.specs.Costs.{below_takes, is_across}
+use Rattle.strm_types.specs.Costs.{is_across}
+use Rattle.strm_types.specs.Tables.{driver_own}
 use Rattle.strm_pair.specs.Pairs.{kept_by, state_in}
 use Rattle.strm_pair.specs.PutBy.{PutBy}
 use Rattle.strm_pair.proofs.streams.Streams.put_up.Goals as goal
@@ -58,8 +58,7 @@ put_driver-requires-clause-room g c =
     let i = token c.args.message in
     let flush : is_bare_flush (message_in s i) ≡ true = bare-is (in_hand s i) c.requires.may.chain ∙ ap is_flush (sym c.kind.ensures) ∙ sym c.is_flush.ensures ∙ c.if-is_flush.true in
     let across : is_across c.args.to (message_in s i) ≡ true = ap (λ b. b && (c.args.to.at == 4)) flush ∙ at-place c.args.to.at c.if-to.true in
-    let parts = has_parts (message_in s i) in
-    subst (λ w. HasRoom s (below_takes w parts true)) (sym c.requires.up) (subst (λ b. HasRoom s (below_takes Up parts b)) across c.requires.room)
+    subst (λ w. HasRoom s (driver_own w (message_in s i))) (sym c.requires.up) (subst (λ (b : Bool). HasRoom s (cond b 1 0)) across c.requires.room)
 
 pub returns-then-is_flush-clause-does : goal.returns-then-is_flush-clause-does
 returns-then-is_flush-clause-does g c =
@@ -73,7 +72,7 @@ returns-then-is_flush-clause-does g c =
     let across : is_across to m ≡ true = ap (λ b. b && (to.at == 4)) flush ∙ at-place c.args.to.at c.if-to.true in
     let sent = sent_of c.put_driver.result in
     subst (λ b. PutBy s t p c.put_driver.new.self i (cond b 1 0) sent c.args.told.now c.put_driver.new.told (cond b (put_at_driver to.side to m (state_in s p)) (passed_up to m (state_in s p)))) (sym across)
-    (subst (λ w. PutBy s t p c.put_driver.new.self i (below_takes w (has_parts m) true) sent c.args.told.now c.put_driver.new.told (put_at_driver to.side to m (state_in s p))) c.requires.up c.put_driver.ensures.does)
+    (subst (λ w. PutBy s t p c.put_driver.new.self i (driver_own w m) sent c.args.told.now c.put_driver.new.told (put_at_driver to.side to m (state_in s p))) c.requires.up c.put_driver.ensures.does)
 
 pub returns-clause-does : goal.returns-clause-does
 returns-clause-does g c =

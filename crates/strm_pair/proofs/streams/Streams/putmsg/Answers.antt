@@ -9,7 +9,7 @@ use Rattle.strm_types.specs.Books.{with_written}
 use Rattle.strm_types.specs.Names.{direction_from}
 use Rattle.strm_types.specs.PutMsg.{no_parts, put_message}
 use Rattle.strm_laws.specs.Spares.{spare}
-use Rattle.strm_types.specs.Costs.{most_cost}
+use Rattle.strm_types.specs.Budgets.{most_of}
 use Rattle.strm_laws.specs.State.{State, book, with_book}
 use Rattle.strm_laws.proofs.Balances.{parts-few}
 use Rattle.strm_blocks.specs.Blocks.{in_hand, token}
@@ -33,7 +33,7 @@ deliver_alone-requires-clause-alone g c =
     made-alone (g.B.Blocks.value c.args.store.now) (g.B.Blocks.value c.make_message.new.store) c.args.self.now c.requires.may.rests (token c.in-Some.message) sends.after sends.chain
 
 -- a message of parts takes no block on its way down, and no packet comes of it
-parts-free : (side : Side) (prio : Prio) (control body : Option (List ℕ)) → no_parts control body ≡ false → most_cost (record { side = side; at = 1; way = Down }) (put_message prio control body) ≡ 0
+parts-free : (side : Side) (prio : Prio) (control body : Option (List ℕ)) → no_parts control body ≡ false → most_of (record { side = side; at = 1; way = Down }) (put_message prio control body) ≡ 0
 parts-free side prio None None some = absurd (cc)
 parts-free side High (Some xs) body some = refl
 parts-free side (Band band) (Some xs) body some = refl

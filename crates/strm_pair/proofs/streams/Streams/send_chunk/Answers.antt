@@ -3,7 +3,7 @@ use Rattle.std.proofs.Common.{ℕ, ◌≡◌, List, ap, ◌∙◌, arith}
 use Rattle.strm_types.specs.declared.names.Side.{Side}
 use Rattle.strm_types.specs.Message.{Message, data_message}
 use Rattle.strm_laws.specs.Spares.{spare}
-use Rattle.strm_types.specs.Costs.{most_cost}
+use Rattle.strm_types.specs.Budgets.{most_of}
 use Rattle.strm_laws.specs.Writes.{below_head}
 use Rattle.strm_blocks.specs.Blocks.{in_hand, token}
 use Rattle.strm_msg.specs.Messages.{message_of}
@@ -26,8 +26,8 @@ deliver_alone-requires-clause-room g c =
     (record { mblks = omega arith; dblks = omega arith }) (omega arith)
 
 -- it takes none
-free-of : (side : Side) (chunk : List ℕ) (m : Message ℕ) → m ≡ data_message chunk → most_cost (below_head side) m ≡ 0
-free-of side chunk m shows = ap (most_cost (below_head side)) shows ∙ chunk-free side chunk
+free-of : (side : Side) (chunk : List ℕ) (m : Message ℕ) → m ≡ data_message chunk → most_of (below_head side) m ≡ 0
+free-of side chunk m shows = ap (most_of (below_head side)) shows ∙ chunk-free side chunk
 
 pub returns-clause-spends : goal.returns-clause-spends
 returns-clause-spends g c =

@@ -11,7 +11,7 @@ use Rattle.strm_laws.specs.Kept.{AreIdle}
 use Rattle.strm_types.specs.Message.{Message}
 use Rattle.strm_laws.specs.Puts.{delivered}
 use Rattle.strm_laws.specs.Spares.{spare}
-use Rattle.strm_types.specs.Costs.{most_cost}
+use Rattle.strm_types.specs.Budgets.{most_of}
 use Rattle.strm_laws.specs.State.{State}
 use Rattle.strm_laws.proofs.StackSpares.{range-spare}
 use Rattle.strm_blocks.specs.Blocks.{in_hand, token, StoreValue}
@@ -30,7 +30,7 @@ begun-idle : (side : Side) (command : ℕ) (s : State ℕ) → AreIdle s → Are
 begun-idle side command s idle = idle-with side _ s (idle side) idle
 
 -- an M_IOCTL on its way down
-ioctl-few : (side : Side) (ioc : Ioc) (body : List ℕ) → most_cost {C = ℕ} (record { side = side; at = 1; way = Down }) (ioctl_message ioc body) ≤ 30
+ioctl-few : (side : Side) (ioc : Ioc) (body : List ℕ) → most_of {C = ℕ} (record { side = side; at = 1; way = Down }) (ioctl_message ioc body) ≤ 30
 ioctl-few side ioc body = omega arith
 
 blocks-few : (body : List ℕ) → ioctl_blocks body ≤ 2

@@ -55,4 +55,4 @@ returns-clause-serves g c =
     let e = rw c.get_mut.ensures.value at c.serve.ensures.does in
     subst (λ y. StackServes s t x y c.args.here c.args.again c.serve.result c.args.told.now c.serve.new.told)
     (sym (stack-there c.args.self.now c.args.here.side c.get_mut.result.now c.serve.new.self c.get_mut.ensures.value).0)
-    (record { state = e.state; notes = e.notes; sent = e.sent; tells = e.told; bytes = e.bytes; asks = e.again; over = on-true c.serve.result.stopped (λ stop. stop.1) e.stopped; few = on-true c.serve.result.stopped (λ stop. stop.0) e.stopped; some = e.some; ends = e.stops; made = e.made; held = e.held; own = e.own; chains = e.chains; falls = e.falls; hands = e.hands; room = e.room; pool = e.pool })
+    (record { state = e.state; notes = e.notes; sent = e.sent; tells = e.told; bytes = e.bytes; asks = e.again; over = on-true c.serve.result.stopped (λ stop. stop.1) e.stopped; few = on-true c.serve.result.stopped (λ stop. stop.0) e.stopped; some = e.some; ends = e.stops; made = e.made; held = e.held; own = e.own; chains = e.chains; hands = e.hands; room = e.room; pool = e.pool })

@@ -1,12 +1,20 @@
 -- What a put did, in the frame's words.
-use Rattle.std.proofs.Common.{rules}
+use Rattle.std.proofs.Common.{ℕ, rules, subst, sym}
+use Rattle.strm_types.proofs.PcktWithin.{pckt-own}
+use Rattle.strm_frame.specs.Hands.{HasRoom, Spends}
+use Rattle.strm_frame.specs.Outboxes.{message_in}
 use Rattle.strm_frame.proofs.Handing.{can-in_hand}
-use Rattle.strm_pty.proofs.PacketCosts.{packs-fall, packs-hands, packs-spends}
+use Rattle.strm_pty.proofs.PacketCosts.{packs-hands, packs-spends}
 use Rattle.strm_pty.proofs.module.PcktModule.put.Goals as goal
 use Rattle.strm_blocks.specs.Blocks.{token}
 
 pub put-requires-clause-in_hand : goal.put-requires-clause-in_hand
 put-requires-clause-in_hand g c = can-in_hand (g.B.Blocks.value c.args.store.now) (token c.args.message) (λ _. 0) c.audit.ensures c.requires.can_put
+
+pub put-requires-clause-room : goal.put-requires-clause-room
+put-requires-clause-room g c =
+    let s = g.B.Blocks.value c.args.store.now in
+    subst (λ (n : ℕ). HasRoom s n) (pckt-own c.args.here (message_in s (token c.args.message))) c.requires.room
 
 pub returns : goal.returns
 returns g c =
@@ -23,9 +31,8 @@ returns g c =
       held = tt;
       own = search rules;
       chains = e.swaps.chains;
-      falls = packs-fall s t n here c.put.result _ _ c.requires.inside c.requires.small e;
-      hands = packs-hands s t n here c.put.result _ _ c.requires.inside c.requires.small e;
-      spends = packs-spends s t n here c.put.result _ _ c.requires.inside c.requires.small e;
+      hands = packs-hands s t n here c.put.result _ _ e;
+      spends = subst (λ (n : ℕ). Spends s t n 0) (sym (pckt-own here (message_in s n))) (packs-spends s t n here c.put.result _ _ e);
       blocks = e.blocks;
       pool = e.swaps.hands.pool;
     }

@@ -1,8 +1,6 @@
 -- Nothing is done.
 use Rattle.std.proofs.Common.{rules}
-use Rattle.strm_types.specs.Costs.{cost}
-use Rattle.strm_types.specs.Far.{far}
-use Rattle.strm_frame.proofs.Handing.{still-hands, none-hands, none-chains, none-lower, no-parts, no-room}
+use Rattle.strm_frame.proofs.Handing.{still-hands, none-hands, none-chains, no-parts, no-room}
 use Rattle.strm_pty.proofs.module.PcktModule.serve.Goals as goal
 
 pub returns : goal.returns
@@ -23,8 +21,7 @@ returns g c =
       held = tt;
       own = search rules;
       chains = none-chains s _ none;
-      falls = none-lower s far 0 _ none;
       hands = none-hands s s (λ _. 0) (λ _. 0) (λ _. 0) _ none (still-hands s (λ _. 0));
-      room = no-room s cost 0 _ none;
+      room = no-room s 0 _ none;
       pool = search rules;
     }

@@ -18,7 +18,6 @@ returns g c =
       held = tt;
       own = search rules;
       chains = e.chains;
-      falls = search rules;
       hands = e.hands;
       spends = e.spends;
       blocks = c.put.ensures.blocks;

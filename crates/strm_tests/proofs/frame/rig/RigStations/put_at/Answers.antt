@@ -2,13 +2,12 @@
 use Rattle.std.proofs.Common.{◌<◌, ◌≤◌, ◌-◌, length, map, sym, ap, ◌∙◌, arith, rules}
 use Rattle.strm_blocks.specs.Blocks.{dropped, token}
 use Rattle.strm_frame.specs.Hands.{once}
-use Rattle.strm_frame.specs.Outboxes.{message_in, parcels_in, sent_of}
+use Rattle.strm_frame.specs.Outboxes.{message_in}
 use Rattle.strm_frame.specs.Stacks.{all_of}
-use Rattle.strm_tests.specs.Toys.{far, nothing}
 use Rattle.strm_tests.specs.Rigs.{rig-frame}
-use Rattle.strm_frame.proofs.Handing.{can-in_hand, freed-hands, freed-spends, none-hands, none-chains, none-lower, no-parts}
+use Rattle.strm_frame.proofs.Handing.{can-in_hand, freed-hands, freed-spends, none-hands, none-chains, no-parts}
 use Rattle.strm_tests.proofs.RigSteps.{none-taken, rig-ends}
-use Rattle.strm_tests.proofs.ToySteps.{free-takes, nothing-free, freed-same, none-spends}
+use Rattle.strm_tests.proofs.ToySteps.{free-takes, freed-same}
 use Rattle.strm_tests.specs.ToyLaws.{stock_in}
 use Rattle.strm_tests.proofs.frame.rig.RigStations.put_at.Goals as goal
 
@@ -28,9 +27,8 @@ returns-then-is_end-clause-puts g c =
       told = search rules;
       held = rw (c.free.ensures, c.leave.ensures) (rig-frame (λ y. y.name) (λ y. y.queue) s (dropped s n) xs (freed-same s n kept c.audit.ensures c.requires.can_put) c.requires.held).1;
       chains = none-chains _ _ c.none.ensures;
-      falls = none-lower _ far _ _ c.none.ensures;
       hands = none-hands _ _ (once n) kept (all_of (λ y i. 0) ys) _ c.none.ensures (rw (c.free.ensures, c.leave.ensures) (freed-hands s n kept c.audit.ensures c.requires.can_put));
-      takes = free-takes _ _ _ (none-spends _ _ nothing _ _ c.none.ensures (rw c.free.ensures (freed-spends s n kept 0 c.audit.ensures c.requires.can_put)));
+      takes = free-takes _ _ (rw c.free.ensures (freed-spends s n kept 0 c.audit.ensures c.requires.can_put));
       pool = search rules;
     }
 
@@ -53,15 +51,13 @@ returns-clause-puts g c =
     let e = c.put-acts.ensures.does in
     let none = none-taken (map (λ y. stock_in s y.name y.queue) xs) (c.args.to.at - 1) in
     let spends = e.spends in
-    let free = nothing-free (parcels_in t (sent_of c.put-acts.result.sent)) in
     record {
       state = search rules;
       sent = search rules;
       told = search rules;
       held = rw c.note_all.ensures (record { held = e.held; two = c.put-acts.ensures.length ∙ c.requires.held.two });
       chains = search rules;
-      falls = e.falls;
       hands = search rules;
-      takes = free-takes s t _ (record { mblks = omega arith; dblks = omega arith });
+      takes = free-takes s t (record { mblks = omega (arith, spends.mblks, none); dblks = omega (arith, spends.dblks, none) });
       pool = search rules;
     }

@@ -11,10 +11,10 @@ use Rattle.strm_msg.proofs.Chains.{kind-is}
 use Rattle.strm_frame.specs.declared.parcels.Sent.{Sent}
 use Rattle.strm_frame.specs.Hands.{once}
 use Rattle.strm_frame.specs.Outboxes.{message_in}
-use Rattle.strm_tests.specs.Toys.{Stock, far, onward, stocks}
+use Rattle.strm_tests.specs.Toys.{Stock, onward, stocks}
 use Rattle.strm_tests.specs.ToyLaws.{stock_in}
-use Rattle.strm_frame.proofs.Handing.{can-in_hand, no-parts, none-chains, none-lower, none-hands, one-parts, one-chains, one-hands}
-use Rattle.strm_tests.proofs.ToySteps.{onward-falls, kind-stays, stocks-stay, stocks-on, joined-hands, frees-spends, own-list, owned-by, one-lower}
+use Rattle.strm_frame.proofs.Handing.{can-in_hand, no-parts, none-chains, none-hands, one-parts, one-chains, one-hands}
+use Rattle.strm_tests.proofs.ToySteps.{kind-stays, stocks-stay, stocks-on, joined-hands, frees-spends, own-list, owned-by}
 use Rattle.strm_tests.proofs.frame.stock.StockModule.put.Goals as goal
 
 pub kind-kind-requires-clause-in_hand : goal.kind-kind-requires-clause-in_hand
@@ -44,7 +44,6 @@ returns-then-stays g c =
       held = search rules;
       own = owned-by s t x.queue c.in-Some.queue (once c.enqueue-enables.new.queue.list) c.in-Some.is (record { lists = own.lists; owns_same = own.owns_same });
       chains = none-chains _ _ c.none.ensures;
-      falls = none-lower _ far _ _ c.none.ensures;
       hands = none-hands _ _ (once n) (λ _. 0) (λ _. 0) _ c.none.ensures (joined-hands s _ n _ _ c.audit.ensures c.requires.can_put e.changes e.frees);
       spends = frees-spends _ _ _ e.frees;
       blocks = λ held. e.blocks;
@@ -72,8 +71,6 @@ returns g c =
       held = search rules;
       own = search rules;
       chains = one-chains s next _ c.one.ensures c.requires.chain;
-      falls = one-lower s next far _ _ c.one.ensures
-          (onward-falls kind here c.toward.result c.requires.inside c.requires.small (c.toward.ensures ∙ ap (λ w. toward w here) c.onward.ensures));
       hands = one-hands s next (λ _. 0) _ c.one.ensures;
       spends = record { mblks = omega arith; dblks = omega arith };
       blocks = λ held. (omega arith, omega arith);

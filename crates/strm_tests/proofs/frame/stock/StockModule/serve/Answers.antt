@@ -6,10 +6,10 @@ use Rattle.strm_blocks.specs.Blocks.{list_at, token}
 use Rattle.strm_queue.specs.Stored.{messages_on}
 use Rattle.strm_frame.specs.declared.parcels.Sent.{Sent}
 use Rattle.strm_frame.specs.Outboxes.{message_in}
-use Rattle.strm_tests.specs.Toys.{Stock, far, nothing}
+use Rattle.strm_tests.specs.Toys.{Stock}
 use Rattle.strm_tests.specs.ToyLaws.{stock_in, stocked_in}
-use Rattle.strm_frame.proofs.Handing.{still-hands, none-hands, none-chains, none-lower, no-parts, one-parts, one-chains, no-room}
-use Rattle.strm_tests.proofs.ToySteps.{one-room, serves-none, serves-first, owned-by, took-own, took-hands, down-falls, one-lower}
+use Rattle.strm_frame.proofs.Handing.{still-hands, none-hands, none-chains, no-parts, one-parts, one-chains, no-room}
+use Rattle.strm_tests.proofs.ToySteps.{one-room, serves-none, serves-first, owned-by, took-own, took-hands}
 use Rattle.strm_frame.proofs.Emptiness.{none-listed}
 use Rattle.strm_tests.proofs.frame.stock.StockModule.serve.Goals as goal
 
@@ -34,9 +34,8 @@ returns-then-is_empty g c =
       held = search rules;
       own = search rules;
       chains = none-chains _ _ c.none.ensures;
-      falls = none-lower _ far _ _ c.none.ensures;
       hands = none-hands _ _ (λ _. 0) (λ _. 0) (λ _. 0) _ c.none.ensures (still-hands _ (λ _. 0));
-      room = no-room s nothing 0 _ c.none.ensures;
+      room = no-room s 8 _ c.none.ensures;
       pool = search rules;
     }
 
@@ -66,8 +65,7 @@ returns g c =
       held = search rules;
       own = owned-by _ _ _ _ _ c.in-Some.is (took-own _ _ _ _ _ e);
       chains = one-chains t next _ c.one.ensures e.chain;
-      falls = one-lower t next far _ _ c.one.ensures (down-falls c.args.here c.toward.result c.requires.inside c.requires.small c.toward.ensures);
       hands = took-hands s t _ _ next _ c.one.ensures e;
-      room = one-room t 0 next _ c.one.ensures;
+      room = one-room s t 8 next _ c.one.ensures c.requires.room e.frees;
       pool = search rules;
     }
