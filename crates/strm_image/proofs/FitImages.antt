@@ -24,7 +24,7 @@ use Rattle.strm_types.specs.Names.{IsOnce, has_service, has_service_at, same_pla
 use Rattle.strm_types.specs.Queue.{IsOrdered, Queue}
 use Rattle.strm_laws.specs.Restorable.{IsThere, is_ldterm, is_there_among}
 use Rattle.strm_laws.specs.StackCosts.{stands_of}
-use Rattle.strm_laws.specs.Stacked.{Module, OfLdterm, OfPtem, OfPckt, module_name}
+use Rattle.strm_laws.specs.Stacked.{Standing, OfLdterm, OfPtem, OfPckt, module_name}
 use Rattle.strm_laws.specs.State.{State, queues_of, stream, stream_queues}
 use Rattle.strm_types.proofs.EnabledNames.{once-room}
 use Rattle.strm_laws.proofs.RestorableSteps.{opening-restorable}
@@ -87,18 +87,18 @@ few_names (n ∷ ns) once =
     omega (arith, room)
 
 -- a queue that is there has service
-served : (p : Place) (w : Way) (ps : List (Module ℕ)) → is_there_among p w (map module_name ps) ≡ true → has_service_at p ≡ true
+served : (p : Place) (w : Way) (ps : List (Standing ℕ)) → is_there_among p w (map module_name ps) ≡ true → has_service_at p ≡ true
 served places.Head w ps there = absurd cc
 served places.Ldterm w ps there = refl
 served places.Driver w ps there = refl
 
-pub ldterm_stands : (ps : List (Module ℕ)) → list_any is_ldterm (map module_name ps) ≡ stands module_name modules.Ldterm ps
+pub ldterm_stands : (ps : List (Standing ℕ)) → list_any is_ldterm (map module_name ps) ≡ stands module_name modules.Ldterm ps
 ldterm_stands [] = refl
 ldterm_stands (OfLdterm l ∷ ps) = refl
 ldterm_stands (OfPtem p ∷ ps) = ldterm_stands ps
 ldterm_stands (OfPckt p ∷ ps) = ldterm_stands ps
 
-stands_there : (p : Place) (w : Way) (ps : List (Module ℕ)) → is_there_among p w (map module_name ps) ≡ true → has_queue_at p w ps ≡ true
+stands_there : (p : Place) (w : Way) (ps : List (Standing ℕ)) → is_there_among p w (map module_name ps) ≡ true → has_queue_at p w ps ≡ true
 stands_there places.Head w ps there = absurd cc
 stands_there places.Ldterm w ps there = sym (ldterm_stands ps) ∙ there
 stands_there places.Driver Up ps there = absurd cc

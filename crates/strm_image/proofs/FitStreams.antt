@@ -23,7 +23,7 @@ use Rattle.strm_types.specs.Slots.{PlainSlot, answer_bytes, is_free}
 use Rattle.strm_laws.specs.LdtermTurns.{ldterm_rests}
 use Rattle.strm_laws.specs.Restorable.{GoodLdterm, GoodModule, GoodModules, GoodStream, IsShut, IsWhole, goes_out, is_part_kind, stands_below}
 use Rattle.strm_laws.specs.StackCosts.{EachOnce, times_there}
-use Rattle.strm_laws.specs.Stacked.{IsAtRest, Module, OfLdterm, OfPtem, OfPckt, module_name, module_queues, queues_of_modules}
+use Rattle.strm_laws.specs.Stacked.{IsAtRest, Standing, OfLdterm, OfPtem, OfPckt, module_name, module_queues, queues_of_modules}
 use Rattle.strm_laws.specs.State.{Stream, stream_queues}
 use Rattle.strm_laws.specs.Within.{IsWithin}
 use Rattle.strm_types.proofs.SignalRoom.{signals-fit, times, times-cons}
@@ -61,13 +61,13 @@ ldterm_fits l good idle words reads writes =
     (and_from _ _ (and_from _ _ (u32_fits l.column (omega (arith, good.column))) (le-leb l.column COLUMN_MAX good.column)) (and_from _ _ (bytes_fit byte l.line (lt-ltb (length l.line) 256 (omega (arith, good.line))))
     (and_from _ _ (queue_fits queues.LdtermRead waits_there (λ k. refl) l.read_queue good.read_queue reads) (queue_fits queues.LdtermWrite goes_out (λ k. refl) l.write_queue good.write_queue writes)))))))
 
-module_fits : (p : Module ℕ) → GoodModule p → IsAtRest p → HasModuleNumbers p → AllByRecursion IsLaid (module_queues p) → (module_format Second).fits p ≡ true
+module_fits : (p : Standing ℕ) → GoodModule p → IsAtRest p → HasModuleNumbers p → AllByRecursion IsLaid (module_queues p) → (module_format Second).fits p ≡ true
 unfolding module_format module_kind ptem
 module_fits (OfLdterm l) good idle words queues = ldterm_fits l good idle words queues.0 queues.1.0
 module_fits (OfPtem p) good idle words queues = and_from _ _ (termios_fits p.termios good words.0) (winsize_fits p.window words.1)
 module_fits (OfPckt p) good idle words queues = refl
 
-each_fits : (ps : List (Module ℕ)) → AllByRecursion GoodModule ps → AllByRecursion (λ p. IsAtRest p) ps → AllByRecursion HasModuleNumbers ps → AllByRecursion (λ p. AllByRecursion IsLaid (module_queues p)) ps
+each_fits : (ps : List (Standing ℕ)) → AllByRecursion GoodModule ps → AllByRecursion (λ p. IsAtRest p) ps → AllByRecursion HasModuleNumbers ps → AllByRecursion (λ p. AllByRecursion IsLaid (module_queues p)) ps
     → AllByRecursion (λ p. (module_format Second).fits p ≡ true) ps
 each_fits [] good idle words queues = tt
 each_fits (p ∷ ps) good idle words queues = (module_fits p good.0 idle.0 words.0 queues.0, each_fits ps good.1 idle.1 words.1 queues.1)
@@ -90,15 +90,15 @@ unfolding names_count
 names_once ns each name = each.once name (length ns)
 
 -- modules that fit, none of which has a name above
-record Below (above : List ModuleName) (ps : List (Module ℕ)) : Type 0 where
+record Below (above : List ModuleName) (ps : List (Standing ℕ)) : Type 0 where
   new : AreNew same_module above (map module_name ps)
   each : AllByRecursion (λ p. (module_format Second).fits p ≡ true) ps
 
-below_fits : (above : List ModuleName) (p : Module ℕ) (ps : List (Module ℕ)) → Below above (p ∷ ps) → ((module_below Second above).fits p ≡ true) × Below (next_names p above) ps
+below_fits : (above : List ModuleName) (p : Standing ℕ) (ps : List (Standing ℕ)) → Below above (p ∷ ps) → ((module_below Second above).fits p ≡ true) × Below (next_names p above) ps
 unfolding module_below AreNew
 below_fits above p ps b = (and_from _ _ b.each.0 (ap not b.new.0), record { new = b.new.1; each = b.each.1 })
 
-modules_fit : (ps : List (Module ℕ)) → GoodModules ps → AllByRecursion (λ p. (module_format Second).fits p ≡ true) ps → (modules Second).fits ps ≡ true
+modules_fit : (ps : List (Standing ℕ)) → GoodModules ps → AllByRecursion (λ p. (module_format Second).fits p ≡ true) ps → (modules Second).fits ps ≡ true
 unfolding modules
 modules_fit ps good each =
     let new = all_new same_module same_name names_count is_names_count (map module_name ps) (names_once (map module_name ps) good.once) in

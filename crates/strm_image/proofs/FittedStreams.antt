@@ -20,7 +20,7 @@ use Rattle.strm_types.specs.Slots.{PlainSlot, answer_bytes, is_free}
 use Rattle.strm_laws.specs.LdtermTurns.{ldterm_rests}
 use Rattle.strm_laws.specs.Restorable.{GoodModule, GoodStream, IsShut, IsWhole, IsWork, goes_out, is_part_kind, stands_below}
 use Rattle.strm_laws.specs.StackCosts.{EachOnce, times_there}
-use Rattle.strm_laws.specs.Stacked.{IsAtRest, Module, OfLdterm, OfPtem, OfPckt, module_name, module_queues, queues_of_modules}
+use Rattle.strm_laws.specs.Stacked.{IsAtRest, Standing, OfLdterm, OfPtem, OfPckt, module_name, module_queues, queues_of_modules}
 use Rattle.strm_laws.specs.State.{Stream, stream_queues}
 use Rattle.strm_laws.specs.Within.{IsWithin}
 use Rattle.strm_types.proofs.SignalRoom.{times, times-cons}
@@ -68,7 +68,7 @@ free_is Free e = refl
 free_is _ e = absurd cc
 
 -- what is told of a module: it is good and at rest, and its words and its queues have their widths
-record IsTold (p : Module ℕ) : Type 0 where
+record IsTold (p : Standing ℕ) : Type 0 where
   good : GoodModule p
   rests : IsAtRest p
   words : HasModuleNumbers p
@@ -122,7 +122,7 @@ ldterm_told l fits =
       laid = (reads.1, (writes.1, tt));
     }
 
-module_told : (p : Module ℕ) → (module_format Second).fits p ≡ true → IsTold p
+module_told : (p : Standing ℕ) → (module_format Second).fits p ≡ true → IsTold p
 unfolding module_format module_kind ptem
 module_told (OfLdterm l) fits = ldterm_told l fits
 module_told (OfPtem p) fits =
@@ -148,7 +148,7 @@ each_once : (ns : List ModuleName) → AreNew same_module [] ns → EachOnce ns
 each_once ns new = record { once = λ name at. omega (arith, among_all name ns at, new_once same_module same_name_is names_count is_names_count ns new name) }
 
 -- modules of which each is told, and none has a name above
-record AreTold (above : List ModuleName) (ps : List (Module ℕ)) : Type 0 where
+record AreTold (above : List ModuleName) (ps : List (Standing ℕ)) : Type 0 where
   new : AreNew same_module above (map module_name ps)
   each : AllByRecursion IsTold ps
 
@@ -156,19 +156,19 @@ none_told : (above : List ModuleName) → AreTold above []
 unfolding AreNew
 none_told above = record { new = tt; each = tt }
 
-one_told : (above : List ModuleName) (p : Module ℕ) (ps : List (Module ℕ)) → (module_below Second above).fits p ≡ true → AreTold (next_names p above) ps → AreTold above (p ∷ ps)
+one_told : (above : List ModuleName) (p : Standing ℕ) (ps : List (Standing ℕ)) → (module_below Second above).fits p ≡ true → AreTold (next_names p above) ps → AreTold above (p ∷ ps)
 unfolding module_below AreNew
 one_told above p ps fits rest =
     let a = and_parts ((module_format Second).fits p) (not (has_name (module_name p) above)) fits in
     record { new = (not-true (has_name (module_name p) above) a.1, rest.new); each = (module_told p a.0, rest.each) }
 
 -- what is told of the modules of a stream
-record ModulesTold (ps : List (Module ℕ)) : Type 0 where
+record ModulesTold (ps : List (Standing ℕ)) : Type 0 where
   few : length ps ≤ MODULES
   once : EachOnce (map module_name ps)
   each : AllByRecursion IsTold ps
 
-modules_told : (ps : List (Module ℕ)) → (modules Second).fits ps ≡ true → ModulesTold ps
+modules_told : (ps : List (Standing ℕ)) → (modules Second).fits ps ≡ true → ModulesTold ps
 unfolding modules
 modules_told ps fits =
     let a = counted_parts next_names (module_below Second) (only are_few byte) [] ps fits in

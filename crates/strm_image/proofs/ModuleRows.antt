@@ -9,7 +9,7 @@ use Rattle.strm_types.specs.Message.{Message}
 use Rattle.strm_types.specs.Names.{same_module}
 use Rattle.strm_types.specs.Queue.{is_none_left}
 use Rattle.strm_laws.specs.LdtermTurns.{ldterm_rests}
-use Rattle.strm_laws.specs.Stacked.{Module, OfLdterm, OfPtem, OfPckt, module_name}
+use Rattle.strm_laws.specs.Stacked.{Standing, OfLdterm, OfPtem, OfPckt, module_name}
 use Rattle.strm_image.specs.declared.versions.QueueKind.TheVariants as queues
 use Rattle.strm_image.specs.declared.versions.Version.{Version}
 use Rattle.strm_image.specs.Codes.{module_kind}
@@ -81,7 +81,7 @@ same_name names.Pckt names.Ldterm e = absurd cc
 same_name names.Pckt names.Ptem e = absurd cc
 same_name names.Pckt names.Pckt e = refl
 
-body_named : (v : Version) (name : ModuleName) (m : Module ℕ) → (module_body v name).fits m ≡ true → module_name m ≡ name
+body_named : (v : Version) (name : ModuleName) (m : Standing ℕ) → (module_body v name).fits m ≡ true → module_name m ≡ name
 body_named v names.Ldterm m fits = same_name (module_name m) names.Ldterm (and_parts _ _ fits).0
 body_named v names.Ptem m fits = same_name (module_name m) names.Ptem (and_parts _ _ fits).0
 body_named v names.Pckt m fits = same_name (module_name m) names.Pckt (and_parts _ _ fits).0

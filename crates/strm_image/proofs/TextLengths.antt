@@ -27,7 +27,7 @@ use Rattle.strm_types.specs.Signals.{AreSignals}
 use Rattle.strm_types.specs.Slots.{PlainSlot, answer_bytes}
 use Rattle.strm_laws.specs.Restorable.{GoodLdterm, GoodModule, GoodModules, GoodStream, IsWhole}
 use Rattle.strm_laws.specs.StackCosts.{EachOnce}
-use Rattle.strm_laws.specs.Stacked.{Module, OfLdterm, OfPtem, OfPckt, module_name, module_queues, queues_of_modules}
+use Rattle.strm_laws.specs.Stacked.{Standing, OfLdterm, OfPtem, OfPckt, module_name, module_queues, queues_of_modules}
 use Rattle.strm_laws.specs.State.{Stream, messages_in, queues_of, stream, stream_queues}
 use Rattle.strm_laws.specs.Within.{IsWithin}
 use Rattle.strm_types.proofs.SignalRoom.{signals-fit}
@@ -166,17 +166,17 @@ size names.Ldterm = 298 + 2 * QUEUE_FIXED
 size names.Ptem = 44
 size names.Pckt = 1
 
-weigh : Module ℕ → ℕ
+weigh : Standing ℕ → ℕ
 weigh p = size (module_name p) + sum_by load (module_queues p)
 
-module_length : (p : Module ℕ) → GoodModule p → AllByRecursion HasBands (module_queues p) → AtMost (weigh p) ((module_format Second).text p)
+module_length : (p : Standing ℕ) → GoodModule p → AllByRecursion HasBands (module_queues p) → AtMost (weigh p) ((module_format Second).text p)
 unfolding module_format module_kind ptem size weigh
 module_length (OfLdterm l) good banded =
     within (behind (short 1 (module_kind.text names.Ldterm) (omega arith)) (ldterm_length l good banded.0 banded.1.0)) (omega (arith, sum_by-cons load l.read_queue (l.write_queue ∷ []), sum_by-cons load l.write_queue []))
 module_length (OfPtem p) good banded = within (behind (short 1 (module_kind.text names.Ptem) (omega arith)) (behind (termios_length p.termios good) (winsize_length p.window))) (omega arith)
 module_length (OfPckt p) good banded = short _ _ (omega arith)
 
-each_length : (ps : List (Module ℕ)) → AllByRecursion GoodModule ps → AllByRecursion (λ p. AllByRecursion HasBands (module_queues p)) ps → AllByRecursion (IsWeighed next_names (module_below Second) weigh) ps
+each_length : (ps : List (Standing ℕ)) → AllByRecursion GoodModule ps → AllByRecursion (λ p. AllByRecursion HasBands (module_queues p)) ps → AllByRecursion (IsWeighed next_names (module_below Second) weigh) ps
 unfolding module_below IsWeighed
 each_length [] good banded = tt
 each_length (p ∷ ps) good banded = (λ above. module_length p good.0 banded.0, each_length ps good.1 banded.1)
@@ -199,14 +199,14 @@ sizes_once : (on : List ModuleName) → EachOnce on → sizes on ≤ 343 + 2 * Q
 unfolding size sizes
 sizes_once on each = omega (arith, names_once on each names.Ldterm, names_once on each names.Ptem, names_once on each names.Pckt)
 
-modules_weigh : (ps : List (Module ℕ)) → sum_by weigh ps ≡ sizes (map module_name ps) + sum_by load (queues_of_modules ps)
+modules_weigh : (ps : List (Standing ℕ)) → sum_by weigh ps ≡ sizes (map module_name ps) + sum_by load (queues_of_modules ps)
 modules_weigh [] = omega (arith, no_sizes)
 modules_weigh (p ∷ ps) =
     let one : weigh p ≡ size (module_name p) + sum_by load (module_queues p) = unfold weigh in refl in
     let split : sum_by load (queues_of_modules (p ∷ ps)) ≡ sum_by load (module_queues p) + sum_by load (queues_of_modules ps) = rw (flat_map-cons module_queues p ps) (sum_by-append load (module_queues p) (queues_of_modules ps)) in
     omega (arith, sum_by-cons weigh p ps, one, split, one_more (module_name p) (map module_name ps), modules_weigh ps)
 
-modules_length : (ps : List (Module ℕ)) → GoodModules ps → AllByRecursion (λ p. AllByRecursion HasBands (module_queues p)) ps → AtMost (344 + 2 * QUEUE_FIXED + sum_by load (queues_of_modules ps)) ((modules Second).text ps)
+modules_length : (ps : List (Standing ℕ)) → GoodModules ps → AllByRecursion (λ p. AllByRecursion HasBands (module_queues p)) ps → AtMost (344 + 2 * QUEUE_FIXED + sum_by load (queues_of_modules ps)) ((modules Second).text ps)
 unfolding modules
 modules_length ps good banded =
     within (behind (short 1 (byte.text (length ps)) (omega arith)) (texts next_names (module_below Second) weigh ps (each_length ps good.each banded) [])) (omega (arith, sizes_once (map module_name ps) good.once, modules_weigh ps))

@@ -13,7 +13,7 @@ use Rattle.strm_types.specs.Message.{Message}
 use Rattle.strm_types.specs.Pckts.{Pckt}
 use Rattle.strm_types.specs.Ptems.{Ptem}
 use Rattle.strm_types.specs.Queue.{Flow, Queue}
-use Rattle.strm_laws.specs.Stacked.{Module, OfLdterm, OfPtem, OfPckt}
+use Rattle.strm_laws.specs.Stacked.{Standing, OfLdterm, OfPtem, OfPckt}
 use Rattle.strm_image.specs.declared.versions.QueueKind.{QueueKind}
 use Rattle.strm_image.specs.declared.versions.Version.TheVariants.{Second}
 use Rattle.strm_image.specs.Codes.{module_kind, version}
@@ -90,7 +90,7 @@ pub messages_told : (at : QueueKind) (ms : List (Message ℕ)) → (messages Sec
 unfolding messages message_behind
 messages_told at ms = ap (λ t. u32.text (length ms) ++ t) (text_flat next_rank (message_behind Second at) (message Second).text (λ s x. refl) _ ms)
 
-pub modules_told : (ms : List (Module ℕ)) → (modules Second).text ms ≡ byte.text (length ms) ++ flat_map (module_format Second).text ms
+pub modules_told : (ms : List (Standing ℕ)) → (modules Second).text ms ≡ byte.text (length ms) ++ flat_map (module_format Second).text ms
 unfolding modules module_below
 modules_told ms = ap (λ t. byte.text (length ms) ++ t) (text_flat next_names (module_below Second) (module_format Second).text (λ s x. refl) [] ms)
 

@@ -4,7 +4,7 @@ use Rattle.strm_types.specs.declared.names.ModuleName.{ModuleName}
 use Rattle.strm_types.specs.Ldterms.{Ldterm}
 use Rattle.strm_types.specs.Pckts.{new_pckt}
 use Rattle.strm_types.specs.Ptems.{Ptem}
-use Rattle.strm_laws.specs.Stacked.{Module, OfLdterm, OfPtem, OfPckt, module_name}
+use Rattle.strm_laws.specs.Stacked.{Standing, OfLdterm, OfPtem, OfPckt, module_name}
 use Rattle.strm_image.specs.declared.modules.LdtermText.{LdtermText}
 use Rattle.strm_image.specs.declared.modules.ModuleText.{ModuleText}
 use Rattle.strm_image.specs.declared.modules.ModuleText.TheVariants as texts
@@ -18,12 +18,12 @@ ldterm_now l = ldterm_of (l.termios, (l.stopped, (l.after_lnext, (l.column, (l.l
 abbrev pub ptem_now : PtemText → Ptem
 ptem_now p = ptem_of (p.termios, p.window)
 
-abbrev pub module_now : ModuleText → Module ℕ
+abbrev pub module_now : ModuleText → Standing ℕ
 module_now (texts.Ldterm l) = OfLdterm (ldterm_now l)
 module_now (texts.Ptem p) = OfPtem (ptem_now p)
 module_now texts.Pckt = OfPckt new_pckt
 
-abbrev pub modules_now : List ModuleText → List (Module ℕ)
+abbrev pub modules_now : List ModuleText → List (Standing ℕ)
 modules_now ms = map module_now ms
 
 abbrev pub names_now : List ModuleText → List ModuleName

@@ -13,7 +13,7 @@ use Rattle.strm_types.specs.Pckts.{new_pckt}
 use Rattle.strm_types.specs.Ptems.{Ptem, new_ptem}
 use Rattle.strm_types.specs.Queue.{Queue}
 use Rattle.strm_laws.specs.LdtermTurns.{ldterm_rests}
-use Rattle.strm_laws.specs.Stacked.{Module, OfLdterm, OfPtem, OfPckt, module_name}
+use Rattle.strm_laws.specs.Stacked.{Standing, OfLdterm, OfPtem, OfPckt, module_name}
 use Rattle.strm_image.specs.declared.versions.QueueKind.TheVariants as queues
 use Rattle.strm_image.specs.declared.versions.Version.{Version}
 use Rattle.strm_image.specs.Codes.{flag, module_kind}
@@ -86,29 +86,29 @@ ptem = made any ptem_of ptem_parts (termios then winsize)
 
 -- ---- a module, behind its name
 
-abbrev pub is_named : ModuleName → Module ℕ → Bool
+abbrev pub is_named : ModuleName → Standing ℕ → Bool
 is_named name m = same_module (module_name m) name
 
-abbrev pub the_ldterm : Module ℕ → Ldterm ℕ
+abbrev pub the_ldterm : Standing ℕ → Ldterm ℕ
 the_ldterm (OfLdterm l) = l
 the_ldterm _ = new_ldterm
 
-abbrev pub the_ptem : Module ℕ → Ptem
+abbrev pub the_ptem : Standing ℕ → Ptem
 the_ptem (OfPtem p) = p
 the_ptem _ = new_ptem
 
-abbrev pub pckt_of : Unit {0} → Module ℕ
+abbrev pub pckt_of : Unit {0} → Standing ℕ
 pckt_of x = OfPckt new_pckt
 
-abbrev pub pckt_parts : Module ℕ → Unit {0}
+abbrev pub pckt_parts : Standing ℕ → Unit {0}
 pckt_parts m = tt
 
-abbrev pub module_body : Version → ModuleName → Format (Module ℕ)
+abbrev pub module_body : Version → ModuleName → Format (Standing ℕ)
 module_body v names.Ldterm = made (is_named names.Ldterm) OfLdterm the_ldterm (ldterm v)
 module_body v names.Ptem = made (is_named names.Ptem) OfPtem the_ptem ptem
 module_body v names.Pckt = made (is_named names.Pckt) pckt_of pckt_parts (nothing tt)
 
-unfoldable pub module_format : Version → Format (Module ℕ)
+unfoldable pub module_format : Version → Format (Standing ℕ)
 module_format v = tagged module_name module_kind (module_body v)
 
 -- ---- the modules of a stream, from the top
@@ -117,15 +117,15 @@ abbrev pub has_name : ModuleName → List ModuleName → Bool
 has_name name names = list_any (λ n. same_module n name) names
 
 -- a module below others of these names, none of which is its own
-unfoldable pub module_below : Version → List ModuleName → Format (Module ℕ)
+unfoldable pub module_below : Version → List ModuleName → Format (Standing ℕ)
 module_below v above = only (λ m. not (has_name (module_name m) above)) (module_format v)
 
-abbrev pub next_names : Module ℕ → List ModuleName → List ModuleName
+abbrev pub next_names : Standing ℕ → List ModuleName → List ModuleName
 next_names m above = above ++ module_name m ∷ []
 
 abbrev pub are_few : ℕ → Bool
 are_few n = nat_le n MODULES
 
 -- three at most, and each once
-unfoldable pub modules : Version → Format (List (Module ℕ))
+unfoldable pub modules : Version → Format (List (Standing ℕ))
 modules v = counted (only are_few byte) (chain next_names (module_below v) [])

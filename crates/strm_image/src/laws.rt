@@ -8,7 +8,7 @@ ghost use Rattle.strm_types.specs.Message.{Message};
 ghost use Rattle.strm_types.specs.Pckts.{Pckt};
 ghost use Rattle.strm_types.specs.Ptems.{Ptem};
 ghost use Rattle.strm_types.specs.Queue.{Queue};
-ghost use Rattle.strm_laws.specs.Stacked.{Module, OfLdterm, OfPtem, OfPckt};
+ghost use Rattle.strm_laws.specs.Stacked.{Standing, OfLdterm, OfPtem, OfPckt};
 ghost use Rattle.strm_image.specs.declared.versions.QueueKind.{QueueKind};
 ghost use Rattle.strm_image.specs.declared.versions.Version.{Version};
 ghost use Rattle.strm_image.specs.declared.versions.Version.TheVariants.{First, Second};
@@ -36,7 +36,7 @@ pub fn versions_agree()
 /// stream, and the whole.
 pub fn second_in_parts()
     ensures messages { (at : QueueKind) (ms : List (Message ℕ)) → (messages Second at).text ms ≡ u32.text (length ms) ++ flat_map (message Second).text ms }
-    ensures modules { (ms : List (Module ℕ)) → (modules Second).text ms ≡ byte.text (length ms) ++ flat_map (module_format Second).text ms }
+    ensures modules { (ms : List (Standing ℕ)) → (modules Second).text ms ≡ byte.text (length ms) ++ flat_map (module_format Second).text ms }
     ensures queue { (at : QueueKind) (q : Queue ℕ) → (queue Second at).text q ≡ queue_text at q }
     ensures ldterm { (l : Ldterm ℕ) → (module_format Second).text (OfLdterm l) ≡ ldterm_text l }
     ensures ptem { (p : Ptem) → (module_format Second).text (OfPtem p) ≡ module_kind.text names.Ptem ++ ptem.text p }

@@ -14,7 +14,7 @@ use Rattle.strm_laws.specs.Bases.{IsBase}
 use Rattle.strm_laws.specs.Kept.{NothingUnread, told_by}
 use Rattle.strm_laws.specs.Ledgers.{Balanced, FewBooked}
 use Rattle.strm_laws.specs.Restorable.{AreWithinEntries, GoodModule, GoodStream, Restorable}
-use Rattle.strm_laws.specs.Stacked.{Module, OfLdterm, OfPtem, OfPckt, queues_of_modules}
+use Rattle.strm_laws.specs.Stacked.{Standing, OfLdterm, OfPtem, OfPckt, queues_of_modules}
 use Rattle.strm_laws.specs.State.{AreOrdered, State, Stream, book, opening, stream, stream_queues}
 use Rattle.strm_laws.specs.Step.{IsLegal, replay}
 use Rattle.strm_laws.proofs.LedgerSums.{agrees}
@@ -29,7 +29,7 @@ module _ {C : Type 0} where
   join-order (q ∷ qs) rs all more = (all.0, join-order qs rs all.1 more)
 
   -- each queue that an image may hold is in order
-  modules-order : (ps : List (Module C)) → AllByRecursion GoodModule ps → AllByRecursion InOrder (queues_of_modules ps)
+  modules-order : (ps : List (Standing C)) → AllByRecursion GoodModule ps → AllByRecursion InOrder (queues_of_modules ps)
   modules-order [] all = tt
   modules-order (OfLdterm l ∷ ps) all = (all.0.read_queue.order, (all.0.write_queue.order, modules-order ps all.1))
   modules-order (OfPtem p ∷ ps) all = modules-order ps all.1

@@ -13,7 +13,7 @@ use Rattle.strm_types.specs.declared.names.Way.TheVariants.{Up, Down}
 use Rattle.strm_types.specs.Cells.{Tagged, tagged}
 use Rattle.strm_types.specs.Ldterms.{Ldterm, IsIdle}
 use Rattle.strm_types.specs.Message.{Message, cells_of, map_message, part, weight_of}
-use Rattle.strm_types.specs.ModuleQueues.{messages_at}
+use Rattle.strm_types.specs.Standings.{messages_at}
 use Rattle.strm_types.specs.Names.{direction_at, is_open, place_of}
 use Rattle.strm_types.specs.Queue.{Queue, map_messages, map_queue, weight}
 use Rattle.strm_laws.specs.Based.{based, cells_in, held_by, held_in, number, number_ldterm, number_message, number_messages, number_module, number_modules, number_queue, number_stream}
@@ -21,7 +21,7 @@ use Rattle.strm_laws.specs.Kept.{AreIdle, NothingUnread, state_weight, stream_we
 use Rattle.strm_laws.specs.LdtermOrigins.{map_ldterm}
 use Rattle.strm_laws.specs.Ledgers.{base_count, inline, queued}
 use Rattle.strm_laws.specs.Pushes.{is_there}
-use Rattle.strm_laws.specs.Stacked.{Module, OfLdterm, OfPtem, OfPckt, IsAtRest, map_module, module_line, module_name, module_queue, module_weight, modules_weight}
+use Rattle.strm_laws.specs.Stacked.{Standing, OfLdterm, OfPtem, OfPckt, IsAtRest, map_module, module_line, module_name, module_weight, modules_weight}
 use Rattle.strm_laws.specs.State.{State, Stream, map_state, map_stream}
 use Rattle.strm_types.proofs.BySide.{each-side}
 use Rattle.strm_types.proofs.Weights.{count-join, weight-take}
@@ -41,19 +41,19 @@ module _ {C : Type 0} where
   cells-join (m ∷ xs) ys = omega (arith, weight-take (λ c. true) m xs, weight-take (λ c. true) m (xs ++ ys), cells-join xs ys)
 
   -- what stands on the queues of a way of modules, and in their lines
-  abbrev on_queues : Way → List (Module C) → List (Message C)
-  on_queues way ps = flat_map (λ q. if is_there places.Ldterm (place_of (module_name q)) then messages_at module_queue way q else []) ps
+  abbrev on_queues : Way → List (Standing C) → List (Message C)
+  on_queues way ps = flat_map (λ q. if is_there places.Ldterm (place_of (module_name q)) then messages_at way q else []) ps
 
-  abbrev in_lines : List (Module C) → ℕ
+  abbrev in_lines : List (Standing C) → ℕ
   in_lines ps = sum_by (λ q. length (module_line q)) ps
 
-  held-down : (ps : List (Module C)) → sum_by (held_by Down) ps ≡ cells_in (on_queues Down ps)
+  held-down : (ps : List (Standing C)) → sum_by (held_by Down) ps ≡ cells_in (on_queues Down ps)
   held-down [] = refl
   held-down (OfPtem q ∷ ps) = omega (arith, sum_by-cons (held_by Down) (OfPtem q) ps, held-down ps)
   held-down (OfPckt q ∷ ps) = omega (arith, sum_by-cons (held_by Down) (OfPckt q) ps, held-down ps)
   held-down (OfLdterm l ∷ ps) = omega (arith, sum_by-cons (held_by Down) (OfLdterm l) ps, held-down ps, cells-join l.write_queue.messages (on_queues Down ps))
 
-  held-up : (ps : List (Module C)) → sum_by (held_by Up) ps ≡ cells_in (on_queues Up ps) + in_lines ps
+  held-up : (ps : List (Standing C)) → sum_by (held_by Up) ps ≡ cells_in (on_queues Up ps) + in_lines ps
   held-up [] = refl
   held-up (OfPtem q ∷ ps) = omega (arith, sum_by-cons (held_by Up) (OfPtem q) ps, sum_by-cons (λ q. length (module_line q)) (OfPtem q) ps, held-up ps)
   held-up (OfPckt q ∷ ps) = omega (arith, sum_by-cons (held_by Up) (OfPckt q) ps, sum_by-cons (λ q. length (module_line q)) (OfPckt q) ps, held-up ps)
@@ -136,7 +136,7 @@ module _ (p : Dir → Tagged → Bool) (numbered : NumberedBase p) where
     stays : (up down : ℕ) → before up down ≡ before (up + 0) (down + 0)
     stays up down = same-before up (up + 0) down (down + 0) (omega arith) (omega arith)
 
-    module-counted : (up down : ℕ) (q : Module ℕ) → module_weight p side (number_module side up down q) + before up down ≡ before (up + held_by Up q) (down + held_by Down q)
+    module-counted : (up down : ℕ) (q : Standing ℕ) → module_weight p side (number_module side up down q) + before up down ≡ before (up + held_by Up q) (down + held_by Down q)
     module-counted up down (OfPtem q) = omega (arith, stays up down)
     module-counted up down (OfPckt q) = omega (arith, stays up down)
     module-counted up down (OfLdterm l) =
@@ -149,7 +149,7 @@ module _ (p : Dir → Tagged → Bool) (numbered : NumberedBase p) where
           same-upto into (up + length l.line + cells_in read) (up + (length l.line + cells_in read)) (omega arith),
         )
 
-    modules-counted : (up down : ℕ) (ps : List (Module ℕ)) → modules_weight p side (number_modules side up down ps) + before up down ≡ before (up + sum_by (held_by Up) ps) (down + sum_by (held_by Down) ps)
+    modules-counted : (up down : ℕ) (ps : List (Standing ℕ)) → modules_weight p side (number_modules side up down ps) + before up down ≡ before (up + sum_by (held_by Up) ps) (down + sum_by (held_by Down) ps)
     modules-counted up down [] = omega (arith, stays up down)
     modules-counted up down (q ∷ ps) =
         let up' = up + held_by Up q in
@@ -228,7 +228,7 @@ module _ (side : Side) where
   ldterm-forgets : (up down : ℕ) (l : Ldterm ℕ) → IsIdle l → map_ldterm byte (number_ldterm side up down l) ≡ l
   ldterm-forgets up down l idle = rw (number-forgets (direction_at Up side) up l.line, queue-forgets (direction_at Up side) (up + length l.line) l.read_queue, queue-forgets (direction_at Down side) down l.write_queue, idle.0, idle.1, idle.3) refl
 
-  modules-forget : (up down : ℕ) (ps : List (Module ℕ)) → AllByRecursion (λ q. IsAtRest q) ps → map (map_module byte) (number_modules side up down ps) ≡ ps
+  modules-forget : (up down : ℕ) (ps : List (Standing ℕ)) → AllByRecursion (λ q. IsAtRest q) ps → map (map_module byte) (number_modules side up down ps) ≡ ps
   modules-forget up down [] idle = refl
   modules-forget up down (OfPtem q ∷ ps) idle = ap (λ qs. OfPtem q ∷ qs) (modules-forget (up + 0) (down + 0) ps idle.1)
   modules-forget up down (OfPckt q ∷ ps) idle = ap (λ qs. OfPckt q ∷ qs) (modules-forget (up + 0) (down + 0) ps idle.1)
@@ -246,7 +246,7 @@ module _ (side : Side) where
       ) refl
 
   -- nothing of a turn is under way in what is numbered
-  modules-rest : (up down : ℕ) (ps : List (Module ℕ)) → AllByRecursion (λ q. IsAtRest q) ps → AllByRecursion (λ q. IsAtRest q) (number_modules side up down ps)
+  modules-rest : (up down : ℕ) (ps : List (Standing ℕ)) → AllByRecursion (λ q. IsAtRest q) ps → AllByRecursion (λ q. IsAtRest q) (number_modules side up down ps)
   modules-rest up down [] idle = tt
   modules-rest up down (OfPtem q ∷ ps) idle = (tt, modules-rest (up + 0) (down + 0) ps idle.1)
   modules-rest up down (OfPckt q ∷ ps) idle = (tt, modules-rest (up + 0) (down + 0) ps idle.1)

@@ -32,7 +32,7 @@ use Rattle.strm_types.specs.Heads.{new_head}
 use Rattle.strm_types.specs.Ioctls.{asking, ioctl_message}
 use Rattle.strm_types.specs.JobControl.{asks_group, group_behind}
 use Rattle.strm_types.specs.Message.{Message}
-use Rattle.strm_types.specs.ModuleQueues.{has_queue}
+use Rattle.strm_types.specs.Standings.{has_queues}
 use Rattle.strm_types.specs.Modules.{without_module}
 use Rattle.strm_types.specs.Names.{direction_from, driver_of, enable_some, is_open, place_of, same_place, same_queue, same_side, same_way, without}
 use Rattle.strm_types.specs.Options.{mode_message}
@@ -46,7 +46,7 @@ use Rattle.strm_laws.specs.Pushes.{all_taken, enable_waiting, head_above, let_co
 use Rattle.strm_laws.specs.Puts.{delivered, earlier_at, noted}
 use Rattle.strm_laws.specs.Restorable.{AreEnabled, IsThere, is_there_among}
 use Rattle.strm_laws.specs.StackCosts.{Stands, stands_of, stands_on}
-use Rattle.strm_laws.specs.Stacked.{Module, OfLdterm, OfPtem, OfPckt, module_name, module_queue}
+use Rattle.strm_laws.specs.Stacked.{Standing, OfLdterm, OfPtem, OfPckt, module_name}
 use Rattle.strm_laws.specs.State.{State, Stream, book, stream, with_driver_queue, with_head_queue, with_ioctl, with_stream}
 use Rattle.strm_types.proofs.EnabledNames.{once-without}
 use Rattle.strm_laws.proofs.EnabledExist.{MayBe, any-noted, before-there, if-there, index-there, more-among, noted-there, some-there}
@@ -80,7 +80,7 @@ module _ {C : Type 0} where
   pub named-of : (all : Stands) (s : State C) → Enabled all s → Named s
   named-of all s is = subst (λ a. AreEnabled a s.enabled) (sym is.0) is.1
 
-  grown : (side : Side) (p : Module C) (s : State C) (n : QueueName) → IsThere (stands_of s) n → IsThere (stands_of (with_modules side (p ∷ (stream side s).modules) s)) n
+  grown : (side : Side) (p : Standing C) (s : State C) (n : QueueName) → IsThere (stands_of s) n → IsThere (stands_of (with_modules side (p ∷ (stream side s).modules) s)) n
   grown side p s n is = at side n.side is
     where
       at : (side of : Side) → is_there_among n.place n.way (stands_on of (stands_of s)) ≡ true → is_there_among n.place n.way (stands_on of (stands_of (with_modules side (p ∷ (stream side s).modules) s))) ≡ true
@@ -101,25 +101,25 @@ module _ {C : Type 0} where
       at None may = is.1
       at (Some name) may = if-there all (not (is_none_left (messages_on name s))) name s.enabled may is.1
 
-  pushed-named : (side : Side) (p : Module C) (s : State C) → Named s → Named (pushed side p s).state
+  pushed-named : (side : Side) (p : Standing C) (s : State C) → Named s → Named (pushed side p s).state
   pushed-named side p s are =
       let on = with_modules side (p ∷ (stream side s).modules) s in
       let both = stands_of on in
       let first : Enabled both on = (refl, record { once = are.once; there = each-more (stands_of s) both (λ n is. grown side p s n is) s.enabled are.there }) in
       let mode = mode_on_push (module_name p) in
       let told = mode-enabled both side mode on first in
-      named-of both (pushed side p s).state (come-enabled both (has_queue module_queue Up p) side (mode_put side mode on).state told)
+      named-of both (pushed side p s).state (come-enabled both (has_queues p) side (mode_put side mode on).state told)
 
-  push-named : (side : Side) (p : Option (Module C)) (s : State C) → Named s → Named (pushed_named side p s).state
+  push-named : (side : Side) (p : Option (Standing C)) (s : State C) → Named s → Named (pushed_named side p s).state
   push-named side None s are = are
   push-named side (Some p) s are = pushed-named side p s are
 
   -- what is left where the module on top is taken off
-  abbrev left : Side → List (Module C) → State C → Stands
+  abbrev left : Side → List (Standing C) → State C → Stands
   left side ps s = stands_of (with_modules side ps s)
 
   -- one with no queues
-  bare-left : (side : Side) (p : Module C) (ps : List (Module C)) (s : State C) → ((place : Place) (way : Way) → is_there_among place way (map module_name (p ∷ ps)) ≡ true → is_there_among place way (map module_name ps) ≡ true)
+  bare-left : (side : Side) (p : Standing C) (ps : List (Standing C)) (s : State C) → ((place : Place) (way : Way) → is_there_among place way (map module_name (p ∷ ps)) ≡ true → is_there_among place way (map module_name ps) ≡ true)
       → (stream side s).modules ≡ p ∷ ps → (n : QueueName) → IsThere (stands_of s) n → IsThere (left side ps s) n
   bare-left side p ps s fewer top n is = at side n.side top is
     where
@@ -129,7 +129,7 @@ module _ {C : Type 0} where
       at Master Slave top is = is
       at Slave Master top is = is
 
-  ldterm-left : (side : Side) (ps : List (Module C)) (s : State C) (n : QueueName) → IsThere (stands_of s) n → same_queue n (queue_of side Up) ≡ false → same_queue n (queue_of side Down) ≡ false → IsThere (left side ps s) n
+  ldterm-left : (side : Side) (ps : List (Standing C)) (s : State C) (n : QueueName) → IsThere (stands_of s) n → same_queue n (queue_of side Up) ≡ false → same_queue n (queue_of side Down) ≡ false → IsThere (left side ps s) n
   ldterm-left side ps s n is up down = at side n.side n.place n.way is up down
     where
       at : (side of : Side) (place : Place) (way : Way) → is_there_among place way (stands_on of (stands_of s)) ≡ true → (same_side of side && same_place place Ldterm && same_way way Up) ≡ false
@@ -147,7 +147,7 @@ module _ {C : Type 0} where
       at Slave Slave Ldterm Up is up down = absurd (false≢true (sym up))
       at Slave Slave Ldterm Down is up down = absurd (false≢true (sym down))
 
-  left-named : (side : Side) (p : Module C) (ps : List (Module C)) (s : State C) → (stream side s).modules ≡ p ∷ ps → (ns : List QueueName) → AreEnabled (stands_of s) ns → AreEnabled (left side ps s) (without_module side (module_name p) ns)
+  left-named : (side : Side) (p : Standing C) (ps : List (Standing C)) (s : State C) → (stream side s).modules ≡ p ∷ ps → (ns : List QueueName) → AreEnabled (stands_of s) ns → AreEnabled (left side ps s) (without_module side (module_name p) ns)
   left-named side (OfLdterm l) ps s top ns are =
       let up = queue_of side Up in
       let down = queue_of side Down in
@@ -171,7 +171,7 @@ module _ {C : Type 0} where
       same Driver Up is = is
       same Driver Down is = is
 
-  taken-named : (rule : Rule) (side : Side) (ps : List (Module C)) (s : State C) → (stream side s).modules ≡ ps → Named s → Named (top_taken rule side ps s).state
+  taken-named : (rule : Rule) (side : Side) (ps : List (Standing C)) (s : State C) → (stream side s).modules ≡ ps → Named s → Named (top_taken rule side ps s).state
   taken-named rule side [] s top are = are
   taken-named rule side (p ∷ ps) s top are =
       let all = stands_of s in
@@ -181,7 +181,7 @@ module _ {C : Type 0} where
       left-named side p ps s top (noted side place (earlier_at side 1 s) notes s.enabled)
       (noted-there all side place (earlier_at side 1 s) (λ way. before-there all s refl side way 1) notes (any-noted all side place there notes) s.enabled are)
 
-  all-named : (rule : Rule) (side : Side) (ps : List (Module C)) (s : State C) → (stream side s).modules ≡ ps → Named s → Named (all_taken rule side ps s).state
+  all-named : (rule : Rule) (side : Side) (ps : List (Standing C)) (s : State C) → (stream side s).modules ≡ ps → Named s → Named (all_taken rule side ps s).state
   all-named rule side [] s top are = are
   all-named rule side (p ∷ ps) s top are = all-named rule side ps (top_taken rule side (p ∷ ps) s).state (with-get side ps [] s) (taken-named rule side (p ∷ ps) s top are)
 

@@ -20,7 +20,7 @@ use Rattle.strm_laws.specs.Earlier.{before_at, before_by, before_modules, places
 use Rattle.strm_laws.specs.Puts.{noted}
 use Rattle.strm_laws.specs.Restorable.{AreEnabled, IsThere, is_ldterm, is_there_among}
 use Rattle.strm_laws.specs.StackCosts.{Stands, stands_of, stands_on}
-use Rattle.strm_laws.specs.Stacked.{Module, OfLdterm, OfPtem, OfPckt, module_name, module_queue}
+use Rattle.strm_laws.specs.Stacked.{Standing, OfLdterm, OfPtem, OfPckt, module_name}
 use Rattle.strm_laws.specs.State.{State, stream}
 use Rattle.strm_types.proofs.EnabledNames.{once-added, once-without, same_queue-sound}
 
@@ -117,7 +117,7 @@ named-there all side way None is = tt
 named-there all side way (Some place) is = is way
 
 module _ {C : Type 0} where
-  index-among : (ps : List (Module C)) (i : ℕ) → PlaceAmong (slice_index_or (places_of ps) i None) (map module_name ps)
+  index-among : (ps : List (Standing C)) (i : ℕ) → PlaceAmong (slice_index_or (places_of ps) i None) (map module_name ps)
   index-among [] i = tt
   index-among (OfLdterm l ∷ ps) zero = λ way. refl
   index-among (OfPtem p ∷ ps) zero = tt
@@ -135,7 +135,7 @@ module _ {C : Type 0} where
 
   -- and so the nearest earlier queues
   pub before-there : (all : Stands) (s : State C) → stands_of s ≡ all → (side : Side) (way : Way) (at : ℕ) → MayBe all (before_at side way at s)
-  before-there all s is side way at = by (place_before module_queue way at (stream side s).modules)
+  before-there all s is side way at = by (place_before way at (stream side s).modules)
     where
       ahead : (way : Way) (count : ℕ) → MayBe all (before_modules side way count at)
       ahead Down count = tt

@@ -17,7 +17,8 @@ use Rattle.strm_types.specs.declared.spots.Spot.{Spot}
 use Rattle.strm_types.specs.Cells.{Cells}
 use Rattle.strm_types.specs.Deliver.{carried, in_turn}
 use Rattle.strm_types.specs.Message.{Message, band_of, size_of}
-use Rattle.strm_types.specs.ModuleQueues.{at_place, place_past, queue_changed, with_waiting}
+use Rattle.strm_types.specs.ModuleQueues.{at_place, place_past, with_waiting}
+use Rattle.strm_types.specs.Standings.{queue_changed}
 use Rattle.strm_types.specs.Modules.{change_among}
 use Rattle.strm_types.specs.Names.{is_open, other, without}
 use Rattle.strm_types.specs.Queue.{IsOrdered, Queue, left_with, relieved}
@@ -27,7 +28,7 @@ use Rattle.strm_laws.specs.ModuleTurns.{Calls, again_at, asked_turn, bytes_at, c
 use Rattle.strm_laws.specs.Past.{has_room_past, waits_on, writer_waits}
 use Rattle.strm_laws.specs.Puts.{delivered, put_in}
 use Rattle.strm_laws.specs.Restorable.{GoodMessage, GoodModule, GoodQueue, GoodStream, StandsOn, stands_below}
-use Rattle.strm_laws.specs.Stacked.{Module, OfLdterm, OfPtem, OfPckt, module_asks, module_queue, module_rests, module_serves, with_module_queue}
+use Rattle.strm_laws.specs.Stacked.{Standing, OfLdterm, OfPtem, OfPckt, module_asks, module_rests, module_serves}
 use Rattle.strm_laws.specs.State.{State, Stream, stream, with_driver_queue, with_head_queue, with_stream}
 use Rattle.strm_laws.specs.TurnOutcomes.{TurnOutcome}
 use Rattle.strm_laws.specs.Turns.{driver_serves, held_back, is_stopped_across, moved_across, turned, turned_at, turned_queue, up_across, with_driver, turn_ended as driver_turn_ended}
@@ -52,15 +53,15 @@ module _ {C : Type 0} (P : State C → Type 0) where
 module _ {C : Type 0} where
   -- a queue of a module changes, and is as good whatever may stand there
   change-at : (way : Way) (change : Queue C → Queue C) → ((stands : MsgKind → Bool) (q : Queue C) → GoodQueue stands q → GoodQueue stands (change q))
-      → (p : Module C) → GoodModule p → GoodModule (queue_changed module_queue with_module_queue way change p)
+      → (p : Standing C) → GoodModule p → GoodModule (queue_changed way change p)
   change-at way change keeps (OfLdterm l) good = with-queue-good way _ l (keeps (stands_at way) _ (queue-good way l good)) good
   change-at way change keeps (OfPtem p) good = good
   change-at way change keeps (OfPckt p) good = good
 
   change-stack : (side : Side) (way : Way) (change : Queue C → Queue C) → ((stands : MsgKind → Bool) (q : Queue C) → GoodQueue stands q → GoodQueue stands (change q))
-      → (i : ℕ) (t : Stream C) → GoodStream side t → GoodStream side (record t { modules = change_among (queue_changed module_queue with_module_queue way change) i t.modules })
+      → (i : ℕ) (t : Stream C) → GoodStream side t → GoodStream side (record t { modules = change_among (queue_changed way change) i t.modules })
   change-stack side way change keeps i t good =
-      modules-good side _ t (queue-names way change i t.modules) (changes-good (queue_changed module_queue with_module_queue way change) (change-at way change keeps) i t.modules good.modules.each) good
+      modules-good side _ t (queue-names way change i t.modules) (changes-good (queue_changed way change) (change-at way change keeps) i t.modules good.modules.each) good
 
   -- a writer waits
   head-waits : (side : Side) (band : ℕ) (t : Stream C) → GoodStream side t → GoodStream side (with_head_queue (with_waiting band t.head.queue) t)
@@ -79,7 +80,7 @@ module _ {C : Type 0} where
   waits-good : (side : Side) (way : Way) (at band : ℕ) (s : State C) → AreStreams s → AreStreams (writer_waits side way at band s)
   waits-good side way at band s all =
       let t = stream side s in
-      let o = place_past module_queue way at t.modules in
+      let o = place_past way at t.modules in
       streams-with side (waits_on way band o t) s (waits-stream side way band o t (all.0 side)) all
 
   ended-streams : (here : Spot) (took : Bool) (s : State C) → AreStreams s → AreStreams (with_stream here.side (queue_ended here took (stream here.side s)) s)
@@ -95,7 +96,7 @@ module _ {C : Type 0} (cells : Cells C) where
   delivered-streams to m s fits all = delivered-good GoodMessage AreStreams cells (stream-parts cells) to m s fits all
 
   module _ (here : Spot) where
-    serves-acted : (again : Bool) (made : ℕ) (stop : Option ℕ) (p : Module C) → GoodModule p → GoodActed (module_serves cells here made again stop p).acted
+    serves-acted : (again : Bool) (made : ℕ) (stop : Option ℕ) (p : Standing C) → GoodModule p → GoodActed (module_serves cells here made again stop p).acted
     serves-acted again made stop (OfLdterm l) good = let t = serves-good cells here made again stop l good in record { state = t.state; sent = t.sent }
     serves-acted again made stop (OfPtem p) good = record { state = good; sent = tt }
     serves-acted again made stop (OfPckt p) good = record { state = tt; sent = tt }

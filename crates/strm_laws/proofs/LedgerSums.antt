@@ -26,7 +26,7 @@ use Rattle.strm_types.specs.Names.{direction_at}
 use Rattle.strm_laws.specs.Places.{weight_gone}
 use Rattle.strm_types.specs.Queue.{weight}
 use Rattle.strm_types.specs.Rules.{counted_more, fates_of, made_more, number_of, told_more}
-use Rattle.strm_laws.specs.Stacked.{Module, OfLdterm, OfPtem, OfPckt, IsAtRest, module_weight, modules_weight}
+use Rattle.strm_laws.specs.Stacked.{Standing, OfLdterm, OfPtem, OfPckt, IsAtRest, module_weight, modules_weight}
 use Rattle.strm_laws.specs.State.{State, book}
 use Rattle.strm_laws.specs.Step.{IsLegal, after, replay}
 use Rattle.strm_laws.proofs.Based.{all-counted, held-there, none-counted}
@@ -56,7 +56,7 @@ module _ {C : Type 0} where
   idle-weighs p side l idle =
       omega (arith, ap (λ x. weight_begun p side x) idle.3, ap (λ x. weight_in_work (p (direction_at Up side)) x) idle.0, ap (λ xs. count_by (p (direction_at Up side)) xs) idle.1)
 
-  modules-down : (p : Dir → C → Bool) (side : Side) → p (direction_at Up side) ≡ none → p (direction_at Down side) ≡ all → (ps : List (Module C)) → AllByRecursion (λ q. IsAtRest q) ps
+  modules-down : (p : Dir → C → Bool) (side : Side) → p (direction_at Up side) ≡ none → p (direction_at Down side) ≡ all → (ps : List (Standing C)) → AllByRecursion (λ q. IsAtRest q) ps
       → modules_weight p side ps ≡ sum_by (held_by Down) ps
   modules-down p side up down [] idle = refl
   modules-down p side up down (OfPtem q ∷ ps) idle = omega (arith, sum_by-cons (module_weight p side) (OfPtem q) ps, sum_by-cons (held_by Down) (OfPtem q) ps, modules-down p side up down ps idle.1)
@@ -73,7 +73,7 @@ module _ {C : Type 0} where
         ap (λ t. weight t l.write_queue.messages) down,
       )
 
-  modules-up : (p : Dir → C → Bool) (side : Side) → p (direction_at Up side) ≡ all → p (direction_at Down side) ≡ none → (ps : List (Module C)) → AllByRecursion (λ q. IsAtRest q) ps
+  modules-up : (p : Dir → C → Bool) (side : Side) → p (direction_at Up side) ≡ all → p (direction_at Down side) ≡ none → (ps : List (Standing C)) → AllByRecursion (λ q. IsAtRest q) ps
       → modules_weight p side ps ≡ sum_by (held_by Up) ps
   modules-up p side up down [] idle = refl
   modules-up p side up down (OfPtem q ∷ ps) idle = omega (arith, sum_by-cons (module_weight p side) (OfPtem q) ps, sum_by-cons (held_by Up) (OfPtem q) ps, modules-up p side up down ps idle.1)

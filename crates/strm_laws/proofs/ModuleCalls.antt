@@ -20,7 +20,7 @@ use Rattle.strm_types.specs.Modules.{act_among, put_among}
 use Rattle.strm_types.specs.OutputTurns.{output_serves}
 use Rattle.strm_laws.specs.Places.{weight_gone, weight_made, weight_sent}
 use Rattle.strm_types.specs.Queue.{left_with}
-use Rattle.strm_laws.specs.Stacked.{Module, OfLdterm, OfPtem, OfPckt, IsAtRest, module_puts, module_serves, module_weight, modules_weight}
+use Rattle.strm_laws.specs.Stacked.{Standing, OfLdterm, OfPtem, OfPckt, IsAtRest, module_puts, module_serves, module_weight, modules_weight}
 use Rattle.strm_laws.proofs.LdtermOrderly.{orderly-echo, puts-orderly, serves-orderly}
 use Rattle.strm_laws.proofs.LdtermProgress.{serves-leaves}
 use Rattle.strm_types.proofs.LdtermPutStays.{puts-stay}
@@ -35,7 +35,7 @@ IsReady true Down left l = IsIdle l
 IsReady false way left l = IsIdle l
 
 -- the same of any module; what one without queues wants is nothing
-abbrev pub IsReadyAt : {C : Type 0} → Bool → Way → ℕ → Module C → Type 0
+abbrev pub IsReadyAt : {C : Type 0} → Bool → Way → ℕ → Standing C → Type 0
 IsReadyAt again way left (OfLdterm l) = IsReady again way left l
 IsReadyAt again way left (OfPtem p) = Unit {0}
 IsReadyAt again way left (OfPckt p) = Unit {0}
@@ -65,7 +65,7 @@ module _ {C : Type 0} where
   down-idle false left l ready = ready
 
   -- a put leaves it so
-  pub puts-ready : (cells : Cells C) (made : ℕ) (again : Bool) (way : Way) (left : ℕ) (here : Spot) (m : Message C) (q : Module C) → IsReadyAt again way left q → IsReadyAt again way left (module_puts cells made here m q).state
+  pub puts-ready : (cells : Cells C) (made : ℕ) (again : Bool) (way : Way) (left : ℕ) (here : Spot) (m : Message C) (q : Standing C) → IsReadyAt again way left q → IsReadyAt again way left (module_puts cells made here m q).state
   puts-ready cells made again way left here m (OfPtem q) ready = tt
   puts-ready cells made again way left here m (OfPckt q) ready = tt
   puts-ready cells made true Up left here m (OfLdterm l) ready = (puts-orderly here m l ready.0, subst (λ stage. stages_done stage ≤ 3 * left) (sym (puts-stay here m l).stage) ready.1)
@@ -73,7 +73,7 @@ module _ {C : Type 0} where
   puts-ready cells made false way left here m (OfLdterm l) ready = puts-idle cells made here m (OfLdterm l) ready
 
   -- a module is ready for the first call of a turn where nothing of one is under way
-  pub first-ready : (way : Way) (left : ℕ) (q : Module C) → IsAtRest q → IsReadyAt false way left q
+  pub first-ready : (way : Way) (left : ℕ) (q : Standing C) → IsAtRest q → IsReadyAt false way left q
   first-ready way left (OfLdterm l) rests = rests
   first-ready way left (OfPtem q) rests = tt
   first-ready way left (OfPckt q) rests = tt
@@ -119,20 +119,20 @@ module _ {C : Type 0} (cells : Cells C) where
       (serves-orderly cells up made again (Some left) l (ready-orderly again Up left l ready) (ready-turn again Up left l ready), serves-leaves cells up made again left l (ready-may again Up left l ready) works)
 
 -- the module at a place is so, counted from the top, from 0, and at all others nothing of a turn is under way
-abbrev pub OneIs : {C : Type 0} → (Module C → Type 0) → ℕ → List (Module C) → Type 0
+abbrev pub OneIs : {C : Type 0} → (Standing C → Type 0) → ℕ → List (Standing C) → Type 0
 OneIs Is i [] = Unit {0}
 OneIs Is zero (l ∷ ls) = Is l × AllIdle ls
 OneIs Is (suc i) (l ∷ ls) = IsAtRest l × OneIs Is i ls
 
 module _ {C : Type 0} where
-  pub one-of-idle : (Is : Module C → Type 0) → ((q : Module C) → IsAtRest q → Is q) → (i : ℕ) (ps : List (Module C)) → AllIdle ps → OneIs Is i ps
+  pub one-of-idle : (Is : Standing C → Type 0) → ((q : Standing C) → IsAtRest q → Is q) → (i : ℕ) (ps : List (Standing C)) → AllIdle ps → OneIs Is i ps
   one-of-idle Is from i [] idle = tt
   one-of-idle Is from zero (l ∷ ls) idle = (from l idle.0, idle.1)
   one-of-idle Is from (suc i) (l ∷ ls) idle = (idle.0, one-of-idle Is from i ls idle.1)
 
   module _ (cells : Cells C) (made : ℕ) where
-    pub one-puts : (Is : Module C → Type 0) → ((here : Spot) (m : Message C) (l : Module C) → Is l → Is (module_puts cells made here m l).state)
-        → (i j : ℕ) (here : Spot) (m : Message C) (ps : List (Module C)) → OneIs Is i ps → OneIs Is i (put_among (module_puts cells made) j here m ps).state
+    pub one-puts : (Is : Standing C → Type 0) → ((here : Spot) (m : Message C) (l : Standing C) → Is l → Is (module_puts cells made here m l).state)
+        → (i j : ℕ) (here : Spot) (m : Message C) (ps : List (Standing C)) → OneIs Is i ps → OneIs Is i (put_among (module_puts cells made) j here m ps).state
     one-puts Is stays i j here m [] one = tt
     one-puts Is stays zero zero here m (l ∷ ls) one = (stays here m l one.0, one.1)
     one-puts Is stays zero (suc j) here m (l ∷ ls) one = (one.0, among-idle cells made j here m ls one.1)
@@ -141,46 +141,46 @@ module _ {C : Type 0} where
 
 -- a call of the one at a place
 module _ {C : Type 0} (cells : Cells C) (here : Spot) (made : ℕ) (again : Bool) (left : ℕ) where
-  abbrev Ready : Module C → Type 0
+  abbrev Ready : Standing C → Type 0
   Ready l = IsReadyAt again here.way left l
 
-  abbrev acts : Module C → Acted C (Module C)
+  abbrev acts : Standing C → Acted C (Standing C)
   acts l = (module_serves cells here made again (Some left) l).acted
 
-  abbrev treated : Module C → ℕ
+  abbrev treated : Standing C → ℕ
   treated l = (module_serves cells here made again (Some left) l).bytes
 
-  abbrev asks : Module C → Bool
+  abbrev asks : Standing C → Bool
   asks l = (module_serves cells here made again (Some left) l).again
 
-  module-goes : (q : Module C) → Ready q → asks q ≡ true → IsReadyAt true here.way (left - treated q) (acts q).state
+  module-goes : (q : Standing C) → Ready q → asks q ≡ true → IsReadyAt true here.way (left - treated q) (acts q).state
   module-goes (OfLdterm l) ready works = goes-at cells here.way here again made left l ready works
   module-goes (OfPtem q) ready works = tt
   module-goes (OfPckt q) ready works = tt
 
-  module-rests : (q : Module C) → Ready q → asks q ≡ false → IsAtRest (acts q).state
+  module-rests : (q : Standing C) → Ready q → asks q ≡ false → IsAtRest (acts q).state
   module-rests (OfLdterm l) ready over = rests-at cells here.way here again made left l ready over
   module-rests (OfPtem q) ready over = tt
   module-rests (OfPckt q) ready over = tt
 
-  pub among-goes : (i : ℕ) (ps : List (Module C)) → OneIs Ready i ps → slice_index_or (map asks ps) i false ≡ true
+  pub among-goes : (i : ℕ) (ps : List (Standing C)) → OneIs Ready i ps → slice_index_or (map asks ps) i false ≡ true
       → OneIs (λ l. IsReadyAt true here.way (left - slice_index_or (map treated ps) i 0) l) i (act_among acts i ps).state
   among-goes i [] one works = tt
   among-goes zero (l ∷ ls) one works = (module-goes l one.0 works, one.1)
   among-goes (suc i) (l ∷ ls) one works = (one.0, among-goes i ls one.1 works)
 
-  pub among-rests : (i : ℕ) (ps : List (Module C)) → OneIs Ready i ps → slice_index_or (map asks ps) i false ≡ false → AllIdle (act_among acts i ps).state
+  pub among-rests : (i : ℕ) (ps : List (Standing C)) → OneIs Ready i ps → slice_index_or (map asks ps) i false ≡ false → AllIdle (act_among acts i ps).state
   among-rests i [] one over = tt
   among-rests zero (l ∷ ls) one over = (module-rests l one.0 over, one.1)
   among-rests (suc i) (l ∷ ls) one over = (one.0, among-rests i ls one.1 over)
 
   module _ (p : Dir → C → Bool) (ignores : IgnoresMapping cells p) where
-    module-keeps : (q : Module C) → Ready q → let t = acts q in module_weight p here.side t.state + (weight_sent p t.sent + weight_gone p t.gone) ≡ module_weight p here.side q + weight_made p t.gone
+    module-keeps : (q : Standing C) → Ready q → let t = acts q in module_weight p here.side t.state + (weight_sent p t.sent + weight_gone p t.gone) ≡ module_weight p here.side q + weight_made p t.gone
     module-keeps (OfLdterm l) ready = serves-keep p cells ignores here made again (Some left) l (orderly-echo l (ready-orderly again here.way left l ready)) (ready-may again here.way left l ready)
     module-keeps (OfPtem q) ready = refl
     module-keeps (OfPckt q) ready = refl
 
-    pub among-keeps : (i : ℕ) (ps : List (Module C)) → OneIs Ready i ps → let t = act_among acts i ps in
+    pub among-keeps : (i : ℕ) (ps : List (Standing C)) → OneIs Ready i ps → let t = act_among acts i ps in
         modules_weight p here.side t.state + (weight_sent p t.sent + weight_gone p t.gone) ≡ modules_weight p here.side ps + weight_made p t.gone
     among-keeps i [] one = omega arith
     among-keeps zero (l ∷ ls) one =

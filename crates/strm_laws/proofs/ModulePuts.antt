@@ -20,8 +20,8 @@ use Rattle.strm_types.specs.Message.{Message, map_message, weight_of}
 use Rattle.strm_types.specs.Modules.{put_among}
 use Rattle.strm_types.specs.Origins.{map_acted}
 use Rattle.strm_laws.specs.Places.{weight_gone, weight_made, weight_sent}
-use Rattle.strm_types.specs.Service.{line_gone}
-use Rattle.strm_laws.specs.Stacked.{Module, OfLdterm, OfPtem, OfPckt, done_by, map_module, module_puts, module_weight, modules_weight}
+use Rattle.strm_types.specs.Service.{line_gone, done_by}
+use Rattle.strm_laws.specs.Stacked.{Standing, OfLdterm, OfPtem, OfPckt, map_module, module_puts, module_weight, modules_weight}
 use Rattle.strm_types.specs.TakenUp.{input_flushed, taken_up, termios_taken}
 use Rattle.strm_types.specs.Typing.{up_alone}
 use Rattle.strm_laws.proofs.DeliveryKeeps.{made-append}
@@ -75,7 +75,7 @@ module _ {C : Type 0} (p : Dir → C → Bool) where
   })
 
   module _ (cells : Cells C) (made : ℕ) where
-    module-keeps : (here : Spot) (m : Message C) (q : Module C) → let t = module_puts cells made here m q in
+    module-keeps : (here : Spot) (m : Message C) (q : Standing C) → let t = module_puts cells made here m q in
         module_weight p here.side t.state + (weight_sent p t.sent + weight_gone p t.gone) ≡ module_weight p here.side q + weight_of (p (direction_at here.way here.side)) m + weight_made p t.gone
     module-keeps here m (OfLdterm l) = omega (arith, puts-hold p here m l, ldterm-none here m l)
     module-keeps here m (OfPtem q) =
@@ -86,7 +86,7 @@ module _ {C : Type 0} (p : Dir → C → Bool) where
     module-keeps here m (OfPckt q) = let kept = pckt-keeps p cells made here m in omega arith
 
     -- a put at one of several modules
-    pub among-keeps : (i : ℕ) (here : Spot) (m : Message C) (ps : List (Module C)) → i < length ps → let t = put_among (module_puts cells made) i here m ps in
+    pub among-keeps : (i : ℕ) (here : Spot) (m : Message C) (ps : List (Standing C)) → i < length ps → let t = put_among (module_puts cells made) i here m ps in
         modules_weight p here.side t.state + (weight_sent p t.sent + weight_gone p t.gone) ≡ modules_weight p here.side ps + weight_of (p (direction_at here.way here.side)) m + weight_made p t.gone
     among-keeps i here m [] within = absurd (omega arith)
     among-keeps zero here m (l ∷ ls) within =
@@ -100,16 +100,16 @@ module _ {C : Type 0} (cells : Cells C) (are : AreCells cells) (made : ℕ) wher
   abbrev f : C → ℕ
   f = cells.byte
 
-  abbrev image : Acted C (List (Module C)) → Acted ℕ (List (Module ℕ))
+  abbrev image : Acted C (List (Standing C)) → Acted ℕ (List (Standing ℕ))
   image t = map_acted f (map (map_module f)) t
 
-  module-forgets : (here : Spot) (m : Message C) (q : Module C) → module_puts plain made here (map_message f m) (map_module f q) ≡ map_acted f (map_module f) (module_puts cells made here m q)
+  module-forgets : (here : Spot) (m : Message C) (q : Standing C) → module_puts plain made here (map_message f m) (map_module f q) ≡ map_acted f (map_module f) (module_puts cells made here m q)
   module-forgets here m (OfLdterm l) = ap (done_by OfLdterm) (puts-forget f here m l)
   module-forgets here m (OfPtem q) = ap (done_by OfPtem) (ptem-forgets f here m q)
   module-forgets here m (OfPckt q) = ap (done_by OfPckt) (pckt-forgets cells are made here m)
 
-  pub among-forgets : (i : ℕ) (here : Spot) (m : Message C) (ps : List (Module C))
+  pub among-forgets : (i : ℕ) (here : Spot) (m : Message C) (ps : List (Standing C))
       → put_among (module_puts plain made) i here (map_message f m) (map (map_module f) ps) ≡ image (put_among (module_puts cells made) i here m ps)
   among-forgets i here m [] = refl
-  among-forgets zero here m (l ∷ ls) = ap (λ (t : Acted ℕ (Module ℕ)). record { state = t.state ∷ map (map_module f) ls; notes = t.notes; sent = t.sent; gone = t.gone }) (module-forgets here m l)
-  among-forgets (suc i) here m (l ∷ ls) = ap (λ (t : Acted ℕ (List (Module ℕ))). record { state = map_module f l ∷ t.state; notes = t.notes; sent = t.sent; gone = t.gone }) (among-forgets i here m ls)
+  among-forgets zero here m (l ∷ ls) = ap (λ (t : Acted ℕ (Standing ℕ)). record { state = t.state ∷ map (map_module f) ls; notes = t.notes; sent = t.sent; gone = t.gone }) (module-forgets here m l)
+  among-forgets (suc i) here m (l ∷ ls) = ap (λ (t : Acted ℕ (List (Standing ℕ))). record { state = map_module f l ∷ t.state; notes = t.notes; sent = t.sent; gone = t.gone }) (among-forgets i here m ls)

@@ -18,12 +18,13 @@ use Rattle.strm_types.specs.Input.{stages_done, to_treat}
 use Rattle.strm_types.specs.LdtermPuts.{ldterm_puts}
 use Rattle.strm_types.specs.Ldterms.{Stage, new_ldterm}
 use Rattle.strm_types.specs.Message.{Message}
-use Rattle.strm_types.specs.ModuleQueues.{at_place, messages_at}
+use Rattle.strm_types.specs.ModuleQueues.{at_place}
+use Rattle.strm_types.specs.Standings.{messages_at}
 use Rattle.strm_laws.specs.ModuleTurns.{Calls, again_at, bytes_at, call_at, calls, made_below, module_turn_ended, moved_on, moved_within}
 use Rattle.strm_types.specs.Modules.{act_among, put_among}
 use Rattle.strm_laws.specs.Puts.{booked, module_acted, put_in}
-use Rattle.strm_types.specs.Service.{Serving}
-use Rattle.strm_laws.specs.Stacked.{Module, OfLdterm, OfPtem, OfPckt, module_puts, module_queue, module_serves, served_by}
+use Rattle.strm_types.specs.Service.{Serving, served_by}
+use Rattle.strm_laws.specs.Stacked.{Standing, OfLdterm, OfPtem, OfPckt, module_puts, module_serves}
 use Rattle.strm_laws.specs.State.{State, book, stream, with_book, with_stream, Stream}
 use Rattle.strm_types.specs.LdtermCalls.{Begins, Ends, bytes_left}
 use Rattle.strm_laws.specs.TurnCalls.{Stopped, asks_on, called, ldterm_of, led, module_at, treated}
@@ -62,32 +63,32 @@ pub record UnderWay : Type 0 where
   pub stage : Stage ℕ
   pub in_work : Option (Message ℕ)
 
-abbrev pub under_way : Module ℕ → UnderWay
+abbrev pub under_way : Standing ℕ → UnderWay
 under_way p = let l = ldterm_of p in record { stage = l.stage; in_work = l.in_work }
 
 -- what stands at a place of no module
-abbrev pub none_there : Module ℕ
+abbrev pub none_there : Standing ℕ
 none_there = OfLdterm new_ldterm
 
 -- what is known of calls of ldterm's service procedure is so of any module's
 module _ (here : Spot) (again : Bool) where
-  module-goes : (p : Module ℕ) → Begins here.way again (ldterm_of p) → let t = module_serves plain here 0 again None p in t.again ≡ true → GoesOn here.way again (ldterm_of p) t.bytes (ldterm_of t.acted.state)
+  module-goes : (p : Standing ℕ) → Begins here.way again (ldterm_of p) → let t = module_serves plain here 0 again None p in t.again ≡ true → GoesOn here.way again (ldterm_of p) t.bytes (ldterm_of t.acted.state)
   module-goes (OfLdterm l) begins works = serves-goes here again l begins works
   module-goes (OfPtem p) begins works = absurd (false≢true works)
   module-goes (OfPckt p) begins works = absurd (false≢true works)
 
-  module-alike : (p : Module ℕ) → let t = module_serves plain here 0 again None p in t.again ≡ true → (left made : ℕ) → stages_done (ldterm_of t.acted.state).stage + 3 * t.bytes ≤ 3 * left → module_serves plain here made again (Some left) p ≡ t
+  module-alike : (p : Standing ℕ) → let t = module_serves plain here 0 again None p in t.again ≡ true → (left made : ℕ) → stages_done (ldterm_of t.acted.state).stage + 3 * t.bytes ≤ 3 * left → module_serves plain here made again (Some left) p ≡ t
   module-alike (OfLdterm l) works left made fits = ap (served_by OfLdterm) (serves-alike here again l works left made fits)
   module-alike (OfPtem p) works left made fits = refl
   module-alike (OfPckt p) works left made fits = refl
 
-  pub module-ends : (p : Module ℕ) → Begins here.way again (ldterm_of p) → let t = module_serves plain here 0 again None p in t.again ≡ false
+  pub module-ends : (p : Standing ℕ) → Begins here.way again (ldterm_of p) → let t = module_serves plain here 0 again None p in t.again ≡ false
       → Ends here.way again (ldterm_of p) t.bytes × ((made : ℕ) → module_serves plain here made again (Some t.bytes) p ≡ t)
   module-ends (OfLdterm l) begins over = let e = serves-ends here again l begins over in (e.0, λ made. ap (served_by OfLdterm) (e.1 made))
   module-ends (OfPtem p) begins over = (record { treat = omega arith; done = omega arith }, λ made. refl)
   module-ends (OfPckt p) begins over = (record { treat = omega arith; done = omega arith }, λ made. refl)
 
-  module-made : (stop : Option ℕ) (p : Module ℕ) (made : ℕ) → module_serves plain here made again stop p ≡ module_serves plain here 0 again stop p
+  module-made : (stop : Option ℕ) (p : Standing ℕ) (made : ℕ) → module_serves plain here made again stop p ≡ module_serves plain here 0 again stop p
   module-made stop (OfLdterm l) made = ap (served_by OfLdterm) (serves-made here again stop l made)
   module-made stop (OfPtem p) made = refl
   module-made stop (OfPckt p) made = refl
@@ -95,7 +96,7 @@ module _ (here : Spot) (again : Bool) where
 ways : (a b : Stage ℕ) (c d : Option (Message ℕ)) → a ≡ b → c ≡ d → (let x : UnderWay = record { stage = a; in_work = c } in let y : UnderWay = record { stage = b; in_work = d } in x ≡ y)
 ways a b c d same work = ap (λ (x : Stage ℕ). let v : UnderWay = record { stage = x; in_work = c } in v) same ∙ ap (λ (x : Option (Message ℕ)). let v : UnderWay = record { stage = b; in_work = x } in v) work
 
-put-stays : (made j : ℕ) (to : Spot) (m : Message ℕ) (ps : List (Module ℕ)) → map under_way (put_among (module_puts plain made) j to m ps).state ≡ map under_way ps
+put-stays : (made j : ℕ) (to : Spot) (m : Message ℕ) (ps : List (Standing ℕ)) → map under_way (put_among (module_puts plain made) j to m ps).state ≡ map under_way ps
 put-stays made j to m [] = refl
 put-stays made zero to m (OfPtem p ∷ ls) = refl
 put-stays made zero to m (OfPckt p ∷ ls) = refl
@@ -109,7 +110,7 @@ put-stays made (suc j) to m (l ∷ ls) = ap (λ xs. under_way l ∷ xs) (put-sta
 pub sent-stays : (sent : List (Parcel ℕ)) (s : State ℕ) (side : Side) → map under_way (stream side (in_turn (carried (put_in plain) HOPS) sent s).state).modules ≡ map under_way (stream side s).modules
 sent-stays sent s = in_turn-holds (OnBoth Good) (carried (put_in plain) HOPS) (carried-holds (OnBoth Good) (put_in plain) (puts-good Good plain (λ side made i to m ps same. put-stays made i to m ps ∙ same)) HOPS) sent s (λ side. refl)
   where
-    Good : Side → List (Module ℕ) → Type 0
+    Good : Side → List (Standing ℕ) → Type 0
     Good side ps = map under_way ps ≡ map under_way (stream side s).modules
 
 -- the modules stay where cells are booked as made
@@ -118,11 +119,11 @@ booked-stays side [] s = refl
 booked-stays side (Goes dir rule cells ∷ told) s = booked-stays side told s
 booked-stays side (Comes dir cells ∷ told) s = booked-stays side told (with_book dir (with_made (length cells) (book dir s)) s)
 
-with-modules : (side : Side) (ps : List (Module ℕ)) (s : State ℕ) → (stream side (with_stream side (record (stream side s) { modules = ps }) s)).modules ≡ ps
+with-modules : (side : Side) (ps : List (Standing ℕ)) (s : State ℕ) → (stream side (with_stream side (record (stream side s) { modules = ps }) s)).modules ≡ ps
 with-modules side ps s = ap (λ (t : Stream ℕ). t.modules) (get-set-same side (record (stream side s) { modules = ps }) s.ends)
 
 module _ (here : Spot) where
-  acted-modules : (t : Acted ℕ (List (Module ℕ))) (s : State ℕ) → (stream here.side (module_acted here t s).state).modules ≡ t.state
+  acted-modules : (t : Acted ℕ (List (Standing ℕ))) (s : State ℕ) → (stream here.side (module_acted here t s).state).modules ≡ t.state
   acted-modules t s = booked-stays here.side t.gone (module_acted here (record t { gone = [] }) s).state ∙ with-modules here.side t.state s
 
   module _ (again : Bool) (stop : Option ℕ) where
@@ -145,7 +146,7 @@ module _ (here : Spot) where
         let ps = (stream here.side s).modules in
         let qs = (stream here.side (led here again stop s).state).modules in
         let i = here.at - 1 in
-        let acts : Module ℕ → Acted ℕ (Module ℕ) = λ p. (module_serves plain here 0 again stop p).acted in
+        let acts : Standing ℕ → Acted ℕ (Standing ℕ) = λ p. (module_serves plain here 0 again stop p).acted in
         let none = under_way none_there in
         let same = led-length s in
         let long = act-length acts i ps in
@@ -159,14 +160,14 @@ module _ (here : Spot) where
   behind gone bytes v = record { state = v.state; gone = gone ++ v.gone; bytes = bytes + v.bytes; ended = v.ended }
 
   -- a call and those that follow it
-  abbrev next_of : ℕ → ℕ → Acted ℕ (List (Module ℕ)) → ℕ → Bool → State ℕ → Calls ℕ
+  abbrev next_of : ℕ → ℕ → Acted ℕ (List (Standing ℕ)) → ℕ → Bool → State ℕ → Calls ℕ
   next_of more left t bytes again s =
       let w = module_acted here t s in
       let u = in_turn (carried (put_in plain) HOPS) w.sent w.state in
       let v = calls plain here more true (left - bytes) u.state in
       cond {A = Calls ℕ} again (record { state = v.state; gone = w.gone ++ u.gone ++ v.gone; bytes = bytes + v.bytes; ended = v.ended }) (record { state = u.state; gone = w.gone ++ u.gone; bytes = bytes; ended = true })
 
-  next-same : (more left : ℕ) (s : State ℕ) (t t' : Acted ℕ (List (Module ℕ))) (b b' : ℕ) (g g' : Bool) → t ≡ t' → b ≡ b' → g ≡ g' → next_of more left t b g s ≡ next_of more left t' b' g' s
+  next-same : (more left : ℕ) (s : State ℕ) (t t' : Acted ℕ (List (Standing ℕ))) (b b' : ℕ) (g g' : Bool) → t ≡ t' → b ≡ b' → g ≡ g' → next_of more left t b g s ≡ next_of more left t' b' g' s
   next-same more left s t t' b b' g g' acts bytes asks = ap (λ x. next_of more left x b g s) acts ∙ ap (λ x. next_of more left t' x g s) bytes ∙ ap (λ x. next_of more left t' b' x s) asks
 
   -- a call within a limit is as one without it, where the module does alike
@@ -177,12 +178,12 @@ module _ (here : Spot) where
       let ps = (stream here.side s).modules in
       let i = here.at - 1 in
       let made = made_below here.side s in
-      let f : Module ℕ → Serving ℕ (Module ℕ) = λ p. module_serves plain here made again (Some left) p in
-      let g : Module ℕ → Serving ℕ (Module ℕ) = λ p. module_serves plain here 0 again stop p in
+      let f : Standing ℕ → Serving ℕ (Standing ℕ) = λ p. module_serves plain here made again (Some left) p in
+      let g : Standing ℕ → Serving ℕ (Standing ℕ) = λ p. module_serves plain here 0 again stop p in
       next-same more left s (call_at plain here made again left ps) (called here again stop ps) (bytes_at plain here made again left ps) (treated here again stop ps) (again_at plain here made again left ps) (asks_on here again stop ps)
-      (act-alike none_there (λ p. (f p).acted) (λ p. (g p).acted) i ps (ap (λ (t : Serving ℕ (Module ℕ)). t.acted) (alike made)))
-      (index-map none_there (λ p. (f p).bytes) 0 i ps low ∙ ap (λ (t : Serving ℕ (Module ℕ)). t.bytes) (alike made) ∙ sym (index-map none_there (λ p. (g p).bytes) 0 i ps low))
-      (index-map none_there (λ p. (f p).again) false i ps low ∙ ap (λ (t : Serving ℕ (Module ℕ)). t.again) (alike made) ∙ sym (index-map none_there (λ p. (g p).again) false i ps low))
+      (act-alike none_there (λ p. (f p).acted) (λ p. (g p).acted) i ps (ap (λ (t : Serving ℕ (Standing ℕ)). t.acted) (alike made)))
+      (index-map none_there (λ p. (f p).bytes) 0 i ps low ∙ ap (λ (t : Serving ℕ (Standing ℕ)). t.bytes) (alike made) ∙ sym (index-map none_there (λ p. (g p).bytes) 0 i ps low))
+      (index-map none_there (λ p. (f p).again) false i ps low ∙ ap (λ (t : Serving ℕ (Standing ℕ)). t.again) (alike made) ∙ sym (index-map none_there (λ p. (g p).again) false i ps low))
 
   module _ (s0 : State ℕ) where
     -- What the calls of a turn have led to so far, of which the next one is the first (false) or not: whatever the bytes are that the rest
@@ -231,16 +232,16 @@ module _ (here : Spot) where
           goes = goes;
         }
       where
-        ps : List (Module ℕ)
+        ps : List (Standing ℕ)
         ps = (stream here.side s).modules
 
-        l : Module ℕ
+        l : Standing ℕ
         l = module_at here s
 
-        t : Serving ℕ (Module ℕ)
+        t : Serving ℕ (Standing ℕ)
         t = module_serves plain here 0 again None l
 
-        q : Module ℕ
+        q : Standing ℕ
         q = module_at here (led here again None s).state
 
         b : ℕ
@@ -325,7 +326,7 @@ module _ (here : Spot) where
           let is = last-is stop over stopped in
           (let treat = is.0.treat in omega (arith, r.within, treat), last-moves stop over is)
 
-  whole : (way : Way) (p : Module ℕ) → bytes_left way false (ldterm_of p) ≡ first_size (messages_at module_queue way p)
+  whole : (way : Way) (p : Standing ℕ) → bytes_left way false (ldterm_of p) ≡ first_size (messages_at way p)
   whole Up (OfLdterm l) = refl
   whole Down (OfLdterm l) = refl
   whole Up (OfPtem p) = refl
@@ -335,9 +336,9 @@ module _ (here : Spot) where
 
   -- how many bytes the first message has
   pub first-left : (s : State ℕ) → here.at - 1 < length (stream here.side s).modules
-      → at_place (λ p. first_size (messages_at module_queue here.way p)) 0 here.at (stream here.side s).modules ≡ bytes_left here.way false (ldterm_of (module_at here s))
+      → at_place (λ p. first_size (messages_at here.way p)) 0 here.at (stream here.side s).modules ≡ bytes_left here.way false (ldterm_of (module_at here s))
   first-left s low =
-      index-map none_there (λ p. first_size (messages_at module_queue here.way p)) 0 (here.at - 1) (stream here.side s).modules low ∙ sym (whole here.way (module_at here s))
+      index-map none_there (λ p. first_size (messages_at here.way p)) 0 (here.at - 1) (stream here.side s).modules low ∙ sym (whole here.way (module_at here s))
 
   -- so many bytes of a message, and one at least where it has one
   one-at-least : (bytes size : ℕ) → bytes ≤ size → (bytes ≡ 0 → size ≡ 0) → min (max 1 bytes) size ≡ bytes
@@ -350,4 +351,4 @@ module _ (here : Spot) where
   moves-within name bytes s low within some =
       let ps = (stream here.side s).modules in
       let first = first-left s low in
-      ap (λ n. moved_on plain here name n s) (one-at-least bytes (at_place (λ p. first_size (messages_at module_queue here.way p)) 0 here.at ps) (omega (arith, first, within)) (λ none. (let e = some none in omega (arith, first, e))))
+      ap (λ n. moved_on plain here name n s) (one-at-least bytes (at_place (λ p. first_size (messages_at here.way p)) 0 here.at ps) (omega (arith, first, within)) (λ none. (let e = some none in omega (arith, first, e))))

@@ -18,7 +18,7 @@ use Rattle.strm_laws.specs.Kept.{state_weight}
 use Rattle.strm_laws.specs.LdtermWeights.{ldterm_weight, weight_begun, weight_in_work}
 use Rattle.strm_types.specs.Ldterms.{IsIdle, Ldterm, new_ldterm}
 use Rattle.strm_types.specs.Message.{Message}
-use Rattle.strm_types.specs.ModuleQueues.{has_queue}
+use Rattle.strm_types.specs.Standings.{has_queues}
 use Rattle.strm_types.specs.Names.{direction_at, is_open}
 use Rattle.strm_types.specs.Options.{mode_message}
 use Rattle.strm_laws.specs.Places.{weight_gone, weight_made, weight_sent}
@@ -28,7 +28,7 @@ use Rattle.strm_laws.specs.Pushes.{all_taken, below_top, head_above, ioctl_dropp
 use Rattle.strm_laws.specs.Puts.{put_at_head}
 use Rattle.strm_types.specs.Queue.{Queue, weight}
 use Rattle.strm_types.specs.Service.{line_gone}
-use Rattle.strm_laws.specs.Stacked.{Module, OfLdterm, OfPtem, OfPckt, IsAtRest, module_name, module_queue, module_weight, modules_weight}
+use Rattle.strm_laws.specs.Stacked.{Standing, OfLdterm, OfPtem, OfPckt, IsAtRest, module_name, module_weight, modules_weight}
 use Rattle.strm_laws.specs.State.{State, stream}
 use Rattle.strm_laws.proofs.PutsKeep.{head-keeps}
 use Rattle.strm_laws.proofs.DeliveryKeeps.{gone-append, made-append}
@@ -58,7 +58,7 @@ module _ {C : Type 0} (p : Dir → C → Bool) where
   abbrev down_gone : Side → Rule → Ldterm C → List (Fate C)
   down_gone side rule l = Goes (direction_at Down side) rule (cells_gone of_all l.write_queue.messages) ∷ []
 
-  clears-keeps : (side : Side) (rule : Rule) (q : Module C) → IsAtRest q → weight_gone p (clears side rule q).gone ≡ module_weight p side q
+  clears-keeps : (side : Side) (rule : Rule) (q : Standing C) → IsAtRest q → weight_gone p (clears side rule q).gone ≡ module_weight p side q
   clears-keeps side rule (OfPtem q) idle = refl
   clears-keeps side rule (OfPckt q) idle = refl
   clears-keeps side rule (OfLdterm l) idle =
@@ -68,18 +68,18 @@ module _ {C : Type 0} (p : Dir → C → Bool) where
       let joined = gone-append p (line_gone side rule l.line) (down_gone side rule l) in
       omega (arith, begun-none side l idle, line, up, down, joined)
 
-  pub clears-make-none : (side : Side) (rule : Rule) (q : Module C) → weight_made p (clears side rule q).gone ≡ 0
+  pub clears-make-none : (side : Side) (rule : Rule) (q : Standing C) → weight_made p (clears side rule q).gone ≡ 0
   clears-make-none side rule (OfPtem q) = refl
   clears-make-none side rule (OfPckt q) = refl
   clears-make-none side rule (OfLdterm l) = omega (arith, lost-made p side rule l.line, made-append p (line_gone side rule l.line) (down_gone side rule l))
 
   -- a pair with other modules on a side
-  modules-weigh : (side : Side) (ps : List (Module C)) (s : State C) → state_weight p (with_modules side ps s) + modules_weight p side (stream side s).modules ≡ state_weight p s + modules_weight p side ps
+  modules-weigh : (side : Side) (ps : List (Standing C)) (s : State C) → state_weight p (with_modules side ps s) + modules_weight p side (stream side s).modules ≡ state_weight p s + modules_weight p side ps
   modules-weigh Master ps s = omega arith
   modules-weigh Slave ps s = omega arith
 
   -- the module on top, and all of them
-  pub top_taken-keeps : (rule : Rule) (side : Side) (ps : List (Module C)) (s : State C) → (stream side s).modules ≡ ps → AllByRecursion (λ l. IsAtRest l) ps → Keeps (top_taken rule side ps s) (state_weight p s)
+  pub top_taken-keeps : (rule : Rule) (side : Side) (ps : List (Standing C)) (s : State C) → (stream side s).modules ≡ ps → AllByRecursion (λ l. IsAtRest l) ps → Keeps (top_taken rule side ps s) (state_weight p s)
   top_taken-keeps rule side [] s are idle = refl
   top_taken-keeps rule side (l ∷ ls) s are idle =
       let there = ap (λ ps. modules_weight p side ps) are in
@@ -89,11 +89,11 @@ module _ {C : Type 0} (p : Dir → C → Bool) where
       let apart = modules-weigh side ls s in
       omega arith
 
-  taken-are : (rule : Rule) (side : Side) (l : Module C) (ls : List (Module C)) (s : State C) → (stream side (top_taken rule side (l ∷ ls) s).state).modules ≡ ls
+  taken-are : (rule : Rule) (side : Side) (l : Standing C) (ls : List (Standing C)) (s : State C) → (stream side (top_taken rule side (l ∷ ls) s).state).modules ≡ ls
   taken-are rule Master l ls s = refl
   taken-are rule Slave l ls s = refl
 
-  all_taken-keeps : (rule : Rule) (side : Side) (ps : List (Module C)) (s : State C) → (stream side s).modules ≡ ps → AllByRecursion (λ l. IsAtRest l) ps → Keeps (all_taken rule side ps s) (state_weight p s)
+  all_taken-keeps : (rule : Rule) (side : Side) (ps : List (Standing C)) (s : State C) → (stream side s).modules ≡ ps → AllByRecursion (λ l. IsAtRest l) ps → Keeps (all_taken rule side ps s) (state_weight p s)
   all_taken-keeps rule side [] s are idle = refl
   all_taken-keeps rule side (l ∷ ls) s are idle =
       let t = top_taken rule side (l ∷ ls) s in
@@ -125,11 +125,11 @@ module _ {C : Type 0} (p : Dir → C → Bool) where
   come-keeps false side s = refl
   come-keeps true side s = refl
 
-  pushed-keeps : (side : Side) (l : Module C) (s : State C) → Keeps (pushed side l s) (state_weight p s + module_weight p side l)
+  pushed-keeps : (side : Side) (l : Standing C) (s : State C) → Keeps (pushed side l s) (state_weight p s + module_weight p side l)
   pushed-keeps side l s =
       let on = with_modules side (l ∷ (stream side s).modules) s in
       let told = mode_put side (mode_on_push (module_name l)) on in
-      let comes = come-keeps (has_queue module_queue Up l) side told.state in
+      let comes = come-keeps (has_queues l) side told.state in
       let first = mode_put-keeps side (mode_on_push (module_name l)) on in
       let cons = sum_by-cons (module_weight p side) l (stream side s).modules in
       let apart = modules-weigh side (l ∷ (stream side s).modules) s in

@@ -24,7 +24,7 @@ use Rattle.strm_laws.specs.ModuleTurns.{module_turned, named_from, place_named, 
 use Rattle.strm_laws.specs.Rest.{EchoesOnce, NoLdterm, count_enabled, echoes, is_pckt, moves, packs_below, queue_names, work}
 use Rattle.strm_laws.specs.Restorable.{is_ldterm}
 use Rattle.strm_laws.specs.StackCosts.{Stands, stands_of, stands_on}
-use Rattle.strm_laws.specs.Stacked.{Module, OfLdterm, OfPtem, OfPckt, module_name}
+use Rattle.strm_laws.specs.Stacked.{Standing, OfLdterm, OfPtem, OfPckt, module_name}
 use Rattle.strm_laws.specs.State.{State, Stream, stream}
 use Rattle.strm_laws.specs.Step.{IsTurn}
 use Rattle.strm_laws.specs.Turns.{turned, turned_at}
@@ -181,7 +181,7 @@ named-least place from (Some other ∷ places) at is = by (same_place other plac
     by false is least = let more = least is in omega (arith, more)
 
 module _ {C : Type 0} where
-  named-none : (place : Place) (n from : ℕ) (ps : List (Module C)) → list_any is_ldterm (map module_name ps) ≡ false → named_from place from (places_of (take n ps)) ≡ None
+  named-none : (place : Place) (n from : ℕ) (ps : List (Standing C)) → list_any is_ldterm (map module_name ps) ≡ false → named_from place from (places_of (take n ps)) ≡ None
   named-none place zero from ps none = refl
   named-none place (suc n) from [] none = refl
   named-none place (suc n) from (OfLdterm l ∷ ps) none = absurd (cc)

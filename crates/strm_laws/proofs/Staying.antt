@@ -28,7 +28,7 @@ use Rattle.strm_types.specs.Queue.{Queue}
 use Rattle.strm_laws.specs.Earlier.{driver_place, modules_on}
 use Rattle.strm_laws.specs.Pair.{IsKeptAhead}
 use Rattle.strm_laws.specs.Puts.{SameButMade, across_of, made_above, passed_up, put_at_driver, put_at_head, put_at_module, put_behind, put_below, put_in}
-use Rattle.strm_laws.specs.Stacked.{Module, OfLdterm, OfPtem, OfPckt, module_puts}
+use Rattle.strm_laws.specs.Stacked.{Standing, OfLdterm, OfPtem, OfPckt, module_puts}
 use Rattle.strm_laws.specs.State.{State, stream}
 use Rattle.strm_laws.proofs.PutParts.{puts-hold}
 use Rattle.strm_laws.proofs.PutsKeep.{same-itself, same-stays}
@@ -150,12 +150,12 @@ module _ (to : Spot) (m : Message ℕ) (held : is_held m.kind ≡ true) where
       let one = subst (λ b. SentOn to (onward Up to (packet plain made to m) ∷ cond b (writers_flush to (asked_by m.plain) ∷ []) [])) (sym (none-behind m.kind m.plain held)) (passes-on Up is (packet plain made to m) proto-held) in
       subst (λ b. SentOn to (cond b (pckt_packs plain made to m) (pckt_passes to m)).sent) (sym (packed m.kind held)) one
 
-  at-module : (made : ℕ) (p : Module ℕ) → SentOn to (module_puts plain made to m p).sent
+  at-module : (made : ℕ) (p : Standing ℕ) → SentOn to (module_puts plain made to m p).sent
   at-module made (OfLdterm l) = at-ldterm l
   at-module made (OfPtem p) = at-ptem p
   at-module made (OfPckt p) = at-pckt made to.way refl
 
-  at-modules : (made i : ℕ) (ps : List (Module ℕ)) → SentOn to (act_among (module_puts plain made to m) i ps).sent
+  at-modules : (made i : ℕ) (ps : List (Standing ℕ)) → SentOn to (act_among (module_puts plain made to m) i ps).sent
   at-modules made i [] = tt
   at-modules made zero (p ∷ ps) = at-module made p
   at-modules made (suc i) (p ∷ ps) = at-modules made i ps

@@ -27,7 +27,7 @@ use Rattle.strm_types.specs.Output.{made_for, post, posts, space, told_for}
 use Rattle.strm_types.specs.OutputTurns.{output_dir, output_serves, posted, unchanged}
 use Rattle.strm_laws.specs.Places.{weight_made}
 use Rattle.strm_types.specs.Queue.{is_full, is_none_left, left_with}
-use Rattle.strm_laws.specs.Stacked.{Module, OfLdterm, OfPtem, OfPckt, module_serves}
+use Rattle.strm_laws.specs.Stacked.{Standing, OfLdterm, OfPtem, OfPckt, module_serves}
 use Rattle.strm_types.specs.Termios.{icanon, imaxbel, noflsh, opost}
 use Rattle.strm_types.specs.Typing.{added, both_ways, begins, echo_dir, echo_grows, echo_lost, echo_stands, echoed, is_blank_cell, lost, sigint, signals, sigquit, sigtstp, is_lnext, strikes, stroke_at, struck, up_alone}
 use Rattle.strm_laws.proofs.DeliveryKeeps.{made-append}
@@ -230,7 +230,7 @@ module _ {C : Type 0} (cells : Cells C) where
   serves-at Up here true made stop l = stages-order cells (record here { way = Up }) (3 * unwrap_or stop (to_treat l) - stages_done l.stage) made l
 
   -- a call of any module's
-  pub module-order : (here : Spot) (again : Bool) (made : ℕ) (stop : Option ℕ) (q : Module C) → TurnOrder cells here.side made (module_serves cells here made again stop q).acted.gone
+  pub module-order : (here : Spot) (again : Bool) (made : ℕ) (stop : Option ℕ) (q : Standing C) → TurnOrder cells here.side made (module_serves cells here made again stop q).acted.gone
   module-order here again made stop (OfLdterm l) = serves-at here.way here again made stop l
   module-order here again made stop (OfPtem q) = order-none cells here.side made [] refl
   module-order here again made stop (OfPckt q) = order-none cells here.side made [] refl

@@ -54,7 +54,7 @@ module _ (s t : StoreValue) (x : Ldterm) (m r : InHand) (now : Message ℕ) (the
   unfolding times_sent parcels_in AreChains
   work-comes f = record {
     state =
-        ap (λ (p : ldterms.Ldterm ℕ). record p { in_work = Some (message_in t (token r)) }) framed.0
+        ap (λ (p : ldterms.Discipline ℕ). record p { in_work = Some (message_in t (token r)) }) framed.0
         ∙ ap (λ (w : Message ℕ). record (ldterm_in s x) { in_work = Some w }) b.shows;
     noted = refl;
     parcels = refl;
@@ -128,7 +128,7 @@ module _ (s : StoreValue) (x : Ldterm) where
 -- A byte begins, and starts output or doesn't.
 module _ (s : StoreValue) (x : Ldterm) (here : Spot) (byte : ℕ) (v : Bool) (sent : List Sent) (f : Fates) (held : IsHeld s x)
     (is : v ≡ (x.stopped && restarts x.termios (stroke_at cells.plain here byte (ldterm_in s x)))) where
-  by : Bool → Acted ℕ (ldterms.Ldterm ℕ)
+  by : Bool → Acted ℕ (ldterms.Discipline ℕ)
   by w = cond w
       (sends (onward Down here (bare Start []) ∷ []) (record (ldterm_in s x) { stopped = false; stage = ldterms.Begun true byte }))
       (sends [] (record (ldterm_in s x) { stage = ldterms.Begun false byte }))
@@ -152,7 +152,7 @@ module _ (s : StoreValue) (x : Ldterm) (here : Spot) (byte : ℕ) (v : Bool) (se
       (ap (λ w. record (ldterm_in s x) { stopped = false; stage = ldterms.Begun w byte }) starts) refl refl refl)
 
 -- more blocks may be taken than are
-pub takes-more : (s t : StoreValue) (x y : Ldterm) (n : ℕ) (sent : List Sent) (f f' : Fates) (is : Acted ℕ (ldterms.Ldterm ℕ)) → Proceeds s t x y n [] sent f f' is → Proceeds s t x y (n + 1) [] sent f f' is
+pub takes-more : (s t : StoreValue) (x y : Ldterm) (n : ℕ) (sent : List Sent) (f f' : Fates) (is : Acted ℕ (ldterms.Discipline ℕ)) → Proceeds s t x y n [] sent f f' is → Proceeds s t x y (n + 1) [] sent f f' is
 takes-more s t x y n sent f f' is did = record {
   state = did.state;
   noted = did.noted;
@@ -167,7 +167,7 @@ takes-more s t x y n sent f f' is did = record {
   pool = did.pool;
 }
 
-pub room-stays : (s t : StoreValue) (x y : Ldterm) (sent : List Sent) (f f' : Fates) (is : Acted ℕ (ldterms.Ldterm ℕ)) (n : ℕ) → Proceeds s t x y 0 [] sent f f' is → HasRoom s n → HasRoom t n
+pub room-stays : (s t : StoreValue) (x y : Ldterm) (sent : List Sent) (f f' : Fates) (is : Acted ℕ (ldterms.Discipline ℕ)) (n : ℕ) → Proceeds s t x y 0 [] sent f f' is → HasRoom s n → HasRoom t n
 room-stays s t x y sent f f' is n did room = record { mblks = (let a = did.mblks in let b = room.mblks in omega arith); dblks = (let a = did.dblks in let b = room.dblks in omega arith) }
 
 pub start-plain : is_data_kind Start ≡ false

@@ -84,8 +84,8 @@ kept-some s None = refl
 kept-some s (Some m) = refl
 
 -- a message in work stays one
-pub still-works : (s t : StoreValue) (x x' : Ldterm) (p : ldterms.Ldterm ℕ) → ldterm_in t x' ≡ p → is_some p.in_work ≡ is_some (ldterm_in s x).in_work → is_some x.in_work ≡ true → is_some x'.in_work ≡ true
-still-works s t x x' p state same busy = sym (kept-some t x'.in_work) ∙ ap (λ (q : ldterms.Ldterm ℕ). is_some q.in_work) state ∙ same ∙ kept-some s x.in_work ∙ busy
+pub still-works : (s t : StoreValue) (x x' : Ldterm) (p : ldterms.Discipline ℕ) → ldterm_in t x' ≡ p → is_some p.in_work ≡ is_some (ldterm_in s x).in_work → is_some x.in_work ≡ true → is_some x'.in_work ≡ true
+still-works s t x x' p state same busy = sym (kept-some t x'.in_work) ∙ ap (λ (q : ldterms.Discipline ℕ). is_some q.in_work) state ∙ same ∙ kept-some s x.in_work ∙ busy
 
 pub left-none : (stage : ldterms.Stage ℕ) → stages_done stage ≡ 0 → stages_left stage ≡ 0
 left-none Between e = refl
@@ -93,10 +93,10 @@ left-none (Begun started c) e = absurd (omega arith)
 left-none (Answered echo) e = absurd (omega arith)
 
 -- between two bytes all that is left of the message is to be treated
-pub all-left : (p : ldterms.Ldterm ℕ) → stages_left p.stage ≡ 0 → to_treat p ≡ length (cells_left p)
+pub all-left : (p : ldterms.Discipline ℕ) → stages_left p.stage ≡ 0 → to_treat p ≡ length (cells_left p)
 all-left p none = (let z : to_treat (record p { stage = Between }) ≡ length (cells_left p) = omega arith in ap (λ (st : ldterms.Stage ℕ). to_treat (record p { stage = st })) (none-under-way p.stage none) ∙ z)
 
-pub one-more-left : (p : ldterms.Ldterm ℕ) → 0 < stages_left p.stage → to_treat p ≡ length (cells_left p) + 1
+pub one-more-left : (p : ldterms.Discipline ℕ) → 0 < stages_left p.stage → to_treat p ≡ length (cells_left p) + 1
 one-more-left p some = at p.stage refl some
   where
     at : (st : ldterms.Stage ℕ) → p.stage ≡ st → 0 < stages_left st → to_treat p ≡ length (cells_left p) + 1
@@ -104,7 +104,7 @@ one-more-left p some = at p.stage refl some
     at (Begun started c) is some = ap (λ (st : ldterms.Stage ℕ). to_treat (record p { stage = st })) is
     at (Answered echo) is some = ap (λ (st : ldterms.Stage ℕ). to_treat (record p { stage = st })) is
 
-notes-two : (p : ldterms.Ldterm ℕ) → notes_left p ≤ 2
+notes-two : (p : ldterms.Discipline ℕ) → notes_left p ≤ 2
 notes-two p = at p.stage p.echoing
   where
     at : (st : ldterms.Stage ℕ) (v : Bool) → notes_left (record p { stage = st; echoing = v }) ≤ 2
@@ -119,10 +119,10 @@ notes-two p = at p.stage p.echoing
 
 module _ (here : Spot) where
   -- no call notes more than twice
-  pub ahead-short : (n : ℕ) (p : ldterms.Ldterm ℕ) → n + stages_done p.stage ≤ 3 * to_treat p → length (ahead here n p).notes ≤ 2
+  pub ahead-short : (n : ℕ) (p : ldterms.Discipline ℕ) → n + stages_done p.stage ≤ 3 * to_treat p → length (ahead here n p).notes ≤ 2
   ahead-short n p room = let r = (ahead-reaches here n p room).counts.few in let two = notes-two p in omega arith
 
-  module _ (p : ldterms.Ldterm ℕ) (n : ℕ) (between : stages_left p.stage ≡ 0) (within : n ≤ length (cells_left p)) where
+  module _ (p : ldterms.Discipline ℕ) (n : ℕ) (between : stages_left p.stage ≡ 0) (within : n ≤ length (cells_left p)) where
     fits : 3 * n + stages_done p.stage ≤ 3 * to_treat p
     fits = let z = none-done p.stage between in let t = all-left p between in omega arith
 
@@ -142,7 +142,7 @@ module _ (here : Spot) where
         (stage, omega arith)
 
   -- a byte that has sent something is to be treated still
-  pub treat-after : (p : ldterms.Ldterm ℕ) → stages_left p.stage ≡ 0 → 0 < length (cells_left p) → is_none_left (ahead here 3 p).sent ≡ false → 0 < stages_left (ahead here 3 p).state.stage → to_treat (ahead here 3 p).state ≡ length (cells_left p)
+  pub treat-after : (p : ldterms.Discipline ℕ) → stages_left p.stage ≡ 0 → 0 < length (cells_left p) → is_none_left (ahead here 3 p).sent ≡ false → 0 < stages_left (ahead here 3 p).state.stage → to_treat (ahead here 3 p).state ≡ length (cells_left p)
   treat-after p between some sent under =
       let z = none-done p.stage between in
       let t = all-left p between in
@@ -156,7 +156,7 @@ module _ (here : Spot) where
       omega arith
 
   -- the message in work stays one
-  pub work-after : (n : ℕ) (p : ldterms.Ldterm ℕ) → n + stages_done p.stage ≤ 3 * to_treat p → is_some (ahead here n p).state.in_work ≡ is_some p.in_work
+  pub work-after : (n : ℕ) (p : ldterms.Discipline ℕ) → n + stages_done p.stage ≤ 3 * to_treat p → is_some (ahead here n p).state.in_work ≡ is_some p.in_work
   work-after n p room = (ahead-reaches here n p room).counts.work
 
 -- all that is free may be said to be taken
@@ -195,10 +195,10 @@ ran-none s0 here x0 bytes t0 still room = record {
 
 module _ (s0 s : StoreValue) (x0 x : Ldterm) (here : Spot) (bytes left : ℕ) (notes : List Note) (t0 t : Fates) (stage : stages_left (stage_in x0.stage) ≡ 0)
     (size : bytes ≡ length (cells_left (ldterm_in s0 x0))) (r : Ran s0 s here x0 x bytes left notes t0 t) where
-  abbrev p0 : ldterms.Ldterm ℕ
+  abbrev p0 : ldterms.Discipline ℕ
   p0 = ldterm_in s0 x0
 
-  abbrev p : ldterms.Ldterm ℕ
+  abbrev p : ldterms.Discipline ℕ
   p = ldterm_in s x
 
   abbrev n : ℕ
@@ -211,11 +211,11 @@ module _ (s0 s : StoreValue) (x0 x : Ldterm) (here : Spot) (bytes left : ℕ) (n
   within = let z = size in omega arith
 
   pub ran-stage : stages_left (stage_in x.stage) ≡ 0
-  ran-stage = ap (λ (q : ldterms.Ldterm ℕ). stages_left q.stage) r.does.state ∙ (between-after here p0 n stage within none).0
+  ran-stage = ap (λ (q : ldterms.Discipline ℕ). stages_left q.stage) r.does.state ∙ (between-after here p0 n stage within none).0
 
   pub ran-left : length (cells_left p) ≡ left
   ran-left =
-      let same = ap (λ (q : ldterms.Ldterm ℕ). length (cells_left q)) r.does.state in
+      let same = ap (λ (q : ldterms.Discipline ℕ). length (cells_left q)) r.does.state in
       let after = (between-after here p0 n stage within none).1 in
       let z = size in
       let f = r.fewer in
@@ -303,7 +303,7 @@ module _ (s0 s : StoreValue) (x0 x : Ldterm) (here : Spot) (bytes left : ℕ) (n
     treat =
         (let q = (ahead here 3 p).state in
         let out : is_none_left (ahead here 3 p).sent ≡ false = sym (ap is_none_left b.parcels) ∙ parcels-none s' sent' ∙ sent in
-        let under : 0 < stages_left q.stage = (let e = ap (λ (v : ldterms.Ldterm ℕ). stages_left v.stage) b.state in let u = behind.1 in omega arith) in
+        let under : 0 < stages_left q.stage = (let e = ap (λ (v : ldterms.Discipline ℕ). stages_left v.stage) b.state in let u = behind.1 in omega arith) in
         let l = ran-left in
         ap to_treat b.state ∙ treat-after here p ran-stage (omega arith) out under ∙ l);
   }

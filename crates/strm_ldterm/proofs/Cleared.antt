@@ -68,7 +68,7 @@ module _ (s t u : StoreValue) (x : Ldterm) (line : List ℕ) (q1 q2 : Queue) (he
         let p = ldterm_in s x in
         let y = record x { line = line; read_queue = q1 } in
         write-plain t u y q2 between below
-        ∙ ap (λ (r : ldterms.Ldterm ℕ). record r { write_queue = queue_in u q2 }) (read-plain s t (record x { line = line }) q1 (held-line s x line held) above)
+        ∙ ap (λ (r : ldterms.Discipline ℕ). record r { write_queue = queue_in u q2 }) (read-plain s t (record x { line = line }) q1 (held-line s x line held) above)
         ∙ ap (λ (l : List ℕ). record p { line = l; read_queue = queue_in t q1; write_queue = queue_in u q2 }) none
         ∙ ap (λ (q : plain.Queue ℕ). record p { line = []; read_queue = q; write_queue = queue_in u q2 }) reads
         ∙ ap (λ (q : plain.Queue ℕ). record p { line = []; read_queue = queue_behind of_all p.read_queue; write_queue = q }) (writes ∙ ap (λ (q : plain.Queue ℕ). queue_behind of_all q) write-list)

@@ -65,7 +65,7 @@ module _ (s t : StoreValue) (x : Ldterm) (q' : Queue) (n : ℕ) (held : IsHeld s
     once_each = held.once_each;
   }
 
-  stood : (v : Bool) (notes : List Note) (f : Fates) (a : Acted ℕ (ldterms.Ldterm ℕ)) → record (ldterm_in s x) { write_queue = queue_in t q'; echoing = v } ≡ a.state → notes ≡ a.notes → [] ≡ a.sent → [] ≡ a.gone
+  stood : (v : Bool) (notes : List Note) (f : Fates) (a : Acted ℕ (ldterms.Discipline ℕ)) → record (ldterm_in s x) { write_queue = queue_in t q'; echoing = v } ≡ a.state → notes ≡ a.notes → [] ≡ a.sent → [] ≡ a.gone
       → Proceeds s t x (record x { write_queue = q'; echoing = v }) n notes [] f f a
   unfolding parcels_in AreChains times_sent
   stood v notes f a state noted sent gone = record {
@@ -105,7 +105,7 @@ begins-proceeds s t x q' bytes n held can is here f v enables =
     (ap (λ w. cond {A = List Note} w (Enable Down ∷ []) []) enables) refl refl
 
 -- what has gone is told
-pub proceeds-told : (s t : StoreValue) (x x' : Ldterm) (n : ℕ) (notes : List Note) (f f' : Fates) (is : Acted ℕ (ldterms.Ldterm ℕ)) → f' ≡ tallied is.gone f → Proceeds s t x x' n notes [] f f (record is { gone = [] }) → Proceeds s t x x' n notes [] f f' is
+pub proceeds-told : (s t : StoreValue) (x x' : Ldterm) (n : ℕ) (notes : List Note) (f f' : Fates) (is : Acted ℕ (ldterms.Discipline ℕ)) → f' ≡ tallied is.gone f → Proceeds s t x x' n notes [] f f (record is { gone = [] }) → Proceeds s t x x' n notes [] f f' is
 proceeds-told s t x x' n notes f f' is told did = record {
   state = did.state;
   noted = did.noted;
@@ -121,7 +121,7 @@ proceeds-told s t x x' n notes f f' is told did = record {
 }
 
 -- nothing is done but that something is told
-pub proceeds-still : (s : StoreValue) (x : Ldterm) (n : ℕ) (notes : List Note) (f f' : Fates) (gone : List (Fate ℕ)) (is : Acted ℕ (ldterms.Ldterm ℕ)) → IsHeld s x → notes ≡ [] → f' ≡ tallied gone f
+pub proceeds-still : (s : StoreValue) (x : Ldterm) (n : ℕ) (notes : List Note) (f f' : Fates) (gone : List (Fate ℕ)) (is : Acted ℕ (ldterms.Discipline ℕ)) → IsHeld s x → notes ≡ [] → f' ≡ tallied gone f
     → is ≡ record (sends [] (ldterm_in s x)) { gone = gone } → Proceeds s s x x n notes [] f f' is
 unfolding parcels_in AreChains times_sent
 proceeds-still s x n notes f f' gone is held none told same = subst (λ a. Proceeds s s x x n notes [] f f' a) (sym same) (record {
@@ -150,12 +150,12 @@ made-plain d n [] = refl
 made-plain d n (b ∷ bytes) = ap (λ xs. b ∷ xs) (made-plain d (suc n) bytes)
 
 -- the cases of an echo
-module _ (here : Spot) (p : ldterms.Ldterm ℕ) where
+module _ (here : Spot) (p : ldterms.Discipline ℕ) where
   pub echoed-none : (bytes : List ℕ) → length bytes ≡ 0 → echoed plain here 0 bytes p ≡ sends [] p
   echoed-none [] none = refl
   echoed-none (b ∷ bytes) none = absurd (omega arith)
 
-  abbrev by_case : List ℕ → Bool → Acted ℕ (ldterms.Ldterm ℕ)
+  abbrev by_case : List ℕ → Bool → Acted ℕ (ldterms.Discipline ℕ)
   by_case bytes full = cond full (echo_lost plain here bytes p) (cond p.echoing (echo_grows plain here bytes p) (echo_stands plain here bytes p))
 
   echoed-by : (bytes : List ℕ) → (length bytes ≡ 0 → ⊥) → echoed plain here 0 bytes p ≡ by_case bytes (queues.is_full 0 p.write_queue)

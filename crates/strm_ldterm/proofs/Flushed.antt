@@ -68,7 +68,7 @@ pub flushes-none : (s : StoreValue) (x : Ldterm) (notes : List Note) (f : Fates)
 flushes-none s x notes f held none = record { state = refl; noted = none; told = refl; alters = alters-none s x held }
 
 -- one after the other
-pub flushes-both : (s t u : StoreValue) (x y z : Ldterm) (ns ms notes : List Note) (f f1 f2 : Fates) (a : Acted ℕ (ldterms.Ldterm ℕ)) (next : ldterms.Ldterm ℕ → Acted ℕ (ldterms.Ldterm ℕ))
+pub flushes-both : (s t u : StoreValue) (x y z : Ldterm) (ns ms notes : List Note) (f f1 f2 : Fates) (a : Acted ℕ (ldterms.Discipline ℕ)) (next : ldterms.Discipline ℕ → Acted ℕ (ldterms.Discipline ℕ))
     → Flushes s t x y ns f f1 a → Flushes t u y z ms f1 f2 (next (ldterm_in t y)) → notes ≡ ns ++ ms → Flushes s u x z notes f f2 (both a next)
 flushes-both s t u x y z ns ms notes f f1 f2 a next first second joined = record {
   state = second.state ∙ ap (λ p. (next p).state) first.state;

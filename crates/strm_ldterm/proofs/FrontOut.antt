@@ -31,7 +31,7 @@ module _ (s s1 s2 : StoreValue) (x : Ldterm) (m q r : InHand) (n : ℕ) (there :
   front-went st2 held kept f =
       let left = left_of (drop n (cells_of work)) work in
       let both = becomes-both s s1 s2 (token m) (token q) (token r) work left st1 skipped (subst (λ (w : Message ℕ). Becomes s1 s2 (token q) (token r) (left_of (drop n (cells_of w)) w)) skipped.shows trimmed) in
-      subst (λ (p : ldterms.Ldterm ℕ). Proceeds s s2 x (record x { in_work = Some r }) 0 [] [] f f (sends [] p)) (sym (busy-left s x m there n))
+      subst (λ (p : ldterms.Discipline ℕ). Proceeds s s2 x (record x { in_work = Some r }) 0 [] [] f f (sends [] p)) (sym (busy-left s x m there n))
       (work-comes s s2 x m r left there st2 held kept both f)
 
   pub front-taken : (first : List ℕ) (most : ℕ) → n ≤ most → n ≤ length first → (let cells = cells_of (message_in s1 (token q)) in cells ≡ take n first ++ drop n cells)

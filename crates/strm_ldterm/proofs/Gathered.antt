@@ -54,7 +54,7 @@ module _ (s t : StoreValue) (x : Ldterm) (m : InHand) (bytes : List ℕ) (f : Fa
       let p = ldterm_in s (record x { gathered = None }) in
       record {
         state =
-            ap (λ (q : ldterms.Ldterm ℕ). record q { gathered = cells_of (message_in t (token m)) }) new-framed.0
+            ap (λ (q : ldterms.Discipline ℕ). record q { gathered = cells_of (message_in t (token m)) }) new-framed.0
             ∙ ap (λ (cells : List ℕ). record p { gathered = cells }) (data-cells (message_in t (token m)) bytes is.shows);
         noted = refl;
         parcels = refl;
@@ -128,7 +128,7 @@ module _ (s t : StoreValue) (x : Ldterm) (e r : InHand) (bytes : List ℕ) (f : 
       let p = ldterm_in s (record x { gathered = None }) in
       record {
         state =
-            ap (λ (q : ldterms.Ldterm ℕ). record q { gathered = cells_of (message_in t (token r)) }) grown-framed.0
+            ap (λ (q : ldterms.Discipline ℕ). record q { gathered = cells_of (message_in t (token r)) }) grown-framed.0
             ∙ ap (λ (cells : List ℕ). record p { gathered = cells }) (ap (λ k. cells_of (message_in t k)) same ∙ is.cells);
         noted = refl;
         parcels = refl;

@@ -43,7 +43,7 @@ takes-more s0 s x0 x k n notes sent t0 t is few a = record {
 
 module _ (s0 s : StoreValue) (x0 x : Ldterm) (k : ℕ) (notes : List Note) (t0 t : Fates) (is : Acts) where
   -- what is sent ends it
-  pub sent-ends : (sent : List Sent) (next : ldterms.Ldterm ℕ → Acts) → is_none_left sent ≡ false → Proceeds s0 s x0 x k notes sent t0 t is → Proceeds s0 s x0 x k notes sent t0 t (one_after is next)
+  pub sent-ends : (sent : List Sent) (next : ldterms.Discipline ℕ → Acts) → is_none_left sent ≡ false → Proceeds s0 s x0 x k notes sent t0 t is → Proceeds s0 s x0 x k notes sent t0 t (one_after is next)
   sent-ends sent next some a =
       let same : is ≡ one_after is next = ap (λ v. cond {A = Acts} v (let u = next is.state in record { state = u.state; notes = is.notes ++ u.notes; sent = u.sent; gone = is.gone ++ u.gone }) is)
       (sym (sym (ap is_none_left a.parcels) ∙ parcels-none s sent ∙ some)) in
@@ -58,7 +58,7 @@ module _ (s0 s : StoreValue) (x0 x : Ldterm) (k : ℕ) (notes : List Note) (t0 t
     unfolding times_sent
     still-kept can = record { apart = λ i. let c = a.hands.counts i in let b = can.apart i in omega arith }
 
-    pub proceeds-joined : (s' : StoreValue) (x' : Ldterm) (j : ℕ) (notes' : List Note) (sent' : List Sent) (t' : Fates) (next : ldterms.Ldterm ℕ → Acts)
+    pub proceeds-joined : (s' : StoreValue) (x' : Ldterm) (j : ℕ) (notes' : List Note) (sent' : List Sent) (t' : Fates) (next : ldterms.Discipline ℕ → Acts)
         → Proceeds s s' x x' j notes' sent' t t' (next (ldterm_in s x)) → Proceeds s0 s' x0 x' (k + j) (notes ++ notes') sent' t0 t' (one_after is next)
     unfolding times_sent
     proceeds-joined s' x' j notes' sent' t' next b =
@@ -107,7 +107,7 @@ module _ (s0 s : StoreValue) (x0 x : Ldterm) (k : ℕ) (notes : List Note) (sent
   -- and behind it the byte stands at another stage
   pub to-stage : (stage : Stage) → Proceeds s0 s x0 x k notes sent t0 t is → Proceeds s0 s x0 (record x { stage = stage }) k notes sent t0 t (record is { state = record is.state { stage = stage_in stage } })
   to-stage stage a = record {
-    state = ap (λ (p : ldterms.Ldterm ℕ). record p { stage = stage_in stage }) a.state;
+    state = ap (λ (p : ldterms.Discipline ℕ). record p { stage = stage_in stage }) a.state;
     noted = a.noted;
     parcels = a.parcels;
     told = a.told;

@@ -47,12 +47,12 @@ use Rattle.strm_ldterm.proofs.Turned.{begun-later, cells-within, down≢up, down
 
 module _ (here : Spot) (stop : Option ℕ) where
   -- bytes that go out, so many at most
-  abbrev gone_out : ℕ → List ℕ → Message ℕ → ldterms.Ldterm ℕ → Outgoing ℕ
+  abbrev gone_out : ℕ → List ℕ → Message ℕ → ldterms.Discipline ℕ → Outgoing ℕ
   gone_out most xs m p =
       let t = posts plain (output_dir plain here) 0 p.termios p.column (take most xs) in
       record { messages = with_given t.given m; left = Some (left_of (drop most xs) m); bytes = length (take most xs); column = t.column; told = t.told }
 
-  pub posted-some : (xs : List ℕ) (m : Message ℕ) (p : ldterms.Ldterm ℕ) → 0 < length xs → posted plain here stop 0 xs m p ≡ gone_out (unwrap_or stop (length xs)) xs m p
+  pub posted-some : (xs : List ℕ) (m : Message ℕ) (p : ldterms.Discipline ℕ) → 0 < length xs → posted plain here stop 0 xs m p ≡ gone_out (unwrap_or stop (length xs)) xs m p
   posted-some [] m p some = absurd (omega arith)
   posted-some (x ∷ xs) m p some = refl
 
@@ -61,17 +61,17 @@ given-same : (l : List ℕ) (band : ℕ) (cells : List ℕ) (m : Message ℕ) �
 given-same [] band cells m is = refl
 given-same (c ∷ l) band cells m is = ap (λ (n : Message ℕ). record n { control = None; body = Some (c ∷ l) } ∷ []) is
 
-module _ (here : Spot) (p : ldterms.Ldterm ℕ) (m : Message ℕ) (rest : List (Message ℕ)) (band : ℕ) (first : p.write_queue.messages ≡ m ∷ rest) (is : m ≡ data_of band (cells_of m)) (output : opost p.termios ≡ true)
+module _ (here : Spot) (p : ldterms.Discipline ℕ) (m : Message ℕ) (rest : List (Message ℕ)) (band : ℕ) (first : p.write_queue.messages ≡ m ∷ rest) (is : m ≡ data_of band (cells_of m)) (output : opost p.termios ≡ true)
     (some : 0 < length (cells_of m)) (idle : p.in_work ≡ None) (none : p.gathered ≡ []) where
   -- it is in work
-  abbrev pub begun : ldterms.Ldterm ℕ
+  abbrev pub begun : ldterms.Discipline ℕ
   begun = record p { write_queue = left_with rest p.write_queue; in_work = Some m }
 
   both : (is_data m.kind && opost p.termios) ≡ true
   both = ap (λ (n : Message ℕ). is_data n.kind && opost p.termios) is ∙ output
 
   -- the end of a turn in which so many bytes went out
-  abbrev ended : ℕ → Option (Message ℕ) → List ℕ → List (Message ℕ) → ℕ → List (Fate ℕ) → ℕ → Serving ℕ (ldterms.Ldterm ℕ)
+  abbrev ended : ℕ → Option (Message ℕ) → List ℕ → List (Message ℕ) → ℕ → List (Fate ℕ) → ℕ → Serving ℕ (ldterms.Discipline ℕ)
   ended n work gathered messages column told bytes = record {
     acted = record {
       state = record p { write_queue = back_on (Some (left_of (drop n (cells_of m)) m)) (left_with rest p.write_queue); column = column; in_work = work; gathered = gathered };
@@ -101,7 +101,7 @@ module _ (here : Spot) (p : ldterms.Ldterm ℕ) (m : Message ℕ) (rest : List (
 -- A call in which so many bytes went out, and so many are left.
 module _ (s s1 s3 : StoreValue) (here : Spot) (x x1 x3 : Ldterm) (bytes n left band : ℕ) (notes : ArrayVec Note) (sent : Outbox) (t t' : Fates) (way : here.way ≡ Down)
     (between : stages_left (stage_in x.stage) ≡ 0) (b : BeganOutput s s1 here x x1 bytes band) (count : n + left ≡ bytes) (st1 : IsStore s1) (quiet : notes.items ≡ []) where
-  abbrev p : ldterms.Ldterm ℕ
+  abbrev p : ldterms.Discipline ℕ
   p = ldterm_in s x
 
   abbrev cells : List ℕ
@@ -110,7 +110,7 @@ module _ (s s1 s3 : StoreValue) (here : Spot) (x x1 x3 : Ldterm) (bytes n left b
   pub some-there : 0 < length cells
   some-there = let z = b.some in let y = b.size in omega arith
 
-  abbrev pub start : ldterms.Ldterm ℕ
+  abbrev pub start : ldterms.Discipline ℕ
   start = begun here p b.message b.rest band b.first b.is b.output some-there b.idle b.none
 
   pub in-work : ldterm_in s1 x1 ≡ start
@@ -133,16 +133,16 @@ module _ (s s1 s3 : StoreValue) (here : Spot) (x x1 x3 : Ldterm) (bytes n left b
       let whole = down-serves here again (stop_of served) p way ∙ out-is here p b.message b.rest band b.first b.is b.output some-there b.idle b.none (stop_of served) n stops-at (omega arith) in
       record {
         does =
-            subst (λ (v : Serving ℕ (ldterms.Ldterm ℕ)). Proceeds s s3 x x3 (all_free s) notes.items (sent_of sent) t t' v.acted) (sym whole)
+            subst (λ (v : Serving ℕ (ldterms.Discipline ℕ)). Proceeds s s3 x x3 (all_free s) notes.items (sent_of sent) t t' v.acted) (sym whole)
             (subst (λ ns. Proceeds s s3 x x3 (all_free s) ns (sent_of sent) t t' (one_after (poured here n start) (let_go here band))) (sym quiet) all);
-        bytes = sym (ap (λ (v : Serving ℕ (ldterms.Ldterm ℕ)). v.bytes) whole);
-        again_is = sym (ap (λ (v : Serving ℕ (ldterms.Ldterm ℕ)). v.again) whole);
+        bytes = sym (ap (λ (v : Serving ℕ (ldterms.Discipline ℕ)). v.bytes) whole);
+        again_is = sym (ap (λ (v : Serving ℕ (ldterms.Discipline ℕ)). v.again) whole);
         begun = λ goes byte within.
             let none = none-begun (stage_in x.stage) between in
             let opens : at_work Down again p ≡ start = ap (λ ms. at_work Down again (record p { write_queue = record p.write_queue { messages = ms } })) b.first in
             let same : at_work here.way again p ≡ start = ap (λ w. at_work w again p) way ∙ opens in
             subst (λ m. IsFreeBefore s x t m (at_work here.way again p) byte) (sym (ap (bytes_of_way here) way))
-            (subst (λ (q : ldterms.Ldterm ℕ). IsFreeBefore s x t (poured here) q byte) (sym same)
+            (subst (λ (q : ldterms.Discipline ℕ). IsFreeBefore s x t (poured here) q byte) (sym same)
             (begun-later s s1 x x1 t (poured here) start byte st1 (b.works t) (begins byte (omega (arith, within, none)))));
         stops = λ v. (low (lower 0 left v), refl);
         ends = λ v.
@@ -175,7 +175,7 @@ module _ (s s1 s2 s3 : StoreValue) (here : Spot) (x x1 x2 x3 : Ldterm) (bytes le
   all-told : m + left ≡ bytes
   all-told = let few = pours.fewer in omega arith
 
-  abbrev from : ldterms.Ldterm ℕ
+  abbrev from : ldterms.Discipline ℕ
   from = start s s1 s3 here x x1 x3 bytes m left band notes sent t t' way between b all-told st1 quiet
 
   is-in-work : ldterm_in s1 x1 ≡ from
@@ -184,9 +184,9 @@ module _ (s s1 s2 s3 : StoreValue) (here : Spot) (x x1 x2 x3 : Ldterm) (bytes le
   out-left : length (cells_left (ldterm_in s2 x2)) ≡ left
   out-left =
       let size = b.size in
-      ap (λ (q : ldterms.Ldterm ℕ). length (cells_left q)) pours.does.state
-      ∙ ap length (pours-left here m (ldterm_in s1 x1) (ap (λ (q : ldterms.Ldterm ℕ). is_some q.in_work) is-in-work))
-      ∙ ap (λ (q : ldterms.Ldterm ℕ). length (drop m (cells_left q))) is-in-work
+      ap (λ (q : ldterms.Discipline ℕ). length (cells_left q)) pours.does.state
+      ∙ ap length (pours-left here m (ldterm_in s1 x1) (ap (λ (q : ldterms.Discipline ℕ). is_some q.in_work) is-in-work))
+      ∙ ap (λ (q : ldterms.Discipline ℕ). length (drop m (cells_left q))) is-in-work
       ∙ length-drop m (cells_of b.message)
       ∙ omega (arith, size, all-told)
 

@@ -105,9 +105,9 @@ module _ (s : StoreValue) (x : Ldterm) (here : Spot) where
 
   pub stays-down : (sent : List Sent) → IsHeld s x → messages_on s x.write_queue.list ≡ [] → sent ≡ [] → PassedDown s s here x x sent 0
   stays-down sent held none empty = record {
-    passes = λ stop f. subst (λ (v : Serving ℕ (ldterms.Ldterm ℕ)). Proceeds s s x x 0 [] sent f f v.acted) (sym (down-none stop none)) (stays s x sent f held empty);
-    size = λ stop. sym (ap (λ (v : Serving ℕ (ldterms.Ldterm ℕ)). v.bytes) (down-none stop none));
-    again = λ stop. ap (λ (v : Serving ℕ (ldterms.Ldterm ℕ)). v.again) (down-none stop none);
+    passes = λ stop f. subst (λ (v : Serving ℕ (ldterms.Discipline ℕ)). Proceeds s s x x 0 [] sent f f v.acted) (sym (down-none stop none)) (stays s x sent f held empty);
+    size = λ stop. sym (ap (λ (v : Serving ℕ (ldterms.Discipline ℕ)). v.bytes) (down-none stop none));
+    again = λ stop. ap (λ (v : Serving ℕ (ldterms.Discipline ℕ)). v.again) (down-none stop none);
     whole = λ again. ap (λ (ms : List (Message ℕ)). passes_whole Down again (record (ldterm_in s x) { write_queue = record (ldterm_in s x).write_queue { messages = ms } })) none;
   }
 
@@ -115,9 +115,9 @@ pub stays-up : (s : StoreValue) (here : Spot) (x : Ldterm) → IsHeld s x → me
 stays-up s here x held none =
     let is = λ (stop : Option ℕ). ap (λ (ms : List (Message ℕ)). input_begins cells.plain here stop 0 ms (ldterm_in s x)) none in
     record {
-      passes = λ stop f. subst (λ (v : Serving ℕ (ldterms.Ldterm ℕ)). Proceeds s s x x 0 [] [] f f v.acted) (sym (is stop)) (stays s x [] f held refl);
-      size = λ stop. sym (ap (λ (v : Serving ℕ (ldterms.Ldterm ℕ)). v.bytes) (is stop));
-      again = λ stop. ap (λ (v : Serving ℕ (ldterms.Ldterm ℕ)). v.again) (is stop);
+      passes = λ stop f. subst (λ (v : Serving ℕ (ldterms.Discipline ℕ)). Proceeds s s x x 0 [] [] f f v.acted) (sym (is stop)) (stays s x [] f held refl);
+      size = λ stop. sym (ap (λ (v : Serving ℕ (ldterms.Discipline ℕ)). v.bytes) (is stop));
+      again = λ stop. ap (λ (v : Serving ℕ (ldterms.Discipline ℕ)). v.again) (is stop);
       whole = ap (λ (ms : List (Message ℕ)). passes_whole Up false (record (ldterm_in s x) { read_queue = record (ldterm_in s x).read_queue { messages = ms } })) none;
     }
 
@@ -173,7 +173,7 @@ module _ (s t : StoreValue) (x : Ldterm) (q' : Queue) (m : InHand) (held : IsHel
       (sends [] (record (ldterm_in s (at_rest x)) { write_queue = left_with (messages_on t q'.list) (ldterm_in s (at_rest x)).write_queue; in_work = Some (message_in t (token m)) }))
   unfolding times_kept times_sent parcels_in AreChains
   down-kept f st kind = record {
-    state = ap (λ (p : ldterms.Ldterm ℕ). record p { in_work = Some (message_in t (token m)) }) down-plain;
+    state = ap (λ (p : ldterms.Discipline ℕ). record p { in_work = Some (message_in t (token m)) }) down-plain;
     noted = refl;
     parcels = refl;
     told = refl;
@@ -207,10 +207,10 @@ module _ (s t : StoreValue) (x : Ldterm) (q' : Queue) (m : InHand) (held : IsHel
       → bytes ≡ size_of (message_in t (token m)) → PassedDown s t here (at_rest x) (record (at_rest x) { write_queue = q' }) sent bytes
   down-whole to here sent bytes one there whole size = record {
     passes = λ stop f.
-        subst (λ (v : Serving ℕ (ldterms.Ldterm ℕ)). Proceeds s t (at_rest x) (record (at_rest x) { write_queue = q' }) 0 [] sent f f v.acted) (sym (down-is here stop whole))
+        subst (λ (v : Serving ℕ (ldterms.Discipline ℕ)). Proceeds s t (at_rest x) (record (at_rest x) { write_queue = q' }) 0 [] sent f f v.acted) (sym (down-is here stop whole))
         (down-proceeds to here sent f one there);
-    size = λ stop. size ∙ sym (ap (λ (v : Serving ℕ (ldterms.Ldterm ℕ)). v.bytes) (down-is here stop whole));
-    again = λ stop. ap (λ (v : Serving ℕ (ldterms.Ldterm ℕ)). v.again) (down-is here stop whole);
+    size = λ stop. size ∙ sym (ap (λ (v : Serving ℕ (ldterms.Discipline ℕ)). v.bytes) (down-is here stop whole));
+    again = λ stop. ap (λ (v : Serving ℕ (ldterms.Discipline ℕ)). v.again) (down-is here stop whole);
     whole = λ again.
         let p = ldterm_in s (at_rest x) in
         ap (λ (ms : List (Message ℕ)). passes_whole Down again (record p { write_queue = record p.write_queue { messages = ms } })) is.first ∙ ap not whole;
@@ -284,7 +284,7 @@ module _ (s t : StoreValue) (x : Ldterm) (q' : Queue) (m : InHand) (held : IsHel
   -- or kept in work
   work-plain : ldterm_in t (record (at_rest x) { read_queue = q'; in_work = Some m })
       ≡ record (ldterm_in s (at_rest x)) { read_queue = left_with (messages_on t q'.list) (ldterm_in s (at_rest x)).read_queue; in_work = Some (message_in t (token m)) }
-  work-plain = ap (λ (p : ldterms.Ldterm ℕ). record p { in_work = Some (message_in t (token m)) }) up-plain
+  work-plain = ap (λ (p : ldterms.Discipline ℕ). record p { in_work = Some (message_in t (token m)) }) up-plain
 
   work-proceeds : (f : Fates) → IsStore t → (block_at 0 (in_hand t (token m))).kind ≡ kinds.Data
       → Proceeds s t (at_rest x) (record (at_rest x) { read_queue = q'; in_work = Some m }) 0 [] [] f f
@@ -319,22 +319,22 @@ module _ (s t : StoreValue) (x : Ldterm) (q' : Queue) (m : InHand) (held : IsHel
   up-is : (here : Spot) (stop : Option ℕ) (v : Bool) → is_data (message_in t (token m)).kind ≡ v
       → let p = ldterm_in s (at_rest x) in let i = message_in t (token m) in let rest = messages_on t q'.list in
       input_begins cells.plain here stop 0 p.read_queue.messages p
-      ≡ cond {A = Serving ℕ (ldterms.Ldterm ℕ)} v (treats cells.plain here (unwrap_or stop (length (cells_of i))) 0 (record p { read_queue = left_with rest p.read_queue; in_work = Some i })) (passes cells.plain here Up i rest p)
+      ≡ cond {A = Serving ℕ (ldterms.Discipline ℕ)} v (treats cells.plain here (unwrap_or stop (length (cells_of i))) 0 (record p { read_queue = left_with rest p.read_queue; in_work = Some i })) (passes cells.plain here Up i rest p)
   up-is here stop v kind =
       let p = ldterm_in s (at_rest x) in
       let i = message_in t (token m) in
       let rest = messages_on t q'.list in
       ap (λ (ms : List (Message ℕ)). input_begins cells.plain here stop 0 ms p) is.first
-      ∙ ap (λ (w : Bool). cond {A = Serving ℕ (ldterms.Ldterm ℕ)} w (treats cells.plain here (unwrap_or stop (length (cells_of i))) 0 (record p { read_queue = left_with rest p.read_queue; in_work = Some i })) (passes cells.plain here Up i rest p)) kind
+      ∙ ap (λ (w : Bool). cond {A = Serving ℕ (ldterms.Discipline ℕ)} w (treats cells.plain here (unwrap_or stop (length (cells_of i))) 0 (record p { read_queue = left_with rest p.read_queue; in_work = Some i })) (passes cells.plain here Up i rest p)) kind
 
   whole-rest : (to : Spot) (here : Spot) (sent : List Sent) (bytes : ℕ) → sent ≡ record { to = to; message = m } ∷ [] → to ≡ toward Up here → is_data (message_in t (token m)).kind ≡ false
       → bytes ≡ size_of (message_in t (token m)) → BeganWhole s t here (at_rest x) (record (at_rest x) { read_queue = q' }) sent bytes
   whole-rest to here sent bytes one there kind size = record {
     passes = λ stop f.
-        subst (λ (v : Serving ℕ (ldterms.Ldterm ℕ)). Proceeds s t (at_rest x) (record (at_rest x) { read_queue = q' }) 0 [] sent f f v.acted) (sym (up-is here stop false kind))
+        subst (λ (v : Serving ℕ (ldterms.Discipline ℕ)). Proceeds s t (at_rest x) (record (at_rest x) { read_queue = q' }) 0 [] sent f f v.acted) (sym (up-is here stop false kind))
         (up-proceeds to here sent f one there);
-    size = λ stop. size ∙ sym (ap (λ (v : Serving ℕ (ldterms.Ldterm ℕ)). v.bytes) (up-is here stop false kind));
-    again = λ stop. ap (λ (v : Serving ℕ (ldterms.Ldterm ℕ)). v.again) (up-is here stop false kind);
+    size = λ stop. size ∙ sym (ap (λ (v : Serving ℕ (ldterms.Discipline ℕ)). v.bytes) (up-is here stop false kind));
+    again = λ stop. ap (λ (v : Serving ℕ (ldterms.Discipline ℕ)). v.again) (up-is here stop false kind);
     whole = (let p = ldterm_in s (at_rest x) in ap (λ (ms : List (Message ℕ)). passes_whole Up false (record p { read_queue = record p.read_queue { messages = ms } })) is.first ∙ ap not kind);
   }
 
@@ -350,7 +350,7 @@ module _ (s t : StoreValue) (x : Ldterm) (q' : Queue) (m : InHand) (held : IsHel
     treated = λ stop.
         up-is here stop true treated
         ∙ ap (λ n. treats cells.plain here (unwrap_or stop n) 0 (record (ldterm_in s (at_rest x)) { read_queue = left_with (messages_on t q'.list) (ldterm_in s (at_rest x)).read_queue; in_work = Some (message_in t (token m)) })) (sym size)
-        ∙ ap (λ (p : ldterms.Ldterm ℕ). treats cells.plain here (unwrap_or stop bytes) 0 p) (sym work-plain);
+        ∙ ap (λ (p : ldterms.Discipline ℕ). treats cells.plain here (unwrap_or stop bytes) 0 p) (sym work-plain);
     stage = refl;
   }
 

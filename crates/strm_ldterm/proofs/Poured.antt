@@ -29,10 +29,10 @@ use Rattle.strm_ldterm.proofs.Pouring.{pours-both, pours-left, pours-work}
 use Rattle.strm_ldterm.proofs.RunsDone.{left-whole}
 
 -- the column behind a stage is another one, and more has gone
-pub turned : (s t : StoreValue) (x y : Ldterm) (n column : ℕ) (sent : List Sent) (f f' : Fates) (gone : List (Fate ℕ)) (is : Acted ℕ (ldterms.Ldterm ℕ)) → Proceeds s t x y n [] sent f f is → f' ≡ tallied gone f
+pub turned : (s t : StoreValue) (x y : Ldterm) (n column : ℕ) (sent : List Sent) (f f' : Fates) (gone : List (Fate ℕ)) (is : Acted ℕ (ldterms.Discipline ℕ)) → Proceeds s t x y n [] sent f f is → f' ≡ tallied gone f
     → Proceeds s t x (record y { column = column }) n [] sent f f' (record is { state = record is.state { column = column }; gone = gone })
 turned s t x y n column sent f f' gone is did counts = record {
-  state = ap (λ (p : ldterms.Ldterm ℕ). record p { column = column }) did.state;
+  state = ap (λ (p : ldterms.Discipline ℕ). record p { column = column }) did.state;
   noted = did.noted;
   parcels = did.parcels;
   told = counts;
@@ -55,10 +55,10 @@ turned s t x y n column sent f f' gone is did counts = record {
 
 -- so many bytes are taken off the front, what they give is gathered, and the carriage moves
 module _ (here : Spot) (s s1 s2 : StoreValue) (x x1 x2 : Ldterm) (n : ℕ) (u : Output ℕ) (f f' : Fates) (st : IsStore s1) where
-  abbrev p : ldterms.Ldterm ℕ
+  abbrev p : ldterms.Discipline ℕ
   p = ldterm_in s x
 
-  abbrev rest : ldterms.Ldterm ℕ
+  abbrev rest : ldterms.Discipline ℕ
   rest = with_left (drop n (cells_left p)) p
 
   pub pours-so : Proceeds s s1 x x1 0 [] [] f f (sends [] rest)
@@ -66,7 +66,7 @@ module _ (here : Spot) (s s1 s2 : StoreValue) (x x1 x2 : Ldterm) (n : ℕ) (u : 
       → posts plain (output_dir plain here) 0 p.termios p.column (take n (cells_left p)) ≡ u → f' ≡ tallied u.told f
       → Proceeds s s2 x (record x2 { column = u.column }) 1 [] [] f f' (poured here n p)
   pours-so front gathers is counts =
-      let next : ldterms.Ldterm ℕ → Acted ℕ (ldterms.Ldterm ℕ) = λ q. sends [] (record q { gathered = q.gathered ++ u.given }) in
+      let next : ldterms.Discipline ℕ → Acted ℕ (ldterms.Discipline ℕ) = λ q. sends [] (record q { gathered = q.gathered ++ u.given }) in
       let did = proceeds-joined s s1 x x1 0 [] f f (sends [] rest) st front s2 x2 1 [] [] f next gathers in
       subst (λ (w : Output ℕ). Proceeds s s2 x (record x2 { column = u.column }) 1 [] [] f f'
       (record { state = record rest { gathered = p.gathered ++ w.given; column = w.column }; notes = []; sent = []; gone = w.told })) (sym is)
@@ -86,7 +86,7 @@ pours-flow here s s1 s2 x x1 x2 f f' st n front y z none from flows taken gather
     (ap (posts plain (output_dir plain here) 0 x.termios x.column) taken.0 ∙ ap (λ k. posts plain (output_dir plain here) 0 x.termios k (take n front)) (sym from)) flows.told)
 
 -- what is gathered is longer by what so many bytes give, and the echo is the same
-pours-grown : (here : Spot) (p : ldterms.Ldterm ℕ) (n k : ℕ) → length (poured here n p).state.gathered ≡ length p.gathered + k → k ≤ 256 → blocks_grown p (poured here n p).state ≤ 2
+pours-grown : (here : Spot) (p : ldterms.Discipline ℕ) (n k : ℕ) → length (poured here n p).state.gathered ≡ length p.gathered + k → k ≤ 256 → blocks_grown p (poured here n p).state ≤ 2
 pours-grown here p n k long few = grown-two p (poured here n p).state (omega arith) (omega arith)
 
 -- the next byte begins with blocks enough, where so many are free
@@ -131,7 +131,7 @@ pours-none s here x bytes f held = record {
       let whole : with_left (cells_left p) p ≡ p = left-whole s x held in
       subst (λ n. Proceeds s s x x (all_free s) [] [] f f (poured here n p)) (sym none)
       (record {
-        state = sym (ap (λ (q : ldterms.Ldterm ℕ). record q { gathered = p.gathered ++ [] }) whole ∙ ap (λ g. record p { gathered = g }) (append-nil p.gathered));
+        state = sym (ap (λ (q : ldterms.Discipline ℕ). record q { gathered = p.gathered ++ [] }) whole ∙ ap (λ g. record p { gathered = g }) (append-nil p.gathered));
         noted = refl;
         parcels = so.parcels;
         told = refl;
@@ -150,15 +150,15 @@ module _ (s t : StoreValue) (here : Spot) (x y : Ldterm) (bytes left : ℕ) (f f
   work-there = kept-some s x.in_work ∙ some
 
   pub pours-some : is_some y.in_work ≡ true
-  pours-some = sym (kept-some t y.in_work) ∙ ap (λ (q : ldterms.Ldterm ℕ). is_some q.in_work) so.does.state ∙ pours-work here (bytes - left) (ldterm_in s x) work-there
+  pours-some = sym (kept-some t y.in_work) ∙ ap (λ (q : ldterms.Discipline ℕ). is_some q.in_work) so.does.state ∙ pours-work here (bytes - left) (ldterm_in s x) work-there
 
   pub pours-termios : y.termios ≡ x.termios
-  pours-termios = ap (λ (q : ldterms.Ldterm ℕ). q.termios) so.does.state
+  pours-termios = ap (λ (q : ldterms.Discipline ℕ). q.termios) so.does.state
 
   pub pours-are : length (cells_left (ldterm_in t y)) ≡ left
   pours-are =
       let few = so.fewer in
-      ap (λ (q : ldterms.Ldterm ℕ). length (cells_left q)) so.does.state
+      ap (λ (q : ldterms.Discipline ℕ). length (cells_left q)) so.does.state
       ∙ ap length (pours-left here (bytes - left) (ldterm_in s x) work-there)
       ∙ length-drop (bytes - left) (cells_left (ldterm_in s x))
       ∙ omega arith
@@ -176,7 +176,7 @@ module _ (s t : StoreValue) (here : Spot) (x y : Ldterm) (bytes left : ℕ) (f f
         some = inl (let low = so.fewer in omega (arith, low, one, few));
         begun = λ byte within. each-more (IsFreeBefore s x f (poured here) p) (bytes - left) n so.begun
             (λ i less. record { before = bytes - left; more = i; is = refl; store = t; there = y; notes = []; told = f1; reached = so.does; free = begins i less }) byte (let low = so.fewer in omega arith);
-        does = subst (λ (a : Acted ℕ (ldterms.Ldterm ℕ)). Proceeds s u x z (all_free s) [] [] f f2 a) same (record {
+        does = subst (λ (a : Acted ℕ (ldterms.Discipline ℕ)). Proceeds s u x z (all_free s) [] [] f f2 a) same (record {
           state = did.state;
           noted = did.noted;
           parcels = did.parcels;

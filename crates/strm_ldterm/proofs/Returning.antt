@@ -124,7 +124,7 @@ module _ (s : StoreValue) (x : Ldterm) (m : InHand) (there : x.in_work ≡ Some 
     read-returned is =
         let p = ldterm_in s x in
         read-plain rest t idle q' framed.1 changes
-        ∙ ap (λ (r : ldterms.Ldterm ℕ). record r { read_queue = queue_in t q' }) framed.0
+        ∙ ap (λ (r : ldterms.Discipline ℕ). record r { read_queue = queue_in t q' }) framed.0
         ∙ ap (λ (r : plain.Queue ℕ). record p { in_work = None; read_queue = r }) is
         ∙ ap (λ o. record p { in_work = None; read_queue = back_on o p.read_queue }) (sym (work-shown s x m there))
 
@@ -139,7 +139,7 @@ module _ (s : StoreValue) (x : Ldterm) (m : InHand) (there : x.in_work ≡ Some 
     write-returned is =
         let p = ldterm_in s x in
         write-plain rest t idle q' framed.1 changes
-        ∙ ap (λ (r : ldterms.Ldterm ℕ). record r { write_queue = queue_in t q' }) framed.0
+        ∙ ap (λ (r : ldterms.Discipline ℕ). record r { write_queue = queue_in t q' }) framed.0
         ∙ ap (λ (r : plain.Queue ℕ). record p { in_work = None; write_queue = r }) is
         ∙ ap (λ o. record p { in_work = None; write_queue = back_on o p.write_queue }) (sym (work-shown s x m there))
 

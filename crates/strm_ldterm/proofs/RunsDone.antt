@@ -38,7 +38,7 @@ all-plain t odd [] is all = tt
 all-plain t odd (b ∷ run) is all = (is b all.0, all-plain t odd run is all.1)
 
 -- fewer bytes may be treated at once too
-pub may-fewer : (p : ldterms.Ldterm ℕ) (m n : ℕ) → n ≤ m → MayRun m p → MayRun n p
+pub may-fewer : (p : ldterms.Discipline ℕ) (m n : ℕ) → n ≤ m → MayRun m p → MayRun n p
 may-fewer p m n few may = record {
   running = may.running;
   free = may.free;
@@ -47,10 +47,10 @@ may-fewer p m n few may = record {
 }
 
 -- by the mode
-pub typed-lines : (p : ldterms.Ldterm ℕ) (run : List ℕ) → icanon p.termios ≡ true → sends [] (typed_run run p) ≡ sends [] (record p { line = p.line ++ run })
+pub typed-lines : (p : ldterms.Discipline ℕ) (run : List ℕ) → icanon p.termios ≡ true → sends [] (typed_run run p) ≡ sends [] (record p { line = p.line ++ run })
 typed-lines p run lines = rw lines refl
 
-pub typed-raw : (p : ldterms.Ldterm ℕ) (run : List ℕ) → icanon p.termios ≡ false → sends [] (typed_run run p) ≡ sends [] (record p { gathered = p.gathered ++ run })
+pub typed-raw : (p : ldterms.Discipline ℕ) (run : List ℕ) → icanon p.termios ≡ false → sends [] (typed_run run p) ≡ sends [] (record p { gathered = p.gathered ++ run })
 typed-raw p run raw = rw raw refl
 
 -- a run isn't longer than what it is the front of
@@ -58,7 +58,7 @@ pub front-short : (run cells : List ℕ) → cells ≡ run ++ drop (length run) 
 front-short run cells is = let l = ap length is ∙ length-append run (drop (length run) cells) in omega arith
 
 -- and under ECHO
-module _ (here : Spot) (p : ldterms.Ldterm ℕ) (run : List ℕ) where
+module _ (here : Spot) (p : ldterms.Discipline ℕ) (run : List ℕ) where
   pub unechoed : echo p.termios ≡ false → run_echoed here run p ≡ sends [] p
   unechoed quiet = rw quiet refl
 
@@ -78,9 +78,9 @@ left-there : (rest : List ℕ) (o : Option (Message ℕ)) → is_some (option_ma
 left-there rest None = refl
 left-there rest (Some m) = refl
 
-typed-work : (run : List ℕ) (p : ldterms.Ldterm ℕ) → is_some (typed_run run p).in_work ≡ is_some p.in_work
+typed-work : (run : List ℕ) (p : ldterms.Discipline ℕ) → is_some (typed_run run p).in_work ≡ is_some p.in_work
 typed-work run p =
-    elim (icanon p.termios) as (λ v. is_some (cond {A = ldterms.Ldterm ℕ} v (record p { line = p.line ++ run }) (record p { gathered = p.gathered ++ run })).in_work ≡ is_some p.in_work) [ true ↦ refl | false ↦ refl ]
+    elim (icanon p.termios) as (λ v. is_some (cond {A = ldterms.Discipline ℕ} v (record p { line = p.line ++ run }) (record p { gathered = p.gathered ++ run })).in_work ≡ is_some p.in_work) [ true ↦ refl | false ↦ refl ]
 
 pub run-works : (s s1 s2 : StoreValue) (x x1 x2 : Ldterm) (run typed : List ℕ) (t : Fates) → Proceeds s s1 x x1 0 [] [] t t (sends [] (with_left (drop (length run) (cells_left (ldterm_in s x))) (ldterm_in s x)))
     → Proceeds s1 s2 x1 x2 1 [] [] t t (sends [] (typed_run typed (ldterm_in s1 x1))) → is_some x.in_work ≡ true → is_some x2.in_work ≡ true
@@ -100,7 +100,7 @@ left-whole s x held = at x.in_work refl
 -- bytes that may be treated at once
 module _ (s : StoreValue) (x : Ldterm) (run : List ℕ) (most : ℕ) (held : IsHeld s x) (stage : stages_left (stage_in x.stage) ≡ 0) (few : length run ≤ most)
     (is : cells_left (ldterm_in s x) ≡ run ++ drop (length run) (cells_left (ldterm_in s x))) (all : AllByRecursion (λ b. is_plain x.termios b ≡ true) run) (may : MayRun most (ldterm_in s x)) where
-  abbrev from : ldterms.Ldterm ℕ
+  abbrev from : ldterms.Discipline ℕ
   from = ldterm_in s x
 
   runs-from : 0 < length run → Runs (icanon from.termios) (echo from.termios) run (drop (length run) (cells_left from)) from
@@ -127,7 +127,7 @@ module _ (s : StoreValue) (x : Ldterm) (run : List ℕ) (most : ℕ) (held : IsH
 
 module _ (s s1 : StoreValue) (x x1 : Ldterm) (here : Spot) (run : List ℕ) (t : Fates) (held : IsHeld s x)
     (front : Proceeds s s1 x x1 0 [] [] t t (sends [] (with_left (drop (length run) (cells_left (ldterm_in s x))) (ldterm_in s x)))) where
-  abbrev p : ldterms.Ldterm ℕ
+  abbrev p : ldterms.Discipline ℕ
   p = ldterm_in s x
 
   -- no byte is plain
@@ -135,14 +135,14 @@ module _ (s s1 : StoreValue) (x x1 : Ldterm) (here : Spot) (run : List ℕ) (t :
   no-run notes none quiet =
       subst (λ ns. Proceeds s s1 x x1 2 ns [] t t (sends [] p)) (sym quiet)
       (takes-more s s1 x x1 0 2 [] [] t t (sends [] p) (omega arith)
-      (subst (λ (q : ldterms.Ldterm ℕ). Proceeds s s1 x x1 0 [] [] t t (sends [] q)) (ap (λ l. with_left (drop (length l) (cells_left p)) p) none ∙ left-whole s x held) front))
+      (subst (λ (q : ldterms.Discipline ℕ). Proceeds s s1 x x1 0 [] [] t t (sends [] q)) (ap (λ l. with_left (drop (length l) (cells_left p)) p) none ∙ left-whole s x held) front))
 
   -- what it is set to, and its line, are the same
   pub same-termios : x1.termios ≡ x.termios
-  same-termios = ap (λ (q : ldterms.Ldterm ℕ). q.termios) front.state
+  same-termios = ap (λ (q : ldterms.Discipline ℕ). q.termios) front.state
 
   pub same-line : x1.line ≡ x.line
-  same-line = ap (λ (q : ldterms.Ldterm ℕ). q.line) front.state
+  same-line = ap (λ (q : ldterms.Discipline ℕ). q.line) front.state
 
   pub line-room : (most : ℕ) → length run ≤ most → MayRun most p → icanon x1.termios ≡ true → length x1.line + length run ≤ LINE_MAX
   line-room most few may is = let l = may.line (ap icanon (sym same-termios) ∙ is) in let e = ap length same-line in omega arith

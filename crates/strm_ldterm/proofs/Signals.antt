@@ -46,23 +46,23 @@ pub flush-proceeds : (s t : StoreValue) (x y : Ldterm) (z : Sent) (here : Spot) 
     → Proceeds s t x y 1 [] (z ∷ []) f f' (record (sends (onward Up here (flush_message bytes) ∷ []) (record (ldterm_in s x) { line = [] })) { gone = lost plain here Flushed (ldterm_in s x).line })
 flush-proceeds s t x y z here bytes f f' st kept did sent =
     let p = ldterm_in s x in
-    let next = λ (q : ldterms.Ldterm ℕ). sends (onward Up here (flush_message bytes) ∷ []) q in
+    let next = λ (q : ldterms.Discipline ℕ). sends (onward Up here (flush_message bytes) ∷ []) q in
     let all = proceeds-both s s t x y y 0 1 [] (z ∷ []) f f' f' (line_flushed here None p) next st kept (line-proceeds s x y here f f' did) sent in
     subst (λ l. Proceeds s t x y 1 [] (z ∷ []) f f' (record (sends (onward Up here (flush_message bytes) ∷ []) (record p { line = [] })) { gone = l })) (append-nil (lost plain here Flushed p.line)) all
 
 -- What was gathered goes up, and then the signal, with a flush before it or without one.
 module _ (s t : StoreValue) (x y : Ldterm) (here : Spot) (asked : FlushAsked) (signal byte : ℕ) (a : List Sent) (f : Fates) (st : IsStore t) (kept : AreIn s (λ _. 0) (keeps x))
     (did : Proceeds s t x y 0 [] a f f (sends (gathered_up plain here (ldterm_in s x).gathered) (record (ldterm_in s x) { gathered = [] }))) where
-  abbrev keyed : ldterms.Ldterm ℕ → Acted ℕ (ldterms.Ldterm ℕ)
+  abbrev keyed : ldterms.Discipline ℕ → Acted ℕ (ldterms.Discipline ℕ)
   keyed q = record (sends (onward Up here (bare Pcsig (signal ∷ [])) ∷ []) q) { gone = lost plain here SignalKey (byte ∷ []) }
 
-  abbrev flushed : ldterms.Ldterm ℕ → Acted ℕ (ldterms.Ldterm ℕ)
+  abbrev flushed : ldterms.Discipline ℕ → Acted ℕ (ldterms.Discipline ℕ)
   flushed q = record (sends (onward Up here (flush_message (flush_bytes asked)) ∷ []) (record q { line = [] })) { gone = lost plain here Flushed q.line }
 
-  abbrev first : Acted ℕ (ldterms.Ldterm ℕ)
+  abbrev first : Acted ℕ (ldterms.Discipline ℕ)
   first = sends (gathered_up plain here (ldterm_in s x).gathered) (record (ldterm_in s x) { gathered = [] })
 
-  abbrev by : Bool → Acted ℕ (ldterms.Ldterm ℕ)
+  abbrev by : Bool → Acted ℕ (ldterms.Discipline ℕ)
   by v = cond v (both first keyed) (both first (λ q. both (flushed q) keyed))
 
   pub signal-keeps : (u : StoreValue) (z : Sent) (f1 : Fates) → noflsh x.termios ≡ true → Proceeds t u y y 1 [] (z ∷ []) f f1 (keyed (ldterm_in t y))
@@ -80,7 +80,7 @@ module _ (s t : StoreValue) (x y : Ldterm) (here : Spot) (asked : FlushAsked) (s
       (proceeds-both s t v x y w 0 2 a (z ∷ z' ∷ []) f f f2 first (λ q. both (flushed q) keyed) st kept did inner)
 
 -- what is free still
-pub room-behind : (s t : StoreValue) (x y : Ldterm) (n k : ℕ) (sent : List Sent) (f f' : Fates) (is : Acted ℕ (ldterms.Ldterm ℕ)) → Proceeds s t x y n [] sent f f' is → HasRoom s (n + k) → HasRoom t k
+pub room-behind : (s t : StoreValue) (x y : Ldterm) (n k : ℕ) (sent : List Sent) (f f' : Fates) (is : Acted ℕ (ldterms.Discipline ℕ)) → Proceeds s t x y n [] sent f f' is → HasRoom s (n + k) → HasRoom t k
 room-behind s t x y n k sent f f' is did room = record { mblks = (let a = did.mblks in let b = room.mblks in omega arith); dblks = (let a = did.dblks in let b = room.dblks in omega arith) }
 
 pub room-one : (s : StoreValue) → HasRoom s 2 → HasRoom s 1

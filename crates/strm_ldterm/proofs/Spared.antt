@@ -12,7 +12,7 @@ use Rattle.strm_types.specs.Budgets.{cost_of, most, most_on}
 use Rattle.strm_types.specs.Deliver.{Parcel, toward}
 use Rattle.strm_types.specs.Input.{input_begins, is_data, passes, stages_done, to_treat, treats}
 use Rattle.strm_types.specs.LdtermServes.{ldterm_serves}
-use Rattle.strm_types.specs.Ldterms.{Answered, Begun, Between, Ldterm, Stage, onward}
+use Rattle.strm_types.specs.Ldterms.{Answered, Begun, Between, Discipline, Stage, onward}
 use Rattle.strm_types.specs.Message.{Message, cells_of}
 use Rattle.strm_types.specs.Output.{posts}
 use Rattle.strm_types.specs.OutputTurns.{output_dir, output_serves, posted, unchanged, with_given}
@@ -38,20 +38,20 @@ at_end Down = 0
 
 module _ (here : Spot) where
   -- a call that treats bytes
-  pub record Treats (v : Serving ℕ (Ldterm ℕ)) : Type 0 where
+  pub record Treats (v : Serving ℕ (Discipline ℕ)) : Type 0 where
     pub up : v.again ≡ true → here.way ≡ Up
     pub more : v.again ≡ true → Leaves here v.acted
     pub over : v.again ≡ false → cost_of most v.acted.sent ≤ at_end here.way
 
   -- a call in which a message passes whole, or none
-  pub record Passes (v : Serving ℕ (Ldterm ℕ)) : Type 0 where
+  pub record Passes (v : Serving ℕ (Discipline ℕ)) : Type 0 where
     pub over : v.again ≡ false
     pub few : cost_of most v.acted.sent ≤ 25
 
-  treats-spare : here.way ≡ Up → (bytes : ℕ) (p : Ldterm ℕ) → is_some p.in_work ≡ true → Treats (treats plain here bytes 0 p)
+  treats-spare : here.way ≡ Up → (bytes : ℕ) (p : Discipline ℕ) → is_some p.in_work ≡ true → Treats (treats plain here bytes 0 p)
   treats-spare up bytes p work = let spares = stages-spare here (3 * bytes - stages_done p.stage) 0 p work in record { up = λ again. up; more = spares.more; over = λ ends. (let one = spares.over ends in let same = ap at_end up in omega (arith, one, same)) }
 
-  passes-few : (way : Way) (m : Message ℕ) (rest : List (Message ℕ)) (p : Ldterm ℕ) → Passes (passes plain here way m rest p)
+  passes-few : (way : Way) (m : Message ℕ) (rest : List (Message ℕ)) (p : Discipline ℕ) → Passes (passes plain here way m rest p)
   passes-few way m rest p = record { over = refl; few = one-few {C = ℕ} most 25 (toward way here) m (omega (arith, most-few (record { to = toward way here; shape = shape_of m }))) }
 
   nothing-few : cost_of {C = ℕ} most [] ≤ 25
@@ -68,8 +68,8 @@ module _ (here : Spot) where
       let n : Message ℕ = record m { control = None; body = Some (c ∷ given) } in
       one-few {C = ℕ} most 0 (toward Down here) n (omega (arith, data-down m.kind m.plain is))
 
-  module _ (again : Bool) (stop : Option ℕ) (p : Ldterm ℕ) where
-    abbrev call : Serving ℕ (Ldterm ℕ)
+  module _ (again : Bool) (stop : Option ℕ) (p : Discipline ℕ) where
+    abbrev call : Serving ℕ (Discipline ℕ)
     call = ldterm_serves plain here 0 again stop p
 
     input-treats : here.way ≡ Up → (ms : List (Message ℕ)) → passes_whole Up false (record p { read_queue = record p.read_queue { messages = ms } }) ≡ false → Treats (input_begins plain here stop 0 ms p)
@@ -79,7 +79,7 @@ module _ (here : Spot) where
         bytes : ℕ
         bytes = unwrap_or stop (length (cells_of m))
 
-        begun : Ldterm ℕ
+        begun : Discipline ℕ
         begun = record p { read_queue = left_with rest p.read_queue; in_work = Some m }
 
         at : (is : Bool) → not is ≡ false → Treats (cond is (treats plain here bytes 0 begun) (passes plain here Up m rest p))
@@ -93,14 +93,14 @@ module _ (here : Spot) where
         bytes : ℕ
         bytes = unwrap_or stop (length (cells_of m))
 
-        begun : Ldterm ℕ
+        begun : Discipline ℕ
         begun = record p { read_queue = left_with rest p.read_queue; in_work = Some m }
 
         at : (is : Bool) → not is ≡ true → Passes (cond is (treats plain here bytes 0 begun) (passes plain here Up m rest p))
         at true e = absurd (false≢true e)
         at false e = passes-few Up m rest p
 
-    abbrev down : List (Message ℕ) → Ldterm ℕ
+    abbrev down : List (Message ℕ) → Discipline ℕ
     down ms = record p { write_queue = record p.write_queue { messages = ms } }
 
     output-passes : (ms : List (Message ℕ)) → passes_whole Down again (down ms) ≡ true → Passes (output_serves plain here stop 0 ms p)
@@ -165,11 +165,11 @@ module _ (here : Spot) where
     whole-counts Up false whole = refl
     whole-counts Up true whole = absurd (false≢true whole)
 
-    bytes-count : (way : Way) (q : Ldterm ℕ) → way ≡ Up → turn_cost (record here { way = way }) true q ≡ needs q.stage
+    bytes-count : (way : Way) (q : Discipline ℕ) → way ≡ Up → turn_cost (record here { way = way }) true q ≡ needs q.stage
     bytes-count Down q up = absurd (cc up)
     bytes-count Up q up = refl
 
-    module _ (old new : StoreValue) (q : Ldterm ℕ) (more : Bool) (sent : List (Parcel ℕ)) (state : q ≡ call.acted.state) (parcels : sent ≡ call.acted.sent) (calls : more ≡ call.again) where
+    module _ (old new : StoreValue) (q : Discipline ℕ) (more : Bool) (sent : List (Parcel ℕ)) (state : q ≡ call.acted.state) (parcels : sent ≡ call.acted.sent) (calls : more ≡ call.again) where
       same-cost : cost_of most sent ≡ cost_of most call.acted.sent
       same-cost = ap (cost_of most) parcels
 
@@ -201,8 +201,8 @@ module _ (here : Spot) where
               let room = behind goes in
               let left = treats.more (sym calls ∙ goes) in
               let counts = bytes-count here.way q (treats.up (sym calls ∙ goes)) in
-              let rest : needs q.stage ≡ needs call.acted.state.stage = ap (λ (v : Ldterm ℕ). needs v.stage) state in
-              let all : leaves q.stage ≡ leaves call.acted.state.stage = ap (λ (v : Ldterm ℕ). leaves v.stage) state in
+              let rest : needs q.stage ≡ needs call.acted.state.stage = ap (λ (v : Discipline ℕ). needs v.stage) state in
+              let all : leaves q.stage ≡ leaves call.acted.state.stage = ap (λ (v : Discipline ℕ). leaves v.stage) state in
               let same = same-cost in
               record {
                 mblks = (let r = room.mblks in omega (arith, left, counts, rest, all, same, r));

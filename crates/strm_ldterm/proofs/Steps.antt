@@ -52,7 +52,7 @@ module _ (s t : StoreValue) (x : Ldterm) (i : ℕ) (q' : Queue) (acts : Acts) (f
       record {
         state =
             read-plain (dropped s i) t x q' framed.1 changes
-            ∙ ap (λ (p : ldterms.Ldterm ℕ). record p { read_queue = queue_in t q' }) framed.0
+            ∙ ap (λ (p : ldterms.Discipline ℕ). record p { read_queue = queue_in t q' }) framed.0
             ∙ ap (λ (q : plain.Queue ℕ). record (ldterm_in s x) { read_queue = q }) is;
         notes = noted ∙ ap (λ v. cond {A = List Note} v (Enable Up ∷ []) []) enables;
         sent = no-parts t (sent_of acts.sent) none;
@@ -78,7 +78,7 @@ module _ (s t : StoreValue) (x : Ldterm) (i : ℕ) (q' : Queue) (acts : Acts) (f
       record {
         state =
             write-plain (dropped s i) t (record x { echoing = v }) q' quieter changes
-            ∙ ap (λ (y : ldterms.Ldterm ℕ). record y { write_queue = queue_in t q'; echoing = v }) framed.0
+            ∙ ap (λ (y : ldterms.Discipline ℕ). record y { write_queue = queue_in t q'; echoing = v }) framed.0
             ∙ ap (λ (q : plain.Queue ℕ). record p { write_queue = q; echoing = v }) is
             ∙ ap (λ (w : Bool). record p { write_queue = plain.put_on m p.write_queue; echoing = w }) stays;
         notes = noted ∙ ap (λ w. cond {A = List Note} w (Enable Down ∷ []) []) enables;
@@ -105,7 +105,7 @@ module _ (s u : StoreValue) (x y : Ldterm) (i : ℕ) (st : IsStore s) (can : Can
   pub still-chain : in_hand u i ≡ in_hand s i
   still-chain = let a = can.apart i in let one = once-self i in alters.hands.others i refl not-kept (omega arith)
 
-  pub alters-does : (t : StoreValue) (x' : Ldterm) (acts : Acts) (f f' : Fates) (is is' : Acted ℕ (ldterms.Ldterm ℕ)) → Does u t y x' i acts f f' is → is ≡ is' → Does s t x x' i acts f f' is'
+  pub alters-does : (t : StoreValue) (x' : Ldterm) (acts : Acts) (f f' : Fates) (is is' : Acted ℕ (ldterms.Discipline ℕ)) → Does u t y x' i acts f f' is → is ≡ is' → Does s t x x' i acts f f' is'
   alters-does t x' acts f f' is is' does same =
       subst (λ v. Does s t x x' i acts f f' v) same (record {
         state = does.state;

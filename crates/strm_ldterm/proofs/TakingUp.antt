@@ -39,7 +39,7 @@ pub can-kept : (s : StoreValue) (x : Ldterm) (i : ℕ) → CanPut s i (keeps x) 
 can-kept s x i can = record { apart = λ j. let a = can.apart j in omega arith }
 
 -- a put that takes no block
-pub does-puts : (s t : StoreValue) (x x' : Ldterm) (i most : ℕ) (acts : Acts) (f f' : Fates) (is : Acted ℕ (ldterms.Ldterm ℕ)) → Does s t x x' i acts f f' is
+pub does-puts : (s t : StoreValue) (x x' : Ldterm) (i most : ℕ) (acts : Acts) (f f' : Fates) (is : Acted ℕ (ldterms.Discipline ℕ)) → Does s t x x' i acts f f' is
     → Puts s t x x' i most acts f f' is
 does-puts s t x x' i most acts f f' is did = record {
   state = did.state;
@@ -55,7 +55,7 @@ does-puts s t x x' i most acts f f' is did = record {
 }
 
 -- what was flushed, where nothing is sent
-pub flushes-proceeds : (s t : StoreValue) (x y : Ldterm) (notes : List Note) (f f' : Fates) (a : Acted ℕ (ldterms.Ldterm ℕ)) → Flushes s t x y notes f f' a → a.sent ≡ [] → Proceeds s t x y 0 notes [] f f' a
+pub flushes-proceeds : (s t : StoreValue) (x y : Ldterm) (notes : List Note) (f f' : Fates) (a : Acted ℕ (ldterms.Discipline ℕ)) → Flushes s t x y notes f f' a → a.sent ≡ [] → Proceeds s t x y 0 notes [] f f' a
 unfolding times_sent parcels_in AreChains
 flushes-proceeds s t x y notes f f' a did none = record {
   state = did.state;
@@ -72,7 +72,7 @@ flushes-proceeds s t x y notes f f' a did none = record {
 }
 
 -- one step that may note something, and then another one
-pub noted-both : (s t u : StoreValue) (x y z : Ldterm) (n k : ℕ) (notes : List Note) (a b : List Sent) (f f1 f2 : Fates) (is : Acted ℕ (ldterms.Ldterm ℕ)) (next : ldterms.Ldterm ℕ → Acted ℕ (ldterms.Ldterm ℕ))
+pub noted-both : (s t u : StoreValue) (x y z : Ldterm) (n k : ℕ) (notes : List Note) (a b : List Sent) (f f1 f2 : Fates) (is : Acted ℕ (ldterms.Discipline ℕ)) (next : ldterms.Discipline ℕ → Acted ℕ (ldterms.Discipline ℕ))
     → IsStore t → AreIn s (λ _. 0) (keeps x) → (next is.state).notes ≡ [] → Proceeds s t x y n notes a f f1 is → Proceeds t u y z k [] b f1 f2 (next (ldterm_in t y))
     → Proceeds s u x z (n + k) notes (a ++ b) f f2 (both is next)
 noted-both s t u x y z n k notes a b f f1 f2 is next st kept none first second =
@@ -83,7 +83,7 @@ noted-both s t u x y z n k notes a b f f1 f2 is next st kept none first second =
     subst (λ v. Proceeds s u x z (n + k) notes (a ++ b) f f2 (record (both bare next) { notes = v })) (first.noted ∙ sym (append-nil is.notes) ∙ ap (λ v. is.notes ++ v) (sym none)) noted
 
 -- and the message goes on last
-pub puts-behind : (s u : StoreValue) (x z : Ldterm) (last : Sent) (here : Spot) (takes most : ℕ) (notes : List Note) (sent : List Sent) (acts : Acts) (f f' : Fates) (a : Acted ℕ (ldterms.Ldterm ℕ)) (all : List (Parcel ℕ))
+pub puts-behind : (s u : StoreValue) (x z : Ldterm) (last : Sent) (here : Spot) (takes most : ℕ) (notes : List Note) (sent : List Sent) (acts : Acts) (f f' : Fates) (a : Acted ℕ (ldterms.Discipline ℕ)) (all : List (Parcel ℕ))
     → IsStore s → CanPut s (token last.message) (keeps x) → IsChain (in_hand s (token last.message)) → last.to ≡ toward Up here → Proceeds s u x z takes notes sent f f' a
     → acts.notes.items ≡ notes → sent_of acts.sent ≡ sent ++ last ∷ [] → a.sent ++ onward Up here (message_in s (token last.message)) ∷ [] ≡ all → takes ≤ most
     → Puts s u x z (token last.message) most acts f f' (record a { sent = all })
@@ -116,18 +116,18 @@ puts-behind s u x z last here takes most notes sent acts f f' a all st can chain
     }
 
 -- what is kept is in hand still, and so many blocks are free
-pub noted-kept : (s t : StoreValue) (x y : Ldterm) (n : ℕ) (notes : List Note) (a : List Sent) (f f' : Fates) (is : Acted ℕ (ldterms.Ldterm ℕ)) → AreIn s (λ _. 0) (keeps x) → Proceeds s t x y n notes a f f' is
+pub noted-kept : (s t : StoreValue) (x y : Ldterm) (n : ℕ) (notes : List Note) (a : List Sent) (f f' : Fates) (is : Acted ℕ (ldterms.Discipline ℕ)) → AreIn s (λ _. 0) (keeps x) → Proceeds s t x y n notes a f f' is
     → AreIn t (λ _. 0) (keeps y)
 noted-kept s t x y n notes a f f' is kept did = record { apart = λ i. let c = did.hands.counts i in let k = kept.apart i in omega arith }
 
-pub noted-room : (s t : StoreValue) (x y : Ldterm) (n k : ℕ) (notes : List Note) (a : List Sent) (f f' : Fates) (is : Acted ℕ (ldterms.Ldterm ℕ)) → Proceeds s t x y n notes a f f' is → HasRoom s (n + k) → HasRoom t k
+pub noted-room : (s t : StoreValue) (x y : Ldterm) (n k : ℕ) (notes : List Note) (a : List Sent) (f f' : Fates) (is : Acted ℕ (ldterms.Discipline ℕ)) → Proceeds s t x y n notes a f f' is → HasRoom s (n + k) → HasRoom t k
 noted-room s t x y n k notes a f f' is did room = record { mblks = (let a = did.mblks in let b = room.mblks in omega arith); dblks = (let a = did.dblks in let b = room.dblks in omega arith) }
 
 -- input is flushed, where the command says so
-abbrev told : Spot → ldterms.Ldterm ℕ → Acted ℕ (ldterms.Ldterm ℕ)
+abbrev told : Spot → ldterms.Discipline ℕ → Acted ℕ (ldterms.Discipline ℕ)
 told here p = sends (onward Up here (flush_message (read_flush None)) ∷ []) p
 
-abbrev flushed_by : Bool → Spot → ldterms.Ldterm ℕ → Acted ℕ (ldterms.Ldterm ℕ)
+abbrev flushed_by : Bool → Spot → ldterms.Discipline ℕ → Acted ℕ (ldterms.Discipline ℕ)
 flushed_by flushes here p = cond flushes (both (read_flushed here up_alone p) (told here)) (sends [] p)
 
 pub input-flushes : (s t u : StoreValue) (x y : Ldterm) (here : Spot) (command : ℕ) (z : Sent) (notes : List Note) (f f' : Fates) → IsStore t → AreIn s (λ _. 0) (keeps x) → (command == TCSETSF) ≡ true
@@ -145,7 +145,7 @@ input-stays s x here command notes f is same = subst (λ (b : Bool). Proceeds s 
 
 -- With the line flushed none goes up: two blocks are enough in any case.
 flushed-line : (s t : StoreValue) (x y : Ldterm) (here : Spot) (command : ℕ) → ldterm_in t y ≡ (input_flushed here command (ldterm_in s x)).state → flush_takes command + line_takes y.line ≤ 1
-flushed-line s t x y here command same = at (command == TCSETSF) (ap (λ (p : ldterms.Ldterm ℕ). p.line) same)
+flushed-line s t x y here command same = at (command == TCSETSF) (ap (λ (p : ldterms.Discipline ℕ). p.line) same)
   where
     at : (b : Bool) → y.line ≡ (flushed_by b here (ldterm_in s x)).state.line → cond {A = ℕ} b 1 0 + line_takes y.line ≤ 1
     at true line = let none = ap length line in omega arith
@@ -173,9 +173,9 @@ takes-up s t u v x y z here command most termios notes a b mode last acts f f1 s
     let p = ldterm_in s x in
     let kept = can-kept s x (token last.message) can in
     let kept_t = noted-kept s t x y (flush_takes command) notes a f f1 (input_flushed here command p) kept flush in
-    let modes : ldterms.Ldterm ℕ → Acted ℕ (ldterms.Ldterm ℕ) = λ r. sends (onward Up here (mode_message (read_mode_of termios) (tostop termios)) ∷ []) r in
+    let modes : ldterms.Discipline ℕ → Acted ℕ (ldterms.Discipline ℕ) = λ r. sends (onward Up here (mode_message (read_mode_of termios) (tostop termios)) ∷ []) r in
     let inner = proceeds-both t u v y z z (line_takes y.line) 1 b (mode ∷ []) f1 f1 f1 (termios_set here termios (ldterm_in t y)) modes st_u kept_t set told in
-    let next : ldterms.Ldterm ℕ → Acted ℕ (ldterms.Ldterm ℕ) = λ q. both (termios_set here termios q) modes in
+    let next : ldterms.Discipline ℕ → Acted ℕ (ldterms.Discipline ℕ) = λ q. both (termios_set here termios q) modes in
     let whole = noted-both s t v x y z (flush_takes command) (line_takes y.line + 1) notes a (b ++ mode ∷ []) f f1 f1 (input_flushed here command p) next st_t kept refl flush inner in
     let two = takes-two s t x y here command notes a f f1 flush in
     let q = (input_flushed here command p).state in
@@ -192,7 +192,7 @@ held-set s x termios line h = record { read = h.read; write = h.write; apart = h
 
 -- Where lines are made still, or none is there, nothing goes up.
 module _ (s : StoreValue) (x : Ldterm) (here : Spot) (termios : Termios) (f : Fates) (held : IsHeld s x) where
-  abbrev set_by : Bool → Acted ℕ (ldterms.Ldterm ℕ)
+  abbrev set_by : Bool → Acted ℕ (ldterms.Discipline ℕ)
   set_by ends = let p = ldterm_in s x in sends (cond ends (line_up here p.line) []) (record p { termios = termios; line = cond ends [] p.line })
 
   none-up : (ends : Bool) → x.line ≡ cond ends [] x.line → [] ≡ cond ends (line_up here x.line) [] → Proceeds s s x (record x { termios = termios }) (line_takes x.line) [] [] f f (set_by ends)

@@ -61,7 +61,7 @@ fewer-fill : (n m : ℕ) → n ≤ m → blocks_for n ≤ blocks_for m
 fewer-fill n m few = omega arith
 
 -- so many bytes are gathered where none were
-pub grown-from-none : (p q : ldterms.Ldterm ℕ) (k m : ℕ) → length q.gathered ≡ k → length p.gathered ≡ 0 → echo_size q ≡ echo_size p → k ≤ m → blocks_grown p q ≤ blocks_for m
+pub grown-from-none : (p q : ldterms.Discipline ℕ) (k m : ℕ) → length q.gathered ≡ k → length p.gathered ≡ 0 → echo_size q ≡ echo_size p → k ≤ m → blocks_grown p q ≤ blocks_for m
 grown-from-none p q k m long none echo few = omega (arith, fewer-fill k m few, ap blocks_for long, ap blocks_for none, ap blocks_for echo)
 
 -- what a call says in which a message went on itself
@@ -71,7 +71,7 @@ whole-is served sent bytes goes size on last =
     let with : Outbox → ℕ → Bool → Bool → Served = λ o n stopped again. record { acts = record { notes = served.acts.notes; sent = o }; bytes = n; stopped = stopped; again = again } in
     ap (λ o. with o served.bytes served.stopped served.again) goes ∙ ap (λ n. with sent n served.stopped served.again) size ∙ ap (λ v. with sent bytes v served.again) on ∙ ap (with sent bytes false) last
 
-module _ (here : Spot) (p : ldterms.Ldterm ℕ) (between : stages_left p.stage ≡ 0) (may : MayPass p) (some : 0 < length (cells_left p)) where
+module _ (here : Spot) (p : ldterms.Discipline ℕ) (between : stages_left p.stage ≡ 0) (may : MayPass p) (some : 0 < length (cells_left p)) where
   abbrev cells : List ℕ
   cells = cells_left p
 
@@ -131,7 +131,7 @@ module _ (here : Spot) (p : ldterms.Ldterm ℕ) (between : stages_left p.stage �
       let q = (done_as here false false front p).state in
       let same : length (p.gathered ++ front) ≡ suc k = omega (arith, length-append p.gathered front, ap length may.first, long) in
       let grown : blocks_grown p q ≤ blocks_for n = grown-from-none p q (suc k) n same (ap length may.first) refl few in
-      subst (λ j. blocks_grown p (ahead here (3 * j) p).state ≤ blocks_for n) long (subst (λ (w : ldterms.Ldterm ℕ). blocks_grown p w ≤ blocks_for n) (sym so.state) grown)
+      subst (λ j. blocks_grown p (ahead here (3 * j) p).state ≤ blocks_for n) long (subst (λ (w : ldterms.Discipline ℕ). blocks_grown p w ≤ blocks_for n) (sym so.state) grown)
 
   pub whole-done : (s s' : StoreValue) (x x' : Ldterm) (sent : List Sent) (t : Fates) → Proceeds s s' x x' 0 [] sent t t ends → Proceeds s s' x x' 0 [] sent t t (one_after (ahead here (3 * n) p) (finished plain here))
   whole-done s s' x x' sent t did =
@@ -168,7 +168,7 @@ whole-treats s s' here x x' t bytes notes sent held between size some may room q
     let one : HasRoom s 1 = record { mblks = (let r = room.mblks in omega arith); dblks = (let r = room.dblks in omega arith) } in
     let none = none-begun (stage_in x.stage) between in
     let after : to_treat (ldterm_in s' x') ≡ 0 = ap to_treat did.state ∙ ap (λ st. to_treat (record p { in_work = None; stage = st })) stage in
-    let last : leaves (stage_in x'.stage) ≡ 1 = ap (λ (q : ldterms.Ldterm ℕ). leaves q.stage) did.state ∙ ap leaves stage in
+    let last : leaves (stage_in x'.stage) ≡ 1 = ap (λ (q : ldterms.Discipline ℕ). leaves q.stage) did.state ∙ ap leaves stage in
     treats-as s s' here x x' t t (record { acts = record { notes = notes; sent = sent }; bytes = bytes; stopped = false; again = false }) _
     (ap (λ k. treats plain here k 0 p) (all-left p between) ∙ treats-ended here p (3 * m) m (omega (arith, done)) (nothing-before here p between may there))
     (subst (λ ns. Proceeds s s' x x' (all_free s) ns (sent_of sent) t t (one_after (ahead here (3 * m) p) (finished plain here))) (sym quiet) all)

@@ -54,7 +54,7 @@ first-all (b ∷ rest) one kind few =
     let none : bytes_of rest ≡ [] = no-bytes (bytes_of rest) (omega (arith, few, ap length shown, length-append b.bytes (bytes_of rest))) in
     shown ∙ ap (λ l. b.bytes ++ l) none ∙ append-nil b.bytes
 
-module _ (here : Spot) (p : ldterms.Ldterm ℕ) (band : ℕ) (low : p.column ≤ COLUMN_MAX) (few : length (cells_left p) ≤ 256) (all : AllByRecursion (λ b. is_printed p.termios b ≡ true) (cells_left p)) (none : p.gathered ≡ []) where
+module _ (here : Spot) (p : ldterms.Discipline ℕ) (band : ℕ) (low : p.column ≤ COLUMN_MAX) (few : length (cells_left p) ≤ 256) (all : AllByRecursion (λ b. is_printed p.termios b ≡ true) (cells_left p)) (none : p.gathered ≡ []) where
   abbrev cells : List ℕ
   cells = cells_left p
 
@@ -65,7 +65,7 @@ module _ (here : Spot) (p : ldterms.Ldterm ℕ) (band : ℕ) (low : p.column ≤
   column = wrapped (p.column + n)
 
   abbrev Acts : Type 0
-  Acts = Acted ℕ (ldterms.Ldterm ℕ)
+  Acts = Acted ℕ (ldterms.Discipline ℕ)
 
   abbrev given : Output ℕ
   given = record { given = cells; column = column; told = [] }
@@ -115,8 +115,8 @@ whole-serves-out s s1 s3 here x x1 x3 bytes band notes sent t way between b st1 
     let p1 = ldterm_in s1 x1 in
     let whole : bytes + 0 ≡ bytes = omega arith in
     let is = in-work s s1 s3 here x x1 x3 bytes bytes 0 band notes sent t t way between b whole st1 quiet in
-    let none : p1.gathered ≡ [] = ap (λ (q : ldterms.Ldterm ℕ). q.gathered) is ∙ b.none in
-    let next : ldterms.Ldterm ℕ → Acted ℕ (ldterms.Ldterm ℕ) = λ q. one_after (poured here bytes q) (let_go here band) in
+    let none : p1.gathered ≡ [] = ap (λ (q : ldterms.Discipline ℕ). q.gathered) is ∙ b.none in
+    let next : ldterms.Discipline ℕ → Acted ℕ (ldterms.Discipline ℕ) = λ q. one_after (poured here bytes q) (let_go here band) in
     let joined = proceeds-joined s s1 x x1 0 [] t t (sends [] _) st1 (b.works t) s3 x3 0 [] (sent_of sent) t next go in
     bytes-serve s s1 s3 here x x1 x3 bytes bytes 0 band notes sent t t way between b whole st1 quiet
     (takes-any s s3 x x3 0 [] (sent_of sent) t t _ joined) (λ more. absurd (omega arith))

@@ -13,13 +13,13 @@ ghost use Rattle.strm_frame.specs.Hands.{AreIn, HasRoom};
 ghost use Rattle.strm_frame.specs.Outboxes.{message_in, sent_of};
 ghost use Rattle.strm_ldterm.specs.Becoming.{Becomes, IsFronted};
 ghost use Rattle.strm_ldterm.specs.Does.{Proceeds};
-ghost use Rattle.strm_ldterm.specs.Stands.{ldterm_in, keeps, IsData, IsHeld};
+ghost use Rattle.strm_ldterm.specs.Stands.{ldterm_in, keeps, IsData, IsHeld, paired};
 
 use crate::ldterm::{Ldterm, Stage};
 use crate::sending_keys::make;
 use crate::strokes::{restarts, stroke_of};
 use strm_blocks::{Blocks, InHand};
-use strm_frame::{Outbox, Sent};
+use strm_frame::{Outbox, QueuePair, Sent};
 use strm_types::{MsgKind, Spot, Way};
 
 // Frees the first block of a message of several: unlinkb(9F), freeb(9F). The band of the message stays.
@@ -85,16 +85,17 @@ fn take_byte<B: Blocks>(store: &mut B, message: InHand) -> (InHand, Option<u8>)
 }
 
 /// Takes the next byte of the message in work, if there is one. A block that this empties is freed, unless it is the message's last.
-pub(crate) fn next_byte<B: Blocks>(ldterm: &mut Ldterm, store: &mut B) -> Option<u8>
-    requires held { IsHeld (B.value store.old) ldterm.old }
-    requires kept { AreIn (B.value store.old) (λ _. 0) (keeps ldterm.old) }
-    ensures did { (f : Fates) → let s = B.value store.old in let p = ldterm_in s ldterm.old in
-        Proceeds s (B.value store.new) ldterm.old ldterm.new 0 [] [] f f
+pub(crate) fn next_byte<B: Blocks>(ldterm: &mut Ldterm, queues: &QueuePair, store: &mut B) -> Option<u8>
+    requires held { IsHeld (B.value store.old) (paired ldterm.old queues.now) }
+    requires kept { AreIn (B.value store.old) (λ _. 0) (keeps (paired ldterm.old queues.now)) }
+    ensures did { (f : Fates) → let s = B.value store.old in let p = ldterm_in s (paired ldterm.old queues.now) in
+        Proceeds s (B.value store.new) (paired ldterm.old queues.now) (paired ldterm.new queues.now) 0 [] [] f f
         (sends [] (with_left (drop 1 (cells_left p)) p)) }
-    ensures byte { let p = ldterm_in (B.value store.old) ldterm.old in let cells = cells_left p in
+    ensures byte { let p = ldterm_in (B.value store.old) (paired ldterm.old queues.now) in let cells = cells_left p in
         MatchOption result ((cells ≡ []) × (with_left (drop 1 cells) p ≡ p)) (λ byte. cells ≡ byte ∷ drop 1 cells) }
     ensures front { IfSome ldterm.new.in_work (λ m. IsFronted (B.value store.new) (token m)) }
 {
+    let _ = queues;
     let Some(message) = ldterm.in_work.take() else {
         return None;
     };
@@ -106,16 +107,17 @@ pub(crate) fn next_byte<B: Blocks>(ldterm: &mut Ldterm, store: &mut B) -> Option
 }
 
 // A byte begins. Where output is stopped, and the byte starts it, an M_START goes down.
-fn begin_with<B: Blocks>(ldterm: &mut Ldterm, store: &mut B, here: Spot, byte: u8) -> Outbox
-    requires held { IsHeld (B.value store.old) ldterm.old }
-    requires kept { AreIn (B.value store.old) (λ _. 0) (keeps ldterm.old) }
+fn begin_with<B: Blocks>(ldterm: &mut Ldterm, queues: &QueuePair, store: &mut B, here: Spot, byte: u8) -> Outbox
+    requires held { IsHeld (B.value store.old) (paired ldterm.old queues.now) }
+    requires kept { AreIn (B.value store.old) (λ _. 0) (keeps (paired ldterm.old queues.now)) }
     requires inside { 0 < here.at }
     requires small { here.at ≤ MODULES }
     requires room { HasRoom (B.value store.old) 1 }
     ensures { (f : Fates) → let s = B.value store.old in
-        Proceeds s (B.value store.new) ldterm.old ldterm.new 1 [] (sent_of result) f f
-        (begins plain here byte (ldterm_in s ldterm.old)) }
+        Proceeds s (B.value store.new) (paired ldterm.old queues.now) (paired ldterm.new queues.now) 1 [] (sent_of result) f f
+        (begins plain here byte (ldterm_in s (paired ldterm.old queues.now))) }
 {
+    let _ = queues;
     let stroke = stroke_of(&ldterm.termios, ldterm.after_lnext, byte);
     let started = ldterm.stopped && restarts(&ldterm.termios, stroke);
     ldterm.stage = Stage::Begun { started, byte };
@@ -132,19 +134,19 @@ fn begin_with<B: Blocks>(ldterm: &mut Ldterm, store: &mut B, here: Spot, byte: u
 
 /// The next byte of the message in work begins. Where output is stopped, and the byte starts it, an M_START goes down. Where no byte
 /// is left, nothing happens. It takes a block at most. All bytes of a message cost a step each, and one for each of its blocks.
-pub(crate) fn begin<B: Blocks>(ldterm: &mut Ldterm, store: &mut B, here: Spot) -> Outbox
-    requires held { IsHeld (B.value store.old) ldterm.old }
-    requires kept { AreIn (B.value store.old) (λ _. 0) (keeps ldterm.old) }
+pub(crate) fn begin<B: Blocks>(ldterm: &mut Ldterm, queues: &QueuePair, store: &mut B, here: Spot) -> Outbox
+    requires held { IsHeld (B.value store.old) (paired ldterm.old queues.now) }
+    requires kept { AreIn (B.value store.old) (λ _. 0) (keeps (paired ldterm.old queues.now)) }
     requires inside { 0 < here.at }
     requires small { here.at ≤ MODULES }
     requires room { HasRoom (B.value store.old) 1 }
-    ensures { (f : Fates) → let s = B.value store.old in let p = ldterm_in s ldterm.old in
-        Proceeds s (B.value store.new) ldterm.old ldterm.new 1 [] (sent_of result) f f
+    ensures { (f : Fates) → let s = B.value store.old in let p = ldterm_in s (paired ldterm.old queues.now) in
+        Proceeds s (B.value store.new) (paired ldterm.old queues.now) (paired ldterm.new queues.now) 1 [] (sent_of result) f f
         (begins_next plain here (cells_left p) p) }
 {
-    let Some(byte) = next_byte(ldterm, store) else {
+    let Some(byte) = next_byte(ldterm, queues, store) else {
         return Outbox::none();
     };
     store.audit();
-    begin_with(ldterm, store, here, byte)
+    begin_with(ldterm, queues, store, here, byte)
 }

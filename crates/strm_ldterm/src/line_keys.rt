@@ -13,7 +13,8 @@ ghost use Rattle.strm_types.specs.Ldterms.{sends};
 ghost use Rattle.strm_types.specs.Typing.{added, dropped, edits, lost, strikes};
 ghost use Rattle.strm_blocks.specs.Blocks.{StoreValue};
 ghost use Rattle.strm_frame.specs.Hands.{AreIn, HasRoom};
-ghost use Rattle.strm_ldterm.specs.Stands.{ldterm_in, keeps, IsHeld};
+ghost use Rattle.strm_frame.specs.declared.queue_pair.QueuePair.{QueuePair};
+ghost use Rattle.strm_ldterm.specs.Stands.{ldterm_in, keeps, IsHeld, paired};
 ghost use Rattle.strm_ldterm.specs.Does.{Proceeds};
 ghost use Rattle.strm_ldterm.specs.Quiet.{is_quiet, is_dropped};
 
@@ -22,6 +23,7 @@ use crate::grown_messages::{begin, grow};
 use crate::ldterm::Ldterm;
 use bitflags::Flags;
 use strm_blocks::Blocks;
+use strm_frame::QueuePair;
 use strm_types::{Fates, InputModes, Key, LocalModes, Rule, Spot, Way};
 
 // Tells of bytes that came up and have gone by a rule, where there are any.
@@ -36,7 +38,7 @@ fn tell_lost(told: &mut Fates, here: Spot, rule: Rule, bytes: usize)
 // The rule by which a key is dropped.
 fn rule_of_dropped(key: Key) -> Rule
     requires { is_dropped key ≡ true }
-    ensures { (c : ℕ) (p : ldterms.Ldterm ℕ) (here : Spot) → strikes plain here key c p ≡ dropped plain here result c p }
+    ensures { (c : ℕ) (p : ldterms.Discipline ℕ) (here : Spot) → strikes plain here key c p ≡ dropped plain here result c p }
 {
     match key {
         Key::Start => Rule::FlowKey,
@@ -50,8 +52,8 @@ fn rule_of_dropped(key: Key) -> Rule
 // A key that is dropped, by its rule.
 fn strike_dropped(ldterm: &Ldterm, here: Spot, key: Key, byte: u8, told: &mut Fates)
     requires { is_dropped key ≡ true }
-    ensures { (s : StoreValue) → IsHeld s ldterm.now →
-        Proceeds s s ldterm.now ldterm.now 1 [] [] told.old told.new (strikes plain here key byte (ldterm_in s ldterm.now)) }
+    ensures { (s : StoreValue) (q : QueuePair) → IsHeld s (paired ldterm.now q) →
+        Proceeds s s (paired ldterm.now q) (paired ldterm.now q) 1 [] [] told.old told.new (strikes plain here key byte (ldterm_in s (paired ldterm.now q))) }
 {
     let _ = ldterm;
     let _ = byte;
@@ -69,8 +71,8 @@ fn tell_edit(told: &mut Fates, here: Spot, rule: Rule, bytes: usize)
 
 // ERASE takes the last byte of the line.
 fn strike_erase(ldterm: &mut Ldterm, here: Spot, byte: u8, told: &mut Fates)
-    ensures { (s : StoreValue) → IsHeld s ldterm.old →
-        Proceeds s s ldterm.old ldterm.new 1 [] [] told.old told.new (edits plain here ErasesByte Erased byte (ldterm_in s ldterm.old)) }
+    ensures { (s : StoreValue) (q : QueuePair) → IsHeld s (paired ldterm.old q) →
+        Proceeds s s (paired ldterm.old q) (paired ldterm.new q) 1 [] [] told.old told.new (edits plain here ErasesByte Erased byte (ldterm_in s (paired ldterm.old q))) }
 {
     let _ = byte;
     let gone = ldterm.line.erase_byte();
@@ -79,8 +81,8 @@ fn strike_erase(ldterm: &mut Ldterm, here: Spot, byte: u8, told: &mut Fates)
 
 // WERASE takes the last word of the line, and the blanks behind it.
 fn strike_werase(ldterm: &mut Ldterm, here: Spot, byte: u8, told: &mut Fates)
-    ensures { (s : StoreValue) → IsHeld s ldterm.old →
-        Proceeds s s ldterm.old ldterm.new 1 [] [] told.old told.new (edits plain here ErasesWord Erased byte (ldterm_in s ldterm.old)) }
+    ensures { (s : StoreValue) (q : QueuePair) → IsHeld s (paired ldterm.old q) →
+        Proceeds s s (paired ldterm.old q) (paired ldterm.new q) 1 [] [] told.old told.new (edits plain here ErasesWord Erased byte (ldterm_in s (paired ldterm.old q))) }
 {
     let _ = byte;
     let gone = ldterm.line.erase_word();
@@ -89,8 +91,8 @@ fn strike_werase(ldterm: &mut Ldterm, here: Spot, byte: u8, told: &mut Fates)
 
 // KILL takes the whole line.
 fn strike_kill(ldterm: &mut Ldterm, here: Spot, byte: u8, told: &mut Fates)
-    ensures { (s : StoreValue) → IsHeld s ldterm.old →
-        Proceeds s s ldterm.old ldterm.new 1 [] [] told.old told.new (edits plain here ErasesAll Killed byte (ldterm_in s ldterm.old)) }
+    ensures { (s : StoreValue) (q : QueuePair) → IsHeld s (paired ldterm.old q) →
+        Proceeds s s (paired ldterm.old q) (paired ldterm.new q) 1 [] [] told.old told.new (edits plain here ErasesAll Killed byte (ldterm_in s (paired ldterm.old q))) }
 {
     let _ = byte;
     let gone = ldterm.line.clear();
@@ -101,8 +103,8 @@ fn strike_kill(ldterm: &mut Ldterm, here: Spot, byte: u8, told: &mut Fates)
 // else the line is lost with it.
 fn add_to_line(ldterm: &mut Ldterm, here: Spot, byte: u8, told: &mut Fates)
     requires { icanon ldterm.old.termios ≡ true }
-    ensures { (s : StoreValue) → IsHeld s ldterm.old →
-        Proceeds s s ldterm.old ldterm.new 1 [] [] told.old told.new (added plain here byte (ldterm_in s ldterm.old)) }
+    ensures { (s : StoreValue) (q : QueuePair) → IsHeld s (paired ldterm.old q) →
+        Proceeds s s (paired ldterm.old q) (paired ldterm.new q) 1 [] [] told.old told.new (added plain here byte (ldterm_in s (paired ldterm.old q))) }
 {
     if ldterm.line.has_room() {
         ldterm.line.push(byte);
@@ -118,16 +120,17 @@ fn add_to_line(ldterm: &mut Ldterm, here: Spot, byte: u8, told: &mut Fates)
 
 /// Bytes that are typed where no lines are made wait to go up together, behind those that wait already. At least one comes at a time and at
 /// most 256, and they take one block of each kind at most.
-pub(crate) fn gather<B: Blocks>(ldterm: &mut Ldterm, store: &mut B, bytes: &[u8])
-    requires held { IsHeld (B.value store.old) ldterm.old }
-    requires kept { AreIn (B.value store.old) (λ _. 0) (keeps ldterm.old) }
+pub(crate) fn gather<B: Blocks>(ldterm: &mut Ldterm, queues: &QueuePair, store: &mut B, bytes: &[u8])
+    requires held { IsHeld (B.value store.old) (paired ldterm.old queues.now) }
+    requires kept { AreIn (B.value store.old) (λ _. 0) (keeps (paired ldterm.old queues.now)) }
     requires some { 0 < length bytes.now }
     requires few { length bytes.now ≤ 256 }
     requires room { HasRoom (B.value store.old) 1 }
-    ensures { (f : Fates) → let s = B.value store.old in let p = ldterm_in s ldterm.old in
-        Proceeds s (B.value store.new) ldterm.old ldterm.new 1 [] [] f f
+    ensures { (f : Fates) → let s = B.value store.old in let p = ldterm_in s (paired ldterm.old queues.now) in
+        Proceeds s (B.value store.new) (paired ldterm.old queues.now) (paired ldterm.new queues.now) 1 [] [] f f
         (sends [] (record p { gathered = p.gathered ++ bytes.now })) }
 {
+    let _ = queues;
     match ldterm.gathered.take() {
         Some(message) => ldterm.gathered = Some(grow(store, message, bytes)),
         None => {
@@ -141,21 +144,22 @@ pub(crate) fn gather<B: Blocks>(ldterm: &mut Ldterm, store: &mut B, bytes: &[u8]
 // An ordinary byte: it is added to the line, or gathered where no lines are made.
 fn strike_ordinary<B: Blocks>(
     ldterm: &mut Ldterm,
+    queues: &QueuePair,
     store: &mut B,
     here: Spot,
     byte: u8,
     told: &mut Fates,
 )
-    requires held { IsHeld (B.value store.old) ldterm.old }
-    requires kept { AreIn (B.value store.old) (λ _. 0) (keeps ldterm.old) }
+    requires held { IsHeld (B.value store.old) (paired ldterm.old queues.now) }
+    requires kept { AreIn (B.value store.old) (λ _. 0) (keeps (paired ldterm.old queues.now)) }
     requires room { HasRoom (B.value store.old) 1 }
     ensures { let s = B.value store.old in
-        Proceeds s (B.value store.new) ldterm.old ldterm.new 1 [] [] told.old told.new (added plain here byte (ldterm_in s ldterm.old)) }
+        Proceeds s (B.value store.new) (paired ldterm.old queues.now) (paired ldterm.new queues.now) 1 [] [] told.old told.new (added plain here byte (ldterm_in s (paired ldterm.old queues.now))) }
 {
     if ldterm.termios.lflag.contains(LocalModes::ICANON) {
         add_to_line(ldterm, here, byte, told);
     } else {
-        gather(ldterm, store, &[byte]);
+        gather(ldterm, queues, store, &[byte]);
     }
 }
 
@@ -163,25 +167,26 @@ fn strike_ordinary<B: Blocks>(
 /// at most. The cost is in proportion to the bytes that go of the line.
 pub(crate) fn strike_quiet<B: Blocks>(
     ldterm: &mut Ldterm,
+    queues: &QueuePair,
     store: &mut B,
     here: Spot,
     key: Key,
     byte: u8,
     told: &mut Fates,
 )
-    requires held { IsHeld (B.value store.old) ldterm.old }
-    requires kept { AreIn (B.value store.old) (λ _. 0) (keeps ldterm.old) }
+    requires held { IsHeld (B.value store.old) (paired ldterm.old queues.now) }
+    requires kept { AreIn (B.value store.old) (λ _. 0) (keeps (paired ldterm.old queues.now)) }
     requires room { HasRoom (B.value store.old) 1 }
     requires quiet { is_quiet key ≡ true }
     ensures { let s = B.value store.old in
-        Proceeds s (B.value store.new) ldterm.old ldterm.new 1 [] [] told.old told.new
-        (strikes plain here key byte (ldterm_in s ldterm.old)) }
+        Proceeds s (B.value store.new) (paired ldterm.old queues.now) (paired ldterm.new queues.now) 1 [] [] told.old told.new
+        (strikes plain here key byte (ldterm_in s (paired ldterm.old queues.now))) }
 {
     match key {
         Key::Erase => strike_erase(ldterm, here, byte, told),
         Key::Werase => strike_werase(ldterm, here, byte, told),
         Key::Kill => strike_kill(ldterm, here, byte, told),
-        Key::Ordinary => strike_ordinary(ldterm, store, here, byte, told),
+        Key::Ordinary => strike_ordinary(ldterm, queues, store, here, byte, told),
         _ => strike_dropped(ldterm, here, key, byte, told),
     }
 }

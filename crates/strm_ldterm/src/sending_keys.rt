@@ -12,13 +12,13 @@ ghost use Rattle.strm_frame.specs.Hands.{AreIn, HasRoom};
 ghost use Rattle.strm_frame.specs.Outboxes.{sent_of};
 ghost use Rattle.strm_ldterm.specs.Does.{Proceeds};
 ghost use Rattle.strm_ldterm.specs.Sending.{MadeOne};
-ghost use Rattle.strm_ldterm.specs.Stands.{ldterm_in, keeps, IsHeld};
+ghost use Rattle.strm_ldterm.specs.Stands.{ldterm_in, keeps, IsHeld, paired};
 ghost use Rattle.strm_blocks.specs.Blocks.{token};
 
 use crate::flushes::direction_at;
 use crate::ldterm::Ldterm;
 use strm_blocks::{Blocks, InHand};
-use strm_frame::{Outbox, Sent};
+use strm_frame::{Outbox, QueuePair, Sent};
 use strm_msg::from_bytes;
 use strm_types::{Band, Fates, MsgKind, Rule, Spot, Way};
 
@@ -51,20 +51,22 @@ pub(crate) fn make_line<B: Blocks>(store: &mut B, line: &[u8], ending: &[u8]) ->
 /// STOP: output is stopped, and an M_STOP goes down, unless it was stopped already. It takes a block at most.
 pub fn stop<B: Blocks>(
     ldterm: &mut Ldterm,
+    queues: &QueuePair,
     store: &mut B,
     here: Spot,
     byte: u8,
     told: &mut Fates,
 ) -> Outbox
-    requires held { IsHeld (B.value store.old) ldterm.old }
-    requires kept { AreIn (B.value store.old) (λ _. 0) (keeps ldterm.old) }
+    requires held { IsHeld (B.value store.old) (paired ldterm.old queues.now) }
+    requires kept { AreIn (B.value store.old) (λ _. 0) (keeps (paired ldterm.old queues.now)) }
     requires inside { 0 < here.at }
     requires small { here.at ≤ MODULES }
     requires room { HasRoom (B.value store.old) 1 }
     ensures { let s = B.value store.old in
-        Proceeds s (B.value store.new) ldterm.old ldterm.new 1 [] (sent_of result) told.old told.new
-        (stops plain here byte (ldterm_in s ldterm.old)) }
+        Proceeds s (B.value store.new) (paired ldterm.old queues.now) (paired ldterm.new queues.now) 1 [] (sent_of result) told.old told.new
+        (stops plain here byte (ldterm_in s (paired ldterm.old queues.now))) }
 {
+    let _ = queues;
     let _ = byte;
     told.tell(direction_at(Way::Up, here.side), Rule::FlowKey, 1);
     if ldterm.stopped {
@@ -79,17 +81,18 @@ pub fn stop<B: Blocks>(
 }
 
 // The line goes up with what ends it, at most a byte, and is empty then.
-fn send_line<B: Blocks>(ldterm: &mut Ldterm, store: &mut B, here: Spot, ending: &[u8]) -> Outbox
-    requires held { IsHeld (B.value store.old) ldterm.old }
-    requires kept { AreIn (B.value store.old) (λ _. 0) (keeps ldterm.old) }
+fn send_line<B: Blocks>(ldterm: &mut Ldterm, queues: &QueuePair, store: &mut B, here: Spot, ending: &[u8]) -> Outbox
+    requires held { IsHeld (B.value store.old) (paired ldterm.old queues.now) }
+    requires kept { AreIn (B.value store.old) (λ _. 0) (keeps (paired ldterm.old queues.now)) }
     requires inside { 0 < here.at }
     requires small { here.at ≤ MODULES }
     requires room { HasRoom (B.value store.old) 1 }
     requires few { length ending.now ≤ 1 }
-    ensures { (f : Fates) → let s = B.value store.old in let p = ldterm_in s ldterm.old in
-        Proceeds s (B.value store.new) ldterm.old ldterm.new 1 [] (sent_of result) f f
+    ensures { (f : Fates) → let s = B.value store.old in let p = ldterm_in s (paired ldterm.old queues.now) in
+        Proceeds s (B.value store.new) (paired ldterm.old queues.now) (paired ldterm.new queues.now) 1 [] (sent_of result) f f
         (line_sent plain here (p.line ++ ending.now) p) }
 {
+    let _ = queues;
     let message = make_line(store, ldterm.line.bytes(), ending);
     let _ = ldterm.line.clear();
     Outbox::one(Sent {
@@ -101,35 +104,36 @@ fn send_line<B: Blocks>(ldterm: &mut Ldterm, store: &mut B, here: Spot, ending: 
 /// EOF: the line goes up as M_DATA, also an empty one, and the key itself goes by a rule of its own. It takes a block.
 pub fn end_file<B: Blocks>(
     ldterm: &mut Ldterm,
+    queues: &QueuePair,
     store: &mut B,
     here: Spot,
     byte: u8,
     told: &mut Fates,
 ) -> Outbox
-    requires held { IsHeld (B.value store.old) ldterm.old }
-    requires kept { AreIn (B.value store.old) (λ _. 0) (keeps ldterm.old) }
+    requires held { IsHeld (B.value store.old) (paired ldterm.old queues.now) }
+    requires kept { AreIn (B.value store.old) (λ _. 0) (keeps (paired ldterm.old queues.now)) }
     requires inside { 0 < here.at }
     requires small { here.at ≤ MODULES }
     requires room { HasRoom (B.value store.old) 1 }
     ensures { let s = B.value store.old in
-        Proceeds s (B.value store.new) ldterm.old ldterm.new 1 [] (sent_of result) told.old told.new
-        (strikes plain here Eof byte (ldterm_in s ldterm.old)) }
+        Proceeds s (B.value store.new) (paired ldterm.old queues.now) (paired ldterm.new queues.now) 1 [] (sent_of result) told.old told.new
+        (strikes plain here Eof byte (ldterm_in s (paired ldterm.old queues.now))) }
 {
     let _ = byte;
     told.tell(direction_at(Way::Up, here.side), Rule::EofKey, 1);
-    send_line(ldterm, store, here, &[])
+    send_line(ldterm, queues, store, here, &[])
 }
 
 /// A delimiter: the line goes up with it as M_DATA, at most 256 bytes in one block.
-pub fn end_line<B: Blocks>(ldterm: &mut Ldterm, store: &mut B, here: Spot, byte: u8) -> Outbox
-    requires held { IsHeld (B.value store.old) ldterm.old }
-    requires kept { AreIn (B.value store.old) (λ _. 0) (keeps ldterm.old) }
+pub fn end_line<B: Blocks>(ldterm: &mut Ldterm, queues: &QueuePair, store: &mut B, here: Spot, byte: u8) -> Outbox
+    requires held { IsHeld (B.value store.old) (paired ldterm.old queues.now) }
+    requires kept { AreIn (B.value store.old) (λ _. 0) (keeps (paired ldterm.old queues.now)) }
     requires inside { 0 < here.at }
     requires small { here.at ≤ MODULES }
     requires room { HasRoom (B.value store.old) 1 }
     ensures { (f : Fates) → let s = B.value store.old in
-        Proceeds s (B.value store.new) ldterm.old ldterm.new 1 [] (sent_of result) f f
-        (strikes plain here Delimiter byte (ldterm_in s ldterm.old)) }
+        Proceeds s (B.value store.new) (paired ldterm.old queues.now) (paired ldterm.new queues.now) 1 [] (sent_of result) f f
+        (strikes plain here Delimiter byte (ldterm_in s (paired ldterm.old queues.now))) }
 {
-    send_line(ldterm, store, here, &[byte])
+    send_line(ldterm, queues, store, here, &[byte])
 }

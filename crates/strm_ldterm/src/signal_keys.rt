@@ -16,7 +16,7 @@ ghost use Rattle.strm_frame.specs.Hands.{AreIn, HasRoom};
 ghost use Rattle.strm_frame.specs.Outboxes.{sent_of};
 ghost use Rattle.strm_ldterm.specs.Does.{Proceeds};
 ghost use Rattle.strm_ldterm.specs.SignalKeys.{sends_signal};
-ghost use Rattle.strm_ldterm.specs.Stands.{ldterm_in, keeps, IsHeld};
+ghost use Rattle.strm_ldterm.specs.Stands.{ldterm_in, keeps, IsHeld, paired};
 
 use crate::call_ends::send_gathered;
 use crate::flushes::{direction_at, flush_line};
@@ -24,7 +24,7 @@ use crate::ldterm::Ldterm;
 use crate::sending_keys::make;
 use bitflags::Flags;
 use strm_blocks::Blocks;
-use strm_frame::{Outbox, Sent};
+use strm_frame::{Outbox, QueuePair, Sent};
 use strm_types::{Fates, FlushAsked, Key, LocalModes, MsgKind, Rule, Spot, Termios, Way};
 
 // The signals of the keys (signal.h).
@@ -44,22 +44,24 @@ fn keeps_line(termios: &Termios) -> bool
 /// Makes a message without parts that goes up.
 pub(crate) fn send_up<B: Blocks>(
     ldterm: &Ldterm,
+    queues: &QueuePair,
     store: &mut B,
     here: Spot,
     kind: MsgKind,
     bytes: &[u8],
 ) -> Sent
-    requires held { IsHeld (B.value store.old) ldterm.now }
-    requires kept { AreIn (B.value store.old) (λ _. 0) (keeps ldterm.now) }
+    requires held { IsHeld (B.value store.old) (paired ldterm.now queues.now) }
+    requires kept { AreIn (B.value store.old) (λ _. 0) (keeps (paired ldterm.now queues.now)) }
     requires inside { 0 < here.at }
     requires small { here.at ≤ MODULES }
     requires room { HasRoom (B.value store.old) 1 }
     requires kind { is_data_kind kind ≡ false }
     requires few { length bytes.now ≤ 256 }
     ensures { (f : Fates) → let s = B.value store.old in
-        Proceeds s (B.value store.new) ldterm.now ldterm.now 1 [] (result ∷ []) f f
-        (sends (onward Up here (bare kind bytes.now) ∷ []) (ldterm_in s ldterm.now)) }
+        Proceeds s (B.value store.new) (paired ldterm.now queues.now) (paired ldterm.now queues.now) 1 [] (result ∷ []) f f
+        (sends (onward Up here (bare kind bytes.now) ∷ []) (ldterm_in s (paired ldterm.now queues.now))) }
 {
+    let _ = queues;
     let _ = ldterm;
     let message = make(store, kind, bytes);
     Sent {
@@ -71,52 +73,55 @@ pub(crate) fn send_up<B: Blocks>(
 // The line is flushed, and an M_FLUSH goes up.
 fn flush_typed<B: Blocks>(
     ldterm: &mut Ldterm,
+    queues: &QueuePair,
     store: &mut B,
     here: Spot,
     asked: FlushAsked,
     told: &mut Fates,
 ) -> Sent
-    requires held { IsHeld (B.value store.old) ldterm.old }
-    requires kept { AreIn (B.value store.old) (λ _. 0) (keeps ldterm.old) }
+    requires held { IsHeld (B.value store.old) (paired ldterm.old queues.now) }
+    requires kept { AreIn (B.value store.old) (λ _. 0) (keeps (paired ldterm.old queues.now)) }
     requires inside { 0 < here.at }
     requires small { here.at ≤ MODULES }
     requires room { HasRoom (B.value store.old) 1 }
-    ensures { let s = B.value store.old in let p = ldterm_in s ldterm.old in
-        Proceeds s (B.value store.new) ldterm.old ldterm.new 1 [] (result ∷ []) told.old told.new
+    ensures { let s = B.value store.old in let p = ldterm_in s (paired ldterm.old queues.now) in
+        Proceeds s (B.value store.new) (paired ldterm.old queues.now) (paired ldterm.new queues.now) 1 [] (result ∷ []) told.old told.new
         (record (sends (onward Up here (flush_message (flush_bytes asked)) ∷ []) (record p { line = [] })) { gone = lost plain here Flushed p.line }) }
 {
     store.audit();
     flush_line(ldterm, here, None, told);
     let bytes = asked.bytes();
-    send_up(ldterm, store, here, MsgKind::Flush, bytes.as_slice())
+    send_up(ldterm, queues, store, here, MsgKind::Flush, bytes.as_slice())
 }
 
 // The signal goes up, and the key is told.
 fn send_key<B: Blocks>(
     ldterm: &Ldterm,
+    queues: &QueuePair,
     store: &mut B,
     here: Spot,
     signal: u8,
     byte: u8,
     told: &mut Fates,
 ) -> Sent
-    requires held { IsHeld (B.value store.old) ldterm.now }
-    requires kept { AreIn (B.value store.old) (λ _. 0) (keeps ldterm.now) }
+    requires held { IsHeld (B.value store.old) (paired ldterm.now queues.now) }
+    requires kept { AreIn (B.value store.old) (λ _. 0) (keeps (paired ldterm.now queues.now)) }
     requires inside { 0 < here.at }
     requires small { here.at ≤ MODULES }
     requires room { HasRoom (B.value store.old) 1 }
     ensures { let s = B.value store.old in
-        Proceeds s (B.value store.new) ldterm.now ldterm.now 1 [] (result ∷ []) told.old told.new
-        (record (sends (onward Up here (bare Pcsig (signal ∷ [])) ∷ []) (ldterm_in s ldterm.now)) { gone = lost plain here SignalKey (byte ∷ []) }) }
+        Proceeds s (B.value store.new) (paired ldterm.now queues.now) (paired ldterm.now queues.now) 1 [] (result ∷ []) told.old told.new
+        (record (sends (onward Up here (bare Pcsig (signal ∷ [])) ∷ []) (ldterm_in s (paired ldterm.now queues.now))) { gone = lost plain here SignalKey (byte ∷ []) }) }
 {
     let _ = byte;
     told.tell(direction_at(Way::Up, here.side), Rule::SignalKey, 1);
-    send_up(ldterm, store, here, MsgKind::Pcsig, &[signal])
+    send_up(ldterm, queues, store, here, MsgKind::Pcsig, &[signal])
 }
 
 // A signal key: what was gathered goes up first. Without NOFLSH the line is flushed, and an M_FLUSH goes up. The signal follows.
 fn signal_with<B: Blocks>(
     ldterm: &mut Ldterm,
+    queues: &QueuePair,
     store: &mut B,
     here: Spot,
     asked: FlushAsked,
@@ -124,20 +129,20 @@ fn signal_with<B: Blocks>(
     byte: u8,
     told: &mut Fates,
 ) -> Outbox
-    requires held { IsHeld (B.value store.old) ldterm.old }
-    requires kept { AreIn (B.value store.old) (λ _. 0) (keeps ldterm.old) }
+    requires held { IsHeld (B.value store.old) (paired ldterm.old queues.now) }
+    requires kept { AreIn (B.value store.old) (λ _. 0) (keeps (paired ldterm.old queues.now)) }
     requires inside { 0 < here.at }
     requires small { here.at ≤ MODULES }
     requires room { HasRoom (B.value store.old) 2 }
     ensures { let s = B.value store.old in
-        Proceeds s (B.value store.new) ldterm.old ldterm.new 2 [] (sent_of result) told.old told.new
-        (signals plain here asked signal byte (ldterm_in s ldterm.old)) }
+        Proceeds s (B.value store.new) (paired ldterm.old queues.now) (paired ldterm.new queues.now) 2 [] (sent_of result) told.old told.new
+        (signals plain here asked signal byte (ldterm_in s (paired ldterm.old queues.now))) }
 {
     let keeps = keeps_line(&ldterm.termios);
-    let first = send_gathered(ldterm, store, here);
+    let first = send_gathered(ldterm, queues, store, here);
     store.audit();
     if keeps {
-        let second = Some(send_key(ldterm, store, here, signal, byte, told));
+        let second = Some(send_key(ldterm, queues, store, here, signal, byte, told));
         return Outbox {
             first,
             second,
@@ -145,9 +150,9 @@ fn signal_with<B: Blocks>(
             fourth: None,
         };
     }
-    let second = Some(flush_typed(ldterm, store, here, asked, told));
+    let second = Some(flush_typed(ldterm, queues, store, here, asked, told));
     store.audit();
-    let third = Some(send_key(ldterm, store, here, signal, byte, told));
+    let third = Some(send_key(ldterm, queues, store, here, signal, byte, told));
     Outbox {
         first,
         second,
@@ -160,21 +165,22 @@ fn signal_with<B: Blocks>(
 /// INTR and QUIT and of what was typed for SUSP. The M_PCSIG follows. It takes two blocks at most.
 pub(crate) fn signal<B: Blocks>(
     ldterm: &mut Ldterm,
+    queues: &QueuePair,
     store: &mut B,
     here: Spot,
     key: Key,
     byte: u8,
     told: &mut Fates,
 ) -> Outbox
-    requires held { IsHeld (B.value store.old) ldterm.old }
-    requires kept { AreIn (B.value store.old) (λ _. 0) (keeps ldterm.old) }
+    requires held { IsHeld (B.value store.old) (paired ldterm.old queues.now) }
+    requires kept { AreIn (B.value store.old) (λ _. 0) (keeps (paired ldterm.old queues.now)) }
     requires inside { 0 < here.at }
     requires small { here.at ≤ MODULES }
     requires room { HasRoom (B.value store.old) 2 }
     requires key { sends_signal key ≡ true }
     ensures { let s = B.value store.old in
-        Proceeds s (B.value store.new) ldterm.old ldterm.new 2 [] (sent_of result) told.old told.new
-        (strikes plain here key byte (ldterm_in s ldterm.old)) }
+        Proceeds s (B.value store.new) (paired ldterm.old queues.now) (paired ldterm.new queues.now) 2 [] (sent_of result) told.old told.new
+        (strikes plain here key byte (ldterm_in s (paired ldterm.old queues.now))) }
 {
     let both_ways = FlushAsked {
         for_read: true,
@@ -182,15 +188,15 @@ pub(crate) fn signal<B: Blocks>(
         band: None,
     };
     match key {
-        Key::Intr => signal_with(ldterm, store, here, both_ways, SIGINT, byte, told),
-        Key::Quit => signal_with(ldterm, store, here, both_ways, SIGQUIT, byte, told),
+        Key::Intr => signal_with(ldterm, queues, store, here, both_ways, SIGINT, byte, told),
+        Key::Quit => signal_with(ldterm, queues, store, here, both_ways, SIGQUIT, byte, told),
         Key::Susp => {
             let up_alone = FlushAsked {
                 for_read: true,
                 for_write: false,
                 band: None,
             };
-            signal_with(ldterm, store, here, up_alone, SIGTSTP, byte, told)
+            signal_with(ldterm, queues, store, here, up_alone, SIGTSTP, byte, told)
         }
         _ => unreachable!(),
     }

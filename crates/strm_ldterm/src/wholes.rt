@@ -16,7 +16,7 @@ ghost use Rattle.strm_ldterm.specs.FreeBefore.{blocks_for};
 ghost use Rattle.strm_ldterm.specs.Outgone.{data_of, let_go};
 ghost use Rattle.strm_ldterm.specs.PlainRuns.{MayPass, is_raw};
 ghost use Rattle.strm_ldterm.specs.Posting.{is_printed, poured};
-ghost use Rattle.strm_ldterm.specs.Stands.{IsHeld, keeps, ldterm_in};
+ghost use Rattle.strm_ldterm.specs.Stands.{IsHeld, keeps, ldterm_in, paired};
 ghost use Rattle.strm_ldterm.specs.Turns.{one_after};
 
 use crate::ldterm::Ldterm;
@@ -26,7 +26,7 @@ use crate::posts::moved_on;
 use crate::write_turns::reband;
 use bitflags::Flags;
 use strm_blocks::{Blocks, InHand};
-use strm_frame::{Outbox, Sent};
+use strm_frame::{Outbox, QueuePair, Sent};
 use strm_types::{BLOCK_SIZE, Band, InputModes, LocalModes, STOP_BLOCKS, Spot, Termios, Way};
 
 // Whether each byte that is typed is plain: raw mode without an echo.
@@ -55,13 +55,14 @@ pub(crate) fn is_free_for<B: Blocks>(store: &B, message: &InHand, bytes: usize) 
 }
 
 /// Whether what is left of the message in work, so many bytes, goes up as it is.
-pub(crate) fn goes_up<B: Blocks>(ldterm: &Ldterm, store: &B, bytes: usize) -> bool
-    requires held { IsHeld (B.value store.now) ldterm.now }
+pub(crate) fn goes_up<B: Blocks>(ldterm: &Ldterm, queues: &QueuePair, store: &B, bytes: usize) -> bool
+    requires held { IsHeld (B.value store.now) (paired ldterm.now queues.now) }
     requires few { bytes ≤ 16777216 }
     ensures some { result ≡ true → 0 < bytes }
-    ensures may { result ≡ true → MayPass (ldterm_in (B.value store.now) ldterm.now) }
+    ensures may { result ≡ true → MayPass (ldterm_in (B.value store.now) (paired ldterm.now queues.now)) }
     ensures room { result ≡ true → HasRoom (B.value store.now) (STOP_BLOCKS + blocks_for bytes) }
 {
+    let _ = queues;
     if bytes == 0 || ldterm.stopped || ldterm.after_lnext || !is_raw(&ldterm.termios) {
         return false;
     }
@@ -78,20 +79,22 @@ pub(crate) fn goes_up<B: Blocks>(ldterm: &Ldterm, store: &B, bytes: usize) -> bo
 /// What is left of the message in work goes on itself, in a band. No byte is copied, and no block is taken.
 pub(crate) fn pass_work<B: Blocks>(
     ldterm: &mut Ldterm,
+    queues: &QueuePair,
     store: &mut B,
     here: Spot,
     way: Way,
     band: Band,
 ) -> Outbox
-    requires held { IsHeld (B.value store.old) ldterm.old }
-    requires kept { AreIn (B.value store.old) (λ _. 0) (keeps ldterm.old) }
+    requires held { IsHeld (B.value store.old) (paired ldterm.old queues.now) }
+    requires kept { AreIn (B.value store.old) (λ _. 0) (keeps (paired ldterm.old queues.now)) }
     requires inside { 0 < here.at }
     requires small { here.at ≤ MODULES }
     requires work { is_some ldterm.old.in_work ≡ true }
-    ensures { (f : Fates) → let s = B.value store.old in let p = ldterm_in s ldterm.old in
-        Proceeds s (B.value store.new) ldterm.old ldterm.new 0 [] (sent_of result) f f
+    ensures { (f : Fates) → let s = B.value store.old in let p = ldterm_in s (paired ldterm.old queues.now) in
+        Proceeds s (B.value store.new) (paired ldterm.old queues.now) (paired ldterm.new queues.now) 0 [] (sent_of result) f f
         (sends (onward way here (data_of band.0 (cells_left p)) ∷ []) (record p { in_work = None })) }
 {
+    let _ = queues;
     let Some(message) = ldterm.in_work.take() else {
         unreachable!()
     };
@@ -105,14 +108,15 @@ pub(crate) fn pass_work<B: Blocks>(
 
 /// Whether the message in work, so many bytes, goes down as it is: all of them stand in its first block, and go out as themselves. The cost
 /// is a step for each byte up to the first one that doesn't.
-pub(crate) fn goes_down<B: Blocks>(ldterm: &Ldterm, store: &B, bytes: usize) -> bool
-    requires held { IsHeld (B.value store.now) ldterm.now }
-    requires bytes { bytes ≡ length (cells_left (ldterm_in (B.value store.now) ldterm.now)) }
+pub(crate) fn goes_down<B: Blocks>(ldterm: &Ldterm, queues: &QueuePair, store: &B, bytes: usize) -> bool
+    requires held { IsHeld (B.value store.now) (paired ldterm.now queues.now) }
+    requires bytes { bytes ≡ length (cells_left (ldterm_in (B.value store.now) (paired ldterm.now queues.now))) }
     requires some { 0 < bytes }
-    ensures printed { result ≡ true → AllByRecursion (λ b. is_printed ldterm.now.termios b ≡ true) (cells_left (ldterm_in (B.value store.now) ldterm.now)) }
+    ensures printed { result ≡ true → AllByRecursion (λ b. is_printed ldterm.now.termios b ≡ true) (cells_left (ldterm_in (B.value store.now) (paired ldterm.now queues.now))) }
     ensures short { result ≡ true → bytes ≤ 256 }
     ensures room { result ≡ true → HasRoom (B.value store.now) (STOP_BLOCKS + blocks_for bytes) }
 {
+    let _ = queues;
     let Some(message) = &ldterm.in_work else {
         return false;
     };
@@ -134,28 +138,29 @@ pub(crate) fn goes_down<B: Blocks>(ldterm: &Ldterm, store: &B, bytes: usize) -> 
 /// The message in work goes down as it is, where each of its bytes goes out as itself, and the carriage moves on.
 pub(crate) fn post_whole<B: Blocks>(
     ldterm: &mut Ldterm,
+    queues: &QueuePair,
     store: &mut B,
     here: Spot,
     band: Band,
     bytes: usize,
 ) -> Outbox
-    requires held { IsHeld (B.value store.old) ldterm.old }
-    requires kept { AreIn (B.value store.old) (λ _. 0) (keeps ldterm.old) }
+    requires held { IsHeld (B.value store.old) (paired ldterm.old queues.now) }
+    requires kept { AreIn (B.value store.old) (λ _. 0) (keeps (paired ldterm.old queues.now)) }
     requires inside { 0 < here.at }
     requires small { here.at ≤ MODULES }
     requires work { is_some ldterm.old.in_work ≡ true }
-    requires none { (ldterm_in (B.value store.old) ldterm.old).gathered ≡ [] }
-    requires bytes { bytes ≡ length (cells_left (ldterm_in (B.value store.old) ldterm.old)) }
+    requires none { (ldterm_in (B.value store.old) (paired ldterm.old queues.now)).gathered ≡ [] }
+    requires bytes { bytes ≡ length (cells_left (ldterm_in (B.value store.old) (paired ldterm.old queues.now))) }
     requires some { 0 < bytes }
     requires short { bytes ≤ 256 }
-    requires printed { AllByRecursion (λ b. is_printed ldterm.old.termios b ≡ true) (cells_left (ldterm_in (B.value store.old) ldterm.old)) }
+    requires printed { AllByRecursion (λ b. is_printed ldterm.old.termios b ≡ true) (cells_left (ldterm_in (B.value store.old) (paired ldterm.old queues.now))) }
     ensures column { ldterm.old.column ≤ COLUMN_MAX }
     ensures did { (f : Fates) → let s = B.value store.old in
-        Proceeds s (B.value store.new) ldterm.old ldterm.new 0 [] (sent_of result) f f
-        (one_after (poured here bytes (ldterm_in s ldterm.old)) (let_go here band.0)) }
+        Proceeds s (B.value store.new) (paired ldterm.old queues.now) (paired ldterm.new queues.now) 0 [] (sent_of result) f f
+        (one_after (poured here bytes (ldterm_in s (paired ldterm.old queues.now))) (let_go here band.0)) }
 {
     let column = moved_on(ldterm.column, bytes);
-    let sent = pass_work(ldterm, store, here, Way::Down, band);
+    let sent = pass_work(ldterm, queues, store, here, Way::Down, band);
     ldterm.column = column;
     sent
 }

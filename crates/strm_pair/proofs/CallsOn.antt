@@ -29,7 +29,7 @@ use Rattle.strm_laws.specs.ModuleTurns.{module_turn_ended, module_turned, moved_
 use Rattle.strm_laws.specs.Pair.{IsKeptAhead}
 use Rattle.strm_laws.specs.Refusals.{in_range}
 use Rattle.strm_laws.specs.Spares.{spare}
-use Rattle.strm_laws.specs.Stacked.{IsAtRest, Module, OfLdterm, OfPtem, OfPckt, module_serves}
+use Rattle.strm_laws.specs.Stacked.{IsAtRest, Standing, OfLdterm, OfPtem, OfPckt, module_serves}
 use Rattle.strm_laws.specs.State.{State, stream}
 use Rattle.strm_types.specs.LdtermCalls.{Begins, Ends, bytes_left}
 use Rattle.strm_laws.specs.TurnCalls.{Stopped, asks_on, ldterm_of, led, module_at, treated}
@@ -81,7 +81,7 @@ begun-few (Begun started c) l = omega arith
 begun-few (Answered echo) l = omega arith
 
 -- of M_DATA that stands first on a module's queues each byte is a cell
-abbrev pub Full : Module ℕ → Type 0
+abbrev pub Full : Standing ℕ → Type 0
 Full p = FullFirst (ldterm_of p).read_queue.messages × FullFirst (ldterm_of p).write_queue.messages
 
 -- What holds of the calls so far: what they treated and what is left are the message, as it was, and no side was opened or closed.
@@ -229,7 +229,7 @@ module _ (here : Spot) where
       at true is [] long = omega arith
       at true is (x ∷ xs) long = let whole = full (both-first (is_data m.kind) (opost l.termios) is) in let size = ap length long in omega (arith, whole, size, length-take (length xs) xs)
 
-  whole-at : (way : Way) (again : Bool) (p : Module ℕ) → Full p → let t = module_serves plain (record here { way = way }) 0 again None p in t.again ≡ false → bytes_left way again (ldterm_of p) ≤ t.bytes
+  whole-at : (way : Way) (again : Bool) (p : Standing ℕ) → Full p → let t = module_serves plain (record here { way = way }) 0 again None p in t.again ≡ false → bytes_left way again (ldterm_of p) ≤ t.bytes
   whole-at Up false (OfLdterm l) full over = input-whole l.read_queue.messages l full.0 over
   whole-at Up true (OfLdterm l) full over =
       let t = stages plain (record here { way = Up }) (3 * to_treat l - stages_done l.stage) 0 l in
@@ -317,12 +317,12 @@ few-along here again call s tells low full bytes s0 t since few false is = leave
 
 -- what a first call begins with
 module _ (here : Spot) where
-  rest-at : (i : ℕ) (ps : List (Module ℕ)) → AllByRecursion (λ p. IsAtRest p) ps → i < length ps → IsAtRest (slice_index_or ps i none_there)
+  rest-at : (i : ℕ) (ps : List (Standing ℕ)) → AllByRecursion (λ p. IsAtRest p) ps → i < length ps → IsAtRest (slice_index_or ps i none_there)
   rest-at i [] rest low = absurd (omega (arith, low))
   rest-at zero (p ∷ ps) rest low = rest.0
   rest-at (suc i) (p ∷ ps) rest low = rest-at i ps rest.1 (omega (arith, low))
 
-  begins-rested : (way : Way) (p : Module ℕ) → IsAtRest p → Begins way false (ldterm_of p)
+  begins-rested : (way : Way) (p : Standing ℕ) → IsAtRest p → Begins way false (ldterm_of p)
   begins-rested Up (OfLdterm l) rest = rest
   begins-rested Down (OfLdterm l) rest = rest
   begins-rested Up (OfPtem p) rest = (refl, refl, refl, refl)
@@ -333,11 +333,11 @@ module _ (here : Spot) where
   pub first-begins : (s : State ℕ) → AreIdle s → here.at - 1 < length (stream here.side s).modules → Begins here.way false (ldterm_of (module_at here s))
   first-begins s idle low = begins-rested here.way (module_at here s) (rest-at (here.at - 1) (stream here.side s).modules (idle here.side) low)
 
-  one-first : (way : Way) (p : Module ℕ) → turn_cost (record here { way = way }) false p ≤ 25
+  one-first : (way : Way) (p : Standing ℕ) → turn_cost (record here { way = way }) false p ≤ 25
   one-first Up p = omega arith
   one-first Down p = omega arith
 
-  first-among : (i : ℕ) (ps : List (Module ℕ)) → slice_index_or (map (turn_cost here false) ps) i 0 ≤ 25
+  first-among : (i : ℕ) (ps : List (Standing ℕ)) → slice_index_or (map (turn_cost here false) ps) i 0 ≤ 25
   first-among i [] = omega arith
   first-among zero (p ∷ ps) = one-first here.way p
   first-among (suc i) (p ∷ ps) = first-among i ps

@@ -11,7 +11,7 @@ use Rattle.strm_types.specs.Modules.{may_push, stands}
 use Rattle.strm_types.specs.Pckts.{new_pckt}
 use Rattle.strm_types.specs.Ptems.{new_ptem}
 use Rattle.strm_laws.specs.Pushes.{may_stand, named_by}
-use Rattle.strm_laws.specs.Stacked.{Module, OfLdterm, OfPtem, OfPckt, module_name}
+use Rattle.strm_laws.specs.Stacked.{Standing, OfLdterm, OfPtem, OfPckt, module_name}
 use Rattle.strm_blocks.specs.Blocks.{StoreValue, list_at}
 use Rattle.strm_frame.specs.Stacks.{all_of, AreHeld}
 use Rattle.strm_frame.specs.declared.stack.Stack.{Stack}
@@ -21,7 +21,7 @@ use Rattle.strm_pair.specs.declared.modules.AnyModule.TheVariants as kinds
 use Rattle.strm_pair.specs.AnyModules.{IsHeld, IsMade, keeps, module_in, owns}
 
 -- the module that a name makes, where it may stand
-pub made-named : (kind : ModuleName) (ms : List (Module ℕ)) → may_stand (named_by (Some kind)) ms ≡ true → (p : Module ℕ) × (named_by (Some kind) ≡ Some p)
+pub made-named : (kind : ModuleName) (ms : List (Standing ℕ)) → may_stand (named_by (Some kind)) ms ≡ true → (p : Standing ℕ) × (named_by (Some kind) ≡ Some p)
 made-named names.Ldterm ms may = (OfLdterm new_ldterm, refl)
 made-named names.Ptem ms may = (OfPtem new_ptem, refl)
 made-named names.Pckt ms may = (OfPckt new_pckt, refl)
@@ -40,7 +40,7 @@ other-has true b is = absurd (cc)
 other-has false b is = is
 
 -- whatever module has the name that may be pushed may be
-pub may-named : (kind : ModuleName) (p : Module ℕ) (ms : List (Module ℕ)) → module_name p ≡ kind → may_stand (named_by (Some kind)) ms ≡ true → may_push module_name p ms ≡ true
+pub may-named : (kind : ModuleName) (p : Standing ℕ) (ms : List (Standing ℕ)) → module_name p ≡ kind → may_stand (named_by (Some kind)) ms ≡ true → may_push module_name p ms ≡ true
 may-named names.Ldterm p ms is may = ap (λ kind. nat_lt (length ms) MODULES && not (stands module_name kind ms)) is ∙ may
 may-named names.Ptem p ms is may = ap (λ kind. nat_lt (length ms) MODULES && not (stands module_name kind ms)) is ∙ may
 may-named names.Pckt p ms is may = ap (λ kind. nat_lt (length ms) MODULES && not (stands module_name kind ms)) is ∙ may

@@ -12,7 +12,7 @@ use Rattle.strm_types.specs.Deliver.{tallied}
 use Rattle.strm_types.specs.Emptied.{of_all, emptied, none_goes, queue_behind}
 use Rattle.strm_types.specs.Modules.{act_among, top_name}
 use Rattle.strm_types.specs.Queue as plain
-use Rattle.strm_laws.specs.Stacked.{Module, OfLdterm, module_name}
+use Rattle.strm_laws.specs.Stacked.{Standing, OfLdterm, module_name}
 use Rattle.strm_laws.specs.TurnCalls.{ldterm_of}
 use Rattle.strm_blocks.specs.Blocks.{Block, StoreValue, list_at}
 use Rattle.strm_msg.specs.Messages.{message_of}
@@ -75,10 +75,10 @@ module _ (s t : StoreValue) (side : Side) (rule : Rule) where
   cleared-ldterm x y k is some = by (once y.read_queue.list k) refl
     where
       reads : list_at t y.read_queue.list ≡ []
-      reads = no-chain (list_at t y.read_queue.list) (ap (λ (p : Module ℕ). (ldterm_of p).read_queue.messages) is ∙ none-behind (ldterm_in s x).read_queue)
+      reads = no-chain (list_at t y.read_queue.list) (ap (λ (p : Standing ℕ). (ldterm_of p).read_queue.messages) is ∙ none-behind (ldterm_in s x).read_queue)
 
       writes : list_at t y.write_queue.list ≡ []
-      writes = no-chain (list_at t y.write_queue.list) (ap (λ (p : Module ℕ). (ldterm_of p).write_queue.messages) is ∙ none-behind (ldterm_in s x).write_queue)
+      writes = no-chain (list_at t y.write_queue.list) (ap (λ (p : Standing ℕ). (ldterm_of p).write_queue.messages) is ∙ none-behind (ldterm_in s x).write_queue)
 
       by : (n : ℕ) → once y.read_queue.list k ≡ n → list_at t k ≡ []
       by zero none = subst (λ l. list_at t l ≡ []) (once-is y.write_queue.list k (omega (arith, some, none))) writes
@@ -103,7 +103,7 @@ module _ (s t : StoreValue) (side : Side) (rule : Rule) where
         → TookTop side rule s t a c told told' taken
     took-these x xs y before behind named state notes tells held rests own hand frees =
         let was = ap (map (module_in s)) before in
-        let act = λ (ps : List (Module ℕ)). act_among (let_go_of side rule) 0 ps in
+        let act = λ (ps : List (Standing ℕ)). act_among (let_go_of side rule) 0 ps in
         let all : module_in t y ∷ map (module_in t) c.modules.items ≡ (let_go_of side rule (module_in s x)).state ∷ map (module_in s) xs = ap (map (module_in t)) (sym behind) ∙ state ∙ ap (λ ps. (act ps).state) was in
         let both : AreHeld IsHeld owns t (y ∷ c.modules.items) = subst (AreHeld IsHeld owns t) behind held in
         let owned : (k : ℕ) → owns y k + all_of owns c.modules.items k ≡ all_of owns a.modules.items k = λ k. sym (sum_by-cons (λ z. owns z k) y c.modules.items) ∙ ap (λ zs. all_of owns zs k) (sym behind) ∙ own.owns_same k in

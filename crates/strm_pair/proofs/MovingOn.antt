@@ -18,13 +18,13 @@ use Rattle.strm_types.specs.Flush.{is_data_kind}
 use Rattle.strm_types.specs.Input.{is_data}
 use Rattle.strm_types.specs.LdtermCalls.{bytes_left}
 use Rattle.strm_types.specs.Message.{Message}
-use Rattle.strm_types.specs.ModuleQueues.{at_place, messages_at}
+use Rattle.strm_types.specs.ModuleQueues.{at_place}
+use Rattle.strm_types.specs.Standings.{messages_at}
 use Rattle.strm_types.specs.Names.{is_open, other}
 use Rattle.strm_types.specs.Queue.{first_size}
 use Rattle.strm_laws.specs.ModuleTurns.{moved_by, place_named, whole_module}
 use Rattle.strm_laws.specs.Pair.{IsKeptAhead, MovesOn}
 use Rattle.strm_laws.specs.Refusals.{Free, enough}
-use Rattle.strm_laws.specs.Stacked.{module_queue}
 use Rattle.strm_laws.specs.State.{State, Stream, stream}
 use Rattle.strm_laws.specs.TurnCalls.{ldterm_of, module_at}
 use Rattle.strm_laws.specs.TurnOutcomes.{TurnOutcome, stayed_put}
@@ -71,7 +71,7 @@ module _ (here : Spot) where
   pub full-at : (s : StoreValue) (p : Streams) → Full (module_at here (state_in s p))
   full-at s p = subst (λ ms. Full (slice_index_or ms (here.at - 1) none_there)) (sym (modules-are s p here.side)) (full-among s (here.at - 1) (end_at here.side p).stack.modules.items)
 
-whole-found : (way : Way) (on : Stream ℕ) (at : ℕ) → place_named Ldterm on.modules ≡ Some at → whole_module Ldterm way on ≡ Moved (at_place (λ p. first_size (messages_at module_queue way p)) 0 at on.modules)
+whole-found : (way : Way) (on : Stream ℕ) (at : ℕ) → place_named Ldterm on.modules ≡ Some at → whole_module Ldterm way on ≡ Moved (at_place (λ p. first_size (messages_at way p)) 0 at on.modules)
 whole-found way on at is = rw is refl
 
 -- a turn that treats as many bytes as there are goes whole
@@ -80,8 +80,8 @@ size-whole : (name : QueueName) (here : Spot) (s : State ℕ) (n : ℕ) → name
 size-whole name here s n place named found low left =
     let side = ap (λ (h : Spot). h.side) named in
     let way = ap (λ (h : Spot). h.way) named in
-    let there = subst (λ w. at_place (λ p. first_size (messages_at module_queue w p)) 0 here.at (stream here.side s).modules ≡ n) way (first-left here s low ∙ left) in
-    let size = subst (λ sd. at_place (λ p. first_size (messages_at module_queue name.way p)) 0 here.at (stream sd s).modules ≡ n) side there in
+    let there = subst (λ w. at_place (λ p. first_size (messages_at w p)) 0 here.at (stream here.side s).modules ≡ n) way (first-left here s low ∙ left) in
+    let size = subst (λ sd. at_place (λ p. first_size (messages_at name.way p)) 0 here.at (stream sd s).modules ≡ n) side there in
     sym (ap (λ (pl : Place). whole_at pl name.way (stream name.side s)) place
     ∙ whole-found name.way (stream name.side s) here.at (subst (λ (pl : Place). place_named pl (stream name.side s).modules ≡ Some here.at) place found)
     ∙ ap Moved size)

@@ -7,7 +7,8 @@ use Rattle.strm_types.specs.declared.names.ModuleName.TheVariants as names
 use Rattle.strm_types.specs.declared.names.Side.{Side}
 use Rattle.strm_types.specs.declared.names.Way.{Way}
 use Rattle.strm_types.specs.declared.names.Way.TheVariants.{Up, Down}
-use Rattle.strm_types.specs.ModuleQueues.{first_place, has_queue, last_place, place_before}
+use Rattle.strm_types.specs.ModuleQueues.{first_place, last_place, place_before}
+use Rattle.strm_types.specs.Standings.{has_queues}
 use Rattle.strm_types.specs.Names.{place_of}
 use Rattle.strm_types.specs.Service.{turn_ended}
 use Rattle.strm_types.specs.declared.names.Side.TheVariants.{Master, Slave}
@@ -16,7 +17,7 @@ use Rattle.strm_laws.specs.ModuleTurns.{queue_ended}
 use Rattle.strm_laws.specs.State.{State, stream, with_stream}
 use Rattle.strm_laws.proofs.StackStays.{queue-names}
 use Rattle.strm_laws.specs.Earlier.{before_among, before_at, before_by, places_of}
-use Rattle.strm_laws.specs.Stacked.{Module, OfLdterm, OfPtem, OfPckt, module_name, module_queue}
+use Rattle.strm_laws.specs.Stacked.{Standing, OfLdterm, OfPtem, OfPckt, module_name}
 use Rattle.strm_blocks.specs.Blocks.{StoreValue}
 use Rattle.strm_pair.specs.declared.streams.Streams.{Streams}
 use Rattle.strm_pair.specs.Pairs.{state_in, end_at}
@@ -44,35 +45,35 @@ abbrev named_before : Way → ℕ → List ModuleName → Option ℕ
 named_before Down at ns = last_named 1 None (take (at - 1) ns)
 named_before Up at ns = first_named (suc at) (drop at ns)
 
-has-named : (way : Way) (p : Module ℕ) → has_queue module_queue way p ≡ queued (module_name p)
+has-named : (way : Way) (p : Standing ℕ) → has_queues p ≡ queued (module_name p)
 has-named way (OfLdterm l) = refl
 has-named way (OfPtem p) = refl
 has-named way (OfPckt p) = refl
 
-first-named : (way : Way) (place : ℕ) (ps : List (Module ℕ)) → first_place module_queue way place ps ≡ first_named place (map module_name ps)
+first-named : (way : Way) (place : ℕ) (ps : List (Standing ℕ)) → first_place place ps ≡ first_named place (map module_name ps)
 first-named way place [] = refl
 first-named way place (p ∷ ps) = rw (has-named way p, first-named way (suc place) ps) refl
 
-last-named : (way : Way) (place : ℕ) (last : Option ℕ) (ps : List (Module ℕ)) → last_place module_queue way place last ps ≡ last_named place last (map module_name ps)
+last-named : (way : Way) (place : ℕ) (last : Option ℕ) (ps : List (Standing ℕ)) → last_place place last ps ≡ last_named place last (map module_name ps)
 last-named way place last [] = refl
 last-named way place last (p ∷ ps) =
-    ap (λ b. last_place module_queue way (suc place) (cond b (Some place) last) ps) (has-named way p)
+    ap (λ b. last_place (suc place) (cond b (Some place) last) ps) (has-named way p)
     ∙ last-named way (suc place) (cond (queued (module_name p)) (Some place) last) ps
 
-place-named : (way : Way) (at : ℕ) (ps : List (Module ℕ)) → place_before module_queue way at ps ≡ named_before way at (map module_name ps)
+place-named : (way : Way) (at : ℕ) (ps : List (Standing ℕ)) → place_before way at ps ≡ named_before way at (map module_name ps)
 place-named Down at ps = last-named Down 1 None (take (at - 1) ps) ∙ ap (last_named 1 None) (sym (take-map module_name (at - 1) ps))
 place-named Up at ps = first-named Up (suc at) (drop at ps) ∙ ap (first_named (suc at)) (sym (drop-map module_name at ps))
 
-places-named : (ps : List (Module ℕ)) → places_of ps ≡ map place_of (map module_name ps)
+places-named : (ps : List (Standing ℕ)) → places_of ps ≡ map place_of (map module_name ps)
 places-named [] = refl
 places-named (p ∷ ps) = ap (λ qs. place_of (module_name p) ∷ qs) (places-named ps)
 
-before-named : (side : Side) (way : Way) (at : ℕ) (ps : List (Module ℕ))
+before-named : (side : Side) (way : Way) (at : ℕ) (ps : List (Standing ℕ))
     → before_among side way at ps ≡ before_by side way at (map place_of (map module_name ps)) (named_before way at (map module_name ps))
 before-named side way at ps = rw (places-named ps, place-named way at ps) refl
 
 -- before modules of the same names
-before-same : (side : Side) (way : Way) (at : ℕ) (ps qs : List (Module ℕ)) → SameNames ps qs → before_among side way at ps ≡ before_among side way at qs
+before-same : (side : Side) (way : Way) (at : ℕ) (ps qs : List (Standing ℕ)) → SameNames ps qs → before_among side way at ps ≡ before_among side way at qs
 before-same side way at ps qs same =
     before-named side way at ps
     ∙ ap (λ ns. before_by side way at (map place_of ns) (named_before way at ns)) same

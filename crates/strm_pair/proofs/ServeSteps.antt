@@ -26,7 +26,7 @@ use Rattle.strm_laws.specs.Puts.{earlier_at, module_acted, noted, put_in}
 use Rattle.strm_laws.specs.Spares.{spare, spare_behind}
 use Rattle.strm_laws.specs.SideCosts.{costs}
 use Rattle.strm_laws.specs.StackCosts.{stands_of}
-use Rattle.strm_laws.specs.Stacked.{Module, OfLdterm, OfPtem, OfPckt, module_serves}
+use Rattle.strm_laws.specs.Stacked.{Standing, OfLdterm, OfPtem, OfPckt, module_serves}
 use Rattle.strm_laws.specs.State.{State, book, stream}
 use Rattle.strm_types.specs.LdtermCalls.{Begins, Ends, bytes_left, most_made}
 use Rattle.strm_laws.specs.TurnCalls.{asks_on, called, ldterm_of, module_at, treated}
@@ -73,18 +73,18 @@ holds-there Q d i ps holds = holds d
 
 -- what is known of calls of ldterm's service procedure is so of any module's
 module _ (here : Spot) (again : Bool) where
-  pub module-goes : (p : Module ℕ) → Begins here.way again (ldterm_of p) → let t = module_serves plain here 0 again None p in t.again ≡ true → GoesOn here.way again (ldterm_of p) t.bytes (ldterm_of t.acted.state)
+  pub module-goes : (p : Standing ℕ) → Begins here.way again (ldterm_of p) → let t = module_serves plain here 0 again None p in t.again ≡ true → GoesOn here.way again (ldterm_of p) t.bytes (ldterm_of t.acted.state)
   module-goes (OfLdterm l) begins works = serves-goes here again l begins works
   module-goes (OfPtem p) begins works = absurd (false≢true works)
   module-goes (OfPckt p) begins works = absurd (false≢true works)
 
-  module-ends : (p : Module ℕ) → Begins here.way again (ldterm_of p) → let t = module_serves plain here 0 again None p in t.again ≡ false → Ends here.way again (ldterm_of p) t.bytes
+  module-ends : (p : Standing ℕ) → Begins here.way again (ldterm_of p) → let t = module_serves plain here 0 again None p in t.again ≡ false → Ends here.way again (ldterm_of p) t.bytes
   module-ends (OfLdterm l) begins over = (serves-ends here again l begins over).0
   module-ends (OfPtem p) begins over = record { treat = omega arith; done = omega arith }
   module-ends (OfPckt p) begins over = record { treat = omega arith; done = omega arith }
 
 -- where a turn of a module begins or goes on, it may serve
-may-one : (way : Way) (again : Bool) (p : Module ℕ) → Begins way again (ldterm_of p) → MayServe way again p
+may-one : (way : Way) (again : Bool) (p : Standing ℕ) → Begins way again (ldterm_of p) → MayServe way again p
 may-one Up true (OfLdterm l) begins = begins
 may-one Up false (OfLdterm l) begins = begins
 may-one Down true (OfLdterm l) begins = begins
@@ -92,7 +92,7 @@ may-one Down false (OfLdterm l) begins = begins
 may-one way again (OfPtem p) begins = tt
 may-one way again (OfPckt p) begins = tt
 
-pub may-serve : (way : Way) (again : Bool) (i : ℕ) (ps : List (Module ℕ)) → i < length ps → Begins way again (ldterm_of (slice_index_or ps i none_there)) → HoldsAt (MayServe way again) ps i
+pub may-serve : (way : Way) (again : Bool) (i : ℕ) (ps : List (Standing ℕ)) → i < length ps → Begins way again (ldterm_of (slice_index_or ps i none_there)) → HoldsAt (MayServe way again) ps i
 may-serve way again i [] low begins = absurd (omega (arith, low))
 may-serve way again zero (p ∷ ps) low begins = λ d. may-one way again p begins
 may-serve way again (suc i) (p ∷ ps) low begins = may-serve way again i ps (omega (arith, low)) begins
@@ -161,7 +161,7 @@ all-in s p all = record { apart = λ i. omega (arith, all i) }
 
 -- as many modules stand there, whatever the store
 pub within-any : (s t : StoreValue) (p : Streams) (side : Side) (at : ℕ) → at ≤ length (stream side (state_in s p)).modules → at ≤ length (stream side (state_in t p)).modules
-within-any s t p side at low = omega (arith, low, stack-long s t (end_at side p).stack, ap (λ (ms : List (Module ℕ)). length ms) (modules-are s p side), ap (λ (ms : List (Module ℕ)). length ms) (modules-are t p side))
+within-any s t p side at low = omega (arith, low, stack-long s t (end_at side p).stack, ap (λ (ms : List (Standing ℕ)). length ms) (modules-are s p side), ap (λ (ms : List (Standing ℕ)). length ms) (modules-are t p side))
 
 module _ (s t : StoreValue) (p q : Streams) (x : Stack) (here : Spot) (again : Bool) (served : Served) (f f' : Fates) where
   abbrev st : State ℕ
@@ -170,7 +170,7 @@ module _ (s t : StoreValue) (p q : Streams) (x : Stack) (here : Spot) (again : B
   abbrev old : Stack
   old = (end_at here.side p).stack
 
-  abbrev ms : List (Module ℕ)
+  abbrev ms : List (Standing ℕ)
   ms = (stream here.side st).modules
 
   -- what it tells of itself
@@ -223,12 +223,12 @@ begins-work Up false l begins up more = absurd (false≢true more)
 begins-work Down again l begins up more = absurd (cc)
 
 module _ (here : Spot) (again : Bool) (stop : Option ℕ) where
-  one-sends : (p : Module ℕ) → Begins here.way again (ldterm_of p) → cost_of most (module_serves plain here 0 again stop p).acted.sent ≤ 31
+  one-sends : (p : Standing ℕ) → Begins here.way again (ldterm_of p) → cost_of most (module_serves plain here 0 again stop p).acted.sent ≤ 31
   one-sends (OfLdterm l) begins = call-few here again stop l (begins-work here.way again l begins)
   one-sends (OfPtem p) begins = none-few {C = ℕ} most 31
   one-sends (OfPckt p) begins = none-few {C = ℕ} most 31
 
-  among-sends : (i : ℕ) (ps : List (Module ℕ)) → i < length ps → Begins here.way again (ldterm_of (slice_index_or ps i none_there)) → cost_of most (act_among (λ p. (module_serves plain here 0 again stop p).acted) i ps).sent ≤ 31
+  among-sends : (i : ℕ) (ps : List (Standing ℕ)) → i < length ps → Begins here.way again (ldterm_of (slice_index_or ps i none_there)) → cost_of most (act_among (λ p. (module_serves plain here 0 again stop p).acted) i ps).sent ≤ 31
   among-sends i [] low begins = absurd (omega (arith, low))
   among-sends zero (p ∷ ps) low begins = one-sends p begins
   among-sends (suc i) (p ∷ ps) low begins = among-sends i ps (omega (arith, low)) begins
@@ -238,11 +238,11 @@ abbrev stage_cost : Way → UnderWay → ℕ
 stage_cost Up u = needs u.stage
 stage_cost Down u = 25
 
-one-cost : (way : Way) (here : Spot) (l : Module ℕ) → turn_cost (record here { way = way }) true l ≡ stage_cost way (under_way l)
+one-cost : (way : Way) (here : Spot) (l : Standing ℕ) → turn_cost (record here { way = way }) true l ≡ stage_cost way (under_way l)
 one-cost Up here l = refl
 one-cost Down here l = refl
 
-all-cost : (here : Spot) (ls : List (Module ℕ)) → map (turn_cost here true) ls ≡ map (stage_cost here.way) (map under_way ls)
+all-cost : (here : Spot) (ls : List (Standing ℕ)) → map (turn_cost here true) ls ≡ map (stage_cost here.way) (map under_way ls)
 all-cost here [] = refl
 all-cost here (l ∷ ls) = ap (λ n. n ∷ map (turn_cost here true) ls) (one-cost here.way here l) ∙ ap (λ ns. stage_cost here.way (under_way l) ∷ ns) (all-cost here ls)
 

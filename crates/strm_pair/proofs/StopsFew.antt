@@ -24,7 +24,7 @@ use Rattle.strm_types.specs.Termios.{opost}
 use Rattle.strm_types.specs.Typing.{gathered_up}
 use Rattle.strm_laws.specs.Pair.{IsKeptAhead}
 use Rattle.strm_laws.specs.Puts.{SameButMade, module_acted}
-use Rattle.strm_laws.specs.Stacked.{Module, OfLdterm, OfPtem, OfPckt, module_serves}
+use Rattle.strm_laws.specs.Stacked.{Standing, OfLdterm, OfPtem, OfPckt, module_serves}
 use Rattle.strm_laws.specs.State.{State, stream}
 use Rattle.strm_laws.specs.TurnCalls.{asks_on, called, ldterm_of, led, module_at, treated}
 use Rattle.strm_laws.proofs.ModuleTurnCalls.{none_there}
@@ -114,7 +114,7 @@ module _ (here : Spot) (again : Bool) (bytes : ℕ) where
           at true over less = stages-gathered up (3 * bytes - stages_done begun.stage) 0 begun refl over
           at false over less = let size = ap first_size is in absurd (omega (arith, less, size))
 
-  module-on : (way : Way) → here.way ≡ way → (p : Module ℕ) → Begins way again (ldterm_of p) → let t = module_serves plain (record here { way = way }) 0 again (Some bytes) p in
+  module-on : (way : Way) → here.way ≡ way → (p : Standing ℕ) → Begins way again (ldterm_of p) → let t = module_serves plain (record here { way = way }) 0 again (Some bytes) p in
       t.again ≡ false → t.bytes < bytes_left way again (ldterm_of p) → SentOn here t.acted.sent
   module-on Up is (OfLdterm l) begins over less = gathered-on here is (ldterm_serves plain up 0 again (Some bytes) l).acted.sent (serves-gathered again l begins over less)
   module-on Down is (OfLdterm l) begins over less = by again less
@@ -125,7 +125,7 @@ module _ (here : Spot) (again : Bool) (bytes : ℕ) where
   module-on way is (OfPtem p) begins over less = tt
   module-on way is (OfPckt p) begins over less = tt
 
-  among-on : (i : ℕ) (ps : List (Module ℕ)) → i < length ps → Begins here.way again (ldterm_of (slice_index_or ps i none_there))
+  among-on : (i : ℕ) (ps : List (Standing ℕ)) → i < length ps → Begins here.way again (ldterm_of (slice_index_or ps i none_there))
       → slice_index_or (map (λ p. (module_serves plain here 0 again (Some bytes) p).again) ps) i false ≡ false
       → slice_index_or (map (λ p. (module_serves plain here 0 again (Some bytes) p).bytes) ps) i 0 < bytes_left here.way again (ldterm_of (slice_index_or ps i none_there))
       → SentOn here (act_among (λ p. (module_serves plain here 0 again (Some bytes) p).acted) i ps).sent

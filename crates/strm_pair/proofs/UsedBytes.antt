@@ -10,7 +10,7 @@ use Rattle.strm_types.specs.Kinds.{is_body_kind, is_control_kind}
 use Rattle.strm_types.specs.Message.{Message, cells_of, part, size_of}
 use Rattle.strm_types.specs.Queue.{Queue, bytes_of}
 use Rattle.strm_laws.specs.Kept.{AreIdle}
-use Rattle.strm_laws.specs.Stacked.{Module, OfLdterm, OfPtem, OfPckt, queues_of_modules}
+use Rattle.strm_laws.specs.Stacked.{Standing, OfLdterm, OfPtem, OfPckt, queues_of_modules}
 use Rattle.strm_laws.specs.State.{Stream, stream_queues}
 use Rattle.strm_image.specs.HasImage.{bytes_in}
 use Rattle.strm_blocks.specs.Blocks.{Block, StoreValue, IsStore, block_at, extent, list_at}
@@ -78,7 +78,7 @@ list-most (chain ∷ q) = omega (arith, size-most chain, bytes-extent chain, lis
 abbrev queue_bytes : Queue ℕ → ℕ
 queue_bytes q = bytes_of q.messages
 
-modules-bytes : (ps : List (Module ℕ)) → sum_by queue_bytes (queues_of_modules ps) ≡ bytes_of (messages_queued Up ps) + bytes_of (messages_queued Down ps)
+modules-bytes : (ps : List (Standing ℕ)) → sum_by queue_bytes (queues_of_modules ps) ≡ bytes_of (messages_queued Up ps) + bytes_of (messages_queued Down ps)
 modules-bytes [] = refl
 modules-bytes (OfLdterm l ∷ ps) = omega (
   arith,

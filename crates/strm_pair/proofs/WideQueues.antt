@@ -10,7 +10,7 @@ use Rattle.strm_types.specs.declared.names.Side.TheVariants.{Master, Slave}
 use Rattle.strm_types.specs.Queue.{Queue, bytes_of}
 use Rattle.strm_blocks.specs.Blocks.{StoreValue, IsStore, list_at}
 use Rattle.strm_laws.specs.Restorable.{GoodStream, Restorable}
-use Rattle.strm_laws.specs.Stacked.{Module, OfLdterm, OfPtem, OfPckt, queues_of_modules}
+use Rattle.strm_laws.specs.Stacked.{Standing, OfLdterm, OfPtem, OfPckt, queues_of_modules}
 use Rattle.strm_laws.specs.State.{Stream, queues_of, stream_queues}
 use Rattle.strm_image.specs.HasImage.{AreBanded, bytes_in}
 use Rattle.strm_queue.specs.declared.queue.Queue as kept
@@ -42,7 +42,7 @@ wide-banded [] wide = tt
 wide-banded (q ∷ qs) wide = (wide.0.banded, wide-banded qs wide.1)
 
 -- a module has two queues at most, and a stream eight
-two-each : (ps : List (Module ℕ)) → length (queues_of_modules ps) ≤ 2 * length ps
+two-each : (ps : List (Standing ℕ)) → length (queues_of_modules ps) ≤ 2 * length ps
 two-each [] = omega arith
 two-each (OfLdterm l ∷ ps) = omega (arith, two-each ps)
 two-each (OfPtem p ∷ ps) = omega (arith, two-each ps)

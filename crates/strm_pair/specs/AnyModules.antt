@@ -8,7 +8,7 @@ use Rattle.strm_types.specs.Cells.{plain}
 use Rattle.strm_types.specs.Message.{Message}
 use Rattle.strm_laws.specs.Pushes.{named_by}
 use Rattle.strm_types.specs.Queue.{Queue}
-use Rattle.strm_laws.specs.Stacked.{Module, OfLdterm, OfPtem, OfPckt, module_name, module_puts, module_serves, with_module_queue, without_module_line}
+use Rattle.strm_laws.specs.Stacked.{Standing, OfLdterm, OfPtem, OfPckt, module_name, module_puts, module_serves, without_kind_line}
 use Rattle.strm_laws.specs.TurnCalls.{ldterm_of}
 use Rattle.strm_blocks.specs.Blocks.{StoreValue, list_at}
 use Rattle.strm_frame.specs.Hands.{SameOwn}
@@ -37,17 +37,17 @@ IsBare (kinds.Ptem x) = Unit {0}
 IsBare (kinds.Pckt x) = Unit {0}
 
 -- whether its service procedure may be called: ptem and pckt have none, and a call does nothing
-abbrev pub MayServe : Way → Bool → Module ℕ → Type 0
+abbrev pub MayServe : Way → Bool → Standing ℕ → Type 0
 MayServe way again (OfLdterm l) = IsServed way again l
 MayServe way again (OfPtem p) = Unit {0}
 MayServe way again (OfPckt p) = Unit {0}
 
 -- how many blocks of each kind a call of it may count on; none of another module is ever made
-abbrev pub turn_cost : Spot → Bool → Module ℕ → ℕ
+abbrev pub turn_cost : Spot → Bool → Standing ℕ → ℕ
 turn_cost here again p = bounds.turn_cost here again (ldterm_of p)
 
 -- what it stands for
-abbrev pub module_in : StoreValue → AnyModule → Module ℕ
+abbrev pub module_in : StoreValue → AnyModule → Standing ℕ
 module_in s (kinds.Ldterm x) = OfLdterm (ldterm_in s x)
 module_in s (kinds.Ptem x) = OfPtem (ptem_in x)
 module_in s (kinds.Pckt x) = OfPckt pckt_in
@@ -87,27 +87,27 @@ pub record IsMade (first : ℕ) (kind : ModuleName) (x : AnyModule) : Type 0 whe
 
 -- A turn of either queue may begin where none is under way; behind a call one may begin, or the call is made again; and a put, another queue or a
 -- line that is gone leave it so.
-pub either-serves : (way at : Way) (p : Module ℕ) → MayServe way false p → MayServe at false p
+pub either-serves : (way at : Way) (p : Standing ℕ) → MayServe way false p → MayServe at false p
 either-serves way at (OfLdterm l) may = either-served way at l may
 either-serves way at (OfPtem p) may = tt
 either-serves way at (OfPckt p) may = tt
 
-pub serves-on : (here : Spot) (again : Bool) (stop : Option ℕ) (p : Module ℕ) → MayServe here.way again p → (let t = module_serves plain here 0 again stop p in MayServe here.way t.again t.acted.state)
+pub serves-on : (here : Spot) (again : Bool) (stop : Option ℕ) (p : Standing ℕ) → MayServe here.way again p → (let t = module_serves plain here 0 again stop p in MayServe here.way t.again t.acted.state)
 serves-on here again stop (OfLdterm l) may = serves-served plain here 0 again stop l may
 serves-on here again stop (OfPtem p) may = tt
 serves-on here again stop (OfPckt p) may = tt
 
-pub puts-serve : (here : Spot) (m : Message ℕ) (way : Way) (again : Bool) (p : Module ℕ) → MayServe way again p → MayServe way again (module_puts plain 0 here m p).state
+pub puts-serve : (here : Spot) (m : Message ℕ) (way : Way) (again : Bool) (p : Standing ℕ) → MayServe way again p → MayServe way again (module_puts plain 0 here m p).state
 puts-serve here m way again (OfLdterm l) may = puts-served here m way again l may
 puts-serve here m way again (OfPtem p) may = may
 puts-serve here m way again (OfPckt p) may = may
 
-pub queue-serves : (at : Way) (q : Queue ℕ) (way : Way) (again : Bool) (p : Module ℕ) → MayServe way again p → MayServe way again (with_module_queue at q p)
+pub queue-serves : (at : Way) (q : Queue ℕ) (way : Way) (again : Bool) (p : Standing ℕ) → MayServe way again p → MayServe way again (with_module_queue at q p)
 queue-serves at q way again (OfLdterm l) may = queue-served at q way again l may
 queue-serves at q way again (OfPtem p) may = may
 queue-serves at q way again (OfPckt p) may = may
 
-pub line-serves : (way : Way) (again : Bool) (p : Module ℕ) → MayServe way again p → MayServe way again (without_module_line p)
+pub line-serves : (way : Way) (again : Bool) (p : Standing ℕ) → MayServe way again p → MayServe way again (without_module_line p)
 line-serves way again (OfLdterm l) may = line-served way again l may
 line-serves way again (OfPtem p) may = may
 line-serves way again (OfPckt p) may = may

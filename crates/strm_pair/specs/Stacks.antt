@@ -11,7 +11,7 @@ abbrev pub Stack : Type 0
 Stack = frame.Stack AnyModule
 
 -- what the modules of a stack stand for
-abbrev pub modules_in : StoreValue → Stack → List (plain.Module ℕ)
+abbrev pub modules_in : StoreValue → Stack → List (plain.Standing ℕ)
 modules_in s x = map (module_in s) x.modules.items
 
 -- a stack and the store fit

@@ -81,7 +81,7 @@ impl Module for AnyModule {
     ghost use Rattle.strm_laws.specs.TurnCalls.{ldterm_of};
     ghost use Rattle.strm_pair.specs.AnyModules as any;
 
-    ghost Plain = { plain.Module ℕ };
+    ghost Plain = { plain.Standing ℕ };
 
     ghost plain = { λ s x. any.module_in s x };
 

@@ -313,7 +313,6 @@ impl Streams {
 impl<B: Blocks> Stations<B> for Streams {
     ghost use Rattle.std.specs.Prelude.{ℕ};
     ghost use Rattle.strm_laws.specs.State.{State};
-    ghost use Rattle.strm_pair.specs.Pairs.{state_in, AreBeside, kept_by};
     ghost use Rattle.strm_laws.proofs.PutsWithin.{puts-costed};
     ghost use Rattle.strm_pair.specs.Framing.{streams-frame};
     ghost use Rattle.strm_pair.specs.Staying.{ComesToStand, comes-on};

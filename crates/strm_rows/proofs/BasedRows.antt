@@ -11,16 +11,16 @@ use Rattle.strm_types.specs.Ptems.{new_ptem}
 use Rattle.strm_types.specs.Rules.{no_fates}
 use Rattle.strm_laws.specs.Based.{based}
 use Rattle.strm_laws.specs.Ledgers.{Balanced, base_count, is_booked}
-use Rattle.strm_laws.specs.Stacked.{Module, OfLdterm, OfPtem, module_line}
+use Rattle.strm_laws.specs.Stacked.{Standing, OfLdterm, OfPtem, module_line}
 use Rattle.strm_laws.specs.State.{State, Stream, opening}
 use Rattle.strm_laws.proofs.Samples.{head_with, options, ordinary, proto, queue, urgent}
 
 -- On the master's side a message waits at the head and one at the driver. On the slave's an ldterm below a ptem has the line "ab", on its read queue
 -- "c", and on its write queue an M_SETOPTS and "d"; there one waits at the head and one at the driver too.
-abbrev end : List (Message ℕ) → List (Module ℕ) → List (Message ℕ) → Stream ℕ
+abbrev end : List (Message ℕ) → List (Standing ℕ) → List (Message ℕ) → Stream ℕ
 end head modules driver = record { opened = Open; head = head_with (queue head []) false; modules = modules; driver = record { queue = queue driver [] } }
 
-abbrev line : Module ℕ
+abbrev line : Standing ℕ
 line = OfLdterm (record new_ldterm { line = 97 ∷ 98 ∷ []; read_queue = queue (ordinary (99 ∷ []) ∷ []) []; write_queue = queue (options ∷ ordinary (100 ∷ []) ∷ []) [] })
 
 abbrev base : State ℕ
@@ -41,11 +41,11 @@ toward_master n byte = record { byte = byte; origin = Base SlaveToMaster n }
 abbrev cells : List (Message Tagged) → List (List Tagged)
 cells ms = map cells_of ms
 
-abbrev read_queues : Module Tagged → List (List Tagged)
+abbrev read_queues : Standing Tagged → List (List Tagged)
 read_queues (OfLdterm l) = cells l.read_queue.messages
 read_queues _ = []
 
-abbrev write_queues : Module Tagged → List (List Tagged)
+abbrev write_queues : Standing Tagged → List (List Tagged)
 write_queues (OfLdterm l) = cells l.write_queue.messages
 write_queues _ = []
 

@@ -18,7 +18,7 @@ use Rattle.strm_laws.specs.ModuleTurns.{calls, module_turned, place_named, whole
 use Rattle.strm_types.specs.Names.{driver_of}
 use Rattle.strm_types.specs.Ptems.{new_ptem}
 use Rattle.strm_types.specs.Queue.{Flow, Queue}
-use Rattle.strm_laws.specs.Stacked.{Module, OfLdterm, OfPtem, module_queues}
+use Rattle.strm_laws.specs.Stacked.{Standing, OfLdterm, OfPtem, module_queues}
 use Rattle.strm_laws.specs.State.{State, Stream, new_stream}
 use Rattle.strm_laws.specs.Step.{IsTurn, after}
 use Rattle.strm_laws.specs.TurnOutcomes.{TurnOutcome}
@@ -30,11 +30,11 @@ use Rattle.strm_laws.specs.Past.{may_pass}
 abbrev busy : List (Message ℕ) → Bool → Queue ℕ
 busy messages waits = record { messages = messages; flows = record { high = 3; low = 1; want_write = waits } ∷ []; want_read = false; no_enable = false }
 
-abbrev module_with : Queue ℕ → Queue ℕ → Module ℕ
+abbrev module_with : Queue ℕ → Queue ℕ → Standing ℕ
 module_with above below = OfLdterm (record new_ldterm { read_queue = above; write_queue = below })
 
 -- a pair whose slave's stream has these modules between a head and a driver
-abbrev stacked : Queue ℕ → List (Module ℕ) → Queue ℕ → Stream ℕ
+abbrev stacked : Queue ℕ → List (Standing ℕ) → Queue ℕ → Stream ℕ
 stacked above modules below = record { opened = Open; head = head_with above false; modules = modules; driver = record { queue = below } }
 
 abbrev pair : Stream ℕ → State ℕ
@@ -59,7 +59,7 @@ record Seen : Type 0 where
 abbrev queues_on : Stream ℕ → List (Queue ℕ)
 queues_on on = on.head.queue ∷ of_top on.modules
   where
-    of_top : List (Module ℕ) → List (Queue ℕ)
+    of_top : List (Standing ℕ) → List (Queue ℕ)
     of_top [] = on.driver.queue ∷ []
     of_top (p ∷ ps) = module_queues p ++ on.driver.queue ∷ []
 

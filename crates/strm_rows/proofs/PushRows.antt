@@ -26,7 +26,7 @@ use Rattle.strm_laws.specs.Pushes.{may_stand, named_by, popped, pushed, pushed_n
 use Rattle.strm_types.specs.Queue.{Flow}
 use Rattle.strm_laws.specs.Refusals.{none_waits_up, at_end}
 use Rattle.strm_laws.specs.Past.{has_room_past, writer_waits}
-use Rattle.strm_laws.specs.Stacked.{Module, OfLdterm, OfPtem, OfPckt, module_line, module_name}
+use Rattle.strm_laws.specs.Stacked.{Standing, OfLdterm, OfPtem, OfPckt, module_line, module_name}
 use Rattle.strm_laws.specs.State.{State, Stream, with_stream}
 use Rattle.strm_laws.proofs.Samples.{flow, head_with, ordinary, proto, queue, header, without_parts}
 use Rattle.strm_types.specs.Slots.{PlainSlot}
@@ -35,10 +35,10 @@ use Rattle.strm_types.specs.declared.kinds.MsgKind.TheVariants.{Ioctl, Iocack}
 use Rattle.strm_types.specs.declared.slots.Slot.TheVariants.{Free, Waiting, Answered}
 
 -- a module with these messages on its read queue, whose bands are so, and on its write queue, and this unfinished line
-abbrev holding : List (Message ℕ) → List Flow → List (Message ℕ) → List ℕ → Module ℕ
+abbrev holding : List (Message ℕ) → List Flow → List (Message ℕ) → List ℕ → Standing ℕ
 holding above flows below line = OfLdterm (record new_ldterm { read_queue = queue above flows; write_queue = queue below []; line = line })
 
-abbrev flows_of : Module ℕ → List Flow
+abbrev flows_of : Standing ℕ → List Flow
 flows_of (OfLdterm l) = l.read_queue.flows
 flows_of (OfPtem p) = []
 flows_of (OfPckt p) = []
@@ -47,11 +47,11 @@ abbrev one : ℕ → List (Message ℕ)
 one b = ordinary (b ∷ []) ∷ []
 
 -- an open stream with these messages at its head, these modules, and these messages on its driver's queue
-abbrev end : List (Message ℕ) → List (Module ℕ) → List (Message ℕ) → Stream ℕ
+abbrev end : List (Message ℕ) → List (Standing ℕ) → List (Message ℕ) → Stream ℕ
 end above ps below = record { opened = Open; head = head_with (queue above []) false; modules = ps; driver = record { queue = queue below [] } }
 
 -- a pair of which the slave's stream has these modules, and these messages wait on the master's driver
-abbrev pair : List (Message ℕ) → List (Module ℕ) → List QueueName → State ℕ
+abbrev pair : List (Message ℕ) → List (Standing ℕ) → List QueueName → State ℕ
 pair waits ps enabled = record {
   ends = record { master = end [] [] waits; slave = end (one 1) ps (one 2) };
   locked = false;
@@ -242,7 +242,7 @@ pub what-waits-up : map (λ p. none_waits_up (p ∷ [])) (holding (one 3) [] [] 
 unfolding is_held
 what-waits-up = refl
 
-abbrev ending : List (Module ℕ) → State ℕ
+abbrev ending : List (Standing ℕ) → State ℕ
 ending ps = with_stream Slave (record (end [] [] []) { opened = Closed }) (with_stream Master (end [] ps []) (pair [] [] []))
 
 pub data-at-a-module-holds-off-the-end : map (λ ps. at_end Master (ending ps)) ([] ∷ (holding (one 3) [] [] [] ∷ []) ∷ (holding [] [] (one 4) (5 ∷ []) ∷ []) ∷ []) ≡ true ∷ false ∷ true ∷ []

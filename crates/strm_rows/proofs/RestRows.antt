@@ -17,7 +17,7 @@ use Rattle.strm_types.specs.Message.{Message, band_of, cells_of, data_message, i
 use Rattle.strm_types.specs.Names.{driver_of}
 use Rattle.strm_types.specs.Queue.{Queue}
 use Rattle.strm_laws.specs.Rest.{work}
-use Rattle.strm_laws.specs.Stacked.{Module, OfLdterm}
+use Rattle.strm_laws.specs.Stacked.{Standing, OfLdterm}
 use Rattle.strm_laws.specs.State.{State, Stream, queues_of}
 use Rattle.strm_laws.specs.Turns.{turned, whole_turn}
 use Rattle.strm_laws.proofs.Samples.{flow, head_with, ordinary, queue}
@@ -25,7 +25,7 @@ use Rattle.strm_laws.proofs.Samples.{flow, head_with, ordinary, queue}
 abbrev roomy : List (Message ℕ) → Queue ℕ
 roomy messages = queue messages (flow 512 128 false ∷ [])
 
-abbrev edited : Module ℕ
+abbrev edited : Standing ℕ
 edited = OfLdterm (record new_ldterm { read_queue = roomy []; write_queue = roomy [] })
 
 abbrev end : List (Message ℕ) → Stream ℕ

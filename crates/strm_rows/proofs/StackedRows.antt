@@ -15,13 +15,13 @@ use Rattle.strm_types.specs.Ldterms.{new_ldterm, onward}
 use Rattle.strm_types.specs.Message.{Message, band_of, cells_of, is_high_priority, map_message, rank_of, size_of, weight_of}
 use Rattle.strm_types.specs.Ptems.{new_ptem}
 use Rattle.strm_types.specs.Queue.{Queue}
-use Rattle.strm_laws.specs.Stacked.{Module, OfLdterm, OfPtem, module_asks, module_line, module_name, module_puts, module_queue, module_rests, module_serves, module_weight, with_module_queue, without_module_line}
+use Rattle.strm_laws.specs.Stacked.{Standing, OfLdterm, OfPtem, module_asks, module_line, module_name, module_puts, module_rests, module_serves, module_weight, without_kind_line}
 use Rattle.strm_types.specs.Service.{unserved}
 use Rattle.strm_laws.specs.State.{State, Stream, map_stream, messages_in, new_stream, stream_queues}
 use Rattle.strm_laws.proofs.Samples.{head_with, ordinary, queue}
 
 -- a module with these messages on its read queue and on its write queue, and this unfinished line
-abbrev with_these : List (Message ℕ) → List (Message ℕ) → List ℕ → Module ℕ
+abbrev with_these : List (Message ℕ) → List (Message ℕ) → List ℕ → Standing ℕ
 with_these above below line = OfLdterm (record new_ldterm { read_queue = queue above []; write_queue = queue below []; line = line })
 
 -- a stream of a head, two modules and a driver
@@ -70,7 +70,7 @@ pub queue-of-a-way-changes : with_module_queue Up (queue (ordinary (9 ∷ []) �
 queue-of-a-way-changes = refl
 
 -- a ptem has a name, and neither a queue nor a line nor a cell; it asks nothing, rests, and serves no turn
-abbrev ptem : Module ℕ
+abbrev ptem : Standing ℕ
 ptem = OfPtem new_ptem
 
 pub names-of-modules : map module_name (with_these [] [] [] ∷ ptem ∷ []) ≡ Ldterm ∷ Ptem ∷ []

@@ -22,8 +22,8 @@ use Rattle.strm_types.specs.Cells.{Cells}
 use Rattle.strm_types.specs.Deliver.{Acted, Carried, Fate, Goes, Comes, Parcel, Took, carried, in_turn}
 use Rattle.strm_types.specs.Drivers.{answered, crosses, driver_put, flush_down, freed, ioctl_put, own_flushed, put_across, put_down, taken_in}
 use Rattle.strm_laws.specs.Earlier.{driver_place, modules_on}
-use Rattle.strm_types.specs.Flushing.{asked_by, flush_message, read_flush}
-use Rattle.strm_types.specs.Heads.{head_flushed, head_put, is_doubled, obeyed, passed_by}
+use Rattle.strm_types.specs.Flushing.{asked_by, flush_message, read_flush, is_bare_flush}
+use Rattle.strm_types.specs.Heads.{head_flushed, head_put, is_doubled, obeyed, passed_by, Head}
 use Rattle.strm_types.specs.Ioctls.{read_ioc}
 use Rattle.strm_types.specs.LdtermPuts.{ldterm_puts}
 use Rattle.strm_types.specs.Ldterms.{Ldterm, both, flush_passes, line_flushed, onward, queue_flushed, read_flushed, sends, takes_band_0, without_line, write_flushed}
@@ -31,12 +31,10 @@ use Rattle.strm_types.specs.Message.{Message, has_parts}
 use Rattle.strm_types.specs.Modules.{put_among}
 use Rattle.strm_types.specs.Names.{direction_at, is_master, is_open}
 use Rattle.strm_laws.specs.Puts.{across_of, delivered, made_above, passed_up, put_at_driver, put_at_head, put_at_module, put_behind, put_below, put_in}
-use Rattle.strm_types.specs.Flushing.{is_bare_flush}
 use Rattle.strm_types.specs.Queue.{Queue}
 use Rattle.strm_types.specs.Rules.{number_of}
 use Rattle.strm_types.specs.Service.{line_gone}
-use Rattle.strm_laws.specs.Stacked.{Module, OfLdterm, OfPtem, OfPckt, module_puts}
-use Rattle.strm_types.specs.Heads.{Head}
+use Rattle.strm_laws.specs.Stacked.{Standing, OfLdterm, OfPtem, OfPckt, module_puts}
 use Rattle.strm_laws.specs.State.{State, stream}
 use Rattle.strm_types.specs.TakenUp.{input_flushed, taken_up, termios_taken}
 use Rattle.strm_types.specs.Typing.{up_alone}
@@ -159,12 +157,12 @@ module _ {C : Type 0} (dir : Dir) where
 
   -- at any module
   module _ (cells : Cells C) where
-    module-unread : (made : ℕ) (here : Spot) (m : Message C) (q : Module C) → Unread (module_puts cells made here m q)
+    module-unread : (made : ℕ) (here : Spot) (m : Message C) (q : Standing C) → Unread (module_puts cells made here m q)
     module-unread made here m (OfLdterm l) = ldterm-unread here m l
     module-unread made here m (OfPtem q) = ap (λ told. reads dir told) (of_ptem.puts-gone here m q)
     module-unread made here m (OfPckt q) = of_pckt.puts-each cells made here m (λ t. reads dir t.gone ≡ 0) refl (λ up is. refl)
 
-    among-unread : (made i : ℕ) (here : Spot) (m : Message C) (ps : List (Module C)) → Unread (put_among (module_puts cells made) i here m ps)
+    among-unread : (made i : ℕ) (here : Spot) (m : Message C) (ps : List (Standing C)) → Unread (put_among (module_puts cells made) i here m ps)
     among-unread made i here m [] = refl
     among-unread made zero here m (q ∷ ps) = module-unread made here m q
     among-unread made (suc i) here m (q ∷ ps) = among-unread made i here m ps

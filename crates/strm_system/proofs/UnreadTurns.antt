@@ -46,7 +46,7 @@ use Rattle.strm_laws.specs.Pushes.{all_taken, head_above, mode_behind, mode_on_p
 use Rattle.strm_laws.specs.Puts.{put_in}
 use Rattle.strm_types.specs.Queue.{is_full, is_none_left, left_with}
 use Rattle.strm_types.specs.Service.{cleared, line_gone}
-use Rattle.strm_laws.specs.Stacked.{Module, OfLdterm, OfPtem, OfPckt, module_asks, module_line, module_name, module_queue, module_rests, module_serves, with_module_queue, without_module_line}
+use Rattle.strm_laws.specs.Stacked.{Standing, OfLdterm, OfPtem, OfPckt, module_asks, module_line, module_name, module_rests, module_serves, without_kind_line}
 use Rattle.strm_laws.specs.State.{State, stream}
 use Rattle.strm_types.specs.Termios.{icanon, imaxbel, noflsh, opost}
 use Rattle.strm_laws.specs.TurnOutcomes.{TurnOutcome, stayed_put}
@@ -170,12 +170,12 @@ module _ {C : Type 0} (dir : Dir) (cells : Cells C) where
   serves-at Up here false made stop l = input-unread dir cells (record here { way = Up }) stop made l.read_queue.messages l
   serves-at Up here true made stop l = stages-unread dir cells (record here { way = Up }) (3 * unwrap_or stop (to_treat l) - stages_done l.stage) made l
 
-  serves-unread : (here : Spot) (again : Bool) (made : ℕ) (stop : Option ℕ) (q : Module C) → Unread dir (module_serves cells here made again stop q).acted
+  serves-unread : (here : Spot) (again : Bool) (made : ℕ) (stop : Option ℕ) (q : Standing C) → Unread dir (module_serves cells here made again stop q).acted
   serves-unread here again made stop (OfLdterm l) = serves-at here.way here again made stop l
   serves-unread here again made stop (OfPtem q) = refl
   serves-unread here again made stop (OfPckt q) = refl
 
-  acts-unread : (here : Spot) (made : ℕ) (again : Bool) (left : ℕ) (i : ℕ) (ps : List (Module C)) → Unread dir (act_among (λ q. (module_serves cells here made again (Some left) q).acted) i ps)
+  acts-unread : (here : Spot) (made : ℕ) (again : Bool) (left : ℕ) (i : ℕ) (ps : List (Standing C)) → Unread dir (act_among (λ q. (module_serves cells here made again (Some left) q).acted) i ps)
   acts-unread here made again left i [] = refl
   acts-unread here made again left zero (q ∷ ps) = serves-unread here again made (Some left) q
   acts-unread here made again left (suc i) (q ∷ ps) = acts-unread here made again left i ps
@@ -249,29 +249,29 @@ module _ {C : Type 0} (dir : Dir) (cells : Cells C) where
   mode-unread side None s = refl
   mode-unread side (Some mode) s = at-head dir cells side (head_above side) (mode_message mode false) s
 
-  pub push-unread : (side : Side) (q : Option (Module C)) (s : State C) → reads dir (pushed_named side q s).gone ≡ 0
+  pub push-unread : (side : Side) (q : Option (Standing C)) (s : State C) → reads dir (pushed_named side q s).gone ≡ 0
   push-unread side None s = refl
   push-unread side (Some q) s = mode-unread side (mode_on_push (module_name q)) (with_modules side (q ∷ (stream side s).modules) s)
 
-  clears-popped : (side : Side) (q : Module C) → reads dir (cleared module_queue with_module_queue module_line without_module_line side ModulePopped q).gone ≡ 0
+  clears-popped : (side : Side) (q : Standing C) → reads dir (cleared kind_line without_kind_line side ModulePopped q).gone ≡ 0
   clears-popped side (OfPtem q) = refl
   clears-popped side (OfPckt q) = refl
   clears-popped side (OfLdterm l) = let rest = none-both dir (line_gone side ModulePopped l.line) (Goes (direction_at Down side) ModulePopped (cells_gone of_all l.write_queue.messages) ∷ []) (line-unread dir side ModulePopped l.line refl) refl in let e : 0 + reads dir (line_gone side ModulePopped l.line ++ Goes (direction_at Down side) ModulePopped (cells_gone of_all l.write_queue.messages) ∷ []) ≡ 0 = omega (arith, rest) in e
 
-  clears-closed : (side : Side) (q : Module C) → reads dir (cleared module_queue with_module_queue module_line without_module_line side EndClosed q).gone ≡ 0
+  clears-closed : (side : Side) (q : Standing C) → reads dir (cleared kind_line without_kind_line side EndClosed q).gone ≡ 0
   clears-closed side (OfPtem q) = refl
   clears-closed side (OfPckt q) = refl
   clears-closed side (OfLdterm l) = let rest = none-both dir (line_gone side EndClosed l.line) (Goes (direction_at Down side) EndClosed (cells_gone of_all l.write_queue.messages) ∷ []) (line-unread dir side EndClosed l.line refl) refl in let e : 0 + reads dir (line_gone side EndClosed l.line ++ Goes (direction_at Down side) EndClosed (cells_gone of_all l.write_queue.messages) ∷ []) ≡ 0 = omega (arith, rest) in e
 
-  top-popped : (side : Side) (ps : List (Module C)) (s : State C) → reads dir (top_taken ModulePopped side ps s).gone ≡ 0
+  top-popped : (side : Side) (ps : List (Standing C)) (s : State C) → reads dir (top_taken ModulePopped side ps s).gone ≡ 0
   top-popped side [] s = refl
   top-popped side (q ∷ ps) s = clears-popped side q
 
-  top-closed : (side : Side) (ps : List (Module C)) (s : State C) → reads dir (top_taken EndClosed side ps s).gone ≡ 0
+  top-closed : (side : Side) (ps : List (Standing C)) (s : State C) → reads dir (top_taken EndClosed side ps s).gone ≡ 0
   top-closed side [] s = refl
   top-closed side (q ∷ ps) s = clears-closed side q
 
-  all-closed : (side : Side) (ps : List (Module C)) (s : State C) → reads dir (all_taken EndClosed side ps s).gone ≡ 0
+  all-closed : (side : Side) (ps : List (Standing C)) (s : State C) → reads dir (all_taken EndClosed side ps s).gone ≡ 0
   all-closed side [] s = refl
   all-closed side (q ∷ ps) s =
       let t = top_taken EndClosed side (q ∷ ps) s in

@@ -30,7 +30,7 @@ returns-clause-did g c = λ f.
     let w = c.send_gathered-first.new.ldterm in
     let p = ldterm_in s x in
     let sent = option_to_list c.send_gathered-first.result in
-    let q : ldterms.Ldterm ℕ = record p { echoing = false; in_work = None; read_queue = back_on p.in_work p.read_queue } in
+    let q : ldterms.Discipline ℕ = record p { echoing = false; in_work = None; read_queue = back_on p.in_work p.read_queue } in
     subst (λ l. Proceeds s u x (record w { stage = Between }) 0 [] l f f (finished plain c.args.here p)) (sym (append-nil sent))
     (proceeds-staged s u x w 0 sent f f _ Between
     (proceeds-both s u u x z w 0 0 [] sent f f f (sends [] q) (λ r. sends (gathered_up plain c.args.here r.gathered) (record r { gathered = [] })) c.audit.ensures c.requires.kept

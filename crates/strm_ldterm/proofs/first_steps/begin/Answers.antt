@@ -34,7 +34,7 @@ returns-in_default g c = λ f.
     let p = ldterm_in s x in
     let none = rw c.in_default.is at c.next_byte.ensures.byte in
     subst (λ l. Proceeds s t x y 1 [] l f f (begins_next plain c.args.here (cells_left p) p)) (sym c.none.ensures)
-    (subst (λ (a : Acted ℕ (ldterms.Ldterm ℕ)). Proceeds s t x y 1 [] [] f f a) (ap (λ (q : ldterms.Ldterm ℕ). sends [] q) none.1 ∙ sym (ap (λ l. begins_next plain c.args.here l p) none.0))
+    (subst (λ (a : Acted ℕ (ldterms.Discipline ℕ)). Proceeds s t x y 1 [] [] f f a) (ap (λ (q : ldterms.Discipline ℕ). sends [] q) none.1 ∙ sym (ap (λ l. begins_next plain c.args.here l p) none.0))
     (takes-more s t x y 0 [] f f (sends [] (with_left (drop 1 (cells_left p)) p)) (c.next_byte.ensures.did f)))
 
 pub returns : goal.returns
@@ -49,5 +49,5 @@ returns g c = λ f.
     let q = with_left (drop 1 (cells_left p)) p in
     let b = c.in-Some.byte in
     let is = rw c.in-Some.is at c.next_byte.ensures.byte in
-    subst (λ (a : Acted ℕ (ldterms.Ldterm ℕ)). Proceeds s u x z 1 [] (sent_of c.begin_with.result) f f a) (sym (ap (λ l. begins_next plain c.args.here l p) is))
+    subst (λ (a : Acted ℕ (ldterms.Discipline ℕ)). Proceeds s u x z 1 [] (sent_of c.begin_with.result) f f a) (sym (ap (λ l. begins_next plain c.args.here l p) is))
     (proceeds-both s t u x y z 0 1 [] (sent_of c.begin_with.result) f f f (sends [] q) (λ r. begins plain c.args.here b r) c.audit.ensures c.requires.kept (c.next_byte.ensures.did f) (c.begin_with.ensures f))

@@ -37,7 +37,7 @@ returns-clause-did g c = λ f.
     let r = c.take_byte-byte.result.0 in
     let there : x.in_work ≡ Some m = sym c.take.ensures.value ∙ c.in-Some.is in
     let w = message_in s (token m) in
-    subst (λ (q : ldterms.Ldterm ℕ). Proceeds s t x (record x { in_work = Some r }) 0 [] [] f f (sends [] q)) (sym (busy-left s x m there 1))
+    subst (λ (q : ldterms.Discipline ℕ). Proceeds s t x (record x { in_work = Some r }) 0 [] [] f f (sends [] q)) (sym (busy-left s x m there 1))
     (work-comes s t x m r (left_of (drop 1 (cells_of w)) w) there c.audit-2.ensures c.requires.held c.requires.kept c.take_byte-byte.ensures.became f)
 
 pub returns-clause-byte : goal.returns-clause-byte

@@ -46,7 +46,7 @@ returns-clause-did g c = λ f.
     let n = length c.take_plain-message.new.run.items in
     let there : x.in_work ≡ Some m = sym c.take.ensures.value ∙ c.in-Some.is in
     let w = message_in s (token m) in
-    subst (λ (q : ldterms.Ldterm ℕ). Proceeds s t x (record x { in_work = Some r }) 0 [] [] f f (sends [] q)) (sym (busy-left s x m there n))
+    subst (λ (q : ldterms.Discipline ℕ). Proceeds s t x (record x { in_work = Some r }) 0 [] [] f f (sends [] q)) (sym (busy-left s x m there n))
     (work-comes s t x m r (left_of (drop n (cells_of w)) w) there c.audit-2.ensures c.requires.held c.requires.kept c.take_plain-message.ensures.became f)
 
 pub returns-clause-front : goal.returns-clause-front

@@ -18,7 +18,7 @@ echo-notes-requires-clause-room g c =
     let x = c.args.ldterm.now in
     let did = c.strike_quiet.ensures in
     let leaves = may-leave c.args.here c.args.stroke.key c.args.stroke.byte (record (ldterm_in (g.B.Blocks.value c.args.store.now) x) { after_lnext = c.is_lnext-ldterm.result }) c.strike_quiet.new.ldterm.line
-    (ap (λ (p : ldterms.Ldterm ℕ). p.line) did.state) in
+    (ap (λ (p : ldterms.Discipline ℕ). p.line) did.state) in
     let few = echo-chunks _ (c.echo_of-plan.ensures.few c.strike_quiet.new.ldterm.line leaves) in
     let m = did.mblks in
     let d = did.dblks in
@@ -48,7 +48,7 @@ returns g c =
     let s = g.B.Blocks.value c.args.store.now in
     let s2 = g.B.Blocks.value c.strike_quiet.new.store in
     let did = c.strike_quiet.ensures in
-    let leaves = may-leave c.args.here c.args.stroke.key c.args.stroke.byte (record (ldterm_in s x) { after_lnext = c.is_lnext-ldterm.result }) x2.line (ap (λ (p : ldterms.Ldterm ℕ). p.line) did.state) in
+    let leaves = may-leave c.args.here c.args.stroke.key c.args.stroke.byte (record (ldterm_in s x) { after_lnext = c.is_lnext-ldterm.result }) x2.line (ap (λ (p : ldterms.Discipline ℕ). p.line) did.state) in
     let few = echo-chunks _ (c.echo_of-plan.ensures.few x2.line leaves) in
     subst (λ notes. Proceeds s (g.B.Blocks.value c.echo-notes.new.store) x c.echo-notes.new.ldterm 25 notes [] c.args.told.now c.echo-notes.new.told (one_after (struck plain c.args.here c.args.started c.args.byte (ldterm_in s x)) (next_stage plain c.args.here 0)))
     (sym c.join.ensures)

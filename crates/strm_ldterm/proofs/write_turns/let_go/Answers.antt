@@ -29,8 +29,8 @@ returns-clause-did g c = λ f.
     let x = c.args.ldterm.now in
     let y = c.return_output.new.ldterm in
     let p = ldterm_in s x in
-    let q : ldterms.Ldterm ℕ = record p { in_work = None; write_queue = back_on p.in_work p.write_queue } in
-    proceeds-both s t u x y c.send_output.new.ldterm 0 0 [] (sent_of c.send_output.result) f f f (sends [] q) (λ (r : ldterms.Ldterm ℕ). sends (map (onward Down c.args.here) (with_given r.gathered (data_of c.args.band.0 []))) (record r { gathered = [] })) c.audit.ensures c.requires.kept
+    let q : ldterms.Discipline ℕ = record p { in_work = None; write_queue = back_on p.in_work p.write_queue } in
+    proceeds-both s t u x y c.send_output.new.ldterm 0 0 [] (sent_of c.send_output.result) f f f (sends [] q) (λ (r : ldterms.Discipline ℕ). sends (map (onward Down c.args.here) (with_given r.gathered (data_of c.args.band.0 []))) (record r { gathered = [] })) c.audit.ensures c.requires.kept
     (proceeds-alters s t x y f q c.return_output.ensures.alters c.return_output.ensures.state) (c.send_output.ensures.did f)
 
 pub returns-clause-blocks : goal.returns-clause-blocks

@@ -19,7 +19,7 @@ pub goes_down-requires-clause-held : goal.goes_down-requires-clause-held
 goes_down-requires-clause-held g c = (c.in-InWork.ensures.works c.args.told.now).held
 
 pub goes_down-requires-clause-bytes : goal.goes_down-requires-clause-bytes
-goes_down-requires-clause-bytes g c = c.in-InWork.ensures.size ∙ sym (ap (λ (q : ldterms.Ldterm ℕ). length (cells_left q)) (c.in-InWork.ensures.works c.args.told.now).state)
+goes_down-requires-clause-bytes g c = c.in-InWork.ensures.size ∙ sym (ap (λ (q : ldterms.Discipline ℕ). length (cells_left q)) (c.in-InWork.ensures.works c.args.told.now).state)
 
 pub goes_down-requires-clause-some : goal.goes_down-requires-clause-some
 goes_down-requires-clause-some g c = c.in-InWork.ensures.some
@@ -34,13 +34,13 @@ post_whole-sent-requires-clause-kept g c =
 
 pub post_whole-sent-requires-clause-work : goal.post_whole-sent-requires-clause-work
 post_whole-sent-requires-clause-work g c =
-    sym (kept-some (g.B.Blocks.value c.begin_output.new.store) c.begin_output.new.ldterm.in_work) ∙ ap (λ (q : ldterms.Ldterm ℕ). is_some q.in_work) (c.in-InWork.ensures.works c.args.told.now).state
+    sym (kept-some (g.B.Blocks.value c.begin_output.new.store) c.begin_output.new.ldterm.in_work) ∙ ap (λ (q : ldterms.Discipline ℕ). is_some q.in_work) (c.in-InWork.ensures.works c.args.told.now).state
 
 pub post_whole-sent-requires-clause-none : goal.post_whole-sent-requires-clause-none
-post_whole-sent-requires-clause-none g c = ap (λ (q : ldterms.Ldterm ℕ). q.gathered) (c.in-InWork.ensures.works c.args.told.now).state ∙ c.in-InWork.ensures.none
+post_whole-sent-requires-clause-none g c = ap (λ (q : ldterms.Discipline ℕ). q.gathered) (c.in-InWork.ensures.works c.args.told.now).state ∙ c.in-InWork.ensures.none
 
 pub post_whole-sent-requires-clause-bytes : goal.post_whole-sent-requires-clause-bytes
-post_whole-sent-requires-clause-bytes g c = c.in-InWork.ensures.size ∙ sym (ap (λ (q : ldterms.Ldterm ℕ). length (cells_left q)) (c.in-InWork.ensures.works c.args.told.now).state)
+post_whole-sent-requires-clause-bytes g c = c.in-InWork.ensures.size ∙ sym (ap (λ (q : ldterms.Discipline ℕ). length (cells_left q)) (c.in-InWork.ensures.works c.args.told.now).state)
 
 pub post_whole-sent-requires-clause-some : goal.post_whole-sent-requires-clause-some
 post_whole-sent-requires-clause-some g c = c.in-InWork.ensures.some
@@ -67,7 +67,7 @@ returns-then-goes_down g c = λ again.
     let works = (c.in-InWork.ensures.works told).state in
     subst (λ v. ServesAs s s3 c.args.here x x3 again v told told) (sym (whole-is whole.result sent bytes whole.ensures.sent whole.ensures.bytes whole.ensures.stopped whole.ensures.again))
     (whole-serves-out s s1 s3 c.args.here x x1 x3 bytes c.in-InWork.band.0 whole.result.acts.notes sent told c.requires.way c.requires.stage c.in-InWork.ensures c.audit.ensures whole.ensures.notes
-    (c.in-InWork.ensures.works told).held c.post_whole-sent.ensures.column (c.goes_down.ensures.short down) (c.in-InWork.ensures.size ∙ sym (ap (λ (q : ldterms.Ldterm ℕ). length (cells_left q)) works))
+    (c.in-InWork.ensures.works told).held c.post_whole-sent.ensures.column (c.goes_down.ensures.short down) (c.in-InWork.ensures.size ∙ sym (ap (λ (q : ldterms.Discipline ℕ). length (cells_left q)) works))
     (c.goes_down.ensures.printed down) (c.goes_down.ensures.room down) (c.post_whole-sent.ensures.did told) again)
 
 pub post_bytes-left-requires-clause-held : goal.post_bytes-left-requires-clause-held
@@ -80,10 +80,10 @@ post_bytes-left-requires-clause-kept g c =
 
 pub post_bytes-left-requires-clause-work : goal.post_bytes-left-requires-clause-work
 post_bytes-left-requires-clause-work g c =
-    sym (kept-some (g.B.Blocks.value c.begin_output.new.store) c.begin_output.new.ldterm.in_work) ∙ ap (λ (q : ldterms.Ldterm ℕ). is_some q.in_work) (c.in-InWork.ensures.works c.args.told.now).state
+    sym (kept-some (g.B.Blocks.value c.begin_output.new.store) c.begin_output.new.ldterm.in_work) ∙ ap (λ (q : ldterms.Discipline ℕ). is_some q.in_work) (c.in-InWork.ensures.works c.args.told.now).state
 
 pub post_bytes-left-requires-clause-bytes : goal.post_bytes-left-requires-clause-bytes
-post_bytes-left-requires-clause-bytes g c = c.in-InWork.ensures.size ∙ sym (ap (λ (q : ldterms.Ldterm ℕ). length (cells_left q)) (c.in-InWork.ensures.works c.args.told.now).state)
+post_bytes-left-requires-clause-bytes g c = c.in-InWork.ensures.size ∙ sym (ap (λ (q : ldterms.Discipline ℕ). length (cells_left q)) (c.in-InWork.ensures.works c.args.told.now).state)
 
 pub let_go-sent-requires-clause-kept : goal.let_go-sent-requires-clause-kept
 let_go-sent-requires-clause-kept g c =
