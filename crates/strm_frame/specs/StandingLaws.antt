@@ -45,6 +45,11 @@ module _ (s t : StoreValue) (pair : QueuePair) (same : (k : ℕ) → 0 < queues_
     apart = ready.apart;
   }
 
+-- where there are no lists there are no queues
+pub none-same : (queues others : Option QueuePair) → lists_of others ≡ lists_of queues → queues ≡ None → others ≡ None
+none-same queues None lists none = refl
+none-same queues (Some pair) lists none = absurd (cc (lists ∙ ap lists_of none))
+
 module _ (s t : StoreValue) where
   pub queues-same : (queues : Option QueuePair) → ((k : ℕ) → 0 < queues_own queues k → list_at t k ≡ list_at s k) → queues_in t queues ≡ queues_in s queues
   queues-same None same = refl

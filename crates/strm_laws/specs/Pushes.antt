@@ -27,7 +27,7 @@ use Rattle.strm_types.specs.Ptems.{new_ptem}
 use Rattle.strm_laws.specs.Puts.{earlier_at, noted, put_at_head}
 use Rattle.strm_types.specs.Queue.{is_none_left}
 use Rattle.strm_types.specs.Service.{cleared}
-use Rattle.strm_types.specs.Standings.{has_queues, messages_at, new_pair}
+use Rattle.strm_types.specs.Standings.{QueuePair, has_queues, messages_at, new_pair}
 use Rattle.strm_laws.specs.Stacked.{Module, Standing, OfLdterm, OfPtem, OfPckt, module_line, module_name, without_kind_line}
 use Rattle.strm_laws.specs.State.{State, Stream, stream, with_ioctl, with_stream}
 
@@ -63,8 +63,11 @@ module _ {C : Type 0} where
   kind_named names.Ptem = OfPtem new_ptem
   kind_named names.Pckt = OfPckt new_pckt
 
+  abbrev pub queues_named : ModuleName → Option (QueuePair C)
+  queues_named name = if is_some (place_of name) then Some new_pair else None
+
   abbrev pub module_named : ModuleName → Standing C
-  module_named name = record { part = kind_named name; queues = if is_some (place_of name) then Some new_pair else None }
+  module_named name = record { part = kind_named name; queues = queues_named name }
 
   abbrev pub named_by : Option ModuleName → Option (Standing C)
   named_by None = None

@@ -20,7 +20,7 @@ use Rattle.strm_types.specs.Names.{direction_at}
 use Rattle.strm_types.specs.Pckts.{Pckt, pckt_puts}
 use Rattle.strm_types.specs.Ptems.{Ptem, ptem_puts}
 use Rattle.strm_types.specs.Queue.{Queue, weight}
-use Rattle.strm_types.specs.Service.{Serving, done_by, served_by, unserved}
+use Rattle.strm_types.specs.Service.{Serving, acts_alone, done_by, served_by, unserved}
 use Rattle.strm_types.specs.Standings as standings
 use Rattle.strm_types.specs.Standings.{QueuePair, map_standing}
 use Rattle.strm_laws.specs.LdtermOrigins.{map_own}
@@ -101,8 +101,8 @@ module _ {C : Type 0} where
     where
       by : Module C → Acted C (Standing C)
       by (OfLdterm l) = done_by (of_kind OfLdterm) (puts_there here m (record { part = l; queues = x.queues }))
-      by (OfPtem p) = done_by (λ q. record { part = OfPtem q; queues = x.queues }) (ptem_puts here m p)
-      by (OfPckt p) = done_by (λ q. record { part = OfPckt q; queues = x.queues }) (pckt_puts cells made here m)
+      by (OfPtem p) = done_by (of_kind OfPtem) (acts_alone (ptem_puts here m) (record { part = p; queues = x.queues }))
+      by (OfPckt p) = done_by (of_kind OfPckt) (acts_alone (λ q. pckt_puts cells made here m) (record { part = p; queues = x.queues }))
 
   -- what the first message of its queue of a way asks before it goes on
   abbrev pub module_asks : Way → Standing C → Asks

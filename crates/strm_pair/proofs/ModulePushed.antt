@@ -15,10 +15,11 @@ use Rattle.strm_laws.specs.Stacked.{Standing, OfLdterm, OfPtem, OfPckt, module_n
 use Rattle.strm_blocks.specs.Blocks.{StoreValue, list_at}
 use Rattle.strm_frame.specs.Stacks.{all_of, AreHeld}
 use Rattle.strm_frame.specs.declared.stack.Stack.{Stack}
-use Rattle.strm_ldterm.specs.declared.ldterm.Tables.{Tables}
+use Rattle.strm_frame.specs.declared.queue_pair.Tables.{Tables}
 use Rattle.strm_pair.specs.declared.modules.AnyModule.{AnyModule}
 use Rattle.strm_pair.specs.declared.modules.AnyModule.TheVariants as kinds
-use Rattle.strm_pair.specs.AnyModules.{IsHeld, IsMade, keeps, module_in, owns}
+use Rattle.strm_pair.specs.AnyModules.{IsHeld, IsMade, keeps, module_in}
+use Rattle.strm_frame.specs.Standings.{owns}
 
 -- the module that a name makes, where it may stand
 pub made-named : (kind : ModuleName) (ms : List (Standing ℕ)) → may_stand (named_by (Some kind)) ms ≡ true → (p : Standing ℕ) × (named_by (Some kind) ≡ Some p)

@@ -13,7 +13,7 @@ use Rattle.strm_types.specs.Emptied.{of_all, emptied, none_goes, queue_behind}
 use Rattle.strm_types.specs.Modules.{act_among, top_name}
 use Rattle.strm_types.specs.Queue as plain
 use Rattle.strm_laws.specs.Stacked.{Standing, OfLdterm, module_name}
-use Rattle.strm_laws.specs.TurnCalls.{ldterm_of}
+use Rattle.strm_laws.specs.TurnCalls.{discipline_of}
 use Rattle.strm_blocks.specs.Blocks.{Block, StoreValue, list_at}
 use Rattle.strm_msg.specs.Messages.{message_of}
 use Rattle.strm_queue.specs.Stored.{FreesBlocks}
@@ -27,7 +27,8 @@ use Rattle.strm_ldterm.specs.Stands as stands
 use Rattle.strm_ldterm.specs.Stands.{ldterm_in}
 use Rattle.strm_pair.specs.declared.modules.AnyModule.{AnyModule}
 use Rattle.strm_pair.specs.declared.modules.AnyModule.TheVariants as kinds
-use Rattle.strm_pair.specs.AnyModules.{IsHeld, keeps, module_in, owns}
+use Rattle.strm_pair.specs.AnyModules.{IsHeld, keeps, module_in}
+use Rattle.strm_frame.specs.Standings.{owns}
 use Rattle.strm_pair.specs.declared.stacks.Taken.{Taken}
 use Rattle.strm_pair.specs.Taken.{TookTop, let_go_of}
 
@@ -75,10 +76,10 @@ module _ (s t : StoreValue) (side : Side) (rule : Rule) where
   cleared-ldterm x y k is some = by (once y.read_queue.list k) refl
     where
       reads : list_at t y.read_queue.list ≡ []
-      reads = no-chain (list_at t y.read_queue.list) (ap (λ (p : Standing ℕ). (ldterm_of p).read_queue.messages) is ∙ none-behind (ldterm_in s x).read_queue)
+      reads = no-chain (list_at t y.read_queue.list) (ap (λ (p : Standing ℕ). (discipline_of p).read_queue.messages) is ∙ none-behind (ldterm_in s x).read_queue)
 
       writes : list_at t y.write_queue.list ≡ []
-      writes = no-chain (list_at t y.write_queue.list) (ap (λ (p : Standing ℕ). (ldterm_of p).write_queue.messages) is ∙ none-behind (ldterm_in s x).write_queue)
+      writes = no-chain (list_at t y.write_queue.list) (ap (λ (p : Standing ℕ). (discipline_of p).write_queue.messages) is ∙ none-behind (ldterm_in s x).write_queue)
 
       by : (n : ℕ) → once y.read_queue.list k ≡ n → list_at t k ≡ []
       by zero none = subst (λ l. list_at t l ≡ []) (once-is y.write_queue.list k (omega (arith, some, none))) writes

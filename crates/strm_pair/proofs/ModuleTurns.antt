@@ -25,7 +25,7 @@ use Rattle.strm_types.specs.Queue.{is_none_left, first_size}
 use Rattle.strm_laws.specs.Stacked.{IsAtRest, Standing, OfLdterm, OfPtem, OfPckt, module_asks, module_rests}
 use Rattle.strm_laws.specs.State.{State, Stream, stream}
 use Rattle.strm_types.specs.LdtermCalls.{bytes_left}
-use Rattle.strm_laws.specs.TurnCalls.{ldterm_of}
+use Rattle.strm_laws.specs.TurnCalls.{discipline_of}
 use Rattle.strm_laws.specs.TurnOutcomes.{TurnOutcome, stayed_put}
 use Rattle.strm_laws.proofs.ModuleTurnCalls.{index-map, none_there}
 use Rattle.strm_pair.proofs.NamedPlaces.{found-low}
@@ -73,7 +73,7 @@ pub turned-room : (name : QueueName) (at : ℕ) (band : Band) (turn : Turn) (s :
 turned-room name at band turn s room = ap (λ b. cond {A = TurnOutcome ℕ} b (moved_within plain (spot_of name at) name turn s) (stayed_at Blocked (spot_of name at) (writer_waits name.side name.way at band.0 s))) room
 
 -- how many bytes a first call may treat
-whole : (way : Way) (p : Standing ℕ) → bytes_left way false (ldterm_of p) ≡ first_size (messages_at way p)
+whole : (way : Way) (p : Standing ℕ) → bytes_left way false (discipline_of p) ≡ first_size (messages_at way p)
 whole Up (OfLdterm l) = refl
 whole Down (OfLdterm l) = refl
 whole Up (OfPtem p) = refl

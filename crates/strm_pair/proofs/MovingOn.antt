@@ -26,7 +26,7 @@ use Rattle.strm_laws.specs.ModuleTurns.{moved_by, place_named, whole_module}
 use Rattle.strm_laws.specs.Pair.{IsKeptAhead, MovesOn}
 use Rattle.strm_laws.specs.Refusals.{Free, enough}
 use Rattle.strm_laws.specs.State.{State, Stream, stream}
-use Rattle.strm_laws.specs.TurnCalls.{ldterm_of, module_at}
+use Rattle.strm_laws.specs.TurnCalls.{discipline_of, module_at}
 use Rattle.strm_laws.specs.TurnOutcomes.{TurnOutcome, stayed_put}
 use Rattle.strm_laws.specs.Turns.{driver_serves, driver_turned, is_stopped_across, moved_across, whole_at}
 use Rattle.strm_laws.proofs.LdtermStops.{FullFirst}
@@ -76,7 +76,7 @@ whole-found way on at is = rw is refl
 
 -- a turn that treats as many bytes as there are goes whole
 size-whole : (name : QueueName) (here : Spot) (s : State ℕ) (n : ℕ) → name.place ≡ Ldterm → here ≡ record { side = name.side; at = here.at; way = name.way } → place_named name.place (stream name.side s).modules ≡ Some here.at
-    → here.at - 1 < length (stream here.side s).modules → bytes_left here.way false (ldterm_of (module_at here s)) ≡ n → Moved n ≡ whole_at name.place name.way (stream name.side s)
+    → here.at - 1 < length (stream here.side s).modules → bytes_left here.way false (discipline_of (module_at here s)) ≡ n → Moved n ≡ whole_at name.place name.way (stream name.side s)
 size-whole name here s n place named found low left =
     let side = ap (λ (h : Spot). h.side) named in
     let way = ap (λ (h : Spot). h.way) named in
@@ -100,12 +100,12 @@ least-enough t few = at (nat_le STOP_BLOCKS (free_m t)) refl (nat_le STOP_BLOCKS
         absurd (omega (arith, low, few))
 
 -- a turn of a module's queue
-pub serves-moves : (name : QueueName) (here : Spot) (old begun : State ℕ) (t : StoreValue) (bytes : ℕ) → MayMove old begun name here → bytes ≤ bytes_left here.way false (ldterm_of (module_at here begun))
-    → (bytes ≡ 0 → bytes_left here.way false (ldterm_of (module_at here begun)) ≡ 0) → StopsFew here bytes begun t → name.place ≡ Ldterm → MovesOn old (free_in t) name (Moved bytes)
+pub serves-moves : (name : QueueName) (here : Spot) (old begun : State ℕ) (t : StoreValue) (bytes : ℕ) → MayMove old begun name here → bytes ≤ bytes_left here.way false (discipline_of (module_at here begun))
+    → (bytes ≡ 0 → bytes_left here.way false (discipline_of (module_at here begun)) ≡ 0) → StopsFew here bytes begun t → name.place ≡ Ldterm → MovesOn old (free_in t) name (Moved bytes)
 serves-moves name here old begun t bytes may within some few place = at (nat_lt bytes left) refl
   where
     left : ℕ
-    left = bytes_left here.way false (ldterm_of (module_at here begun))
+    left = bytes_left here.way false (discipline_of (module_at here begun))
 
     low : here.at - 1 < length (stream here.side old).modules
     low = let inside = may.inside in let within = may.within in omega (arith, inside, within)
@@ -130,7 +130,7 @@ serves-moves name here old begun t bytes may within some few place = at (nat_lt 
     at false is =
         let most : left ≤ bytes = grind (arith, nat_tests, is) in
         let all : left ≡ bytes = omega (arith, most, within) in
-        inl (size-whole name here old bytes place may.named may.found low (subst (λ v. bytes_left here.way false (ldterm_of (module_at here v)) ≡ bytes) may.stays all))
+        inl (size-whole name here old bytes place may.named may.found low (subst (λ v. bytes_left here.way false (discipline_of (module_at here v)) ≡ bytes) may.stays all))
 
 -- whichever queues are enabled
 pub moves-taken : (names : List QueueName) (s : State ℕ) (free : Free) (name : QueueName) (turn : Turn) → MovesOn (record s { enabled = names }) free name turn → MovesOn s free name turn

@@ -10,7 +10,7 @@ use Rattle.strm_laws.specs.State.{Stream, stream, with_stream}
 use Rattle.strm_laws.proofs.StackOnce.{push-once}
 use Rattle.strm_blocks.specs.Blocks.{StoreValue, list_at}
 use Rattle.strm_pair.specs.declared.ends.StreamEnd.{StreamEnd}
-use Rattle.strm_ldterm.specs.declared.ldterm.Tables.{Tables}
+use Rattle.strm_frame.specs.declared.queue_pair.Tables.{Tables}
 use Rattle.strm_pair.specs.declared.streams.Streams.{Streams}
 use Rattle.strm_pair.specs.Framing.{stream_with}
 use Rattle.strm_pair.specs.Lists.{first_list}

@@ -29,7 +29,7 @@ use Rattle.strm_laws.specs.StackCosts.{stands_of}
 use Rattle.strm_laws.specs.Stacked.{Standing, OfLdterm, OfPtem, OfPckt, module_serves}
 use Rattle.strm_laws.specs.State.{State, book, stream}
 use Rattle.strm_types.specs.LdtermCalls.{Begins, Ends, bytes_left, most_made}
-use Rattle.strm_laws.specs.TurnCalls.{asks_on, called, ldterm_of, module_at, treated}
+use Rattle.strm_laws.specs.TurnCalls.{asks_on, called, discipline_of, module_at, treated}
 use Rattle.strm_types.proofs.CostsOf.{none-few}
 use Rattle.strm_laws.proofs.StackSpares.{acted-falls, units-fit}
 use Rattle.strm_laws.proofs.StackStays.{serve-names}
@@ -73,18 +73,18 @@ holds-there Q d i ps holds = holds d
 
 -- what is known of calls of ldterm's service procedure is so of any module's
 module _ (here : Spot) (again : Bool) where
-  pub module-goes : (p : Standing ℕ) → Begins here.way again (ldterm_of p) → let t = module_serves plain here 0 again None p in t.again ≡ true → GoesOn here.way again (ldterm_of p) t.bytes (ldterm_of t.acted.state)
+  pub module-goes : (p : Standing ℕ) → Begins here.way again (discipline_of p) → let t = module_serves plain here 0 again None p in t.again ≡ true → GoesOn here.way again (discipline_of p) t.bytes (discipline_of t.acted.state)
   module-goes (OfLdterm l) begins works = serves-goes here again l begins works
   module-goes (OfPtem p) begins works = absurd (false≢true works)
   module-goes (OfPckt p) begins works = absurd (false≢true works)
 
-  module-ends : (p : Standing ℕ) → Begins here.way again (ldterm_of p) → let t = module_serves plain here 0 again None p in t.again ≡ false → Ends here.way again (ldterm_of p) t.bytes
+  module-ends : (p : Standing ℕ) → Begins here.way again (discipline_of p) → let t = module_serves plain here 0 again None p in t.again ≡ false → Ends here.way again (discipline_of p) t.bytes
   module-ends (OfLdterm l) begins over = (serves-ends here again l begins over).0
   module-ends (OfPtem p) begins over = record { treat = omega arith; done = omega arith }
   module-ends (OfPckt p) begins over = record { treat = omega arith; done = omega arith }
 
 -- where a turn of a module begins or goes on, it may serve
-may-one : (way : Way) (again : Bool) (p : Standing ℕ) → Begins way again (ldterm_of p) → MayServe way again p
+may-one : (way : Way) (again : Bool) (p : Standing ℕ) → Begins way again (discipline_of p) → MayServe way again p
 may-one Up true (OfLdterm l) begins = begins
 may-one Up false (OfLdterm l) begins = begins
 may-one Down true (OfLdterm l) begins = begins
@@ -92,16 +92,16 @@ may-one Down false (OfLdterm l) begins = begins
 may-one way again (OfPtem p) begins = tt
 may-one way again (OfPckt p) begins = tt
 
-pub may-serve : (way : Way) (again : Bool) (i : ℕ) (ps : List (Standing ℕ)) → i < length ps → Begins way again (ldterm_of (slice_index_or ps i none_there)) → HoldsAt (MayServe way again) ps i
+pub may-serve : (way : Way) (again : Bool) (i : ℕ) (ps : List (Standing ℕ)) → i < length ps → Begins way again (discipline_of (slice_index_or ps i none_there)) → HoldsAt (MayServe way again) ps i
 may-serve way again i [] low begins = absurd (omega (arith, low))
 may-serve way again zero (p ∷ ps) low begins = λ d. may-one way again p begins
 may-serve way again (suc i) (p ∷ ps) low begins = may-serve way again i ps (omega (arith, low)) begins
 
 -- what is booked of a call, and what it told
-module _ (here : Spot) (again : Bool) (call : Call) (st : State ℕ) (tells : TellsAs here again call st) (begins : Begins here.way again (ldterm_of (module_at here st))) (low : here.at - 1 < length (stream here.side st).modules) where
+module _ (here : Spot) (again : Bool) (call : Call) (st : State ℕ) (tells : TellsAs here again call st) (begins : Begins here.way again (discipline_of (module_at here st))) (low : here.at - 1 < length (stream here.side st).modules) where
   -- it treated no more than it might
-  within-by : (stopped : Bool) → OnTrue stopped (Ends here.way again (ldterm_of (module_at here st)) call.bytes) → call.bytes ≡ treated here again (stop_at stopped call.bytes) (stream here.side st).modules
-      → call.bytes ≤ bytes_left here.way again (ldterm_of (module_at here st))
+  within-by : (stopped : Bool) → OnTrue stopped (Ends here.way again (discipline_of (module_at here st)) call.bytes) → call.bytes ≡ treated here again (stop_at stopped call.bytes) (stream here.side st).modules
+      → call.bytes ≤ bytes_left here.way again (discipline_of (module_at here st))
   within-by true ends bytes = ends.treat
   within-by false ends bytes =
       let l = module_at here st in
@@ -111,11 +111,11 @@ module _ (here : Spot) (again : Bool) (call : Call) (st : State ℕ) (tells : Te
       let same : call.bytes ≡ t.bytes = bytes ∙ index-map none_there (λ p. (module_serves plain here 0 again None p).bytes) 0 i ps low in
       at t.again refl (omega (arith, same))
     where
-      at : (more : Bool) → (module_serves plain here 0 again None (module_at here st)).again ≡ more → call.bytes ≤ (module_serves plain here 0 again None (module_at here st)).bytes → call.bytes ≤ bytes_left here.way again (ldterm_of (module_at here st))
+      at : (more : Bool) → (module_serves plain here 0 again None (module_at here st)).again ≡ more → call.bytes ≤ (module_serves plain here 0 again None (module_at here st)).bytes → call.bytes ≤ bytes_left here.way again (discipline_of (module_at here st))
       at true is most = let g = module-goes here again (module_at here st) begins is in omega (arith, g.treat, most)
       at false is most = let e = module-ends here again (module_at here st) begins is in omega (arith, e.treat, most)
 
-  pub call-within : call.bytes ≤ bytes_left here.way again (ldterm_of (module_at here st))
+  pub call-within : call.bytes ≤ bytes_left here.way again (discipline_of (module_at here st))
   call-within = within-by call.stopped tells.ends tells.bytes
 
   -- so what it made fits the books
@@ -123,7 +123,7 @@ module _ (here : Spot) (again : Bool) (call : Call) (st : State ℕ) (tells : Te
   told_in = (called here again (stop_in call) (stream here.side st).modules).gone
 
   abbrev left : ℕ
-  left = bytes_left here.way again (ldterm_of (module_at here st))
+  left = bytes_left here.way again (discipline_of (module_at here st))
 
   most-made : made_of told_in ≤ most_made left
   most-made = omega (arith, tells.made, call-within)
@@ -180,7 +180,7 @@ module _ (s t : StoreValue) (p q : Streams) (x : Stack) (here : Spot) (again : B
       record {
         bytes = e.bytes ∙ ap (treated here again (stop_in (call_of served))) same;
         asks = e.asks ∙ ap (asks_on here again (stop_in (call_of served))) same;
-        ends = on-true served.stopped (holds-there (λ l. Ends here.way again (ldterm_of l) served.bytes) none_there (here.at - 1) ms) (subst (λ ls. OnTrue served.stopped (HoldsAt (λ l. Ends here.way again (ldterm_of l) served.bytes) ls (here.at - 1))) same e.ends);
+        ends = on-true served.stopped (holds-there (λ l. Ends here.way again (discipline_of l) served.bytes) none_there (here.at - 1) ms) (subst (λ ls. OnTrue served.stopped (HoldsAt (λ l. Ends here.way again (discipline_of l) served.bytes) ls (here.at - 1))) same e.ends);
         over = e.over;
         made = subst (λ ls. made_of (called here again (stop_in (call_of served)) ls).gone ≤ most_made served.bytes) same e.made;
       }
@@ -223,12 +223,12 @@ begins-work Up false l begins up more = absurd (false≢true more)
 begins-work Down again l begins up more = absurd (cc)
 
 module _ (here : Spot) (again : Bool) (stop : Option ℕ) where
-  one-sends : (p : Standing ℕ) → Begins here.way again (ldterm_of p) → cost_of most (module_serves plain here 0 again stop p).acted.sent ≤ 31
+  one-sends : (p : Standing ℕ) → Begins here.way again (discipline_of p) → cost_of most (module_serves plain here 0 again stop p).acted.sent ≤ 31
   one-sends (OfLdterm l) begins = call-few here again stop l (begins-work here.way again l begins)
   one-sends (OfPtem p) begins = none-few {C = ℕ} most 31
   one-sends (OfPckt p) begins = none-few {C = ℕ} most 31
 
-  among-sends : (i : ℕ) (ps : List (Standing ℕ)) → i < length ps → Begins here.way again (ldterm_of (slice_index_or ps i none_there)) → cost_of most (act_among (λ p. (module_serves plain here 0 again stop p).acted) i ps).sent ≤ 31
+  among-sends : (i : ℕ) (ps : List (Standing ℕ)) → i < length ps → Begins here.way again (discipline_of (slice_index_or ps i none_there)) → cost_of most (act_among (λ p. (module_serves plain here 0 again stop p).acted) i ps).sent ≤ 31
   among-sends i [] low begins = absurd (omega (arith, low))
   among-sends zero (p ∷ ps) low begins = one-sends p begins
   among-sends (suc i) (p ∷ ps) low begins = among-sends i ps (omega (arith, low)) begins
@@ -257,7 +257,7 @@ next-room s t false sent next next' same room spends = tt
 
 -- a call whose messages are delivered
 module _ (r s : StoreValue) (o p : Streams) (here : Spot) (again : Bool) (call : Call) (sent_on : List Sent) (f f' : Fates)
-    (inside : 0 < here.at) (begins : Begins here.way again (ldterm_of (module_at here (state_in r o)))) (low : here.at - 1 < length (stream here.side (state_in r o)).modules)
+    (inside : 0 < here.at) (begins : Begins here.way again (discipline_of (module_at here (state_in r o)))) (low : here.at - 1 < length (stream here.side (state_in r o)).modules)
     (a : ActsAs r s o p here again call sent_on f f') where
   -- what its messages take, by the modules that stand there
   abbrev takes : ℕ
@@ -286,7 +286,7 @@ module _ (r s : StoreValue) (o p : Streams) (here : Spot) (again : Bool) (call :
   few-by t blocks = at call.stopped refl a.few
     where
       at : (stopped : Bool) → call.stopped ≡ stopped → OnTrue stopped (least_free s < STOP_BLOCKS)
-          → OnTrue stopped (call.bytes < bytes_left here.way again (ldterm_of (module_at here (state_in r o))) → IsKeptAhead here.way here.side (state_in r o) → least_free t < STOP_BLOCKS)
+          → OnTrue stopped (call.bytes < bytes_left here.way again (discipline_of (module_at here (state_in r o))) → IsKeptAhead here.way here.side (state_in r o) → least_free t < STOP_BLOCKS)
       at true is few = λ less ahead.
           let w = acts_in here again call (state_in r o) in
           let stays = stopped-stays here again call (state_in r o) a.itself low begins is less ahead in

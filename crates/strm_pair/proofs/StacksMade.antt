@@ -18,12 +18,13 @@ use Rattle.strm_image.specs.declared.modules.ModuleText.{ModuleText}
 use Rattle.strm_image.specs.declared.modules.ModuleText.TheVariants as texts
 use Rattle.strm_image.specs.ModuleTexts.{ldterm_now, module_now, modules_now, names_now}
 use Rattle.strm_ldterm.specs.declared.ldterm.Ldterm.{Ldterm}
-use Rattle.strm_ldterm.specs.declared.ldterm.Tables.{Tables}
+use Rattle.strm_frame.specs.declared.queue_pair.Tables.{Tables}
 use Rattle.strm_ldterm.specs.Stands as stands
 use Rattle.strm_ldterm.specs.Stands.{ldterm_in}
 use Rattle.strm_pair.specs.declared.modules.AnyModule.{AnyModule}
 use Rattle.strm_pair.specs.declared.modules.AnyModule.TheVariants as kinds
-use Rattle.strm_pair.specs.AnyModules.{IsHeld, keeps, module-frame, module_in, owns}
+use Rattle.strm_pair.specs.AnyModules.{IsHeld, keeps, module-frame, module_in}
+use Rattle.strm_frame.specs.Standings.{owns}
 use Rattle.strm_pair.specs.Placing.{AreStacked, IsFreeFor, IsPlaced, module_blocks, own_of}
 use Rattle.strm_pair.specs.Runs.{Spent}
 use Rattle.strm_pair.specs.Standing.{FillsTwo, ldterm_blocks}

@@ -26,7 +26,7 @@ use Rattle.strm_laws.specs.Pair.{IsKeptAhead}
 use Rattle.strm_laws.specs.Puts.{SameButMade, module_acted}
 use Rattle.strm_laws.specs.Stacked.{Standing, OfLdterm, OfPtem, OfPckt, module_serves}
 use Rattle.strm_laws.specs.State.{State, stream}
-use Rattle.strm_laws.specs.TurnCalls.{asks_on, called, ldterm_of, led, module_at, treated}
+use Rattle.strm_laws.specs.TurnCalls.{asks_on, called, discipline_of, led, module_at, treated}
 use Rattle.strm_laws.proofs.ModuleTurnCalls.{none_there}
 use Rattle.strm_laws.proofs.PutParts.{acted-holds, sent-holds}
 use Rattle.strm_laws.proofs.PutsKeep.{same-itself, same-stays}
@@ -114,8 +114,8 @@ module _ (here : Spot) (again : Bool) (bytes : ℕ) where
           at true over less = stages-gathered up (3 * bytes - stages_done begun.stage) 0 begun refl over
           at false over less = let size = ap first_size is in absurd (omega (arith, less, size))
 
-  module-on : (way : Way) → here.way ≡ way → (p : Standing ℕ) → Begins way again (ldterm_of p) → let t = module_serves plain (record here { way = way }) 0 again (Some bytes) p in
-      t.again ≡ false → t.bytes < bytes_left way again (ldterm_of p) → SentOn here t.acted.sent
+  module-on : (way : Way) → here.way ≡ way → (p : Standing ℕ) → Begins way again (discipline_of p) → let t = module_serves plain (record here { way = way }) 0 again (Some bytes) p in
+      t.again ≡ false → t.bytes < bytes_left way again (discipline_of p) → SentOn here t.acted.sent
   module-on Up is (OfLdterm l) begins over less = gathered-on here is (ldterm_serves plain up 0 again (Some bytes) l).acted.sent (serves-gathered again l begins over less)
   module-on Down is (OfLdterm l) begins over less = by again less
     where
@@ -125,9 +125,9 @@ module _ (here : Spot) (again : Bool) (bytes : ℕ) where
   module-on way is (OfPtem p) begins over less = tt
   module-on way is (OfPckt p) begins over less = tt
 
-  among-on : (i : ℕ) (ps : List (Standing ℕ)) → i < length ps → Begins here.way again (ldterm_of (slice_index_or ps i none_there))
+  among-on : (i : ℕ) (ps : List (Standing ℕ)) → i < length ps → Begins here.way again (discipline_of (slice_index_or ps i none_there))
       → slice_index_or (map (λ p. (module_serves plain here 0 again (Some bytes) p).again) ps) i false ≡ false
-      → slice_index_or (map (λ p. (module_serves plain here 0 again (Some bytes) p).bytes) ps) i 0 < bytes_left here.way again (ldterm_of (slice_index_or ps i none_there))
+      → slice_index_or (map (λ p. (module_serves plain here 0 again (Some bytes) p).bytes) ps) i 0 < bytes_left here.way again (discipline_of (slice_index_or ps i none_there))
       → SentOn here (act_among (λ p. (module_serves plain here 0 again (Some bytes) p).acted) i ps).sent
   among-on i [] low begins over less = absurd (omega (arith, low))
   among-on zero (p ∷ ps) low begins over less = module-on here.way refl p begins over less
@@ -145,8 +145,8 @@ led-same here again stop s =
     let w = module_acted here (called here again stop (stream here.side s).modules) s in
     sent-holds (SameButMade s) (same-stays s) plain w.sent w.state (acted-same here again stop s)
 
-pub stopped-stays : (here : Spot) (again : Bool) (call : Call) (s : State ℕ) → TellsAs here again call s → here.at - 1 < length (stream here.side s).modules → Begins here.way again (ldterm_of (module_at here s))
-    → call.stopped ≡ true → call.bytes < bytes_left here.way again (ldterm_of (module_at here s)) → IsKeptAhead here.way here.side s → StaysAlone ComesToStand (acts_in here again call s).state (acts_in here again call s).sent
+pub stopped-stays : (here : Spot) (again : Bool) (call : Call) (s : State ℕ) → TellsAs here again call s → here.at - 1 < length (stream here.side s).modules → Begins here.way again (discipline_of (module_at here s))
+    → call.stopped ≡ true → call.bytes < bytes_left here.way again (discipline_of (module_at here s)) → IsKeptAhead here.way here.side s → StaysAlone ComesToStand (acts_in here again call s).state (acts_in here again call s).sent
 stopped-stays here again call s tells low begins is less ahead =
     let ps = (stream here.side s).modules in
     let some : stop_in call ≡ Some call.bytes = ap (λ b. stop_at b call.bytes) is in

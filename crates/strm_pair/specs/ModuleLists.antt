@@ -24,7 +24,8 @@ use Rattle.strm_ldterm.specs.Stands as stands
 use Rattle.strm_ldterm.specs.Stands.{ldterm_in}
 use Rattle.strm_pair.specs.declared.modules.AnyModule.{AnyModule}
 use Rattle.strm_pair.specs.declared.modules.AnyModule.TheVariants as kinds
-use Rattle.strm_pair.specs.AnyModules.{IsHeld, module_in, owns}
+use Rattle.strm_pair.specs.AnyModules.{IsHeld, module_in}
+use Rattle.strm_frame.specs.Standings.{owns}
 use Rattle.strm_pair.specs.Named.{messages_queued}
 use Rattle.strm_pair.specs.Streams.{AreFor, AreShown}
 

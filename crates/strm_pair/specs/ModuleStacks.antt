@@ -13,7 +13,8 @@ use Rattle.strm_frame.specs.Stacks.{all_of}
 use Rattle.strm_ldterm.specs.Resting.{served-rests}
 use Rattle.strm_pair.specs.declared.modules.AnyModule.{AnyModule}
 use Rattle.strm_pair.specs.declared.modules.AnyModule.TheVariants as kinds
-use Rattle.strm_pair.specs.AnyModules.{IsHeld, keeps, module-frame, module_in, owns}
+use Rattle.strm_pair.specs.AnyModules.{IsHeld, keeps, module-frame, module_in}
+use Rattle.strm_frame.specs.Standings.{owns}
 use Rattle.strm_pair.specs.ModuleLists.{none-own, stack-shown}
 use Rattle.strm_pair.specs.Stacks.{modules_in, IsStackHeld, stack_owns, stack_keeps, Stack}
 use Rattle.strm_pair.specs.Streams.{AreFor, AreShown}

@@ -5,7 +5,8 @@ use Rattle.strm_blocks.specs.Blocks.{StoreValue}
 use Rattle.strm_frame.specs.Stacks.{all_of, AreHeld}
 use Rattle.strm_frame.specs.declared.stack.Stack as frame
 use Rattle.strm_pair.specs.declared.modules.AnyModule.{AnyModule}
-use Rattle.strm_pair.specs.AnyModules.{IsHeld, keeps, module_in, owns}
+use Rattle.strm_frame.specs.Standings.{owns}
+use Rattle.strm_pair.specs.AnyModules.{IsHeld, keeps, module_in}
 
 abbrev pub Stack : Type 0
 Stack = frame.Stack AnyModule

@@ -61,6 +61,10 @@ done_by made t = record { state = made t.state; notes = t.notes; sent = t.sent; 
 abbrev pub served_by : {C P Q : Type 0} → (P → Q) → Serving C P → Serving C Q
 served_by made t = record { acted = done_by made t.acted; bytes = t.bytes; again = t.again }
 
+-- what a module without queues does, where it stands
+abbrev pub acts_alone : {P C : Type 0} → (P → Acted C P) → Standing P C → Acted C (Standing P C)
+acts_alone act x = done_by (λ p. record { part = p; queues = x.queues }) (act x.part)
+
 module _ {C : Type 0} where
   -- queues without what stood on the one of a way, where there are any
   abbrev pub queues_cleared : Side → Rule → Way → Option (QueuePair C) → Acted C (Option (QueuePair C))

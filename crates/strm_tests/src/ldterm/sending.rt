@@ -7,8 +7,8 @@ ghost use Rattle.strm_frame.specs.Outboxes.{sent_of, times_sent};
 use std::process::Abort;
 use std::test::Fail;
 use strm_blocks::{Blocks, NoBlocks, TableStore};
-use strm_frame::Outbox;
-use strm_ldterm::{Ldterm, Tables, end_file, end_line, stop};
+use strm_frame::{Outbox, QueuePair, Tables};
+use strm_ldterm::{Ldterm, end_file, end_line, stop};
 use strm_msg::first_bytes;
 use strm_types::{Fates, MsgKind, Side, Spot, Way};
 
@@ -51,16 +51,17 @@ fn sends<B: Blocks>(rt: &impl Abort, store: &mut B, tables: Tables) -> Result<()
         return Err(NoBlocks.into());
     }
     let mut told = Fates::none();
-    let mut ldterm = Ldterm::new(3, 4, tables);
+    let mut ldterm = Ldterm::new();
+    let queues = QueuePair::new(3, 4, tables);
     assert!(rt; ldterm.line.has_room());
     ldterm.line.push(b'l');
-    let sent = end_line(&mut ldterm, store, HERE, b'\n');
+    let sent = end_line(&mut ldterm, &queues, store, HERE, b'\n');
     assert!(rt; goes(store, sent, (Way::Up, 0), MsgKind::Data, b"l\n"));
-    let sent = end_file(&mut ldterm, store, HERE, 4, &mut told);
+    let sent = end_file(&mut ldterm, &queues, store, HERE, 4, &mut told);
     assert!(rt; goes(store, sent, (Way::Up, 0), MsgKind::Data, b""));
-    let sent = stop(&mut ldterm, store, HERE, 19, &mut told);
+    let sent = stop(&mut ldterm, &queues, store, HERE, 19, &mut told);
     assert!(rt; goes(store, sent, (Way::Down, 2), MsgKind::Stop, b""));
-    let sent = stop(&mut ldterm, store, HERE, 19, &mut told);
+    let sent = stop(&mut ldterm, &queues, store, HERE, 19, &mut told);
     assert!(rt; sent.is_empty());
     assert!(rt; ldterm.stopped);
     assert_eq!(rt; ldterm.line.len(), 0);

@@ -3,7 +3,7 @@ use Rattle.std.proofs.Common.{◌≡◌, ◌<◌, true, false, List, [], ◌∷�
 use Rattle.std.specs.Prelude.{◌==◌}
 use Rattle.std.proofs.lemmas.Bool.Decides.{nat_tests}
 use Rattle.strm_frame.specs.Stacks.{all_of}
-use Rattle.strm_pair.specs.AnyModules.{owns}
+use Rattle.strm_frame.specs.Standings.{owns}
 use Rattle.strm_pair.specs.declared.modules.AnyModule.{AnyModule}
 use Rattle.strm_pair.proofs.stacks.take_modules.Goals as goal
 

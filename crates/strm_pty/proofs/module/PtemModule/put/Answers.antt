@@ -1,6 +1,7 @@
 -- What a put did, in the frame's words.
 use Rattle.std.proofs.Common.{rules}
 use Rattle.strm_frame.proofs.Handing.{can-in_hand}
+use Rattle.strm_pty.proofs.Alone.{alone-ready, alone-stands}
 use Rattle.strm_pty.proofs.module.PtemModule.put.Goals as goal
 use Rattle.strm_blocks.specs.Blocks.{token}
 
@@ -9,13 +10,17 @@ put-requires-clause-in_hand g c = can-in_hand (g.B.Blocks.value c.args.store.now
 
 pub returns : goal.returns
 returns g c =
+    let s = g.B.Blocks.value c.args.store.now in
+    let t = g.B.Blocks.value c.put.new.store in
+    let queues = c.args._queues.now in
+    let none = c.requires.held.itself in
     let e = c.put.ensures.does in
     record {
-      state = e.state;
+      state = alone-stands s t queues none _ _ e.state;
       notes = e.notes;
       sent = e.sent;
       told = search rules;
-      held = tt;
+      held = record { queues = alone-ready s t queues none; itself = none };
       own = search rules;
       chains = e.chains;
       hands = e.hands;
