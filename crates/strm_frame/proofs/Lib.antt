@@ -11,3 +11,5 @@ pub mod Behind
 pub mod Asked
 pub mod Seeking
 mod Staying
+pub mod Pairs
+mod Letting

@@ -67,7 +67,7 @@ module _ {M P : Type 0} (in_itself : StoreValue → M → P) (IsHeld : StoreValu
   standing-frame s t x same held =
       let own : SameOwn s t (queues_own x.queues) (keeps x.module) = record { lists = same.lists; mblks = same.mblks; dblks = same.dblks; kept = same.kept } in
       let part = frame s t x.module x.queues x.queues refl own held.itself in
-      let made : (p : P) (q : Option (plain.QueuePair ℕ)) → plain.Standing P ℕ = λ p q. record { part = p; queues = q } in (
-        ap (λ p. made p (queues_in t x.queues)) part.0 ∙ ap (made (in_itself s x.module)) (queues-same s t x.queues same.lists),
+      (
+        ap (λ (p : P). plain.stood p (queues_in t x.queues)) part.0 ∙ ap (plain.stood (in_itself s x.module)) (queues-same s t x.queues same.lists),
         record { queues = queues-ready s t x.queues same.lists held.queues; itself = part.1 },
       )

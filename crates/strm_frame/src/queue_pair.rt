@@ -14,7 +14,7 @@ ghost use Rattle.strm_blocks.specs.Blocks.{StoreValue, list_at};
 ghost use Rattle.strm_queue.specs.Stored.{FreesBlocks};
 ghost use Rattle.strm_frame.specs.Hands.{OnlyOwn, once};
 ghost use Rattle.strm_frame.specs.Serves.{SameHand};
-ghost use Rattle.strm_frame.specs.Standings.{IsPairReady, pair_in, queues_own, the_queue};
+ghost use Rattle.strm_frame.specs.Standings.{IsPairReady, lists_of, pair_in, queues_own, the_queue};
 
 use crate::queues::{Emptied, clear_queue, end_queue_turn};
 use crate::service::TurnEnd;
@@ -96,8 +96,7 @@ impl QueuePair {
     pub fn let_wait(&mut self, way: Way, band: Band)
         ensures state { (s : StoreValue) → pair_in s self.new ≡ pair_changed way (with_waiting band.0) (pair_in s self.old) }
         ensures ready { (s : StoreValue) → IsPairReady s self.old → IsPairReady s self.new }
-        ensures read { self.new.read.list ≡ self.old.read.list }
-        ensures write { self.new.write.list ≡ self.old.write.list }
+        ensures lists { lists_of (Some self.new) ≡ lists_of (Some self.old) }
     {
         match way {
             Way::Up => self.read.let_wait(band),
@@ -108,13 +107,12 @@ impl QueuePair {
     /// Ends a turn of the queue of a way: want-read is set where it is empty and cleared where it isn't, and where the turn took bytes,
     /// waiting writers are let go.
     pub fn end_turn<B: Blocks>(&mut self, store: &B, way: Way, took: bool) -> TurnEnd
-        requires { IsPairReady (B.value store.now) self.old }
+        requires ready { IsPairReady (B.value store.now) self.old }
         ensures state { pair_in (B.value store.now) self.new ≡ pair_changed way (turn_ended took) (pair_in (B.value store.now) self.old) }
         ensures room { result.room ≡ turn_relieves took (way_queue way (pair_in (B.value store.now) self.old)) }
         ensures more { result.more ≡ not (is_none_left (way_queue way (pair_in (B.value store.now) self.old)).messages) }
         ensures ready { IsPairReady (B.value store.now) self.new }
-        ensures read { self.new.read.list ≡ self.old.read.list }
-        ensures write { self.new.write.list ≡ self.old.write.list }
+        ensures lists { lists_of (Some self.new) ≡ lists_of (Some self.old) }
     {
         match way {
             Way::Up => end_queue_turn(store, &mut self.read, took),
@@ -133,15 +131,14 @@ impl QueuePair {
         rule: Rule,
         told: &mut Fates,
     ) -> Emptied
-        requires { IsPairReady (B.value store.old) self.old }
+        requires ready { IsPairReady (B.value store.old) self.old }
         ensures state { pair_in (B.value store.new) self.new ≡ pair_changed way (queue_behind of_all) (pair_in (B.value store.old) self.old) }
         ensures room { result.room ≡ writer_goes of_all (way_queue way (pair_in (B.value store.old) self.old)) }
         ensures met { result.met ≡ is_met seeking (way_queue way (pair_in (B.value store.old) self.old)).messages }
         ensures told { told.new ≡ told_more (direction_at way side) rule
             (length (cells_gone of_all (way_queue way (pair_in (B.value store.old) self.old)).messages)) told.old }
         ensures ready { IsPairReady (B.value store.new) self.new }
-        ensures read { self.new.read.list ≡ self.old.read.list }
-        ensures write { self.new.write.list ≡ self.old.write.list }
+        ensures lists { lists_of (Some self.new) ≡ lists_of (Some self.old) }
         ensures own { OnlyOwn (B.value store.old) (B.value store.new) (queues_own (Some self.old)) (queues_own (Some self.new)) }
         ensures hand { SameHand (B.value store.old) (B.value store.new) }
         ensures frees { FreesBlocks (B.value store.old) (B.value store.new) }

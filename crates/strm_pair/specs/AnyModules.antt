@@ -8,7 +8,7 @@ use Rattle.strm_types.specs.Cells.{plain}
 use Rattle.strm_types.specs.LdtermStands.{disciplined}
 use Rattle.strm_types.specs.Message.{Message}
 use Rattle.strm_types.specs.Names.{place_of}
-use Rattle.strm_types.specs.Standings.{QueuePair}
+use Rattle.strm_types.specs.Standings.{QueuePair, stood}
 use Rattle.strm_laws.specs.Stacked.{Module, OfLdterm, OfPtem, OfPckt, Standing, module_puts, module_serves, without_kind_line}
 use Rattle.strm_blocks.specs.Blocks.{StoreValue}
 use Rattle.strm_frame.specs.declared.queue_pair.QueuePair as frame
@@ -111,10 +111,6 @@ pub either-serves : (way at : Way) (p : Module ℕ) → MayServe way false p →
 either-serves way at (OfLdterm l) may = either-served way at l may
 either-serves way at (OfPtem p) may = tt
 either-serves way at (OfPckt p) may = tt
-
--- what stands so
-abbrev stood : Module ℕ → Option (QueuePair ℕ) → Standing ℕ
-stood p queues = record { part = p; queues = queues }
 
 pub serves-on : (here : Spot) (again : Bool) (stop : Option ℕ) (p : Module ℕ) (queues : Option (QueuePair ℕ)) → MayServe here.way again p
     → (let t = module_serves plain here 0 again stop (stood p queues) in MayServe here.way t.again t.acted.state.part)

@@ -1,14 +1,10 @@
 -- A module without queues, where it stands.
 use Rattle.std.proofs.Common.{ℕ, ◌≡◌, ap, sym, subst, ◌∙◌}
 use Rattle.std.specs.Prelude.{Option, None, IfSome}
-use Rattle.strm_types.specs.Standings as plain
+use Rattle.strm_types.specs.Standings.{stood}
 use Rattle.strm_blocks.specs.Blocks.{StoreValue}
 use Rattle.strm_frame.specs.declared.queue_pair.QueuePair.{QueuePair}
 use Rattle.strm_frame.specs.Standings.{IsPairReady, queues_in}
-
--- what stands so
-abbrev stood : {P : Type 0} → P → Option (plain.QueuePair ℕ) → plain.Standing P ℕ
-stood p queues = record { part = p; queues = queues }
 
 module _ (s t : StoreValue) (queues : Option QueuePair) (none : queues ≡ None) where
   -- no queue stands for anything, whatever the store holds

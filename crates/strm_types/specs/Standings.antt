@@ -16,6 +16,10 @@ pub record Standing (P C : Type 0) : Type 0 where
   pub part : P
   pub queues : Option (QueuePair C)
 
+-- as both stand
+abbrev pub stood : {P C : Type 0} → P → Option (QueuePair C) → Standing P C
+stood p queues = record { part = p; queues = queues }
+
 module _ {C : Type 0} where
   -- as a module that is pushed is given them: marks 512 and 128
   abbrev pub new_pair : QueuePair C

@@ -10,4 +10,4 @@ use Rattle.strm_pty.proofs.module.PcktModule.asks.Goals as goal
 pub returns-clause-few : goal.returns-clause-few
 returns-clause-few g c =
     let s = g.B.Blocks.value c.args._store.now in
-    subst (λ (q : Option QueuePair). first_size (messages_on c.args._way (queues_in s q)) ≤ 16777216) (sym c.requires.itself) (omega arith)
+    subst (λ (q : Option QueuePair). first_size (messages_on c.args._way (queues_in s q)) ≤ 16777216) (sym c.requires.held.itself) (omega arith)
