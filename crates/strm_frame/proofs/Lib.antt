@@ -13,3 +13,4 @@ pub mod Seeking
 mod Staying
 pub mod Pairs
 mod Letting
+mod Flags

@@ -164,8 +164,9 @@ impl<M: Module> Standing<M> {
     pub fn let_wait(&mut self, way: Way, band: Band)
         ensures { Changes (standing_in M.plain) (Fits M.IsHeld) owns (keeps_of M.keeps) self.old self.new (waits way band.0) }
     {
-        if let Some(pair) = &mut self.queues {
-            pair.let_wait(way, band);
+        match &mut self.queues {
+            Some(pair) => pair.let_wait(way, band),
+            None => {}
         }
     }
 
