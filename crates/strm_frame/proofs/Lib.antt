@@ -13,4 +13,4 @@ pub mod Seeking
 mod Staying
 pub mod Pairs
 mod Letting
-mod Flags
+pub mod Flags

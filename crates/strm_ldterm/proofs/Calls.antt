@@ -21,12 +21,11 @@ use Rattle.strm_frame.specs.declared.service.Served.{Served}
 use Rattle.strm_frame.specs.Hands.{HasRoom}
 use Rattle.strm_frame.specs.Outboxes.{sent_of}
 use Rattle.strm_frame.specs.Serves.{least_free, stop_at, stop_of}
-use Rattle.strm_ldterm.specs.declared.ldterm.Ldterm.{Ldterm}
 use Rattle.strm_ldterm.specs.Called.{EndsAt, RunsOut, RunsInto, TreatsAs, begun_in, treated_by}
 use Rattle.strm_ldterm.specs.Does.{Proceeds}
 use Rattle.strm_queue.specs.Stored.{FreesNone}
 use Rattle.strm_ldterm.specs.FreeBefore.{IsFreeBefore, all_free}
-use Rattle.strm_ldterm.specs.Stands.{ldterm_in, stage_in}
+use Rattle.strm_ldterm.specs.Stands.{ldterm_in, stage_in, Paired}
 use Rattle.strm_ldterm.specs.Turns.{ahead, bytes_on, leaves, one_after, stages_left, under_way}
 use Rattle.strm_ldterm.proofs.Bytes.{ahead-short, all-left, between-after, done-few, kept-some, leaves-one, left-few, left-none, lower, none-begun, none-done, one-begun, one-more-left, some-done, takes-any, work-after}
 use Rattle.strm_ldterm.proofs.Counting.{ahead-reaches}
@@ -60,7 +59,7 @@ module _ (here : Spot) (p : ldterms.Discipline ℕ) where
       ∙ ap (λ v. record { acted = one_after t (finished plain here); bytes = cond v (to_treat p - to_treat (one_after t (finished plain here)).state) bytes; again = v })
       (ap (λ v. is_some (cond {A = Acts} v (let u = finished plain here t.state in record { state = u.state; notes = t.notes ++ u.notes; sent = u.sent; gone = t.gone ++ u.gone }) t).state.in_work) none)
 
-module _ (s s' : StoreValue) (here : Spot) (x x' : Ldterm) (t t' : Fates) where
+module _ (s s' : StoreValue) (here : Spot) (x x' : Paired) (t t' : Fates) where
   -- what a call did, where the definition comes to this
   pub treats-as : (served : Served) (v : Serving ℕ (ldterms.Discipline ℕ)) → treated_by s s' here x x' (stop_of served) ≡ v
       → Proceeds s s' x x' (all_free s) served.acts.notes.items (sent_of served.acts.sent) t t' v.acted → served.bytes ≡ v.bytes → served.again ≡ v.again → (served.stopped ≡ true → (least_free s' < STOP_BLOCKS) × (served.again ≡ false))
@@ -99,7 +98,7 @@ module _ (s s' : StoreValue) (here : Spot) (x x' : Ldterm) (t t' : Fates) where
       r.does (omega arith) refl (λ e. absurd (false≢true e)) (λ byte within. r.begun byte (let u = none-begun (stage_in x.stage) between in omega arith)) (λ e. absurd (false≢true e)) (omega arith) r.room (λ e. absurd (false≢true e))
 
   -- and where nothing was sent, to the end of the call
-  pub out-treats : (bytes left : ℕ) (notes : ArrayVec Note) (sent : Outbox) (s1 : StoreValue) (x1 : Ldterm) (t1 : Fates) → IsStore s1 → stages_left (stage_in x.stage) ≡ 0 → bytes ≡ length (cells_left from)
+  pub out-treats : (bytes left : ℕ) (notes : ArrayVec Note) (sent : Outbox) (s1 : StoreValue) (x1 : Paired) (t1 : Fates) → IsStore s1 → stages_left (stage_in x.stage) ≡ 0 → bytes ≡ length (cells_left from)
       → RunsOut s s1 here x x1 bytes left notes.items t t1 → Proceeds s1 s' x1 x' 0 [] (sent_of sent) t1 t' (finished plain here (ldterm_in s1 x1))
       → (0 < length (cells_left (ldterm_in s1 x1)) → FreesNone s1 s')
       → TreatsAs s s' here x x' (record { acts = record { notes = notes; sent = sent }; bytes = bytes - left; stopped = nat_lt 0 left; again = false }) t t'
@@ -197,7 +196,7 @@ module _ (s s' : StoreValue) (here : Spot) (x x' : Ldterm) (t t' : Fates) where
       (treats-sent here from n (3 * (to_treat from - 1)) (to_treat from) (omega arith) out room work)
       (takes-any s s' x x' 26 acts.notes.items (sent_of acts.sent) t t' (ahead here n from) a) (omega arith) refl (λ v. absurd (false≢true v)) (λ byte within. absurd (let u = one-begun (stage_in x.stage) under in omega arith)) (λ v. absurd (false≢true v)) (omega arith) (record { mblks = omega arith; dblks = omega arith }) (λ v. absurd (false≢true v))
 
-module _ (s s1 s' : StoreValue) (here : Spot) (x x1 x' : Ldterm) (t t1 t' : Fates) where
+module _ (s s1 s' : StoreValue) (here : Spot) (x x1 x' : Paired) (t t1 t' : Fates) where
   -- before a byte that comes behind what was left of one
   begun-behind : (notes : List Note) (byte : ℕ) → IsStore s1 → Proceeds s s1 x x1 26 notes [] t t1 (ahead here (stages_left (stage_in x.stage)) (ldterm_in s x)) → stages_left (stage_in x1.stage) ≡ 0
       → IsFreeBefore s1 x1 t1 (bytes_on here) (ldterm_in s1 x1) byte → IsFreeBefore s x t (bytes_on here) (ldterm_in s x) byte

@@ -11,17 +11,16 @@ use Rattle.strm_blocks.specs.Blocks.{StoreValue, IsStore, token}
 use Rattle.strm_blocks.specs.declared.in_hand.InHand.{InHand}
 use Rattle.strm_frame.specs.Hands.{AreIn}
 use Rattle.strm_frame.specs.Outboxes.{message_in}
-use Rattle.strm_ldterm.specs.declared.ldterm.Ldterm.{Ldterm}
 use Rattle.strm_ldterm.specs.Becoming.{Becomes}
 use Rattle.strm_ldterm.specs.Does.{Proceeds}
-use Rattle.strm_ldterm.specs.Stands.{ldterm_in, keeps, IsHeld}
+use Rattle.strm_ldterm.specs.Stands.{ldterm_in, keeps, IsHeld, Paired}
 use Rattle.strm_ldterm.proofs.Begun.{busy-cells, busy-left, work-comes}
 use Rattle.strm_ldterm.proofs.FreeBefore.{take-front}
 use Rattle.strm_ldterm.proofs.Runs.{take-twice}
 use Rattle.strm_ldterm.proofs.Skipped.{becomes-both}
 
 -- so many were taken off its first block that has some
-module _ (s s1 s2 : StoreValue) (x : Ldterm) (m q r : InHand) (n : ℕ) (there : x.in_work ≡ Some m) (st1 : IsStore s1) (skipped : Becomes s s1 (token m) (token q) (message_in s (token m)))
+module _ (s s1 s2 : StoreValue) (x : Paired) (m q r : InHand) (n : ℕ) (there : x.in_work ≡ Some m) (st1 : IsStore s1) (skipped : Becomes s s1 (token m) (token q) (message_in s (token m)))
     (trimmed : Becomes s1 s2 (token q) (token r) (left_of (drop n (cells_of (message_in s1 (token q)))) (message_in s1 (token q)))) where
   abbrev work : Message ℕ
   work = message_in s (token m)

@@ -29,7 +29,6 @@ use Rattle.strm_frame.specs.declared.service.Served.{Served}
 use Rattle.strm_frame.specs.Outboxes.{sent_of}
 use Rattle.strm_frame.specs.Hands.{HasRoom}
 use Rattle.strm_frame.specs.Serves.{least_free, stop_at, stop_of}
-use Rattle.strm_ldterm.specs.declared.ldterm.Ldterm.{Ldterm}
 use Rattle.strm_ldterm.specs.Bounds.{goes_out, passes_whole}
 use Rattle.strm_ldterm.specs.Called.{ServesAs, at_work, bytes_of_way}
 use Rattle.strm_ldterm.specs.Does.{Proceeds}
@@ -37,7 +36,7 @@ use Rattle.strm_queue.specs.Stored.{FreesNone}
 use Rattle.strm_ldterm.specs.Outgone.{BeganOutput, data_of, let_go}
 use Rattle.strm_ldterm.specs.Posting.{PoursAs, poured}
 use Rattle.strm_ldterm.specs.FreeBefore.{IsFreeBefore, all_free}
-use Rattle.strm_ldterm.specs.Stands.{ldterm_in, stage_in}
+use Rattle.strm_ldterm.specs.Stands.{ldterm_in, stage_in, Paired}
 use Rattle.strm_ldterm.specs.Turns.{one_after, stages_left}
 use Rattle.strm_ldterm.proofs.Bytes.{lower, none-begun, none-done, takes-any}
 use Rattle.strm_ldterm.proofs.Freeing.{stays-few}
@@ -99,7 +98,7 @@ module _ (here : Spot) (p : ldterms.Discipline ℕ) (m : Message ℕ) (rest : Li
       ∙ ap (λ told. ended n None [] (with_given (p.gathered ++ t.given) (data_of band [])) t.column told n) (sym (append-nil t.told))
 
 -- A call in which so many bytes went out, and so many are left.
-module _ (s s1 s3 : StoreValue) (here : Spot) (x x1 x3 : Ldterm) (bytes n left band : ℕ) (notes : ArrayVec Note) (sent : Outbox) (t t' : Fates) (way : here.way ≡ Down)
+module _ (s s1 s3 : StoreValue) (here : Spot) (x x1 x3 : Paired) (bytes n left band : ℕ) (notes : ArrayVec Note) (sent : Outbox) (t t' : Fates) (way : here.way ≡ Down)
     (between : stages_left (stage_in x.stage) ≡ 0) (b : BeganOutput s s1 here x x1 bytes band) (count : n + left ≡ bytes) (st1 : IsStore s1) (quiet : notes.items ≡ []) where
   abbrev p : ldterms.Discipline ℕ
   p = ldterm_in s x
@@ -165,7 +164,7 @@ module _ (s s1 s3 : StoreValue) (here : Spot) (x x1 x3 : Ldterm) (bytes n left b
       some-left (x ∷ xs) some = refl
 
 -- where they went out one after the other
-module _ (s s1 s2 s3 : StoreValue) (here : Spot) (x x1 x2 x3 : Ldterm) (bytes left band : ℕ) (notes : ArrayVec Note) (sent : Outbox) (t t' : Fates) (way : here.way ≡ Down)
+module _ (s s1 s2 s3 : StoreValue) (here : Spot) (x x1 x2 x3 : Paired) (bytes left band : ℕ) (notes : ArrayVec Note) (sent : Outbox) (t t' : Fates) (way : here.way ≡ Down)
     (between : stages_left (stage_in x.stage) ≡ 0) (b : BeganOutput s s1 here x x1 bytes band) (pours : PoursAs s1 s2 here x1 x2 bytes left t t')
     (go : Proceeds s2 s3 x2 x3 0 [] (sent_of sent) t' t' (let_go here band (ldterm_in s2 x2))) (frees : 0 < length (cells_left (ldterm_in s2 x2)) → FreesNone s2 s3)
     (st1 : IsStore s1) (st2 : IsStore s2) (quiet : notes.items ≡ []) where

@@ -32,11 +32,10 @@ use Rattle.strm_frame.specs.declared.parcels.Sent.{Sent}
 use Rattle.strm_frame.specs.Hands.{once, OnlyOwn}
 use Rattle.strm_frame.specs.Outboxes.{message_in, times_sent, parcels_in, AreChains}
 use Rattle.strm_frame.proofs.Handing.{once-self, once-apart, one-parts, one-chains, no-parts, none-chains}
-use Rattle.strm_ldterm.specs.declared.ldterm.Ldterm.{Ldterm}
-use Rattle.strm_ldterm.specs.Stands.{ldterm_in, owns, times_kept, keeps, IsHeld}
+use Rattle.strm_ldterm.specs.Stands.{ldterm_in, owns, times_kept, keeps, IsHeld, Paired}
 use Rattle.strm_ldterm.specs.Bounds.{goes_out, passes_whole}
 use Rattle.strm_ldterm.specs.Does.{Proceeds}
-use Rattle.strm_ldterm.specs.Frames.{form-same, list-ready}
+use Rattle.strm_ldterm.specs.Frames.{form-same, queue-ready}
 use Rattle.strm_ldterm.specs.Began.{BeganWhole, BeganWork}
 use Rattle.strm_ldterm.specs.Outgone.{BeganOutput, PassedDown, output_of}
 use Rattle.strm_ldterm.proofs.OutWhole.{goes-whole}
@@ -59,10 +58,10 @@ unfolding times_kept
 none-kept None none = refl
 none-kept (Some m) none = let one = once-self (token m) in let z = none (token m) in absurd (omega arith)
 
-abbrev at_rest : Ldterm → Ldterm
+abbrev at_rest : Paired → Paired
 at_rest x = record x { in_work = None; gathered = None; echoing = false }
 
-rests-is : (x : Ldterm) → ((i : ℕ) → keeps x i ≡ 0) → x.echoing ≡ false → x ≡ at_rest x
+rests-is : (x : Paired) → ((i : ℕ) → keeps x i ≡ 0) → x.echoing ≡ false → x ≡ at_rest x
 rests-is x rests quiet =
     let work = none-kept x.in_work (λ i. let r = rests i in omega arith) in
     let gathers = none-kept x.gathered (λ i. let r = rests i in omega arith) in
@@ -71,7 +70,7 @@ rests-is x rests quiet =
     ∙ ap (λ v. record x { in_work = None; gathered = None; echoing = v }) quiet
 
 -- nothing happens
-pub stays : (s : StoreValue) (x : Ldterm) (sent : List Sent) (f : Fates) → IsHeld s x → sent ≡ [] → Proceeds s s x x 0 [] sent f f (sends [] (ldterm_in s x))
+pub stays : (s : StoreValue) (x : Paired) (sent : List Sent) (f : Fates) → IsHeld s x → sent ≡ [] → Proceeds s s x x 0 [] sent f f (sends [] (ldterm_in s x))
 unfolding times_sent
 stays s x sent f held none = record {
   state = refl;
@@ -99,7 +98,7 @@ module _ (s t : StoreValue) (q q' : Queue) (i : ℕ) (is : Dequeued s t q q' i) 
       ∙ in_hand-held_other s i j (in_hand t i) (λ e. (let w = ap (λ k. times_in k s.hand) e in let z = is.fresh in absurd (omega arith)))
 
 -- nothing stands there
-module _ (s : StoreValue) (x : Ldterm) (here : Spot) where
+module _ (s : StoreValue) (x : Paired) (here : Spot) where
   down-none : (stop : Option ℕ) → messages_on s x.write_queue.list ≡ [] → output_of s s here x x stop ≡ nothing_served cells.plain here (ldterm_in s x)
   down-none stop none = ap (λ (ms : List (Message ℕ)). output_serves cells.plain here stop 0 ms (ldterm_in s x)) none
 
@@ -111,7 +110,7 @@ module _ (s : StoreValue) (x : Ldterm) (here : Spot) where
     whole = λ again. ap (λ (ms : List (Message ℕ)). passes_whole Down again (record (ldterm_in s x) { write_queue = record (ldterm_in s x).write_queue { messages = ms } })) none;
   }
 
-pub stays-up : (s : StoreValue) (here : Spot) (x : Ldterm) → IsHeld s x → messages_on s x.read_queue.list ≡ [] → BeganWhole s s here x x [] 0
+pub stays-up : (s : StoreValue) (here : Spot) (x : Paired) → IsHeld s x → messages_on s x.read_queue.list ≡ [] → BeganWhole s s here x x [] 0
 stays-up s here x held none =
     let is = λ (stop : Option ℕ). ap (λ (ms : List (Message ℕ)). input_begins cells.plain here stop 0 ms (ldterm_in s x)) none in
     record {
@@ -122,7 +121,7 @@ stays-up s here x held none =
     }
 
 -- off the write queue
-module _ (s t : StoreValue) (x : Ldterm) (q' : Queue) (m : InHand) (held : IsHeld s (at_rest x)) (is : Dequeued s t x.write_queue q' (token m)) where
+module _ (s t : StoreValue) (x : Paired) (q' : Queue) (m : InHand) (held : IsHeld s (at_rest x)) (is : Dequeued s t x.write_queue q' (token m)) where
   reads-stay : list_at t x.read_queue.list ≡ list_at s x.read_queue.list
   reads-stay = is.others x.read_queue.list (λ e. let a = held.apart in absurd (omega arith))
 
@@ -148,7 +147,7 @@ module _ (s t : StoreValue) (x : Ldterm) (q' : Queue) (m : InHand) (held : IsHel
     parcels = one-parts t (record { to = to; message = m }) sent one ∙ ap (λ (spot : Spot). record { to = spot; message = message_in t (token m) } ∷ []) there;
     told = refl;
     held = record {
-      read = list-ready s t x.read_queue reads-stay held.read;
+      read = queue-ready s t x.read_queue reads-stay held.read;
       write = is.ready;
       apart = (let a = held.apart in let e = is.list in omega arith);
       work = tt;
@@ -178,7 +177,7 @@ module _ (s t : StoreValue) (x : Ldterm) (q' : Queue) (m : InHand) (held : IsHel
     parcels = refl;
     told = refl;
     held = record {
-      read = list-ready s t x.read_queue reads-stay held.read;
+      read = queue-ready s t x.read_queue reads-stay held.read;
       write = is.ready;
       apart = (let a = held.apart in let e = is.list in omega arith);
       work = record { chain = is.chain; kind = kind };
@@ -236,7 +235,7 @@ module _ (s t : StoreValue) (x : Ldterm) (q' : Queue) (m : InHand) (held : IsHel
   }
 
 -- off the read queue
-module _ (s t : StoreValue) (x : Ldterm) (q' : Queue) (m : InHand) (held : IsHeld s (at_rest x)) (is : Dequeued s t x.read_queue q' (token m)) where
+module _ (s t : StoreValue) (x : Paired) (q' : Queue) (m : InHand) (held : IsHeld s (at_rest x)) (is : Dequeued s t x.read_queue q' (token m)) where
   writes-stay : list_at t x.write_queue.list ≡ list_at s x.write_queue.list
   writes-stay = is.others x.write_queue.list (λ e. let a = held.apart in absurd (omega arith))
 
@@ -263,7 +262,7 @@ module _ (s t : StoreValue) (x : Ldterm) (q' : Queue) (m : InHand) (held : IsHel
     told = refl;
     held = record {
       read = is.ready;
-      write = list-ready s t x.write_queue writes-stay held.write;
+      write = queue-ready s t x.write_queue writes-stay held.write;
       apart = (let a = held.apart in let e = is.list in omega arith);
       work = tt;
       gathers = tt;
@@ -297,7 +296,7 @@ module _ (s t : StoreValue) (x : Ldterm) (q' : Queue) (m : InHand) (held : IsHel
     told = refl;
     held = record {
       read = is.ready;
-      write = list-ready s t x.write_queue writes-stay held.write;
+      write = queue-ready s t x.write_queue writes-stay held.write;
       apart = (let a = held.apart in let e = is.list in omega arith);
       work = record { chain = is.chain; kind = kind };
       gathers = tt;
@@ -359,7 +358,7 @@ data-only : (k : MsgKind) → is_data k ≡ true → k ≡ kinds.Data
 data-only kinds.Data is = refl
 data-only _ is = absurd (cc)
 
-module _ (s t : StoreValue) (x : Ldterm) (q' : Queue) (m : InHand) (here : Spot) (held : IsHeld s x) (rests : (i : ℕ) → keeps x i ≡ 0) (still : x.echoing ≡ false) (is : Dequeued s t x.read_queue q' (token m)) (bytes : ℕ)
+module _ (s t : StoreValue) (x : Paired) (q' : Queue) (m : InHand) (here : Spot) (held : IsHeld s x) (rests : (i : ℕ) → keeps x i ≡ 0) (still : x.echoing ≡ false) (is : Dequeued s t x.read_queue q' (token m)) (bytes : ℕ)
     (size : bytes ≡ size_of (message_in t (token m))) where
   kind-same : is_data (message_in t (token m)).kind ≡ is_data (block_at 0 (in_hand t (token m))).kind
   kind-same = ap is_data (kind-is (in_hand t (token m)))
@@ -368,14 +367,14 @@ module _ (s t : StoreValue) (x : Ldterm) (q' : Queue) (m : InHand) (here : Spot)
       → BeganWhole s t here x (record x { read_queue = q' }) sent bytes
   began-whole to sent one there kind =
       let quiet = rests-is x rests still in
-      subst (λ (y : Ldterm). BeganWhole s t here y (record y { read_queue = q' }) sent bytes) (sym quiet)
+      subst (λ (y : Paired). BeganWhole s t here y (record y { read_queue = q' }) sent bytes) (sym quiet)
       (whole-rest s t x q' m (subst (IsHeld s) quiet held) is to here sent bytes one there (kind-same ∙ kind) size)
 
   pub began-work : IsStore t → is_data (block_at 0 (in_hand t (token m))).kind ≡ true → BeganWork s t here x (record x { read_queue = q'; in_work = Some m }) bytes
   began-work st kind =
       let quiet = rests-is x rests still in
       let of_data = data-only (block_at 0 (in_hand t (token m))).kind kind in
-      subst (λ (y : Ldterm). BeganWork s t here y (record y { read_queue = q'; in_work = Some m }) bytes) (sym quiet)
+      subst (λ (y : Paired). BeganWork s t here y (record y { read_queue = q'; in_work = Some m }) bytes) (sym quiet)
       (work-rest s t x q' m (subst (IsHeld s) quiet held) is here bytes st of_data (kind-same ∙ kind) (size ∙ data-size (in_hand t (token m)) is.chain of_data))
 
 -- whether a message goes out
@@ -391,7 +390,7 @@ both-true true true false is = absurd (false≢true is)
 both-true true false c is = absurd (false≢true is)
 both-true false b c is = absurd (false≢true is)
 
-module _ (s t : StoreValue) (x : Ldterm) (q' : Queue) (m : InHand) (here : Spot) (held : IsHeld s x) (rests : (i : ℕ) → keeps x i ≡ 0) (still : x.echoing ≡ false) (is : Dequeued s t x.write_queue q' (token m)) (bytes : ℕ)
+module _ (s t : StoreValue) (x : Paired) (q' : Queue) (m : InHand) (here : Spot) (held : IsHeld s x) (rests : (i : ℕ) → keeps x i ≡ 0) (still : x.echoing ≡ false) (is : Dequeued s t x.write_queue q' (token m)) (bytes : ℕ)
     (size : bytes ≡ size_of (message_in t (token m))) where
   abbrev kind : MsgKind
   kind = (block_at 0 (in_hand t (token m))).kind
@@ -405,7 +404,7 @@ module _ (s t : StoreValue) (x : Ldterm) (q' : Queue) (m : InHand) (here : Spot)
       → PassedDown s t here x (record x { write_queue = q' }) sent bytes
   passed-down to sent one there whole =
       let quiet = rests-is x rests still in
-      subst (λ (y : Ldterm). PassedDown s t here y (record y { write_queue = q' }) sent bytes) (sym quiet)
+      subst (λ (y : Paired). PassedDown s t here y (record y { write_queue = q' }) sent bytes) (sym quiet)
       (down-whole s t x q' m (subst (IsHeld s) quiet held) is to here sent bytes one there (sym tested ∙ whole) size)
 
   pub began-output : (band : ℕ) → IsStore t → band ≡ (block_at 0 (in_hand t (token m))).band → (is_data kind && (opost x.termios && nat_lt 0 bytes)) ≡ true
@@ -415,5 +414,5 @@ module _ (s t : StoreValue) (x : Ldterm) (q' : Queue) (m : InHand) (here : Spot)
       let all = both-true (is_data kind) (opost x.termios) (nat_lt 0 bytes) out in
       let of_data = data-only kind all.0 in
       let some : 0 < bytes = (let z = all.2 in grind (arith, nat_tests)) in
-      subst (λ (y : Ldterm). BeganOutput s t here y (record y { write_queue = q'; in_work = Some m }) bytes band) (sym quiet)
+      subst (λ (y : Paired). BeganOutput s t here y (record y { write_queue = q'; in_work = Some m }) bytes band) (sym quiet)
       (down-work s t x q' m (subst (IsHeld s) quiet held) is here bytes band st of_data all.1 some (size ∙ data-size (in_hand t (token m)) is.chain of_data) banded)

@@ -22,8 +22,7 @@ use Rattle.strm_msg.specs.Messages.{message_of}
 use Rattle.strm_frame.specs.declared.modules.Acts.{Acts}
 use Rattle.strm_frame.specs.Hands.{CanPut}
 use Rattle.strm_frame.specs.Outboxes.{message_in}
-use Rattle.strm_ldterm.specs.declared.ldterm.Ldterm.{Ldterm}
-use Rattle.strm_ldterm.specs.Stands.{ldterm_in, keeps}
+use Rattle.strm_ldterm.specs.Stands.{ldterm_in, keeps, Paired}
 use Rattle.strm_ldterm.specs.Does.{Does, Flushes}
 use Rattle.strm_ldterm.proofs.Steps.{still-chain, alters-does}
 
@@ -55,7 +54,7 @@ unfolding is_data_kind
 flush-plain kinds.Flush is = refl
 flush-plain _ is = absurd (cc)
 
-module _ (s u : StoreValue) (x z : Ldterm) (i : ℕ) (st : IsStore s) (can : CanPut s i (keeps x)) where
+module _ (s u : StoreValue) (x z : Paired) (i : ℕ) (st : IsStore s) (can : CanPut s i (keeps x)) where
   -- the message goes on behind what was done
   pub passes-after : (here : Spot) (notes : List Note) (acts : Acts) (f f2 : Fates) (a : Acted ℕ (ldterms.Discipline ℕ)) → Flushes s u x z notes f f2 a → a.sent ≡ []
       → Does u u z z i acts f2 f2 (record (sends (onward here.way here (message_in u i) ∷ []) (ldterm_in u z)) { notes = notes })

@@ -17,11 +17,10 @@ use Rattle.strm_types.specs.Typing.{echo_grows, echo_stands}
 use Rattle.strm_types.specs.Cells.{plain}
 use Rattle.strm_blocks.specs.Blocks.{StoreValue, IsStore}
 use Rattle.strm_frame.specs.Hands.{HasRoom}
-use Rattle.strm_ldterm.specs.declared.ldterm.Ldterm.{Ldterm}
 use Rattle.strm_ldterm.specs.Does.{Proceeds}
 use Rattle.strm_ldterm.specs.FreeBefore.{blocks_grown}
 use Rattle.strm_ldterm.specs.PlainRuns.{MayRun, is_plain, run_echoed, typed_run}
-use Rattle.strm_ldterm.specs.Stands.{IsHeld, ldterm_in, stage_in}
+use Rattle.strm_ldterm.specs.Stands.{IsHeld, ldterm_in, stage_in, Paired}
 use Rattle.strm_ldterm.specs.Turns.{ahead, bytes_on, stages_left}
 use Rattle.strm_ldterm.proofs.Begun.{busy-all, idle-cells, idle-left}
 use Rattle.strm_ldterm.proofs.Bytes.{still-works}
@@ -66,7 +65,7 @@ module _ (here : Spot) (p : ldterms.Discipline ℕ) (run : List ℕ) where
   echoed-so loud = rw loud refl
 
 -- where a byte is left, a message is in work
-pub left-works : (s : StoreValue) (x : Ldterm) → 0 < length (cells_left (ldterm_in s x)) → is_some x.in_work ≡ true
+pub left-works : (s : StoreValue) (x : Paired) → 0 < length (cells_left (ldterm_in s x)) → is_some x.in_work ≡ true
 left-works s x some = at x.in_work refl
   where
     at : (o : Option InHand) → x.in_work ≡ o → is_some o ≡ true
@@ -82,7 +81,7 @@ typed-work : (run : List ℕ) (p : ldterms.Discipline ℕ) → is_some (typed_ru
 typed-work run p =
     elim (icanon p.termios) as (λ v. is_some (cond {A = ldterms.Discipline ℕ} v (record p { line = p.line ++ run }) (record p { gathered = p.gathered ++ run })).in_work ≡ is_some p.in_work) [ true ↦ refl | false ↦ refl ]
 
-pub run-works : (s s1 s2 : StoreValue) (x x1 x2 : Ldterm) (run typed : List ℕ) (t : Fates) → Proceeds s s1 x x1 0 [] [] t t (sends [] (with_left (drop (length run) (cells_left (ldterm_in s x))) (ldterm_in s x)))
+pub run-works : (s s1 s2 : StoreValue) (x x1 x2 : Paired) (run typed : List ℕ) (t : Fates) → Proceeds s s1 x x1 0 [] [] t t (sends [] (with_left (drop (length run) (cells_left (ldterm_in s x))) (ldterm_in s x)))
     → Proceeds s1 s2 x1 x2 1 [] [] t t (sends [] (typed_run typed (ldterm_in s1 x1))) → is_some x.in_work ≡ true → is_some x2.in_work ≡ true
 run-works s s1 s2 x x1 x2 run typed t front behind busy =
     let left = drop (length run) (cells_left (ldterm_in s x)) in
@@ -90,7 +89,7 @@ run-works s s1 s2 x x1 x2 run typed t front behind busy =
     (still-works s s1 x x1 (with_left left (ldterm_in s x)) front.state (left-there left (ldterm_in s x).in_work) busy)
 
 -- where no byte is taken, all is left
-pub left-whole : (s : StoreValue) (x : Ldterm) → IsHeld s x → with_left (cells_left (ldterm_in s x)) (ldterm_in s x) ≡ ldterm_in s x
+pub left-whole : (s : StoreValue) (x : Paired) → IsHeld s x → with_left (cells_left (ldterm_in s x)) (ldterm_in s x) ≡ ldterm_in s x
 left-whole s x held = at x.in_work refl
   where
     at : (o : Option InHand) → x.in_work ≡ o → with_left (cells_left (ldterm_in s x)) (ldterm_in s x) ≡ ldterm_in s x
@@ -98,7 +97,7 @@ left-whole s x held = at x.in_work refl
     at (Some m) there = busy-all s x m there held
 
 -- bytes that may be treated at once
-module _ (s : StoreValue) (x : Ldterm) (run : List ℕ) (most : ℕ) (held : IsHeld s x) (stage : stages_left (stage_in x.stage) ≡ 0) (few : length run ≤ most)
+module _ (s : StoreValue) (x : Paired) (run : List ℕ) (most : ℕ) (held : IsHeld s x) (stage : stages_left (stage_in x.stage) ≡ 0) (few : length run ≤ most)
     (is : cells_left (ldterm_in s x) ≡ run ++ drop (length run) (cells_left (ldterm_in s x))) (all : AllByRecursion (λ b. is_plain x.termios b ≡ true) run) (may : MayRun most (ldterm_in s x)) where
   abbrev from : ldterms.Discipline ℕ
   from = ldterm_in s x
@@ -125,7 +124,7 @@ module _ (s : StoreValue) (x : Ldterm) (run : List ℕ) (most : ℕ) (held : IsH
       free-on here s from stage byte
       (room-for s (blocks_grown from (ahead here (3 * byte) from).state) room (run-blocks here (icanon from.termios) (echo from.termios) run (drop (length run) (cells_left from)) from byte (runs-from (omega arith)) short (omega arith)))
 
-module _ (s s1 : StoreValue) (x x1 : Ldterm) (here : Spot) (run : List ℕ) (t : Fates) (held : IsHeld s x)
+module _ (s s1 : StoreValue) (x x1 : Paired) (here : Spot) (run : List ℕ) (t : Fates) (held : IsHeld s x)
     (front : Proceeds s s1 x x1 0 [] [] t t (sends [] (with_left (drop (length run) (cells_left (ldterm_in s x))) (ldterm_in s x)))) where
   abbrev p : ldterms.Discipline ℕ
   p = ldterm_in s x
@@ -147,12 +146,12 @@ module _ (s s1 : StoreValue) (x x1 : Ldterm) (here : Spot) (run : List ℕ) (t :
   pub line-room : (most : ℕ) → length run ≤ most → MayRun most p → icanon x1.termios ≡ true → length x1.line + length run ≤ LINE_MAX
   line-room most few may is = let l = may.line (ap icanon (sym same-termios) ∙ is) in let e = ap length same-line in omega arith
 
-  module _ (s2 : StoreValue) (x2 : Ldterm) (st1 : IsStore s1) (typed : Proceeds s1 s2 x1 x2 1 [] [] t t (sends [] (typed_run run (ldterm_in s1 x1)))) where
+  module _ (s2 : StoreValue) (x2 : Paired) (st1 : IsStore s1) (typed : Proceeds s1 s2 x1 x2 1 [] [] t t (sends [] (typed_run run (ldterm_in s1 x1)))) where
     pub typed-on : Proceeds s s2 x x2 1 [] [] t t (sends [] (typed_run run (with_left (drop (length run) (cells_left p)) p)))
     typed-on = proceeds-joined s s1 x x1 0 [] t t (sends [] (with_left (drop (length run) (cells_left p)) p)) st1 front s2 x2 1 [] [] t (λ q. sends [] (typed_run run q)) typed
 
     -- all of a run was done, and so it was treated byte by byte
-    pub run-treated : (s3 : StoreValue) (x3 : Ldterm) (notes : List Note) (t3 : Fates) (most : ℕ) → IsStore s2 → Proceeds s2 s3 x2 x3 1 notes [] t t3 (run_echoed here run (ldterm_in s2 x2))
+    pub run-treated : (s3 : StoreValue) (x3 : Paired) (notes : List Note) (t3 : Fates) (most : ℕ) → IsStore s2 → Proceeds s2 s3 x2 x3 1 notes [] t t3 (run_echoed here run (ldterm_in s2 x2))
         → stages_left (stage_in x.stage) ≡ 0 → 0 < length run → length run ≤ most → cells_left p ≡ run ++ drop (length run) (cells_left p) → AllByRecursion (λ b. is_plain x.termios b ≡ true) run → MayRun most p
         → Proceeds s s3 x x3 2 notes [] t t3 (ahead here (3 * length run) p)
     run-treated s3 x3 notes t3 most st2 echoed stage some few is all may =

@@ -12,7 +12,7 @@ use Rattle.strm_types.specs.Budgets.{cost_of, most, most_on}
 use Rattle.strm_types.specs.Deliver.{Parcel, toward}
 use Rattle.strm_types.specs.Input.{input_begins, is_data, passes, stages_done, to_treat, treats}
 use Rattle.strm_types.specs.LdtermServes.{ldterm_serves}
-use Rattle.strm_types.specs.Ldterms.{Answered, Begun, Between, Discipline, Stage, onward}
+use Rattle.strm_types.specs.Ldterms.{Answered, Begun, Between, Discipline, Stage, onward, by_itself}
 use Rattle.strm_types.specs.Message.{Message, cells_of}
 use Rattle.strm_types.specs.Output.{posts}
 use Rattle.strm_types.specs.OutputTurns.{output_dir, output_serves, posted, unchanged, with_given}
@@ -160,12 +160,12 @@ module _ (here : Spot) where
         at false whole = treated (serves-treat here.way again refl refl work whole) call.again refl
 
     -- what it may count on
-    whole-counts : (way : Way) (more : Bool) → passes_whole way more p ≡ true → turn_cost (record here { way = way }) more p ≡ 25
+    whole-counts : (way : Way) (more : Bool) → passes_whole way more p ≡ true → turn_cost (record here { way = way }) more (by_itself p) ≡ 25
     whole-counts Down more whole = refl
     whole-counts Up false whole = refl
     whole-counts Up true whole = absurd (false≢true whole)
 
-    bytes-count : (way : Way) (q : Discipline ℕ) → way ≡ Up → turn_cost (record here { way = way }) true q ≡ needs q.stage
+    bytes-count : (way : Way) (q : Discipline ℕ) → way ≡ Up → turn_cost (record here { way = way }) true (by_itself q) ≡ needs q.stage
     bytes-count Down q up = absurd (cc up)
     bytes-count Up q up = refl
 
@@ -173,20 +173,20 @@ module _ (here : Spot) where
       same-cost : cost_of most sent ≡ cost_of most call.acted.sent
       same-cost = ap (cost_of most) parcels
 
-      passed-room : (whole : passes_whole here.way again p ≡ true) → HasRoom old (turn_cost here again p) → FreesBlocks old new → HasRoom new (later_cost more (turn_cost here true q) sent)
+      passed-room : (whole : passes_whole here.way again p ≡ true) → HasRoom old (turn_cost here again (by_itself p)) → FreesBlocks old new → HasRoom new (later_cost more (turn_cost here true (by_itself q)) sent)
       passed-room whole room frees =
           let passes = serves-pass here.way again refl refl whole in
           let counts = whole-counts here.way again whole in
           let ends : more ≡ false = calls ∙ passes.over in
           let few = passes.few in
           let same = same-cost in
-          let takes : later_cost more (turn_cost here true q) sent ≡ cost_of most sent + 0 = ap (λ v. cost_of most sent + cond {A = ℕ} v (turn_cost here true q) 0) ends in
+          let takes : later_cost more (turn_cost here true (by_itself q)) sent ≡ cost_of most sent + 0 = ap (λ v. cost_of most sent + cond {A = ℕ} v (turn_cost here true (by_itself q)) 0) ends in
           record {
             mblks = (let r = room.mblks in let f = frees.mblks in omega (arith, counts, few, same, takes, r, f));
             dblks = (let r = room.dblks in let f = frees.dblks in omega (arith, counts, few, same, takes, r, f));
           }
 
-      treated-room : (whole : passes_whole here.way again p ≡ false) → (here.way ≡ Up → again ≡ true → is_some p.in_work ≡ true) → (more ≡ true → HasRoom new (leaves q.stage)) → (here.way ≡ Up → HasRoom new 1) → HasRoom new (later_cost more (turn_cost here true q) sent)
+      treated-room : (whole : passes_whole here.way again p ≡ false) → (here.way ≡ Up → again ≡ true → is_some p.in_work ≡ true) → (more ≡ true → HasRoom new (leaves q.stage)) → (here.way ≡ Up → HasRoom new 1) → HasRoom new (later_cost more (turn_cost here true (by_itself q)) sent)
       treated-room whole work behind at_last = at more refl
         where
           treats : Treats call
@@ -196,7 +196,7 @@ module _ (here : Spot) where
           last-room Up is = at_last is
           last-room Down is = record { mblks = omega arith; dblks = omega arith }
 
-          at : (v : Bool) → more ≡ v → HasRoom new (cost_of most sent + cond {A = ℕ} v (turn_cost here true q) 0)
+          at : (v : Bool) → more ≡ v → HasRoom new (cost_of most sent + cond {A = ℕ} v (turn_cost here true (by_itself q)) 0)
           at true goes =
               let room = behind goes in
               let left = treats.more (sym calls ∙ goes) in
@@ -214,10 +214,10 @@ module _ (here : Spot) where
               let room = last-room here.way refl in
               record { mblks = (let r = room.mblks in omega (arith, most, same, r)); dblks = (let r = room.dblks in omega (arith, most, same, r)) }
 
-      pub call-room : (here.way ≡ Up → again ≡ true → is_some p.in_work ≡ true) → HasRoom old (turn_cost here again p) → (passes_whole here.way again p ≡ true → FreesBlocks old new)
-          → (more ≡ true → HasRoom new (leaves q.stage)) → (here.way ≡ Up → HasRoom new 1) → HasRoom new (later_cost more (turn_cost here true q) sent)
+      pub call-room : (here.way ≡ Up → again ≡ true → is_some p.in_work ≡ true) → HasRoom old (turn_cost here again (by_itself p)) → (passes_whole here.way again p ≡ true → FreesBlocks old new)
+          → (more ≡ true → HasRoom new (leaves q.stage)) → (here.way ≡ Up → HasRoom new 1) → HasRoom new (later_cost more (turn_cost here true (by_itself q)) sent)
       call-room work room frees behind at_last = at (passes_whole here.way again p) refl
         where
-          at : (whole : Bool) → passes_whole here.way again p ≡ whole → HasRoom new (later_cost more (turn_cost here true q) sent)
+          at : (whole : Bool) → passes_whole here.way again p ≡ whole → HasRoom new (later_cost more (turn_cost here true (by_itself q)) sent)
           at true whole = passed-room whole room (frees whole)
           at false whole = treated-room whole work behind at_last

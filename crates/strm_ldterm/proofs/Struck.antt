@@ -25,13 +25,12 @@ use Rattle.strm_types.proofs.StrikesStay.{strikes-stay}
 use Rattle.strm_blocks.specs.Blocks.{StoreValue, IsStore}
 use Rattle.strm_frame.specs.declared.parcels.Sent.{Sent}
 use Rattle.strm_ldterm.specs.declared.echoes.TheConstants.{ECHO_MAX}
-use Rattle.strm_ldterm.specs.declared.ldterm.Ldterm.{Ldterm}
 use Rattle.strm_ldterm.specs.declared.ldterm.Stage.{Stage}
 use Rattle.strm_ldterm.specs.declared.ldterm.Stage.TheVariants as stages
 use Rattle.strm_ldterm.specs.Does.{Proceeds}
 use Rattle.strm_ldterm.specs.Echoes.{MayLeave}
 use Rattle.strm_ldterm.specs.Quiet.{is_quiet}
-use Rattle.strm_ldterm.specs.Stands.{ldterm_in, stage_in}
+use Rattle.strm_ldterm.specs.Stands.{ldterm_in, stage_in, Paired}
 use Rattle.strm_ldterm.specs.Turns.{ahead, one_after, stages_left}
 use Rattle.strm_ldterm.proofs.Joining.{sent-ends, nothing-sent, proceeds-joined, to-stage, with-notes, from-other, takes-more}
 use Rattle.strm_ldterm.proofs.Turning.{Acts, ahead-one, ahead-two}
@@ -140,12 +139,12 @@ not-lnext Lnext e = absurd (false≢true (sym e))
 not-lnext Delimiter e = refl
 not-lnext Ordinary e = refl
 
-module _ (s s2 : StoreValue) (x x2 : Ldterm) (here : Spot) (started : Bool) (byte : ℕ) (stroke : Stroke) (woken : List Note) (t t2 : Fates)
+module _ (s s2 : StoreValue) (x x2 : Paired) (here : Spot) (started : Bool) (byte : ℕ) (stroke : Stroke) (woken : List Note) (t t2 : Fates)
     (same : stroke ≡ stroke_at plain here byte (ldterm_in s x)) (wake : woken ≡ wakes plain here started (ldterm_in s x)) where
   abbrev p : ldterms.Discipline ℕ
   p = ldterm_in s x
 
-  pub quiet-proceeds : (s3 : StoreValue) (x4 : Ldterm) (lnext : Bool) (notes : List Note) (bytes : List ℕ) (n : ℕ) (t3 : Fates) → IsStore s2 → lnext ≡ is_lnext stroke.key
+  pub quiet-proceeds : (s3 : StoreValue) (x4 : Paired) (lnext : Bool) (notes : List Note) (bytes : List ℕ) (n : ℕ) (t3 : Fates) → IsStore s2 → lnext ≡ is_lnext stroke.key
       → bytes ≡ echo_of x.termios x.line x2.line stroke
       → Proceeds s s2 (record x { after_lnext = lnext }) x2 1 [] [] t t2 (strikes plain here stroke.key stroke.byte (record p { after_lnext = lnext }))
       → Proceeds s2 s3 (record x2 { stage = stages.Between }) x4 n notes [] t2 t3 (echoed plain here 0 bytes (ldterm_in s2 (record x2 { stage = stages.Between })))
@@ -186,7 +185,7 @@ pub short-chunk : (n : ℕ) → n ≤ 3 → chunk_count n ≤ 1
 unfolding chunk_count
 short-chunk n few = omega arith
 
-pub answer-proceeds : (s s' : StoreValue) (x x' : Ldterm) (here : Spot) (echo : ArrayVec ℕ) (dest : Stage) (bytes : List ℕ) (n : ℕ) (notes : List Note) (t t' : Fates)
+pub answer-proceeds : (s s' : StoreValue) (x x' : Paired) (here : Spot) (echo : ArrayVec ℕ) (dest : Stage) (bytes : List ℕ) (n : ℕ) (notes : List Note) (t t' : Fates)
     → x.stage ≡ stages.Answered echo → dest ≡ stages.Between → bytes ≡ echo.items → n ≤ 1
     → Proceeds s s' (record x { stage = dest }) x' n notes [] t t' (echoed plain here 0 bytes (ldterm_in s (record x { stage = dest })))
     → Proceeds s s' x x' 1 notes [] t t' (next_stage plain here 0 (ldterm_in s x))
@@ -207,10 +206,10 @@ next-short here p one = at p.stage one
     at (Begun started c) e = absurd (omega arith)
     at (Answered echo) e = echoed-short here echo (record p { stage = Between })
 
-module _ (s s2 : StoreValue) (x x2 : Ldterm) (woken : List Note) (sent : List Sent) (t t2 : Fates) (is : Acts)
+module _ (s s2 : StoreValue) (x x2 : Paired) (woken : List Note) (sent : List Sent) (t t2 : Fates) (is : Acts)
     (a : Proceeds s s2 x x2 2 woken sent t t2 is) (next : ldterms.Discipline ℕ → Acts) where
   -- a key that has sent nothing after all is echoed
-  pub then-answers : (s3 : StoreValue) (x3 : Ldterm) (notes : List Note) (t3 : Fates) → IsStore s2 → sent ≡ [] → Proceeds s2 s3 x2 x3 1 notes [] t2 t3 (next (ldterm_in s2 x2))
+  pub then-answers : (s3 : StoreValue) (x3 : Paired) (notes : List Note) (t3 : Fates) → IsStore s2 → sent ≡ [] → Proceeds s2 s3 x2 x3 1 notes [] t2 t3 (next (ldterm_in s2 x2))
       → Proceeds s s3 x x3 26 (woken ++ notes) sent t t3 (one_after is next)
   then-answers s3 x3 notes t3 st none b =
       subst (λ out. Proceeds s s3 x x3 26 (woken ++ notes) out t t3 (one_after is next)) (sym none)

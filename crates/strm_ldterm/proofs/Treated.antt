@@ -15,9 +15,8 @@ use Rattle.strm_types.specs.Queue.{is_none_left}
 use Rattle.strm_types.specs.Typing.{bare, stroke_at}
 use Rattle.strm_blocks.specs.Blocks.{StoreValue, IsStore}
 use Rattle.strm_frame.specs.declared.parcels.Sent.{Sent}
-use Rattle.strm_ldterm.specs.declared.ldterm.Ldterm.{Ldterm}
 use Rattle.strm_ldterm.specs.Does.{Proceeds}
-use Rattle.strm_ldterm.specs.Stands.{ldterm_in, stage_in}
+use Rattle.strm_ldterm.specs.Stands.{ldterm_in, stage_in, Paired}
 use Rattle.strm_ldterm.specs.Turns.{ahead, leaves, needs, stages_left}
 use Rattle.strm_ldterm.proofs.Joining.{proceeds-joined, sent-ends, takes-more}
 
@@ -48,7 +47,7 @@ begins-left here (c ∷ rest) p some = at (p.stopped && restarts p.termios (stro
 pub next-begins : (here : Spot) (p : ldterms.Discipline ℕ) → stages_left p.stage ≡ 0 → begins_next plain here (cells_left p) p ≡ next_stage plain here 0 p
 next-begins here p none = ap (λ st. stage_at plain here st 0 p) (sym (none-under-way p.stage none))
 
-module _ (s s1 : StoreValue) (x x1 : Ldterm) (here : Spot) (sent : List Sent) (t : Fates)
+module _ (s s1 : StoreValue) (x x1 : Paired) (here : Spot) (sent : List Sent) (t : Fates)
     (none : stages_left (stage_in x.stage) ≡ 0)
     (a : Proceeds s s1 x x1 1 [] sent t t (begins_next plain here (cells_left (ldterm_in s x)) (ldterm_in s x))) where
   abbrev p : ldterms.Discipline ℕ
@@ -65,7 +64,7 @@ module _ (s s1 : StoreValue) (x x1 : Ldterm) (here : Spot) (sent : List Sent) (t
     begun-left = ap (λ (q : ldterms.Discipline ℕ). stages_left q.stage) a.state ∙ begins-left here (cells_left p) p some
 
     -- and the rest of it
-    pub byte-goes-on : (s2 : StoreValue) (x2 : Ldterm) (notes : List Note) (out : List Sent) (t2 : Fates) → IsStore s1 → sent ≡ []
+    pub byte-goes-on : (s2 : StoreValue) (x2 : Paired) (notes : List Note) (out : List Sent) (t2 : Fates) → IsStore s1 → sent ≡ []
         → Proceeds s1 s2 x1 x2 26 notes out t t2 (ahead here (stages_left (stage_in x1.stage)) (ldterm_in s1 x1)) → Proceeds s s2 x x2 27 notes out t t2 (ahead here 3 p)
     byte-goes-on s2 x2 notes out t2 st quiet b =
         proceeds-joined s s1 x x1 1 [] t t (next_stage plain here 0 p) st

@@ -24,7 +24,6 @@ use Rattle.strm_frame.specs.declared.service.Served.{Served}
 use Rattle.strm_frame.specs.Outboxes.{sent_of}
 use Rattle.strm_frame.specs.Hands.{HasRoom}
 use Rattle.strm_frame.specs.Serves.{stop_at, stop_of}
-use Rattle.strm_ldterm.specs.declared.ldterm.Ldterm.{Ldterm}
 use Rattle.strm_ldterm.specs.Began.{BeganWork}
 use Rattle.strm_ldterm.specs.Bounds.{passes_whole}
 use Rattle.strm_ldterm.specs.Called.{ServesAs, TreatsAs, at_work, bytes_of_way}
@@ -32,7 +31,7 @@ use Rattle.strm_ldterm.specs.Does.{Proceeds}
 use Rattle.strm_ldterm.specs.Resting.{ldterm-rests}
 use Rattle.strm_ldterm.specs.Served.{IsServed}
 use Rattle.strm_ldterm.specs.FreeBefore.{IsFreeBefore, all_free}
-use Rattle.strm_ldterm.specs.Stands.{keeps, ldterm_in, stage_in, IsHeld}
+use Rattle.strm_ldterm.specs.Stands.{keeps, ldterm_in, stage_in, IsHeld, Paired}
 use Rattle.strm_ldterm.specs.Turns.{bytes_on, leaves, needs, stages_left}
 use Rattle.strm_ldterm.proofs.Bytes.{all-left, kept-some, takes-any, none-begun, none-done}
 use Rattle.strm_ldterm.proofs.Joining.{proceeds-joined}
@@ -82,7 +81,7 @@ some-left-room : (s : StoreValue) (stage : ldterms.Stage ℕ) → HasRoom s (lea
 some-left-room s stage room = let some = leaves-some stage in record { mblks = (let r = room.mblks in omega (arith, r, some)); dblks = (let r = room.dblks in omega (arith, r, some)) }
 
 -- before a byte of a message that has come into work
-pub begun-later : (s s1 : StoreValue) (x x1 : Ldterm) (t : Fates) (next : ℕ → ldterms.Discipline ℕ → Acted ℕ (ldterms.Discipline ℕ)) (q : ldterms.Discipline ℕ) (byte : ℕ) → IsStore s1
+pub begun-later : (s s1 : StoreValue) (x x1 : Paired) (t : Fates) (next : ℕ → ldterms.Discipline ℕ → Acted ℕ (ldterms.Discipline ℕ)) (q : ldterms.Discipline ℕ) (byte : ℕ) → IsStore s1
     → Proceeds s s1 x x1 0 [] [] t t (ldterms.sends [] q) → IsFreeBefore s1 x1 t next (ldterm_in s1 x1) byte → IsFreeBefore s x t next q byte
 begun-later s s1 x x1 t next q byte st works f = record {
   before = f.before;
@@ -98,7 +97,7 @@ begun-later s s1 x x1 t next q byte st works f = record {
   free = f.free;
 }
 
-module _ (s s' : StoreValue) (here : Spot) (x x' : Ldterm) (again : Bool) (t : Fates) where
+module _ (s s' : StoreValue) (here : Spot) (x x' : Paired) (again : Bool) (t : Fates) where
   -- a message passed whole, or none
   pub whole-serves : (served : Served) (sent : Outbox) (bytes : ℕ) (v : Serving ℕ (ldterms.Discipline ℕ)) → served.acts.notes.items ≡ [] → served.acts.sent ≡ sent → served.bytes ≡ bytes → served.stopped ≡ false → served.again ≡ false
       → ldterm_serves plain here 0 again None (ldterm_in s x) ≡ v → Proceeds s s' x x' 0 [] (sent_of sent) t t v.acted → bytes ≡ v.bytes → v.again ≡ false → (here.way ≡ Up → HasRoom s 1) → passes_whole here.way again (ldterm_in s x) ≡ true
@@ -122,7 +121,7 @@ module _ (s s' : StoreValue) (here : Spot) (x x' : Ldterm) (again : Bool) (t : F
         whole = λ e. record { mblks = (let f = a.mblks in omega arith); dblks = (let f = a.dblks in omega arith) };
       }
 
-module _ (s s' : StoreValue) (here : Spot) (x x' : Ldterm) (served : Served) (t t' : Fates) (way : here.way ≡ Up) where
+module _ (s s' : StoreValue) (here : Spot) (x x' : Paired) (served : Served) (t t' : Fates) (way : here.way ≡ Up) where
   -- one more call
   pub again-treats : (again : Bool) → again ≡ true → TreatsAs s s' here x x' served t t' → ServesAs s s' here x x' again served t t'
   again-treats again more b =
@@ -147,7 +146,7 @@ module _ (s s' : StoreValue) (here : Spot) (x x' : Ldterm) (served : Served) (t 
       }
 
   -- the first call of a turn, whose message has come into work
-  pub work-treats : (s1 : StoreValue) (x1 : Ldterm) (bytes : ℕ) → IsStore s1 → stages_left (stage_in x.stage) ≡ 0 → BeganWork s s1 here x x1 bytes → TreatsAs s1 s' here x1 x' served t t' → ServesAs s s' here x x' false served t t'
+  pub work-treats : (s1 : StoreValue) (x1 : Paired) (bytes : ℕ) → IsStore s1 → stages_left (stage_in x.stage) ≡ 0 → BeganWork s s1 here x x1 bytes → TreatsAs s1 s' here x1 x' served t t' → ServesAs s s' here x x' false served t t'
   work-treats s1 x1 bytes st between w b =
       let p = ldterm_in s x in
       let p1 = ldterm_in s1 x1 in
@@ -189,7 +188,7 @@ module _ (s s' : StoreValue) (here : Spot) (x x' : Ldterm) (served : Served) (t 
       }
 
 -- Behind a call that isn't called again nothing of a turn is under way. Behind one that is, a message is in work.
-pub served-behind : (s s' : StoreValue) (here : Spot) (x x' : Ldterm) (again : Bool) (served : Served) (t t' : Fates) → ServesAs s s' here x x' again served t t'
+pub served-behind : (s s' : StoreValue) (here : Spot) (x x' : Paired) (again : Bool) (served : Served) (t t' : Fates) → ServesAs s s' here x x' again served t t'
     → IsServed here.way again (ldterm_in s x) → IsServed here.way served.again (ldterm_in s' x')
 served-behind s s' here x x' again served t t' did is =
     let by = ldterm_serves plain here 0 again (stop_of served) (ldterm_in s x) in
@@ -197,7 +196,7 @@ served-behind s s' here x x' again served t t' did is =
     (subst (λ (p : ldterms.Discipline ℕ). IsServed here.way by.again p) (sym did.does.state) (serves-served plain here 0 again (stop_of served) (ldterm_in s x) is))
 
 -- What a call needs, of the state before it: a message in work where it is one more in its turn, and else nothing in hand and no byte begun.
-module _ (s : StoreValue) (x : Ldterm) (way : Way) (again : Bool) (is : IsServed way again (ldterm_in s x)) where
+module _ (s : StoreValue) (x : Paired) (way : Way) (again : Bool) (is : IsServed way again (ldterm_in s x)) where
   pub more-works : way ≡ Up → again ≡ true → is_some x.in_work ≡ true
   more-works up more = sym (kept-some s x.in_work) ∙ again-works way again (ldterm_in s x) up more is
 
@@ -221,5 +220,5 @@ module _ (s : StoreValue) (x : Ldterm) (way : Way) (again : Bool) (is : IsServed
   first-between first = ap stages_left (first-idle way again (ldterm_in s x) first is).3
 
 -- there is a message in work then
-pub work-in : (s s1 : StoreValue) (here : Spot) (x x1 : Ldterm) (bytes : ℕ) (t : Fates) → BeganWork s s1 here x x1 bytes → is_some x1.in_work ≡ true
+pub work-in : (s s1 : StoreValue) (here : Spot) (x x1 : Paired) (bytes : ℕ) (t : Fates) → BeganWork s s1 here x x1 bytes → is_some x1.in_work ≡ true
 work-in s s1 here x x1 bytes t w = sym (kept-some s1 x1.in_work) ∙ ap (λ (q : ldterms.Discipline ℕ). is_some q.in_work) (w.works t).state

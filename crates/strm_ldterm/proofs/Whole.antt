@@ -25,13 +25,12 @@ use Rattle.strm_frame.specs.declared.parcels.Sent.{Sent}
 use Rattle.strm_frame.specs.declared.service.Served.{Served}
 use Rattle.strm_frame.specs.Hands.{HasRoom}
 use Rattle.strm_frame.specs.Outboxes.{sent_of}
-use Rattle.strm_ldterm.specs.declared.ldterm.Ldterm.{Ldterm}
 use Rattle.strm_ldterm.specs.Called.{TreatsAs}
 use Rattle.strm_ldterm.specs.Does.{Proceeds}
 use Rattle.strm_ldterm.specs.FreeBefore.{all_free, blocks_for, blocks_grown, echo_size}
 use Rattle.strm_ldterm.specs.Outgone.{data_of}
 use Rattle.strm_ldterm.specs.PlainRuns.{MayPass, is_plain}
-use Rattle.strm_ldterm.specs.Stands.{IsHeld, ldterm_in, stage_in}
+use Rattle.strm_ldterm.specs.Stands.{IsHeld, ldterm_in, stage_in, Paired}
 use Rattle.strm_ldterm.specs.Turns.{ahead, leaves, one_after, stages_left}
 use Rattle.strm_ldterm.proofs.Bytes.{all-left, begun-on, none-begun, none-done, ran-none, takes-any}
 use Rattle.strm_ldterm.proofs.Calls.{treats-as, treats-ended}
@@ -133,7 +132,7 @@ module _ (here : Spot) (p : ldterms.Discipline ℕ) (between : stages_left p.sta
       let grown : blocks_grown p q ≤ blocks_for n = grown-from-none p q (suc k) n same (ap length may.first) refl few in
       subst (λ j. blocks_grown p (ahead here (3 * j) p).state ≤ blocks_for n) long (subst (λ (w : ldterms.Discipline ℕ). blocks_grown p w ≤ blocks_for n) (sym so.state) grown)
 
-  pub whole-done : (s s' : StoreValue) (x x' : Ldterm) (sent : List Sent) (t : Fates) → Proceeds s s' x x' 0 [] sent t t ends → Proceeds s s' x x' 0 [] sent t t (one_after (ahead here (3 * n) p) (finished plain here))
+  pub whole-done : (s s' : StoreValue) (x x' : Paired) (sent : List Sent) (t : Fates) → Proceeds s s' x x' 0 [] sent t t ends → Proceeds s s' x x' 0 [] sent t t (one_after (ahead here (3 * n) p) (finished plain here))
   whole-done s s' x x' sent t did =
       let u = ahead here (3 * n) p in
       let joined : Acts → Acts = λ v. record { state = v.state; notes = u.notes ++ v.notes; sent = v.sent; gone = u.gone ++ v.gone } in
@@ -154,7 +153,7 @@ module _ (here : Spot) (p : ldterms.Discipline ℕ) (between : stages_left p.sta
       })
 
 -- A call in which it went up.
-pub whole-treats : (s s' : StoreValue) (here : Spot) (x x' : Ldterm) (t : Fates) (bytes : ℕ) (notes : ArrayVec Note) (sent : Outbox) → IsHeld s x → stages_left (stage_in x.stage) ≡ 0 → bytes ≡ length (cells_left (ldterm_in s x))
+pub whole-treats : (s s' : StoreValue) (here : Spot) (x x' : Paired) (t : Fates) (bytes : ℕ) (notes : ArrayVec Note) (sent : Outbox) → IsHeld s x → stages_left (stage_in x.stage) ≡ 0 → bytes ≡ length (cells_left (ldterm_in s x))
     → 0 < bytes → MayPass (ldterm_in s x) → HasRoom s (STOP_BLOCKS + blocks_for bytes) → notes.items ≡ []
     → Proceeds s s' x x' 0 [] (sent_of sent) t t (sends (onward Up here (data_of 0 (cells_left (ldterm_in s x))) ∷ []) (record (ldterm_in s x) { in_work = None }))
     → TreatsAs s s' here x x' (record { acts = record { notes = notes; sent = sent }; bytes = bytes; stopped = false; again = false }) t t

@@ -28,13 +28,12 @@ use Rattle.strm_frame.specs.declared.parcels.Outbox.{Outbox}
 use Rattle.strm_frame.specs.declared.parcels.Sent.{Sent}
 use Rattle.strm_frame.specs.Hands.{HasRoom}
 use Rattle.strm_frame.specs.Outboxes.{sent_of}
-use Rattle.strm_ldterm.specs.declared.ldterm.Ldterm.{Ldterm}
 use Rattle.strm_ldterm.specs.Called.{ServesAs}
 use Rattle.strm_ldterm.specs.Does.{Proceeds}
 use Rattle.strm_ldterm.specs.FreeBefore.{all_free, blocks_for, blocks_grown}
 use Rattle.strm_ldterm.specs.Outgone.{BeganOutput, data_of, let_go}
 use Rattle.strm_ldterm.specs.Posting.{is_printed, poured}
-use Rattle.strm_ldterm.specs.Stands.{IsHeld, ldterm_in, stage_in}
+use Rattle.strm_ldterm.specs.Stands.{IsHeld, ldterm_in, stage_in, Paired}
 use Rattle.strm_ldterm.specs.Turns.{one_after, stages_left}
 use Rattle.strm_ldterm.proofs.Bytes.{takes-any}
 use Rattle.strm_ldterm.proofs.FreeBefore.{all-front}
@@ -90,7 +89,7 @@ module _ (here : Spot) (p : ldterms.Discipline ℕ) (band : ℕ) (low : p.column
       ∙ ap (λ q. shape given (data_of band cells ∷ []) q []) (back-nothing p.in_work rest p.write_queue (omega (arith, length-drop n cells)))
       ∙ ap (λ g. shape given (data_of band cells ∷ []) p.write_queue g) (sym none)
 
-  pub whole-went : (s t : StoreValue) (x y : Ldterm) (bytes : ℕ) (sent : List Sent) (f : Fates) → bytes ≡ n → 0 < n → Proceeds s t x y 0 [] sent f f (sends (onward Down here (data_of band cells) ∷ []) (record p { in_work = None }))
+  pub whole-went : (s t : StoreValue) (x y : Paired) (bytes : ℕ) (sent : List Sent) (f : Fates) → bytes ≡ n → 0 < n → Proceeds s t x y 0 [] sent f f (sends (onward Down here (data_of band cells) ∷ []) (record p { in_work = None }))
       → Proceeds s t x (record y { column = column }) 0 [] sent f f (one_after (poured here bytes p) (let_go here band))
   whole-went s t x y bytes sent f size some did =
       subst (λ k. Proceeds s t x (record y { column = column }) 0 [] sent f f (one_after (poured here k p) (let_go here band))) (sym size)
@@ -106,7 +105,7 @@ module _ (here : Spot) (p : ldterms.Discipline ℕ) (band : ℕ) (low : p.column
       grown-from-none p (poured here byte p).state byte n (same ∙ omega (arith, ap length none, long)) (ap length none) refl within
 
 -- A call in which it went down.
-pub whole-serves-out : (s s1 s3 : StoreValue) (here : Spot) (x x1 x3 : Ldterm) (bytes band : ℕ) (notes : ArrayVec Note) (sent : Outbox) (t : Fates) (way : here.way ≡ Down) (between : stages_left (stage_in x.stage) ≡ 0)
+pub whole-serves-out : (s s1 s3 : StoreValue) (here : Spot) (x x1 x3 : Paired) (bytes band : ℕ) (notes : ArrayVec Note) (sent : Outbox) (t : Fates) (way : here.way ≡ Down) (between : stages_left (stage_in x.stage) ≡ 0)
     (b : BeganOutput s s1 here x x1 bytes band) (st1 : IsStore s1) (quiet : notes.items ≡ []) → IsHeld s1 x1 → x1.column ≤ COLUMN_MAX → bytes ≤ 256 → bytes ≡ length (cells_left (ldterm_in s1 x1))
     → AllByRecursion (λ c. is_printed x1.termios c ≡ true) (cells_left (ldterm_in s1 x1)) → HasRoom s1 (STOP_BLOCKS + blocks_for bytes)
     → Proceeds s1 s3 x1 x3 0 [] (sent_of sent) t t (one_after (poured here bytes (ldterm_in s1 x1)) (let_go here band))

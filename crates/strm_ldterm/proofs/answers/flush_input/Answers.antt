@@ -4,7 +4,7 @@ use Rattle.strm_types.specs.declared.names.Way.TheVariants.{Up}
 use Rattle.strm_types.specs.declared.spots.Note.{Note}
 use Rattle.strm_types.specs.declared.spots.Note.TheVariants.{Room}
 use Rattle.strm_types.specs.Ldterms.{sends}
-use Rattle.strm_ldterm.specs.Stands.{ldterm_in}
+use Rattle.strm_ldterm.specs.Stands.{ldterm_in, paired}
 use Rattle.strm_ldterm.proofs.Sends.{sends-none}
 use Rattle.strm_ldterm.proofs.Signals.{flush-plain}
 use Rattle.strm_ldterm.proofs.TakingUp.{input-flushes, input-stays}
@@ -13,7 +13,7 @@ use Rattle.strm_ldterm.proofs.answers.flush_input.Goals as goal
 pub returns-then-not-flushes_input : goal.returns-then-not-flushes_input
 returns-then-not-flushes_input g c =
     let s = g.B.Blocks.value c.args.store.now in
-    let x = c.args.ldterm.now in
+    let x = (paired c.args.ldterm.now c.args.queues.now) in
     let f = c.args.told.now in
     input-stays s x c.args.here c.args.command [] f (sym c.flushes_input.ensures ∙ c.if-not-flushes_input.true)
     (sends-none s x x [] f f 0 (sends [] (ldterm_in s x)) c.requires.held (λ k. refl) (λ i. refl) refl refl refl refl refl)
@@ -27,5 +27,5 @@ returns g c =
     let t = g.B.Blocks.value c.flush_read-room.new.store in
     let u = g.B.Blocks.value c.send_up-flush.new.store in
     let f' = c.flush_read-room.new.told in
-    input-flushes s t u c.args.ldterm.now c.flush_read-room.new.ldterm c.args.here c.args.command c.send_up-flush.result (cond {A = List Note} c.flush_read-room.result (Room Up ∷ []) []) c.args.told.now f' c.audit-2.ensures c.requires.kept
+    input-flushes s t u (paired c.args.ldterm.now c.args.queues.now) (paired c.flush_read-room.new.ldterm c.flush_read-room.new.queues) c.args.here c.args.command c.send_up-flush.result (cond {A = List Note} c.flush_read-room.result (Room Up ∷ []) []) c.args.told.now f' c.audit-2.ensures c.requires.kept
     (sym c.flushes_input.ensures ∙ c.if-not-flushes_input.false) c.flush_read-room.ensures (c.send_up-flush.ensures f')

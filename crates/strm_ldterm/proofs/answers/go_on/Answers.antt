@@ -4,7 +4,7 @@ use Rattle.strm_types.specs.Budgets.{own_at}
 use Rattle.strm_types.specs.Tables.{ldterm_does}
 use Rattle.strm_types.specs.LdtermPuts.{goes_on}
 use Rattle.strm_frame.specs.Outboxes.{message_in}
-use Rattle.strm_ldterm.specs.Stands.{ldterm_in}
+use Rattle.strm_ldterm.specs.Stands.{ldterm_in, paired}
 use Rattle.strm_ldterm.proofs.TakingUp.{does-puts}
 use Rattle.strm_ldterm.proofs.answers.go_on.Goals as goal
 use Rattle.strm_blocks.specs.Blocks.{token}
@@ -12,7 +12,7 @@ use Rattle.strm_blocks.specs.Blocks.{token}
 pub returns : goal.returns
 returns g c = λ f.
     let s = g.B.Blocks.value c.args.store.now in
-    let x = c.args.ldterm.now in
+    let x = (paired c.args.ldterm.now c.args.queues.now) in
     let i = token c.args.message in
     let m = message_in s i in
     let did = c.pass_on.ensures f in

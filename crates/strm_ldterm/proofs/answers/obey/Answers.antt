@@ -12,14 +12,14 @@ use Rattle.strm_frame.proofs.Asked.{acked-plain}
 use Rattle.strm_frame.proofs.Behind.{first-tell, termios_read}
 use Rattle.strm_frame.proofs.Handing.{can-in_hand}
 use Rattle.strm_ldterm.specs.Does.{Puts}
-use Rattle.strm_ldterm.specs.Stands.{ldterm_in}
+use Rattle.strm_ldterm.specs.Stands.{ldterm_in, paired}
 use Rattle.strm_ldterm.proofs.answers.obey.Goals as goal
 use Rattle.strm_blocks.specs.Blocks.{token}
 
 pub returns-then-not-sets_termios : goal.returns-then-not-sets_termios
 returns-then-not-sets_termios g c =
     let s = g.B.Blocks.value c.args.store.now in
-    let x = c.args.ldterm.now in
+    let x = (paired c.args.ldterm.now c.args.queues.now) in
     let i = token c.args.message in
     let here = c.args.here in
     let m = message_in s i in
@@ -36,7 +36,7 @@ payload_of-given-requires-clause-kind g c = acked-plain (g.B.Blocks.value c.args
 pub returns-in_default : goal.returns-in_default
 returns-in_default g c =
     let s = g.B.Blocks.value c.args.store.now in
-    let x = c.args.ldterm.now in
+    let x = (paired c.args.ldterm.now c.args.queues.now) in
     let i = token c.args.message in
     let here = c.args.here in
     let m = message_in s i in
@@ -53,8 +53,8 @@ pub returns : goal.returns
 returns g c =
     let s = g.B.Blocks.value c.args.store.now in
     let t = g.B.Blocks.value c.take_up.new.store in
-    let x = c.args.ldterm.now in
-    let y = c.take_up.new.ldterm in
+    let x = (paired c.args.ldterm.now c.args.queues.now) in
+    let y = (paired c.take_up.new.ldterm c.take_up.new.queues) in
     let i = token c.args.message in
     let here = c.args.here in
     let m = message_in s i in

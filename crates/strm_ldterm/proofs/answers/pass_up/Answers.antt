@@ -11,7 +11,7 @@ use Rattle.strm_frame.specs.Outboxes.{message_in}
 use Rattle.strm_frame.proofs.Asked.{acked-is, acked-not, acked-plain}
 use Rattle.strm_frame.proofs.Handing.{can-in_hand}
 use Rattle.strm_ldterm.specs.Does.{Puts}
-use Rattle.strm_ldterm.specs.Stands.{ldterm_in}
+use Rattle.strm_ldterm.specs.Stands.{ldterm_in, paired}
 use Rattle.strm_types.proofs.LdtermWithin.{acked-own}
 use Rattle.strm_ldterm.proofs.answers.pass_up.Goals as goal
 use Rattle.strm_blocks.specs.Blocks.{token}
@@ -19,7 +19,7 @@ use Rattle.strm_blocks.specs.Blocks.{token}
 pub returns-then-not-is_iocack : goal.returns-then-not-is_iocack
 returns-then-not-is_iocack g c =
     let s = g.B.Blocks.value c.args.store.now in
-    let x = c.args.ldterm.now in
+    let x = (paired c.args.ldterm.now c.args.queues.now) in
     let i = token c.args.message in
     let here = c.args.here in
     let m = message_in s i in
@@ -40,7 +40,7 @@ header_of-requires-clause-kind g c =
 pub returns-in_default : goal.returns-in_default
 returns-in_default g c =
     let s = g.B.Blocks.value c.args.store.now in
-    let x = c.args.ldterm.now in
+    let x = (paired c.args.ldterm.now c.args.queues.now) in
     let i = token c.args.message in
     let here = c.args.here in
     let m = message_in s i in
@@ -68,8 +68,8 @@ pub returns : goal.returns
 returns g c =
     let s = g.B.Blocks.value c.args.store.now in
     let t = g.B.Blocks.value c.obey.new.store in
-    let x = c.args.ldterm.now in
-    let y = c.obey.new.ldterm in
+    let x = (paired c.args.ldterm.now c.args.queues.now) in
+    let y = (paired c.obey.new.ldterm c.obey.new.queues) in
     let i = token c.args.message in
     let here = c.args.here in
     let m = message_in s i in

@@ -6,7 +6,7 @@ use Rattle.strm_types.specs.Ldterms.{onward, sends}
 use Rattle.strm_types.specs.Message.{data_message}
 use Rattle.strm_frame.specs.declared.parcels.Sent.{Sent}
 use Rattle.strm_ldterm.specs.Sending.{MadeOne}
-use Rattle.strm_ldterm.specs.Stands.{ldterm_in}
+use Rattle.strm_ldterm.specs.Stands.{ldterm_in, paired}
 use Rattle.strm_ldterm.proofs.Sends.{sends-made}
 use Rattle.strm_ldterm.proofs.TakingUp.{held-set, line-none, line-sent, termios-none}
 use Rattle.strm_ldterm.proofs.answers.set_termios.Goals as goal
@@ -16,7 +16,7 @@ use Rattle.strm_blocks.specs.Blocks.{token}
 pub returns-then-not-ends : goal.returns-then-not-ends
 returns-then-not-ends g c = λ f.
     let s = g.B.Blocks.value c.args.store.now in
-    let x = c.args.ldterm.now in
+    let x = (paired c.args.ldterm.now c.args.queues.now) in
     elim c.then-not-ends.branch [
       | then-not-ends-via-then-not-ends w ↦ termios-none s x c.args.here c.args.termios f c.requires.held (sym c.ends_lines-ends.ensures ∙ w.if-not-ends.true)
       | then-not-ends-via-else-not-ends+then-len-eq0 w ↦ line-none s x c.args.here c.args.termios f c.requires.held (sym w.len.ensures.value ∙ w.if-len-eq0.true)
@@ -26,7 +26,7 @@ pub returns : goal.returns
 returns g c = λ f.
     let s = g.B.Blocks.value c.args.store.now in
     let t = g.B.Blocks.value c.make_line-message.new.store in
-    let x = c.args.ldterm.now in
+    let x = (paired c.args.ldterm.now c.args.queues.now) in
     let p = ldterm_in s x in
     let y = record x { termios = c.args.termios; line = c.clear.new.self } in
     let z : Sent = record { to = c.toward.result; message = c.make_line-message.result } in

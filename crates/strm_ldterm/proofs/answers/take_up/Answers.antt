@@ -14,7 +14,7 @@ use Rattle.strm_types.specs.Typing.{bare}
 use Rattle.strm_frame.specs.declared.parcels.Sent.{Sent}
 use Rattle.strm_frame.specs.Outboxes.{message_in}
 use Rattle.strm_ldterm.specs.Does.{Proceeds}
-use Rattle.strm_ldterm.specs.Stands.{ldterm_in}
+use Rattle.strm_ldterm.specs.Stands.{ldterm_in, paired}
 use Rattle.strm_ldterm.specs.TakingUp.{flush_takes, line_takes}
 use Rattle.strm_types.proofs.LdtermWithin.{acked-own}
 use Rattle.strm_ldterm.proofs.TakingUp.{can-kept, mode-plain, noted-kept, noted-room, room-left, takes-up}
@@ -29,9 +29,9 @@ send_up-mode-requires-clause-kept g c =
     let s = g.B.Blocks.value c.args.store.now in
     let t = g.B.Blocks.value c.flush_input-room.new.store in
     let u = g.B.Blocks.value c.set_termios-line.new.store in
-    let x = c.args.ldterm.now in
-    let y = c.flush_input-room.new.ldterm in
-    let z = c.set_termios-line.new.ldterm in
+    let x = (paired c.args.ldterm.now c.args.queues.now) in
+    let y = (paired c.flush_input-room.new.ldterm c.flush_input-room.new.queues) in
+    let z = (paired c.set_termios-line.new.ldterm c.flush_input-room.new.queues) in
     let f = c.args.told.now in
     let kept = noted-kept s t x y (flush_takes c.args.set.0) (cond {A = List Note} c.flush_input-room.result.0 (Room Up ∷ []) []) (option_to_list c.flush_input-room.result.1) f c.flush_input-room.new.told _ (can-kept s x (token c.args.message) c.requires.can_put) c.flush_input-room.ensures in
     noted-kept t u y z (line_takes y.line) [] (option_to_list c.set_termios-line.result) f f _ kept (c.set_termios-line.ensures f)
@@ -41,9 +41,9 @@ send_up-mode-requires-clause-room g c =
     let s = g.B.Blocks.value c.args.store.now in
     let t = g.B.Blocks.value c.flush_input-room.new.store in
     let u = g.B.Blocks.value c.set_termios-line.new.store in
-    let x = c.args.ldterm.now in
-    let y = c.flush_input-room.new.ldterm in
-    let z = c.set_termios-line.new.ldterm in
+    let x = (paired c.args.ldterm.now c.args.queues.now) in
+    let y = (paired c.flush_input-room.new.ldterm c.flush_input-room.new.queues) in
+    let z = (paired c.set_termios-line.new.ldterm c.flush_input-room.new.queues) in
     let f = c.args.told.now in
     noted-room t u y z (line_takes y.line) 1 [] (option_to_list c.set_termios-line.result) f f _ (c.set_termios-line.ensures f)
     (room-left s t x y c.args.here c.args.set.0 (cond {A = List Note} c.flush_input-room.result.0 (Room Up ∷ []) []) (option_to_list c.flush_input-room.result.1) f c.flush_input-room.new.told c.flush_input-room.ensures c.requires.room)
@@ -57,9 +57,9 @@ returns g c =
     let t = g.B.Blocks.value c.flush_input-room.new.store in
     let u = g.B.Blocks.value c.set_termios-line.new.store in
     let v = g.B.Blocks.value c.send_up-mode.new.store in
-    let x = c.args.ldterm.now in
-    let y = c.flush_input-room.new.ldterm in
-    let z = c.set_termios-line.new.ldterm in
+    let x = (paired c.args.ldterm.now c.args.queues.now) in
+    let y = (paired c.flush_input-room.new.ldterm c.flush_input-room.new.queues) in
+    let z = (paired c.set_termios-line.new.ldterm c.flush_input-room.new.queues) in
     let here = c.args.here in
     let termios = c.args.set.1 in
     let f1 = c.flush_input-room.new.told in

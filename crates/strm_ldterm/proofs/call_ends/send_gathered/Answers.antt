@@ -4,7 +4,7 @@ use Rattle.std.specs.Prelude.{Some}
 use Rattle.strm_types.specs.Cells.{plain}
 use Rattle.strm_types.specs.Ldterms.{sends}
 use Rattle.strm_types.specs.Typing.{gathered_up}
-use Rattle.strm_ldterm.specs.Stands.{ldterm_in}
+use Rattle.strm_ldterm.specs.Stands.{ldterm_in, paired}
 use Rattle.strm_ldterm.specs.Does.{Proceeds}
 use Rattle.strm_ldterm.proofs.Finished.{gathered-sent, gathered-none}
 use Rattle.strm_ldterm.proofs.call_ends.send_gathered.Goals as goal
@@ -12,7 +12,7 @@ use Rattle.strm_ldterm.proofs.call_ends.send_gathered.Goals as goal
 pub returns-in_default : goal.returns-in_default
 returns-in_default g c = λ f.
     let s = g.B.Blocks.value c.args.store.now in
-    let x = c.args.ldterm.now in
+    let x = (paired c.args.ldterm.now c.args.queues.now) in
     let p = ldterm_in s x in
     subst (λ o. Proceeds s s x (record x { gathered = o }) 0 [] [] f f (sends (gathered_up plain c.args.here p.gathered) (record p { gathered = [] }))) (sym c.take.ensures.after)
     (gathered-none s x c.args.here f (sym c.take.ensures.value ∙ c.in_default.is) c.requires.held)
@@ -20,7 +20,7 @@ returns-in_default g c = λ f.
 pub returns : goal.returns
 returns g c = λ f.
     let s = g.B.Blocks.value c.args.store.now in
-    let x = c.args.ldterm.now in
+    let x = (paired c.args.ldterm.now c.args.queues.now) in
     let m = c.in-Some.message in
     let p = ldterm_in s x in
     let there : x.gathered ≡ Some m = sym c.take.ensures.value ∙ c.in-Some.is in

@@ -8,7 +8,7 @@ use Rattle.strm_types.specs.Rules.{no_fates}
 use Rattle.strm_types.specs.Typing.{begins}
 use Rattle.strm_types.specs.Deliver.{Acted}
 use Rattle.strm_frame.specs.Outboxes.{sent_of}
-use Rattle.strm_ldterm.specs.Stands.{ldterm_in}
+use Rattle.strm_ldterm.specs.Stands.{ldterm_in, paired}
 use Rattle.strm_ldterm.specs.Does.{Proceeds}
 use Rattle.strm_ldterm.proofs.Begun.{takes-more, room-stays}
 use Rattle.strm_ldterm.proofs.Proceeding.{proceeds-kept, proceeds-both}
@@ -19,18 +19,18 @@ begin_with-requires-clause-held g c = (c.next_byte.ensures.did no_fates).held
 
 pub begin_with-requires-clause-kept : goal.begin_with-requires-clause-kept
 begin_with-requires-clause-kept g c =
-    proceeds-kept (g.B.Blocks.value c.args.store.now) (g.B.Blocks.value c.next_byte.new.store) c.args.ldterm.now c.next_byte.new.ldterm 0 [] no_fates no_fates _ c.requires.kept (c.next_byte.ensures.did no_fates)
+    proceeds-kept (g.B.Blocks.value c.args.store.now) (g.B.Blocks.value c.next_byte.new.store) (paired c.args.ldterm.now c.args.queues.now) (paired c.next_byte.new.ldterm c.args.queues.now) 0 [] no_fates no_fates _ c.requires.kept (c.next_byte.ensures.did no_fates)
 
 pub begin_with-requires-clause-room : goal.begin_with-requires-clause-room
 begin_with-requires-clause-room g c =
-    room-stays (g.B.Blocks.value c.args.store.now) (g.B.Blocks.value c.next_byte.new.store) c.args.ldterm.now c.next_byte.new.ldterm [] no_fates no_fates _ 1 (c.next_byte.ensures.did no_fates) c.requires.room
+    room-stays (g.B.Blocks.value c.args.store.now) (g.B.Blocks.value c.next_byte.new.store) (paired c.args.ldterm.now c.args.queues.now) (paired c.next_byte.new.ldterm c.args.queues.now) [] no_fates no_fates _ 1 (c.next_byte.ensures.did no_fates) c.requires.room
 
 pub returns-in_default : goal.returns-in_default
 returns-in_default g c = λ f.
     let s = g.B.Blocks.value c.args.store.now in
     let t = g.B.Blocks.value c.next_byte.new.store in
-    let x = c.args.ldterm.now in
-    let y = c.next_byte.new.ldterm in
+    let x = (paired c.args.ldterm.now c.args.queues.now) in
+    let y = (paired c.next_byte.new.ldterm c.args.queues.now) in
     let p = ldterm_in s x in
     let none = rw c.in_default.is at c.next_byte.ensures.byte in
     subst (λ l. Proceeds s t x y 1 [] l f f (begins_next plain c.args.here (cells_left p) p)) (sym c.none.ensures)
@@ -42,9 +42,9 @@ returns g c = λ f.
     let s = g.B.Blocks.value c.args.store.now in
     let t = g.B.Blocks.value c.next_byte.new.store in
     let u = g.B.Blocks.value c.begin_with.new.store in
-    let x = c.args.ldterm.now in
-    let y = c.next_byte.new.ldterm in
-    let z = c.begin_with.new.ldterm in
+    let x = (paired c.args.ldterm.now c.args.queues.now) in
+    let y = (paired c.next_byte.new.ldterm c.args.queues.now) in
+    let z = (paired c.begin_with.new.ldterm c.args.queues.now) in
     let p = ldterm_in s x in
     let q = with_left (drop 1 (cells_left p)) p in
     let b = c.in-Some.byte in

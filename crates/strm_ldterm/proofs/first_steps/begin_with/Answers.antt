@@ -4,7 +4,7 @@ use Rattle.std.specs.Prelude.{◌&&◌}
 use Rattle.strm_types.specs.Cells.{plain}
 use Rattle.strm_types.specs.Keys.{restarts}
 use Rattle.strm_types.specs.Typing.{stroke_at}
-use Rattle.strm_ldterm.specs.Stands.{ldterm_in}
+use Rattle.strm_ldterm.specs.Stands.{ldterm_in, paired}
 use Rattle.strm_ldterm.proofs.Begun.{begins-quiet, begins-starts, start-plain}
 use Rattle.strm_ldterm.proofs.first_steps.begin_with.Goals.{then-ldterm, else-ldterm}
 use Rattle.strm_ldterm.proofs.first_steps.begin_with.Goals as goal
@@ -15,7 +15,7 @@ make-message-requires-clause-kind g c = start-plain
 pub returns-then-not-started : goal.returns-then-not-started
 returns-then-not-started g c = λ f.
     let s = g.B.Blocks.value c.args.store.now in
-    let x = c.args.ldterm.now in
+    let x = (paired c.args.ldterm.now c.args.queues.now) in
     let is : c.if-ldterm.started ≡ (x.stopped && restarts x.termios (stroke_at plain c.args.here c.args.byte (ldterm_in s x))) =
     elim c.if-ldterm.branch [
       | then-ldterm w ↦ w.started-is ∙ w.restarts-started.ensures ∙ ap (λ k. restarts x.termios k) c.stroke_of-stroke.ensures ∙ sym (ap (λ v. v && restarts x.termios (stroke_at plain c.args.here c.args.byte (ldterm_in s x))) w.if-ldterm.true)
@@ -26,7 +26,7 @@ returns-then-not-started g c = λ f.
 pub returns : goal.returns
 returns g c = λ f.
     let s = g.B.Blocks.value c.args.store.now in
-    let x = c.args.ldterm.now in
+    let x = (paired c.args.ldterm.now c.args.queues.now) in
     let is : c.if-ldterm.started ≡ (x.stopped && restarts x.termios (stroke_at plain c.args.here c.args.byte (ldterm_in s x))) =
     elim c.if-ldterm.branch [
       | then-ldterm w ↦ w.started-is ∙ w.restarts-started.ensures ∙ ap (λ k. restarts x.termios k) c.stroke_of-stroke.ensures ∙ sym (ap (λ v. v && restarts x.termios (stroke_at plain c.args.here c.args.byte (ldterm_in s x))) w.if-ldterm.true)

@@ -7,7 +7,7 @@ use Rattle.strm_types.specs.Ldterms.{sends}
 use Rattle.strm_types.specs.Message.{cells_of}
 use Rattle.strm_frame.specs.Outboxes.{message_in}
 use Rattle.strm_frame.proofs.Handing.{can-in_hand}
-use Rattle.strm_ldterm.specs.Stands.{ldterm_in}
+use Rattle.strm_ldterm.specs.Stands.{ldterm_in, paired}
 use Rattle.strm_ldterm.specs.Does.{Proceeds}
 use Rattle.strm_ldterm.proofs.Finished.{work-can}
 use Rattle.strm_ldterm.proofs.Begun.{work-comes, idle-proceeds, busy-left, busy-byte}
@@ -18,12 +18,12 @@ pub take_byte-byte-requires-clause-in_hand : goal.take_byte-byte-requires-clause
 take_byte-byte-requires-clause-in_hand g c =
     let s = g.B.Blocks.value c.args.store.now in
     let there : c.args.ldterm.now.in_work ≡ Some c.in-Some.message = sym c.take.ensures.value ∙ c.in-Some.is in
-    can-in_hand s _ _ c.audit.ensures (work-can s c.args.ldterm.now c.in-Some.message there c.requires.kept)
+    can-in_hand s _ _ c.audit.ensures (work-can s (paired c.args.ldterm.now c.args.queues.now) c.in-Some.message there c.requires.kept)
 
 pub returns-in_default-clause-did : goal.returns-in_default-clause-did
 returns-in_default-clause-did g c = λ f.
     let s = g.B.Blocks.value c.args.store.now in
-    let x = c.args.ldterm.now in
+    let x = (paired c.args.ldterm.now c.args.queues.now) in
     let p = ldterm_in s x in
     subst (λ o. Proceeds s s x (record x { in_work = o }) 0 [] [] f f (sends [] (with_left (drop 1 (cells_left p)) p))) (sym c.take.ensures.after)
     (idle-proceeds s x (sym c.take.ensures.value ∙ c.in_default.is) f c.requires.held (drop 1 (cells_left p)))
@@ -32,7 +32,7 @@ pub returns-clause-did : goal.returns-clause-did
 returns-clause-did g c = λ f.
     let s = g.B.Blocks.value c.args.store.now in
     let t = g.B.Blocks.value c.take_byte-byte.new.store in
-    let x = c.args.ldterm.now in
+    let x = (paired c.args.ldterm.now c.args.queues.now) in
     let m = c.in-Some.message in
     let r = c.take_byte-byte.result.0 in
     let there : x.in_work ≡ Some m = sym c.take.ensures.value ∙ c.in-Some.is in
@@ -43,6 +43,6 @@ returns-clause-did g c = λ f.
 pub returns-clause-byte : goal.returns-clause-byte
 returns-clause-byte g c =
     let s = g.B.Blocks.value c.args.store.now in
-    let x = c.args.ldterm.now in
+    let x = (paired c.args.ldterm.now c.args.queues.now) in
     let there : x.in_work ≡ Some c.in-Some.message = sym c.take.ensures.value ∙ c.in-Some.is in
     busy-byte s x c.in-Some.message there c.take_byte-byte.result.1 c.requires.held c.take_byte-byte.ensures.byte

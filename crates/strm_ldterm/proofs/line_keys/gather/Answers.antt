@@ -3,7 +3,7 @@ use Rattle.std.proofs.Common.{[], ◌++◌, sym, subst, ◌≡◌, ◌∙◌}
 use Rattle.std.specs.Prelude.{None, Some}
 use Rattle.strm_types.specs.Ldterms.{sends}
 use Rattle.strm_frame.specs.Hands.{AreIn}
-use Rattle.strm_ldterm.specs.Stands.{ldterm_in, kept_in, cells_kept, keeps, IsHeld}
+use Rattle.strm_ldterm.specs.Stands.{ldterm_in, kept_in, cells_kept, keeps, IsHeld, paired}
 use Rattle.strm_ldterm.specs.Does.{Proceeds}
 use Rattle.strm_ldterm.proofs.Gathered.{new-gathered, grown-gathered}
 use Rattle.strm_ldterm.proofs.line_keys.gather.Goals as goal
@@ -12,7 +12,7 @@ pub returns-in-None : goal.returns-in-None
 returns-in-None g c = λ f.
     let s = g.B.Blocks.value c.args.store.now in
     let t = g.B.Blocks.value c.begin-first.new.store in
-    let x = c.args.ldterm.now in
+    let x = (paired c.args.ldterm.now c.args.queues.now) in
     let m = c.begin-first.result in
     let bytes = c.args.bytes.now in
     let none : x.gathered ≡ None = sym c.take.ensures.value ∙ c.in-None.is in
@@ -25,7 +25,7 @@ pub returns-in-Some : goal.returns-in-Some
 returns-in-Some g c = λ f.
     let s = g.B.Blocks.value c.args.store.now in
     let t = g.B.Blocks.value c.grow.new.store in
-    let x = c.args.ldterm.now in
+    let x = (paired c.args.ldterm.now c.args.queues.now) in
     let e = c.in-Some.message in
     let r = c.grow.result in
     let bytes = c.args.bytes.now in

@@ -7,7 +7,7 @@ use Rattle.strm_types.specs.Ldterms.{sends}
 use Rattle.strm_types.specs.Message.{cells_of}
 use Rattle.strm_frame.specs.Outboxes.{message_in}
 use Rattle.strm_frame.proofs.Handing.{can-in_hand}
-use Rattle.strm_ldterm.specs.Stands.{ldterm_in}
+use Rattle.strm_ldterm.specs.Stands.{ldterm_in, paired}
 use Rattle.strm_ldterm.specs.Does.{Proceeds}
 use Rattle.strm_ldterm.proofs.Finished.{work-can}
 use Rattle.strm_ldterm.proofs.Begun.{busy-cells, busy-left, idle-cells, idle-proceeds, work-comes}
@@ -18,12 +18,12 @@ pub take_plain-message-requires-clause-in_hand : goal.take_plain-message-require
 take_plain-message-requires-clause-in_hand g c =
     let s = g.B.Blocks.value c.args.store.now in
     let there : c.args.ldterm.now.in_work ≡ Some c.in-Some.message = sym c.take.ensures.value ∙ c.in-Some.is in
-    can-in_hand s _ _ c.audit.ensures (work-can s c.args.ldterm.now c.in-Some.message there c.requires.kept)
+    can-in_hand s _ _ c.audit.ensures (work-can s (paired c.args.ldterm.now c.args.queues.now) c.in-Some.message there c.requires.kept)
 
 pub returns-in_default-clause-did : goal.returns-in_default-clause-did
 returns-in_default-clause-did g c = λ f.
     let s = g.B.Blocks.value c.args.store.now in
-    let x = c.args.ldterm.now in
+    let x = (paired c.args.ldterm.now c.args.queues.now) in
     let p = ldterm_in s x in
     let rest = drop (length c.args.run.now.items) (cells_left p) in
     subst (λ o. Proceeds s s x (record x { in_work = o }) 0 [] [] f f (sends [] (with_left rest p))) (sym c.take.ensures.after)
@@ -32,7 +32,7 @@ returns-in_default-clause-did g c = λ f.
 pub returns-in_default-clause-front : goal.returns-in_default-clause-front
 returns-in_default-clause-front g c =
     let s = g.B.Blocks.value c.args.store.now in
-    let x = c.args.ldterm.now in
+    let x = (paired c.args.ldterm.now c.args.queues.now) in
     let none = idle-cells s x (sym c.take.ensures.value ∙ c.in_default.is) in
     none ∙ sym (ap (λ l. l ++ drop (length l) (cells_left (ldterm_in s x))) c.requires.fresh ∙ none)
 
@@ -40,7 +40,7 @@ pub returns-clause-did : goal.returns-clause-did
 returns-clause-did g c = λ f.
     let s = g.B.Blocks.value c.args.store.now in
     let t = g.B.Blocks.value c.take_plain-message.new.store in
-    let x = c.args.ldterm.now in
+    let x = (paired c.args.ldterm.now c.args.queues.now) in
     let m = c.in-Some.message in
     let r = c.take_plain-message.result in
     let n = length c.take_plain-message.new.run.items in
@@ -52,7 +52,7 @@ returns-clause-did g c = λ f.
 pub returns-clause-front : goal.returns-clause-front
 returns-clause-front g c =
     let s = g.B.Blocks.value c.args.store.now in
-    let x = c.args.ldterm.now in
+    let x = (paired c.args.ldterm.now c.args.queues.now) in
     let run = c.take_plain-message.new.run.items in
     let there : x.in_work ≡ Some c.in-Some.message = sym c.take.ensures.value ∙ c.in-Some.is in
     let cells = busy-cells s x c.in-Some.message there in

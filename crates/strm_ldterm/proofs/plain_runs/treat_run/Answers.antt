@@ -6,7 +6,7 @@ use Rattle.strm_types.specs.Input.{cells_left, with_left}
 use Rattle.strm_types.specs.Ldterms.{sends}
 use Rattle.strm_ldterm.specs.Does.{Proceeds}
 use Rattle.strm_ldterm.specs.PlainRuns.{is_plain}
-use Rattle.strm_ldterm.specs.Stands.{ldterm_in}
+use Rattle.strm_ldterm.specs.Stands.{ldterm_in, paired}
 use Rattle.strm_ldterm.proofs.Joining.{still-kept}
 use Rattle.strm_ldterm.proofs.RunsDone.{all-plain, front-short, left-works, line-room, no-run, run-begun, run-treated, run-works}
 use Rattle.strm_ldterm.proofs.Skipped.{no-bytes}
@@ -15,7 +15,7 @@ use Rattle.strm_ldterm.proofs.plain_runs.treat_run.Goals as goal
 pub returns-then-is_empty-clause-does : goal.returns-then-is_empty-clause-does
 returns-then-is_empty-clause-does g c =
     let none : length c.as_slice-run.result.now ≡ 0 = (let e = sym c.is_empty.ensures ∙ c.if-is_empty.true in grind (arith, nat_tests)) in
-    no-run (g.B.Blocks.value c.args.store.now) (g.B.Blocks.value c.take_front.new.store) c.args.ldterm.now c.take_front.new.ldterm c.args.here c.take_front.new.run.items c.args.told.now
+    no-run (g.B.Blocks.value c.args.store.now) (g.B.Blocks.value c.take_front.new.store) (paired c.args.ldterm.now c.args.queues.now) (paired c.take_front.new.ldterm c.args.queues.now) c.args.here c.take_front.new.run.items c.args.told.now
     c.requires.held (c.take_front.ensures.did c.args.told.now) c.new.result.items (sym c.as_slice-run.ensures.value ∙ no-bytes c.as_slice-run.result.now none) c.new.ensures
 
 pub type_run-requires-clause-held : goal.type_run-requires-clause-held
@@ -23,7 +23,7 @@ type_run-requires-clause-held g c = (c.take_front.ensures.did c.args.told.now).h
 
 pub type_run-requires-clause-kept : goal.type_run-requires-clause-kept
 type_run-requires-clause-kept g c =
-    still-kept (g.B.Blocks.value c.args.store.now) (g.B.Blocks.value c.take_front.new.store) c.args.ldterm.now c.take_front.new.ldterm 0 [] c.args.told.now c.args.told.now _ c.audit.ensures
+    still-kept (g.B.Blocks.value c.args.store.now) (g.B.Blocks.value c.take_front.new.store) (paired c.args.ldterm.now c.args.queues.now) (paired c.take_front.new.ldterm c.args.queues.now) 0 [] c.args.told.now c.args.told.now _ c.audit.ensures
     (c.take_front.ensures.did c.args.told.now) c.requires.kept
 
 pub type_run-requires-clause-line : goal.type_run-requires-clause-line
@@ -38,7 +38,7 @@ type_run-requires-clause-line g c =
     λ lines. omega (
       arith,
       same,
-      line-room (g.B.Blocks.value c.args.store.now) (g.B.Blocks.value front.new.store) c.args.ldterm.now front.new.ldterm c.args.here front.new.run.items t c.requires.held (front.ensures.did t)
+      line-room (g.B.Blocks.value c.args.store.now) (g.B.Blocks.value front.new.store) (paired c.args.ldterm.now c.args.queues.now) front.new.ldterm c.args.here front.new.run.items t c.requires.held (front.ensures.did t)
           most few (c.run_room-most.ensures.may (omega arith)) lines,
     )
 
@@ -54,20 +54,20 @@ pub echo_run-notes-requires-clause-kept : goal.echo_run-notes-requires-clause-ke
 echo_run-notes-requires-clause-kept g c =
     let s1 = g.B.Blocks.value c.take_front.new.store in
     let t = c.args.told.now in
-    still-kept s1 (g.B.Blocks.value c.type_run.new.store) c.take_front.new.ldterm c.type_run.new.ldterm 1 [] t t _ c.audit-2.ensures (c.type_run.ensures t)
-    (still-kept (g.B.Blocks.value c.args.store.now) s1 c.args.ldterm.now c.take_front.new.ldterm 0 [] t t _ c.audit.ensures (c.take_front.ensures.did t) c.requires.kept)
+    still-kept s1 (g.B.Blocks.value c.type_run.new.store) (paired c.take_front.new.ldterm c.args.queues.now) (paired c.type_run.new.ldterm c.args.queues.now) 1 [] t t _ c.audit-2.ensures (c.type_run.ensures t)
+    (still-kept (g.B.Blocks.value c.args.store.now) s1 (paired c.args.ldterm.now c.args.queues.now) (paired c.take_front.new.ldterm c.args.queues.now) 0 [] t t _ c.audit.ensures (c.take_front.ensures.did t) c.requires.kept)
 
 pub echo_run-notes-requires-clause-work : goal.echo_run-notes-requires-clause-work
 echo_run-notes-requires-clause-work g c =
     let s = g.B.Blocks.value c.args.store.now in
     let s1 = g.B.Blocks.value c.take_front.new.store in
     let s2 = g.B.Blocks.value c.type_run.new.store in
-    let x = c.args.ldterm.now in
+    let x = (paired c.args.ldterm.now c.args.queues.now) in
     let t = c.args.told.now in
     let some : 0 < length c.as_slice-run.result.now = (let e = sym c.is_empty.ensures ∙ c.if-is_empty.false in grind (arith, nat_tests)) in
     let same = ap length c.as_slice-run.ensures.value in
     let short = front-short c.take_front.new.run.items (cells_left (ldterm_in s x)) c.take_front.ensures.front in
-    run-works s s1 s2 x c.take_front.new.ldterm c.type_run.new.ldterm c.take_front.new.run.items c.as_slice-run.result.now t (c.take_front.ensures.did t) (c.type_run.ensures t) (left-works s x (omega arith))
+    run-works s s1 s2 x (paired c.take_front.new.ldterm c.args.queues.now) (paired c.type_run.new.ldterm c.args.queues.now) c.take_front.new.run.items c.as_slice-run.result.now t (c.take_front.ensures.did t) (c.type_run.ensures t) (left-works s x (omega arith))
 
 pub echo_run-notes-requires-clause-room : goal.echo_run-notes-requires-clause-room
 echo_run-notes-requires-clause-room g c =
@@ -82,8 +82,8 @@ pub returns-clause-does : goal.returns-clause-does
 returns-clause-does g c =
     let s = g.B.Blocks.value c.args.store.now in
     let s1 = g.B.Blocks.value c.take_front.new.store in
-    let x = c.args.ldterm.now in
-    let x1 = c.take_front.new.ldterm in
+    let x = (paired c.args.ldterm.now c.args.queues.now) in
+    let x1 = (paired c.take_front.new.ldterm c.args.queues.now) in
     let t = c.args.told.now in
     let run = c.as_slice-run.result.now in
     let front = c.take_front.ensures in
@@ -94,14 +94,14 @@ returns-clause-does g c =
     let few : length run ≤ most = subst (λ l. length l ≤ most) is front.few in
     run-treated s s1 x x1 c.args.here run t c.requires.held
     (subst (λ l. Proceeds s s1 x x1 0 [] [] t t (sends [] (with_left (drop (length l) cells) (ldterm_in s x)))) is (front.did t))
-    (g.B.Blocks.value c.type_run.new.store) c.type_run.new.ldterm c.audit.ensures (c.type_run.ensures t)
-    (g.B.Blocks.value c.echo_run-notes.new.store) c.echo_run-notes.new.ldterm c.echo_run-notes.result.items c.echo_run-notes.new.told most c.audit-2.ensures c.echo_run-notes.ensures
+    (g.B.Blocks.value c.type_run.new.store) (paired c.type_run.new.ldterm c.args.queues.now) c.audit.ensures (c.type_run.ensures t)
+    (g.B.Blocks.value c.echo_run-notes.new.store) (paired c.echo_run-notes.new.ldterm c.echo_run-notes.new.queues) c.echo_run-notes.result.items c.echo_run-notes.new.told most c.audit-2.ensures c.echo_run-notes.ensures
     c.requires.stage some few (subst (λ l. cells ≡ l ++ drop (length l) cells) is front.front)
     (subst (AllByRecursion (λ b. is_plain x.termios b ≡ true)) is (all-plain x.termios c.mark_odd.new.odd c.take_front.new.run.items c.mark_odd.ensures front.plain)) (c.run_room-most.ensures.may (omega arith))
 
 pub returns-clause-within : goal.returns-clause-within
 returns-clause-within g c =
-    let cells = cells_left (ldterm_in (g.B.Blocks.value c.args.store.now) c.args.ldterm.now) in
+    let cells = cells_left (ldterm_in (g.B.Blocks.value c.args.store.now) (paired c.args.ldterm.now c.args.queues.now)) in
     front-short c.as_slice-run.result.now cells (subst (λ l. cells ≡ l ++ drop (length l) cells) (sym c.as_slice-run.ensures.value) c.take_front.ensures.front)
 
 pub returns-then-is_empty-clause-begun : goal.returns-then-is_empty-clause-begun
@@ -110,7 +110,7 @@ returns-then-is_empty-clause-begun g c = λ byte less. absurd (omega arith)
 pub returns-clause-begun : goal.returns-clause-begun
 returns-clause-begun g c = λ byte within.
     let s = g.B.Blocks.value c.args.store.now in
-    let x = c.args.ldterm.now in
+    let x = (paired c.args.ldterm.now c.args.queues.now) in
     let run = c.as_slice-run.result.now in
     let front = c.take_front.ensures in
     let most = c.run_room-most.result in

@@ -8,7 +8,7 @@ use Rattle.strm_msg.proofs.Chains.{kind-is}
 use Rattle.strm_types.specs.Flushing.{is_flush}
 use Rattle.strm_frame.specs.Outboxes.{message_in}
 use Rattle.strm_frame.proofs.Handing.{can-in_hand}
-use Rattle.strm_ldterm.specs.Stands.{ldterm_in}
+use Rattle.strm_ldterm.specs.Stands.{ldterm_in, paired}
 use Rattle.strm_ldterm.specs.Does.{Does}
 use Rattle.strm_ldterm.proofs.Flushed.{alters-both, flushes-both}
 use Rattle.strm_ldterm.proofs.Passing.{flushes-send, flush-plain, passes-after}
@@ -28,9 +28,9 @@ pass_on-requires-clause-chain g c =
     let s = g.B.Blocks.value c.args.store.now in
     let t = g.B.Blocks.value c.flush_read-up.new.store in
     let u = g.B.Blocks.value c.flush_write-down.new.store in
-    let x = c.args.ldterm.now in
-    let y = c.flush_read-up.new.ldterm in
-    let z = c.flush_write-down.new.ldterm in
+    let x = (paired c.args.ldterm.now c.args.queues.now) in
+    let y = (paired c.flush_read-up.new.ldterm c.flush_read-up.new.queues) in
+    let z = (paired c.flush_write-down.new.ldterm c.flush_write-down.new.queues) in
     let alters = alters-both s t u x y z c.flush_read-up.ensures.alters c.flush_write-down.ensures.alters in
     subst IsChain (sym (still-chain s u x z (token c.args.message) c.audit.ensures c.requires.can_put alters)) c.requires.chain
 
@@ -39,9 +39,9 @@ returns g c =
     let s = g.B.Blocks.value c.args.store.now in
     let t = g.B.Blocks.value c.flush_read-up.new.store in
     let u = g.B.Blocks.value c.flush_write-down.new.store in
-    let x = c.args.ldterm.now in
-    let y = c.flush_read-up.new.ldterm in
-    let z = c.flush_write-down.new.ldterm in
+    let x = (paired c.args.ldterm.now c.args.queues.now) in
+    let y = (paired c.flush_read-up.new.ldterm c.flush_read-up.new.queues) in
+    let z = (paired c.flush_write-down.new.ldterm c.flush_write-down.new.queues) in
     let i = token c.args.message in
     let m = message_in s i in
     let here = c.args.here in

@@ -5,7 +5,7 @@ use Rattle.strm_types.specs.Cells.{plain}
 use Rattle.strm_types.specs.Typing.{line_sent, lost}
 use Rattle.strm_frame.specs.Outboxes.{sent_of}
 use Rattle.strm_ldterm.specs.Does.{Proceeds}
-use Rattle.strm_ldterm.specs.Stands.{ldterm_in}
+use Rattle.strm_ldterm.specs.Stands.{ldterm_in, paired}
 use Rattle.strm_ldterm.proofs.Sends.{tells, key-told}
 use Rattle.strm_ldterm.proofs.sending_keys.end_file.Goals as goal
 
@@ -13,8 +13,8 @@ pub returns : goal.returns
 returns g c =
     let s = g.B.Blocks.value c.args.store.now in
     let t = g.B.Blocks.value c.send_line.new.store in
-    let x = c.args.ldterm.now in
-    let y = c.send_line.new.ldterm in
+    let x = (paired c.args.ldterm.now c.args.queues.now) in
+    let y = (paired c.send_line.new.ldterm c.args.queues.now) in
     let p = ldterm_in s x in
     let f = c.args.told.now in
     let sent = sent_of c.send_line.result in

@@ -6,7 +6,7 @@ use Rattle.strm_types.specs.Deliver.{toward}
 use Rattle.strm_types.specs.Message.{data_message}
 use Rattle.strm_types.specs.Typing.{line_sent}
 use Rattle.strm_ldterm.specs.Sending.{MadeOne}
-use Rattle.strm_ldterm.specs.Stands.{ldterm_in}
+use Rattle.strm_ldterm.specs.Stands.{ldterm_in, paired}
 use Rattle.strm_ldterm.proofs.Sends.{sends-made, held-line}
 use Rattle.strm_ldterm.proofs.sending_keys.send_line.Goals as goal
 use Rattle.strm_blocks.specs.Blocks.{token}
@@ -15,7 +15,7 @@ pub returns : goal.returns
 returns g c = λ f.
     let s = g.B.Blocks.value c.args.store.now in
     let t = g.B.Blocks.value c.make_line-message.new.store in
-    let x = c.args.ldterm.now in
+    let x = (paired c.args.ldterm.now c.args.queues.now) in
     let p = ldterm_in s x in
     sends-made s t x (record x { line = c.clear.new.self }) (record { to = c.toward.result; message = c.make_line-message.result }) _ f f
     (data_message (x.line ++ c.args.ending.now)) (toward Up c.args.here) (line_sent plain c.args.here (p.line ++ c.args.ending.now) p)

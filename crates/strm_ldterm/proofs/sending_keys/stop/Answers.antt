@@ -6,7 +6,7 @@ use Rattle.strm_types.specs.declared.rules.Rule.TheVariants.{FlowKey}
 use Rattle.strm_types.specs.Deliver.{Parcel, toward}
 use Rattle.strm_types.specs.Ldterms.{onward}
 use Rattle.strm_types.specs.Typing.{bare}
-use Rattle.strm_ldterm.specs.Stands.{ldterm_in}
+use Rattle.strm_ldterm.specs.Stands.{ldterm_in, paired}
 use Rattle.strm_ldterm.proofs.Sends.{sends-made, sends-none, held-stopped, stop-plain, key-told}
 use Rattle.strm_ldterm.proofs.sending_keys.stop.Goals as goal
 
@@ -16,7 +16,7 @@ make-message-requires-clause-kind g c = stop-plain
 pub returns-then-ldterm : goal.returns-then-ldterm
 returns-then-ldterm g c =
     let s = g.B.Blocks.value c.args.store.now in
-    let x = c.args.ldterm.now in
+    let x = (paired c.args.ldterm.now c.args.queues.now) in
     let p = ldterm_in s x in
     let down = onward Down c.args.here (bare Stop []) in
     let f = c.args.told.now in
@@ -27,7 +27,7 @@ returns-then-ldterm g c =
 pub returns : goal.returns
 returns g c =
     let s = g.B.Blocks.value c.args.store.now in
-    let x = c.args.ldterm.now in
+    let x = (paired c.args.ldterm.now c.args.queues.now) in
     let down = onward Down c.args.here (bare Stop []) in
     let f = c.args.told.now in
     sends-made s (g.B.Blocks.value c.make-message.new.store) x (record x { stopped = true }) (record { to = c.toward.result; message = c.make-message.result }) _ f _ (bare Stop []) (toward Down c.args.here) _

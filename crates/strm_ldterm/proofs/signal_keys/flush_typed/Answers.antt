@@ -4,7 +4,7 @@ use Rattle.strm_types.specs.declared.names.Way.TheVariants.{Up}
 use Rattle.strm_types.specs.Flushing.{flush_message, flush_bytes}
 use Rattle.strm_types.specs.Ldterms.{sends, onward}
 use Rattle.strm_ldterm.specs.Does.{Proceeds}
-use Rattle.strm_ldterm.specs.Stands.{ldterm_in}
+use Rattle.strm_ldterm.specs.Stands.{ldterm_in, paired}
 use Rattle.strm_ldterm.proofs.Signals.{flush-plain, flush-proceeds}
 use Rattle.strm_ldterm.proofs.signal_keys.flush_typed.Goals as goal
 
@@ -15,9 +15,9 @@ pub returns : goal.returns
 returns g c =
     let s = g.B.Blocks.value c.args.store.now in
     let t = g.B.Blocks.value c.send_up.new.store in
-    let x = c.args.ldterm.now in
-    let y = c.flush_line.new.ldterm in
+    let x = (paired c.args.ldterm.now c.args.queues.now) in
+    let y = (paired c.flush_line.new.ldterm c.args.queues.now) in
     let here = c.args.here in
     let f' = c.flush_line.new.told in
-    flush-proceeds s t x y c.send_up.result here (flush_bytes c.args.asked) c.args.told.now f' c.audit.ensures c.requires.kept (c.flush_line.ensures s c.requires.held)
+    flush-proceeds s t x y c.send_up.result here (flush_bytes c.args.asked) c.args.told.now f' c.audit.ensures c.requires.kept (c.flush_line.ensures s c.args.queues.now c.requires.held)
     (subst (λ (bytes : List ℕ). Proceeds s t y y 1 [] (c.send_up.result ∷ []) f' f' (sends (onward Up here (flush_message bytes) ∷ []) (ldterm_in s y))) (c.as_slice.ensures.value ∙ c.bytes-bytes.ensures) (c.send_up.ensures f'))

@@ -6,7 +6,7 @@ use Rattle.strm_types.specs.declared.rules.Rule.TheVariants.{SignalKey}
 use Rattle.strm_types.specs.Cells.{plain}
 use Rattle.strm_types.specs.Ldterms.{sends, onward}
 use Rattle.strm_types.specs.Typing.{bare, lost}
-use Rattle.strm_ldterm.specs.Stands.{ldterm_in}
+use Rattle.strm_ldterm.specs.Stands.{ldterm_in, paired}
 use Rattle.strm_ldterm.proofs.Sends.{tells, key-told}
 use Rattle.strm_ldterm.proofs.Signals.{signal-plain}
 use Rattle.strm_ldterm.proofs.signal_keys.send_key.Goals as goal
@@ -17,7 +17,7 @@ send_up-requires-clause-kind g c = signal-plain
 pub returns : goal.returns
 returns g c =
     let s = g.B.Blocks.value c.args.store.now in
-    let x = c.args.ldterm.now in
+    let x = (paired c.args.ldterm.now c.args.queues.now) in
     let f = c.args.told.now in
     tells s (g.B.Blocks.value c.send_up.new.store) x x 1 (c.send_up.result ∷ []) f c.tell.new.self
     (sends (onward Up c.args.here (bare Pcsig (c.args.signal ∷ [])) ∷ []) (ldterm_in s x)) (lost plain c.args.here SignalKey (c.args.byte ∷ [])) (c.send_up.ensures f)

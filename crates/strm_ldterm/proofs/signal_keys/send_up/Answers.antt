@@ -5,14 +5,14 @@ use Rattle.strm_types.specs.Deliver.{toward}
 use Rattle.strm_types.specs.Ldterms.{sends, onward}
 use Rattle.strm_types.specs.Typing.{bare}
 use Rattle.strm_frame.specs.declared.parcels.Sent.{Sent}
-use Rattle.strm_ldterm.specs.Stands.{ldterm_in}
+use Rattle.strm_ldterm.specs.Stands.{ldterm_in, paired}
 use Rattle.strm_ldterm.proofs.Sends.{sends-made}
 use Rattle.strm_ldterm.proofs.signal_keys.send_up.Goals as goal
 
 pub returns : goal.returns
 returns g c = λ f.
     let s = g.B.Blocks.value c.args.store.now in
-    let x = c.args.ldterm.now in
+    let x = (paired c.args.ldterm.now c.args.queues.now) in
     let m = bare c.args.kind c.args.bytes.now in
     let z : Sent = record { to = c.toward.result; message = c.make-message.result } in
     sends-made s (g.B.Blocks.value c.make-message.new.store) x x z (z ∷ []) f f m (toward Up c.args.here) (sends (onward Up c.args.here m ∷ []) (ldterm_in s x)) c.requires.held c.requires.kept

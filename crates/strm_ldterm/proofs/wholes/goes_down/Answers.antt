@@ -5,7 +5,7 @@ use Rattle.std.specs.List.{AllByRecursion}
 use Rattle.std.specs.Prelude.{IfSome}
 use Rattle.strm_blocks.specs.Blocks.{in_hand, token}
 use Rattle.strm_ldterm.specs.Posting.{is_printed}
-use Rattle.strm_ldterm.specs.Stands.{IsData}
+use Rattle.strm_ldterm.specs.Stands.{IsData, paired}
 use Rattle.strm_ldterm.proofs.Beside.{chain-in-hand}
 use Rattle.strm_ldterm.proofs.Finished.{work-cells}
 use Rattle.strm_ldterm.proofs.WholeOut.{first-all}
@@ -32,7 +32,7 @@ is_free_for-requires-clause-in_hand g c =
 pub returns-clause-printed : goal.returns-clause-printed
 returns-clause-printed g c = λ goes.
     let s = g.B.Blocks.value c.args.store.now in
-    let x = c.args.ldterm.now in
+    let x = (paired c.args.ldterm.now c.args.queues.now) in
     let m = c.in-Some.message in
     let is : IsData s (token m) = subst (λ o. IfSome o (λ m. IsData s (token m))) c.in-Some.is c.requires.held.work in
     let shown = work-cells s x m c.in-Some.is in

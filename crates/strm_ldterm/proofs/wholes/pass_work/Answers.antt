@@ -9,7 +9,7 @@ use Rattle.strm_frame.proofs.Handing.{can-in_hand}
 use Rattle.strm_ldterm.specs.Becoming.{Becomes}
 use Rattle.strm_ldterm.specs.Does.{Proceeds}
 use Rattle.strm_ldterm.specs.Outgone.{data_of}
-use Rattle.strm_ldterm.specs.Stands.{ldterm_in}
+use Rattle.strm_ldterm.specs.Stands.{ldterm_in, paired}
 use Rattle.strm_ldterm.proofs.Finished.{work-can, work-cells, work-is}
 use Rattle.strm_ldterm.proofs.Rebanded.{work-goes}
 use Rattle.strm_ldterm.proofs.wholes.pass_work.Goals as goal
@@ -18,18 +18,18 @@ pub reband-requires-clause-in_hand : goal.reband-requires-clause-in_hand
 reband-requires-clause-in_hand g c =
     let s = g.B.Blocks.value c.args.store.now in
     let there : c.args.ldterm.now.in_work ≡ Some c.in-Some.message = sym c.take.ensures.value ∙ c.in-Some.is in
-    can-in_hand s _ _ c.audit.ensures (work-can s c.args.ldterm.now c.in-Some.message there c.requires.kept)
+    can-in_hand s _ _ c.audit.ensures (work-can s (paired c.args.ldterm.now c.args.queues.now) c.in-Some.message there c.requires.kept)
 
 pub reband-requires-clause-is : goal.reband-requires-clause-is
 reband-requires-clause-is g c =
     let there : c.args.ldterm.now.in_work ≡ Some c.in-Some.message = sym c.take.ensures.value ∙ c.in-Some.is in
-    work-is (g.B.Blocks.value c.args.store.now) c.args.ldterm.now c.in-Some.message there c.requires.held
+    work-is (g.B.Blocks.value c.args.store.now) (paired c.args.ldterm.now c.args.queues.now) c.in-Some.message there c.requires.held
 
 pub returns : goal.returns
 returns g c = λ f.
     let s = g.B.Blocks.value c.args.store.now in
     let t = g.B.Blocks.value c.reband.new.store in
-    let x = c.args.ldterm.now in
+    let x = (paired c.args.ldterm.now c.args.queues.now) in
     let m = c.in-Some.message in
     let p = ldterm_in s x in
     let there : x.in_work ≡ Some m = sym c.take.ensures.value ∙ c.in-Some.is in

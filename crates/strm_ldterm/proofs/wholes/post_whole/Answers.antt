@@ -5,7 +5,7 @@ use Rattle.strm_frame.specs.Outboxes.{sent_of}
 use Rattle.strm_ldterm.specs.Does.{Proceeds}
 use Rattle.strm_ldterm.specs.Outgone.{let_go}
 use Rattle.strm_ldterm.specs.Posting.{poured}
-use Rattle.strm_ldterm.specs.Stands.{ldterm_in}
+use Rattle.strm_ldterm.specs.Stands.{ldterm_in, paired}
 use Rattle.strm_ldterm.specs.Turns.{one_after}
 use Rattle.strm_ldterm.proofs.WholeOut.{whole-went}
 use Rattle.strm_ldterm.proofs.wholes.post_whole.Goals as goal
@@ -14,8 +14,8 @@ pub returns-clause-did : goal.returns-clause-did
 returns-clause-did g c = λ f.
     let s = g.B.Blocks.value c.args.store.now in
     let t = g.B.Blocks.value c.pass_work-sent.new.store in
-    let x = c.args.ldterm.now in
-    let y = c.pass_work-sent.new.ldterm in
+    let x = (paired c.args.ldterm.now c.args.queues.now) in
+    let y = (paired c.pass_work-sent.new.ldterm c.args.queues.now) in
     let p = ldterm_in s x in
     let size = c.requires.bytes in
     let moved = c.moved_on-column.ensures.moved ∙ ap (λ k. wrapped (p.column + k)) size in

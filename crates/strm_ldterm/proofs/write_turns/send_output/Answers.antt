@@ -9,7 +9,7 @@ use Rattle.strm_frame.specs.Outboxes.{message_in, sent_of}
 use Rattle.strm_frame.proofs.Handing.{can-in_hand}
 use Rattle.strm_ldterm.specs.Does.{Proceeds}
 use Rattle.strm_ldterm.specs.Outgone.{data_of}
-use Rattle.strm_ldterm.specs.Stands.{ldterm_in}
+use Rattle.strm_ldterm.specs.Stands.{ldterm_in, paired}
 use Rattle.strm_ldterm.proofs.Finished.{gathered-is, gathered-shown}
 use Rattle.strm_ldterm.proofs.Freeing.{none-freed}
 use Rattle.strm_ldterm.proofs.Rebanded.{gathered-can, given-some, goes-down, nothing-down}
@@ -20,18 +20,18 @@ pub reband-requires-clause-in_hand : goal.reband-requires-clause-in_hand
 reband-requires-clause-in_hand g c =
     let s = g.B.Blocks.value c.args.store.now in
     let there : c.args.ldterm.now.gathered ≡ Some c.in-Some.message = sym c.take.ensures.value ∙ c.in-Some.is in
-    can-in_hand s _ _ c.audit.ensures (gathered-can s c.args.ldterm.now c.in-Some.message there c.requires.kept)
+    can-in_hand s _ _ c.audit.ensures (gathered-can s (paired c.args.ldterm.now c.args.queues.now) c.in-Some.message there c.requires.kept)
 
 pub reband-requires-clause-is : goal.reband-requires-clause-is
 reband-requires-clause-is g c =
     let s = g.B.Blocks.value c.args.store.now in
     let there : c.args.ldterm.now.gathered ≡ Some c.in-Some.message = sym c.take.ensures.value ∙ c.in-Some.is in
-    (gathered-is s c.args.ldterm.now c.in-Some.message there c.requires.held).are.are
+    (gathered-is s (paired c.args.ldterm.now c.args.queues.now) c.in-Some.message there c.requires.held).are.are
 
 pub returns-in_default-clause-did : goal.returns-in_default-clause-did
 returns-in_default-clause-did g c = λ f.
     let s = g.B.Blocks.value c.args.store.now in
-    let x = c.args.ldterm.now in
+    let x = (paired c.args.ldterm.now c.args.queues.now) in
     let p = ldterm_in s x in
     subst (λ o. Proceeds s s x (record x { gathered = o }) 0 [] (sent_of c.none.result) f f (sends (map (onward Down c.args.here) (with_given p.gathered (data_of c.args.band.0 []))) (record p { gathered = [] }))) (sym c.take.ensures.after)
     (nothing-down s x c.args.here c.args.band.0 f (sent_of c.none.result) c.none.ensures (sym c.take.ensures.value ∙ c.in_default.is) c.requires.held)
@@ -43,7 +43,7 @@ pub returns-clause-did : goal.returns-clause-did
 returns-clause-did g c = λ f.
     let s = g.B.Blocks.value c.args.store.now in
     let t = g.B.Blocks.value c.reband.new.store in
-    let x = c.args.ldterm.now in
+    let x = (paired c.args.ldterm.now c.args.queues.now) in
     let m = c.in-Some.message in
     let p = ldterm_in s x in
     let there : x.gathered ≡ Some m = sym c.take.ensures.value ∙ c.in-Some.is in
