@@ -15,7 +15,7 @@ use Rattle.strm_types.specs.declared.output.TheConstants.{COLUMN_MAX}
 use Rattle.strm_types.specs.declared.slots.Slot.TheVariants.{Free, Waiting, Answered}
 use Rattle.strm_types.specs.declared.termios.Termios.{Termios}
 use Rattle.strm_types.specs.declared.winsize.Winsize.{Winsize}
-use Rattle.strm_types.specs.Ldterms.{Ldterm, IsIdle, waits_there}
+use Rattle.strm_types.specs.Ldterms.{Discipline, IsIdle, waits_there}
 use Rattle.strm_types.specs.Names.{is_master, is_open, same_module}
 use Rattle.strm_types.specs.Queue.{is_none_left}
 use Rattle.strm_types.specs.Signals.{AreSignals, is_signal}
@@ -51,10 +51,10 @@ winsize_fits : (w : Winsize) → HasHalves w → winsize.fits w ≡ true
 unfolding winsize
 winsize_fits w halves = and_from _ _ (u16_fits w.rows halves.rows) (and_from _ _ (u16_fits w.columns halves.columns) (and_from _ _ (u16_fits w.x_pixels halves.x_pixels) (u16_fits w.y_pixels halves.y_pixels)))
 
-rests : (l : Ldterm ℕ) → IsIdle l → ldterm_rests l ≡ true
+rests : (l : Discipline ℕ) → IsIdle l → ldterm_rests l ≡ true
 rests l idle = rw (idle.0, idle.1, idle.2, idle.3) refl
 
-ldterm_fits : (l : Ldterm ℕ) → GoodLdterm l → IsIdle l → HasWords l.termios → IsLaid l.read_queue → IsLaid l.write_queue → (ldterm Second).fits l ≡ true
+ldterm_fits : (l : Discipline ℕ) → GoodLdterm l → IsIdle l → HasWords l.termios → IsLaid l.read_queue → IsLaid l.write_queue → (ldterm Second).fits l ≡ true
 unfolding ldterm
 ldterm_fits l good idle words reads writes =
     and_from _ _ (rests l idle) (and_from _ _ (termios_fits l.termios good.termios words) (and_from _ _ (flag_fits l.stopped) (and_from _ _ (flag_fits l.after_lnext)

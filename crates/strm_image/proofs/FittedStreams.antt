@@ -11,7 +11,7 @@ use Rattle.strm_types.specs.declared.output.TheConstants.{COLUMN_MAX}
 use Rattle.strm_types.specs.declared.slots.Slot.TheVariants.{Free, Waiting, Answered}
 use Rattle.strm_types.specs.declared.termios.Termios.{Termios}
 use Rattle.strm_types.specs.declared.winsize.Winsize.{Winsize}
-use Rattle.strm_types.specs.Ldterms.{Ldterm, Between, IsIdle, Stage, is_between, waits_there}
+use Rattle.strm_types.specs.Ldterms.{Discipline, Between, IsIdle, Stage, is_between, waits_there}
 use Rattle.strm_types.specs.Message.{Message}
 use Rattle.strm_types.specs.Names.{is_master, is_open, same_module}
 use Rattle.strm_types.specs.Queue.{is_none_left}
@@ -86,14 +86,14 @@ between : (s : Stage ℕ) → is_between s ≡ true → s ≡ Between
 between Between e = refl
 between _ e = absurd cc
 
-idle_told : (l : Ldterm ℕ) → ldterm_rests l ≡ true → IsIdle l
+idle_told : (l : Discipline ℕ) → ldterm_rests l ≡ true → IsIdle l
 idle_told l rests =
     let a = and_parts (not (is_some l.in_work)) _ rests in
     let b = and_parts (is_none_left l.gathered) _ a.1 in
     let c = and_parts (not l.echoing) (is_between l.stage) b.1 in
     (none_there l.in_work a.0, nothing_left l.gathered b.0, not-true l.echoing c.0, between l.stage c.1)
 
-ldterm_told : (l : Ldterm ℕ) → (ldterm Second).fits l ≡ true → IsTold (OfLdterm l)
+ldterm_told : (l : Discipline ℕ) → (ldterm Second).fits l ≡ true → IsTold (OfLdterm l)
 unfolding ldterm
 ldterm_told l fits =
     let rests = and_parts (ldterm_rests l) _ fits in

@@ -4,7 +4,7 @@ use Rattle.std.specs.Prelude.{is_some}
 use Rattle.std.proofs.lemmas.Bool.{and_parts}
 use Rattle.strm_types.specs.declared.names.ModuleName.{ModuleName}
 use Rattle.strm_types.specs.declared.names.ModuleName.TheVariants as names
-use Rattle.strm_types.specs.Ldterms.{Ldterm, Stage, Between, Begun, Answered, is_between}
+use Rattle.strm_types.specs.Ldterms.{Discipline, Stage, Between, Begun, Answered, is_between}
 use Rattle.strm_types.specs.Message.{Message}
 use Rattle.strm_types.specs.Names.{same_module}
 use Rattle.strm_types.specs.Queue.{is_none_left}
@@ -29,7 +29,7 @@ unfolding winsize
 winsize_exact = made_exact any winsize_of winsize_parts _ (then_exact _ _ u16_exact (then_exact _ _ u16_exact (then_exact _ _ u16_exact u16_exact))) (record { back = λ x fits. (refl, refl); whole = λ y shape. refl })
 
 -- ldterm between two turns is what its text tells
-ldterm_whole : (l : Ldterm ℕ) → ldterm_rests l ≡ true → ldterm_of (ldterm_parts l) ≡ l
+ldterm_whole : (l : Discipline ℕ) → ldterm_rests l ≡ true → ldterm_of (ldterm_parts l) ≡ l
 ldterm_whole l rests =
     let p = and_parts _ _ rests in
     let q = and_parts _ _ p.1 in

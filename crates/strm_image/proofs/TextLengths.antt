@@ -19,7 +19,7 @@ use Rattle.strm_types.specs.declared.slots.Slot.TheVariants.{Free, Waiting, Answ
 use Rattle.strm_types.specs.declared.termios.Termios.{Termios}
 use Rattle.strm_types.specs.declared.winsize.Winsize.{Winsize}
 use Rattle.strm_types.specs.Flush.{is_data_kind}
-use Rattle.strm_types.specs.Ldterms.{Ldterm}
+use Rattle.strm_types.specs.Ldterms.{Discipline}
 use Rattle.strm_types.specs.Message.{Message, cells_of, part, size_of}
 use Rattle.strm_types.specs.Names.{IsOnce, is_master}
 use Rattle.strm_types.specs.Queue.{Flow, Queue, bytes_of}
@@ -153,7 +153,7 @@ flag_length : (b : Bool) → AtMost 1 (flag.text b)
 unfolding flag
 flag_length b = short 1 _ (omega arith)
 
-ldterm_length : (l : Ldterm ℕ) → GoodLdterm l → HasBands l.read_queue → HasBands l.write_queue → AtMost (297 + 2 * QUEUE_FIXED + (load l.read_queue + load l.write_queue)) ((ldterm Second).text l)
+ldterm_length : (l : Discipline ℕ) → GoodLdterm l → HasBands l.read_queue → HasBands l.write_queue → AtMost (297 + 2 * QUEUE_FIXED + (load l.read_queue + load l.write_queue)) ((ldterm Second).text l)
 unfolding ldterm
 ldterm_length l good reads writes =
     let line = behind (short 1 (byte.text (length l.line)) (omega arith)) (short LINE_MAX l.line good.line) in

@@ -8,7 +8,7 @@ use Rattle.strm_types.specs.declared.limits.TheConstants.{BANDS}
 use Rattle.strm_types.specs.declared.names.ModuleName.TheVariants as names
 use Rattle.strm_types.specs.declared.names.QueueName.{QueueName}
 use Rattle.strm_types.specs.declared.options.Marks.{Marks}
-use Rattle.strm_types.specs.Ldterms.{Ldterm}
+use Rattle.strm_types.specs.Ldterms.{Discipline}
 use Rattle.strm_types.specs.Message.{Message}
 use Rattle.strm_types.specs.Pckts.{Pckt}
 use Rattle.strm_types.specs.Ptems.{Ptem}
@@ -100,7 +100,7 @@ pub queue_told : (at : QueueKind) (q : Queue ℕ) → (queue Second at).text q �
 unfolding queue
 queue_told at q = refl
 
-pub ldterm_told : (l : Ldterm ℕ) → (module_format Second).text (OfLdterm l) ≡ ldterm_text l
+pub ldterm_told : (l : Discipline ℕ) → (module_format Second).text (OfLdterm l) ≡ ldterm_text l
 unfolding module_format ldterm
 ldterm_told l = refl
 

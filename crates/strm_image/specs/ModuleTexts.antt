@@ -5,12 +5,12 @@ use Rattle.strm_types.specs.Ldterms.{Discipline, Ldterm, by_itself, pair_of}
 use Rattle.strm_types.specs.Pckts.{new_pckt}
 use Rattle.strm_types.specs.Ptems.{Ptem}
 use Rattle.strm_types.specs.Standings.{QueuePair}
-use Rattle.strm_laws.specs.Stacked.{OfPtem, OfPckt, Standing, module_name}
+use Rattle.strm_laws.specs.Stacked.{OfPtem, OfPckt, Standing, ldterm_stands, module_name}
 use Rattle.strm_image.specs.declared.modules.LdtermText.{LdtermText}
 use Rattle.strm_image.specs.declared.modules.ModuleText.{ModuleText}
 use Rattle.strm_image.specs.declared.modules.ModuleText.TheVariants as texts
 use Rattle.strm_image.specs.declared.modules.PtemText.{PtemText}
-use Rattle.strm_image.specs.Modules.{alone, of_ldterm, ldterm_of, ptem_of}
+use Rattle.strm_image.specs.Modules.{alone, ldterm_of, ptem_of}
 use Rattle.strm_image.specs.QueueTexts.{queue_now}
 
 abbrev pub ldterm_now : LdtermText → Discipline ℕ
@@ -27,7 +27,7 @@ abbrev pub ptem_now : PtemText → Ptem
 ptem_now p = ptem_of (p.termios, p.window)
 
 abbrev pub module_now : ModuleText → Standing ℕ
-module_now (texts.Ldterm l) = of_ldterm (ldterm_now l)
+module_now (texts.Ldterm l) = ldterm_stands (ldterm_now l)
 module_now (texts.Ptem p) = alone (OfPtem (ptem_now p))
 module_now texts.Pckt = alone (OfPckt new_pckt)
 

@@ -7,7 +7,6 @@ use Rattle.strm_types.specs.declared.names.ModuleName.TheVariants as names
 use Rattle.strm_types.specs.declared.output.TheConstants.{COLUMN_MAX}
 use Rattle.strm_types.specs.declared.termios.Termios.{Termios}
 use Rattle.strm_types.specs.declared.winsize.Winsize.{Winsize}
-use Rattle.strm_types.specs.LdtermStands.{as_stands}
 use Rattle.strm_types.specs.Ldterms.{Between, Discipline, by_itself}
 use Rattle.strm_types.specs.Names.{place_of, same_module}
 use Rattle.strm_types.specs.Standings.{has_queues}
@@ -15,7 +14,7 @@ use Rattle.strm_types.specs.Pckts.{new_pckt}
 use Rattle.strm_types.specs.Ptems.{Ptem, new_ptem}
 use Rattle.strm_types.specs.Queue.{Queue}
 use Rattle.strm_laws.specs.LdtermTurns.{ldterm_rests}
-use Rattle.strm_laws.specs.Stacked.{Module, OfLdterm, OfPtem, OfPckt, Standing, module_name, of_kind}
+use Rattle.strm_laws.specs.Stacked.{Module, OfLdterm, OfPtem, OfPckt, Standing, ldterm_stands, module_name}
 use Rattle.strm_laws.specs.TurnCalls.{discipline_of}
 use Rattle.strm_image.specs.declared.versions.QueueKind.TheVariants as queues
 use Rattle.strm_image.specs.declared.versions.Version.{Version}
@@ -98,10 +97,6 @@ same_bool false b = not b
 abbrev pub is_named : ModuleName → Standing ℕ → Bool
 is_named name m = same_module (module_name m) name && same_bool (is_some (place_of name)) (has_queues m)
 
--- an ldterm with its queues
-abbrev pub of_ldterm : Discipline ℕ → Standing ℕ
-of_ldterm l = of_kind OfLdterm (as_stands l)
-
 -- a module that has none
 abbrev pub alone : Module ℕ → Standing ℕ
 alone p = record { part = p; queues = None }
@@ -120,7 +115,7 @@ abbrev pub pckt_parts : Standing ℕ → Unit {0}
 pckt_parts m = tt
 
 abbrev pub module_body : Version → ModuleName → Format (Standing ℕ)
-module_body v names.Ldterm = made (is_named names.Ldterm) of_ldterm discipline_of (ldterm v)
+module_body v names.Ldterm = made (is_named names.Ldterm) ldterm_stands discipline_of (ldterm v)
 module_body v names.Ptem = made (is_named names.Ptem) (λ p. alone (OfPtem p)) the_ptem ptem
 module_body v names.Pckt = made (is_named names.Pckt) pckt_of pckt_parts (nothing tt)
 

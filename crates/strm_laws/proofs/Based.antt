@@ -11,7 +11,7 @@ use Rattle.strm_types.specs.declared.names.Side.TheVariants.{Master, Slave}
 use Rattle.strm_types.specs.declared.names.Way.{Way}
 use Rattle.strm_types.specs.declared.names.Way.TheVariants.{Up, Down}
 use Rattle.strm_types.specs.Cells.{Tagged, tagged}
-use Rattle.strm_types.specs.Ldterms.{Ldterm, IsIdle}
+use Rattle.strm_types.specs.Ldterms.{Discipline, IsIdle}
 use Rattle.strm_types.specs.Message.{Message, cells_of, map_message, part, weight_of}
 use Rattle.strm_types.specs.Standings.{messages_at}
 use Rattle.strm_types.specs.Names.{direction_at, is_open, place_of}
@@ -225,7 +225,7 @@ queue-forgets : (dir : Dir) (n : ℕ) (q : Queue ℕ) → map_queue byte (number
 queue-forgets dir n q = ap (λ ms. record q { messages = ms }) (messages-forget dir n q.messages)
 
 module _ (side : Side) where
-  ldterm-forgets : (up down : ℕ) (l : Ldterm ℕ) → IsIdle l → map_ldterm byte (number_ldterm side up down l) ≡ l
+  ldterm-forgets : (up down : ℕ) (l : Discipline ℕ) → IsIdle l → map_ldterm byte (number_ldterm side up down l) ≡ l
   ldterm-forgets up down l idle = rw (number-forgets (direction_at Up side) up l.line, queue-forgets (direction_at Up side) (up + length l.line) l.read_queue, queue-forgets (direction_at Down side) down l.write_queue, idle.0, idle.1, idle.3) refl
 
   modules-forget : (up down : ℕ) (ps : List (Standing ℕ)) → AllByRecursion (λ q. IsAtRest q) ps → map (map_module byte) (number_modules side up down ps) ≡ ps

@@ -19,34 +19,39 @@ module _ {C D : Type 0} (f : C → D) where
   abbrev images : List (Standing C) → List (Standing D)
   images ps = map (map_module f) ps
 
-  pub queue-forgets : (way : Way) (p : Standing C) → has_queues (map_module f p) ≡ has_queues p
-  queue-forgets way (OfLdterm l) = refl
-  queue-forgets way (OfPtem p) = refl
-  queue-forgets way (OfPckt p) = refl
+  some-forgets : (queues : Option (QueuePair C)) → is_some (option_map (map_pair f) queues) ≡ is_some queues
+  some-forgets None = refl
+  some-forgets (Some pair) = refl
+
+  pub queue-forgets : (p : Standing C) → has_queues (map_module f p) ≡ has_queues p
+  queue-forgets p = some-forgets p.queues
+
+  kind-forgets : (p : Module C) → kind_name (map_kind f p) ≡ kind_name p
+  kind-forgets (OfLdterm l) = refl
+  kind-forgets (OfPtem p) = refl
+  kind-forgets (OfPckt p) = refl
 
   pub name-forgets : (p : Standing C) → module_name (map_module f p) ≡ module_name p
-  name-forgets (OfLdterm l) = refl
-  name-forgets (OfPtem p) = refl
-  name-forgets (OfPckt p) = refl
+  name-forgets p = kind-forgets p.part
 
-  first-forgets : (way : Way) (place : ℕ) (ps : List (Standing C)) → first_place place (images ps) ≡ first_place place ps
-  first-forgets way place [] = refl
-  first-forgets way place (p ∷ ps) =
-      rw (queue-forgets way p, first-forgets way (suc place) ps) refl
+  first-forgets : (place : ℕ) (ps : List (Standing C)) → first_place place (images ps) ≡ first_place place ps
+  first-forgets place [] = refl
+  first-forgets place (p ∷ ps) =
+      rw (queue-forgets p, first-forgets (suc place) ps) refl
 
-  last-forgets : (way : Way) (place : ℕ) (last : Option ℕ) (ps : List (Standing C)) → last_place place last (images ps) ≡ last_place place last ps
-  last-forgets way place last [] = refl
-  last-forgets way place last (p ∷ ps) =
-      ap (λ b. last_place (suc place) (cond b (Some place) last) (images ps)) (queue-forgets way p)
-      ∙ last-forgets way (suc place) (cond (has_queues p) (Some place) last) ps
+  last-forgets : (place : ℕ) (last : Option ℕ) (ps : List (Standing C)) → last_place place last (images ps) ≡ last_place place last ps
+  last-forgets place last [] = refl
+  last-forgets place last (p ∷ ps) =
+      ap (λ b. last_place (suc place) (cond b (Some place) last) (images ps)) (queue-forgets p)
+      ∙ last-forgets (suc place) (cond (has_queues p) (Some place) last) ps
 
   place-forgets : (way : Way) (at : ℕ) (ps : List (Standing C)) → place_before way at (images ps) ≡ place_before way at ps
-  place-forgets Down at ps = ap (λ qs. last_place 1 None qs) (take-map (map_module f) (at - 1) ps) ∙ last-forgets Down 1 None (take (at - 1) ps)
-  place-forgets Up at ps = ap (λ qs. first_place (suc at) qs) (drop-map (map_module f) at ps) ∙ first-forgets Up (suc at) (drop at ps)
+  place-forgets Down at ps = ap (λ qs. last_place 1 None qs) (take-map (map_module f) (at - 1) ps) ∙ last-forgets 1 None (take (at - 1) ps)
+  place-forgets Up at ps = ap (λ qs. first_place (suc at) qs) (drop-map (map_module f) at ps) ∙ first-forgets (suc at) (drop at ps)
 
   pub place_past-forgets : (way : Way) (at : ℕ) (ps : List (Standing C)) → place_past way at (images ps) ≡ place_past way at ps
-  place_past-forgets Down at ps = ap (λ qs. first_place (suc at) qs) (drop-map (map_module f) at ps) ∙ first-forgets Down (suc at) (drop at ps)
-  place_past-forgets Up at ps = ap (λ qs. last_place 1 None qs) (take-map (map_module f) (at - 1) ps) ∙ last-forgets Up 1 None (take (at - 1) ps)
+  place_past-forgets Down at ps = ap (λ qs. first_place (suc at) qs) (drop-map (map_module f) at ps) ∙ first-forgets (suc at) (drop at ps)
+  place_past-forgets Up at ps = ap (λ qs. last_place 1 None qs) (take-map (map_module f) (at - 1) ps) ∙ last-forgets 1 None (take (at - 1) ps)
 
   pub places-forget : (ps : List (Standing C)) → places_of (images ps) ≡ places_of ps
   places-forget [] = refl

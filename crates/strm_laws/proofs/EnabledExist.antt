@@ -119,9 +119,12 @@ named-there all side way (Some place) is = is way
 module _ {C : Type 0} where
   index-among : (ps : List (Standing C)) (i : ℕ) → PlaceAmong (slice_index_or (places_of ps) i None) (map module_name ps)
   index-among [] i = tt
-  index-among (OfLdterm l ∷ ps) zero = λ way. refl
-  index-among (OfPtem p ∷ ps) zero = tt
-  index-among (OfPckt p ∷ ps) zero = tt
+  index-among (p ∷ ps) zero = by p.part
+    where
+      by : (q : Module C) → PlaceAmong (place_of (kind_name q)) (kind_name q ∷ map module_name ps)
+      by (OfLdterm l) = λ way. refl
+      by (OfPtem p) = tt
+      by (OfPckt p) = tt
   index-among (p ∷ ps) (suc i) = one-more (slice_index_or (places_of ps) i None) (module_name p) (map module_name ps) (index-among ps i)
 
   on-side : (all : Stands) (s : State C) → stands_of s ≡ all → (side : Side) → map module_name (stream side s).modules ≡ stands_on side all

@@ -19,7 +19,7 @@ use Rattle.strm_types.specs.Emptied.{of_data}
 use Rattle.strm_types.specs.Flushing.{asked_by, flush_message, is_flush, read_flush}
 use Rattle.strm_types.specs.Ioctls.{read_ioc}
 use Rattle.strm_types.specs.LdtermPuts.{goes_on, ldterm_puts, passes_on_way, told_by_header, told_termios, waits_behind, waits_on}
-use Rattle.strm_types.specs.Ldterms.{Ldterm, both, flush_passes, line_flushed, onward, queue_at, queue_flushed, queued_at, read_flushed, sends, takes_band_0, waits_there, with_queue_at, without_line, write_flushed}
+use Rattle.strm_types.specs.Ldterms.{Discipline, both, flush_passes, line_flushed, onward, queue_at, queue_flushed, queued_at, read_flushed, sends, takes_band_0, waits_there, with_queue_at, without_line, write_flushed}
 use Rattle.strm_types.specs.Message.{Message, has_parts}
 use Rattle.strm_types.specs.Options.{mode_message}
 use Rattle.strm_types.specs.Queue.{Queue}
@@ -40,35 +40,35 @@ stands_at Up kind = waits_there kind
 stands_at Down kind = goes_out kind
 
 module _ {C : Type 0} where
-  pub queue-good : (way : Way) (l : Ldterm C) → GoodLdterm l → GoodQueue (stands_at way) (queue_at way l)
+  pub queue-good : (way : Way) (l : Discipline C) → GoodLdterm l → GoodQueue (stands_at way) (queue_at way l)
   queue-good Up l good = good.read_queue
   queue-good Down l good = good.write_queue
 
-  pub with-queue-good : (way : Way) (q : Queue C) (l : Ldterm C) → GoodQueue (stands_at way) q → GoodLdterm l → GoodLdterm (with_queue_at way q l)
+  pub with-queue-good : (way : Way) (q : Queue C) (l : Discipline C) → GoodQueue (stands_at way) q → GoodLdterm l → GoodLdterm (with_queue_at way q l)
   with-queue-good Up q l fits good = record { termios = good.termios; column = good.column; line = good.line; read_queue = fits; write_queue = good.write_queue; work = good.work }
   with-queue-good Down q l fits good = record { termios = good.termios; column = good.column; line = good.line; read_queue = good.read_queue; write_queue = fits; work = good.work }
 
   -- what ldterm does is good, and what it sends
-  pub record GoodAtLdterm (t : Acted C (Ldterm C)) : Type 0 where
+  pub record GoodAtLdterm (t : Acted C (Discipline C)) : Type 0 where
     pub state : GoodLdterm t.state
     pub sent : AreGood GoodMessage t.sent
 
-  pub either-ldterm : (b : Bool) (one another : Acted C (Ldterm C)) → GoodAtLdterm one → GoodAtLdterm another → GoodAtLdterm (cond b one another)
+  pub either-ldterm : (b : Bool) (one another : Acted C (Discipline C)) → GoodAtLdterm one → GoodAtLdterm another → GoodAtLdterm (cond b one another)
   either-ldterm true one another first second = first
   either-ldterm false one another first second = second
 
-  both-good : (t : Acted C (Ldterm C)) (next : Ldterm C → Acted C (Ldterm C)) → GoodAtLdterm t → (GoodLdterm t.state → GoodAtLdterm (next t.state)) → GoodAtLdterm (both t next)
+  both-good : (t : Acted C (Discipline C)) (next : Discipline C → Acted C (Discipline C)) → GoodAtLdterm t → (GoodLdterm t.state → GoodAtLdterm (next t.state)) → GoodAtLdterm (both t next)
   both-good t next first second =
       let behind = second first.state in
       record { state = behind.state; sent = all-join (λ q. GoodMessage q.message) t.sent (next t.state).sent first.sent behind.sent }
 
-  pub quiet-good : (l : Ldterm C) → GoodLdterm l → GoodAtLdterm (sends [] l)
+  pub quiet-good : (l : Discipline C) → GoodLdterm l → GoodAtLdterm (sends [] l)
   quiet-good l good = record { state = good; sent = tt }
 
-  line-none : (l : Ldterm C) → GoodLdterm l → GoodLdterm (without_line l)
+  line-none : (l : Discipline C) → GoodLdterm l → GoodLdterm (without_line l)
   line-none l good = record { termios = good.termios; column = good.column; line = omega arith; read_queue = good.read_queue; write_queue = good.write_queue; work = good.work }
 
-  queued-good : (way : Way) (m : Message C) (l : Ldterm C) → StandsOn (stands_at way) m → GoodLdterm l → GoodAtLdterm (queued_at way m l)
+  queued-good : (way : Way) (m : Message C) (l : Discipline C) → StandsOn (stands_at way) m → GoodLdterm l → GoodAtLdterm (queued_at way m l)
   queued-good Up m l fits good = record {
     state = record { termios = good.termios; column = good.column; line = good.line; read_queue = put-good waits_there m l.read_queue fits good.read_queue; write_queue = good.write_queue; work = good.work };
     sent = tt;
@@ -79,29 +79,29 @@ module _ {C : Type 0} where
   }
 
   -- flushes
-  flushed-good : (way : Way) (here : Spot) (band : Option Band) (l : Ldterm C) → GoodLdterm l → GoodAtLdterm (queue_flushed way here band l)
+  flushed-good : (way : Way) (here : Spot) (band : Option Band) (l : Discipline C) → GoodLdterm l → GoodAtLdterm (queue_flushed way here band l)
   flushed-good way here band l good = record { state = with-queue-good way _ l (behind-good (stands_at way) (of_data band) (queue_at way l) (queue-good way l good)) good; sent = tt }
 
-  line-good : (here : Spot) (band : Option Band) (l : Ldterm C) → GoodLdterm l → GoodAtLdterm (line_flushed here band l)
+  line-good : (here : Spot) (band : Option Band) (l : Discipline C) → GoodLdterm l → GoodAtLdterm (line_flushed here band l)
   line-good here band l good = either-ldterm (takes_band_0 band) (record (sends [] (without_line l)) { gone = line_gone here.side Flushed l.line }) (sends [] l) (record { state = line-none l good; sent = tt }) (quiet-good l good)
 
-  read-good : (here : Spot) (asked : FlushAsked) (l : Ldterm C) → GoodLdterm l → GoodAtLdterm (read_flushed here asked l)
+  read-good : (here : Spot) (asked : FlushAsked) (l : Discipline C) → GoodLdterm l → GoodAtLdterm (read_flushed here asked l)
   read-good here asked l good =
       let t = queue_flushed Up here asked.band l in
       either-ldterm asked.for_read (both t (line_flushed here asked.band)) (sends [] l)
       (both-good t (line_flushed here asked.band) (flushed-good Up here asked.band l good) (λ is. line-good here asked.band t.state is)) (quiet-good l good)
 
-  write-good : (here : Spot) (asked : FlushAsked) (l : Ldterm C) → GoodLdterm l → GoodAtLdterm (write_flushed here asked l)
+  write-good : (here : Spot) (asked : FlushAsked) (l : Discipline C) → GoodLdterm l → GoodAtLdterm (write_flushed here asked l)
   write-good here asked l good =
-      let quiet : Ldterm C = record l { echoing = l.echoing && not (takes_band_0 asked.band) } in
+      let quiet : Discipline C = record l { echoing = l.echoing && not (takes_band_0 asked.band) } in
       either-ldterm asked.for_write (queue_flushed Down here asked.band quiet) (sends [] l)
       (flushed-good Down here asked.band quiet (record { termios = good.termios; column = good.column; line = good.line; read_queue = good.read_queue; write_queue = good.write_queue; work = good.work })) (quiet-good l good)
 
   module _ (here : Spot) (m : Message C) (fits : GoodMessage m) where
-    passes-good : (l : Ldterm C) → GoodLdterm l → GoodAtLdterm (goes_on here m l)
+    passes-good : (l : Discipline C) → GoodLdterm l → GoodAtLdterm (goes_on here m l)
     passes-good l good = record { state = good; sent = (fits, tt) }
 
-    flush-passes : (l : Ldterm C) → GoodLdterm l → GoodAtLdterm (flush_passes here m l)
+    flush-passes : (l : Discipline C) → GoodLdterm l → GoodAtLdterm (flush_passes here m l)
     flush-passes l good =
         let asked = asked_by m.plain in
         let t = read_flushed here asked l in
@@ -109,10 +109,10 @@ module _ {C : Type 0} where
         (both-good t (write_flushed here asked) (read-good here asked l good) (λ is. write-good here asked t.state is)) (λ is. passes-good (write_flushed here asked t.state).state is)
 
     -- the answer that sets a termios
-    input-good : (command : ℕ) (l : Ldterm C) → GoodLdterm l → GoodAtLdterm (input_flushed here command l)
+    input-good : (command : ℕ) (l : Discipline C) → GoodLdterm l → GoodAtLdterm (input_flushed here command l)
     input-good command l good =
         let t = read_flushed here up_alone l in
-        let told : Ldterm C → Acted C (Ldterm C) = sends (onward Up here (flush_message (read_flush None)) ∷ []) in
+        let told : Discipline C → Acted C (Discipline C) = sends (onward Up here (flush_message (read_flush None)) ∷ []) in
         either-ldterm (command == TCSETSF) (both t told) (sends [] l) (both-good t told (read-good here up_alone l good) (λ is. record { state = is; sent = (flush-good (read_flush None), tt) })) (quiet-good l good)
 
     ups-good : (ends : Bool) (line : List C) → AreGood GoodMessage (cond ends (line_up here line) [])
@@ -120,7 +120,7 @@ module _ {C : Type 0} where
     ups-good true (c ∷ more) = (data-good (c ∷ more), tt)
     ups-good false line = tt
 
-    set-good : (t : Termios) → IsWhole t → (l : Ldterm C) → GoodLdterm l → GoodAtLdterm (termios_taken here t m l)
+    set-good : (t : Termios) → IsWhole t → (l : Discipline C) → GoodLdterm l → GoodAtLdterm (termios_taken here t m l)
     set-good t whole l good = record {
       state = record { termios = whole; column = good.column; line = short (ends_lines l.termios t); read_queue = good.read_queue; write_queue = good.write_queue; work = good.work };
       sent = all-join (λ q. GoodMessage q.message) (cond (ends_lines l.termios t) (line_up here l.line) []) (onward Up here (mode_message (read_mode_of t) (tostop t)) ∷ onward Up here m ∷ [])
@@ -131,10 +131,10 @@ module _ {C : Type 0} where
         short true = omega arith
         short false = good.line
 
-    taken-good : (command : ℕ) (t : Termios) → IsWhole t → (l : Ldterm C) → GoodLdterm l → GoodAtLdterm (taken_up here command t m l)
+    taken-good : (command : ℕ) (t : Termios) → IsWhole t → (l : Discipline C) → GoodLdterm l → GoodAtLdterm (taken_up here command t m l)
     taken-good command t whole l good = both-good (input_flushed here command l) (termios_taken here t m) (input-good command l good) (λ is. set-good t whole (input_flushed here command l).state is)
 
-    module _ (l : Ldterm C) (good : GoodLdterm l) where
+    module _ (l : Discipline C) (good : GoodLdterm l) where
       termios-good : (ioc : Ioc) (o : Option Termios) → read_termios (payload m.plain) ≡ o → GoodAtLdterm (told_termios here ioc o m l)
       termios-good ioc None is = passes-good l good
       termios-good ioc (Some t) is = taken-good ioc.command t (read-whole (payload m.plain) t is) l good

@@ -20,7 +20,7 @@ use Rattle.strm_laws.specs.Based.{held_by}
 use Rattle.strm_laws.specs.Kept.{AreIdle, NothingUnread, gone, state_weight, told_by}
 use Rattle.strm_laws.specs.Ledgers.{Balanced, all_gone, inline, queued}
 use Rattle.strm_laws.specs.LdtermWeights.{ldterm_weight, weight_begun, weight_in_work}
-use Rattle.strm_types.specs.Ldterms.{Ldterm, IsIdle}
+use Rattle.strm_types.specs.Ldterms.{Discipline, IsIdle}
 use Rattle.strm_types.specs.Message.{Message, cells_of, weight_of}
 use Rattle.strm_types.specs.Names.{direction_at}
 use Rattle.strm_laws.specs.Places.{weight_gone}
@@ -51,7 +51,7 @@ module _ {C : Type 0} where
   none-weighs (m ∷ ms) = omega (arith, weight-take none m ms, none-of m, none-weighs ms)
 
   -- a module of which nothing of a turn is under way, by what is tested of what comes up and of what goes down
-  idle-weighs : (p : Dir → C → Bool) (side : Side) (l : Ldterm C) → IsIdle l →
+  idle-weighs : (p : Dir → C → Bool) (side : Side) (l : Discipline C) → IsIdle l →
       ldterm_weight p side l ≡ weight (p (direction_at Up side)) l.read_queue.messages + (count_by (p (direction_at Up side)) l.line + weight (p (direction_at Down side)) l.write_queue.messages)
   idle-weighs p side l idle =
       omega (arith, ap (λ x. weight_begun p side x) idle.3, ap (λ x. weight_in_work (p (direction_at Up side)) x) idle.0, ap (λ xs. count_by (p (direction_at Up side)) xs) idle.1)

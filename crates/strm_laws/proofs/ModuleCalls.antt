@@ -14,7 +14,7 @@ use Rattle.strm_types.specs.Input.{input_begins, is_data, passes, stages_done, t
 use Rattle.strm_types.specs.LdtermServes.{ldterm_serves}
 use Rattle.strm_laws.specs.LdtermTurns.{IsItsTurn, IsOrderly}
 use Rattle.strm_laws.specs.LdtermWeights.{IgnoresMapping, MayServe}
-use Rattle.strm_types.specs.Ldterms.{IsIdle, Ldterm}
+use Rattle.strm_types.specs.Ldterms.{IsIdle, Discipline}
 use Rattle.strm_types.specs.Message.{Message}
 use Rattle.strm_types.specs.Modules.{act_among, put_among}
 use Rattle.strm_types.specs.OutputTurns.{output_serves}
@@ -29,7 +29,7 @@ use Rattle.strm_laws.proofs.ModulesIdle.{AllIdle, among-idle, puts-idle}
 
 -- What a call wants of its module, by its way, where so many bytes are left of the turn: nothing of a turn is under way, or the turn of the
 -- read queue goes on, and what has begun is among these bytes.
-abbrev pub IsReady : {C : Type 0} → Bool → Way → ℕ → Ldterm C → Type 0
+abbrev pub IsReady : {C : Type 0} → Bool → Way → ℕ → Discipline C → Type 0
 IsReady true Up left l = IsOrderly l × (stages_done l.stage ≤ 3 * left)
 IsReady true Down left l = IsIdle l
 IsReady false way left l = IsIdle l
@@ -41,26 +41,26 @@ IsReadyAt again way left (OfPtem p) = Unit {0}
 IsReadyAt again way left (OfPckt p) = Unit {0}
 
 module _ {C : Type 0} where
-  idle-orderly : (l : Ldterm C) → IsIdle l → IsOrderly l
+  idle-orderly : (l : Discipline C) → IsIdle l → IsOrderly l
   idle-orderly l idle = record { echo = λ e. absurd (false≢true (sym idle.2 ∙ e)); idle = λ none. (idle.3, idle.1, idle.2) }
 
-  ready-orderly : (again : Bool) (way : Way) (left : ℕ) (l : Ldterm C) → IsReady again way left l → IsOrderly l
+  ready-orderly : (again : Bool) (way : Way) (left : ℕ) (l : Discipline C) → IsReady again way left l → IsOrderly l
   ready-orderly true Up left l ready = ready.0
   ready-orderly true Down left l ready = idle-orderly l ready
   ready-orderly false way left l ready = idle-orderly l ready
 
-  ready-may : (again : Bool) (way : Way) (left : ℕ) (l : Ldterm C) → IsReady again way left l → MayServe way again (Some left) l
+  ready-may : (again : Bool) (way : Way) (left : ℕ) (l : Discipline C) → IsReady again way left l → MayServe way again (Some left) l
   ready-may true Up left l ready = ready.1
   ready-may false Up left l ready = (ready.0, ready.3)
   ready-may again Down left l ready = tt
 
-  ready-turn : (again : Bool) (way : Way) (left : ℕ) (l : Ldterm C) → IsReady again way left l → IsItsTurn way again l
+  ready-turn : (again : Bool) (way : Way) (left : ℕ) (l : Discipline C) → IsReady again way left l → IsItsTurn way again l
   ready-turn true Up left l ready = tt
   ready-turn false Up left l ready = ready.0
   ready-turn true Down left l ready = ready.0
   ready-turn false Down left l ready = ready.0
 
-  down-idle : (again : Bool) (left : ℕ) (l : Ldterm C) → IsReady again Down left l → IsIdle l
+  down-idle : (again : Bool) (left : ℕ) (l : Discipline C) → IsReady again Down left l → IsIdle l
   down-idle true left l ready = ready
   down-idle false left l ready = ready
 
@@ -83,27 +83,27 @@ module _ {C : Type 0} where
   none-of (Some m) is = absurd (false≢true (sym is))
 
 module _ {C : Type 0} (cells : Cells C) where
-  output-idle : (here : Spot) (stop : Option ℕ) (made : ℕ) (ms : List (Message C)) (l : Ldterm C) → IsIdle l → IsIdle (output_serves cells here stop made ms l).acted.state
+  output-idle : (here : Spot) (stop : Option ℕ) (made : ℕ) (ms : List (Message C)) (l : Discipline C) → IsIdle l → IsIdle (output_serves cells here stop made ms l).acted.state
   output-idle here stop made [] l idle = idle
   output-idle here stop made (m ∷ rest) l idle = idle
 
   -- a call that wants no other one leaves no message in work
-  input-ends : (here : Spot) (made left : ℕ) (ms : List (Message C)) (l : Ldterm C) → l.in_work ≡ None → let t = input_begins cells here (Some left) made ms l in t.again ≡ false → t.acted.state.in_work ≡ None
+  input-ends : (here : Spot) (made left : ℕ) (ms : List (Message C)) (l : Discipline C) → l.in_work ≡ None → let t = input_begins cells here (Some left) made ms l in t.again ≡ false → t.acted.state.in_work ≡ None
   input-ends here made left [] l none over = none
   input-ends here made left (m ∷ rest) l none over = at (is_data m.kind) over
     where
-      begun : Ldterm C
+      begun : Discipline C
       begun = record l { read_queue = left_with rest l.read_queue; in_work = Some m }
 
       at : (treated : Bool) → let t = cond treated (treats cells here left made begun) (passes cells here Up m rest l) in t.again ≡ false → t.acted.state.in_work ≡ None
       at true over = none-of (treats cells here left made begun).acted.state.in_work over
       at false over = none
 
-  up-ends : (here : Spot) (again : Bool) (made left : ℕ) (l : Ldterm C) → IsReady again Up left l → let t = ldterm_serves cells (record here { way = Up }) made again (Some left) l in t.again ≡ false → t.acted.state.in_work ≡ None
+  up-ends : (here : Spot) (again : Bool) (made left : ℕ) (l : Discipline C) → IsReady again Up left l → let t = ldterm_serves cells (record here { way = Up }) made again (Some left) l in t.again ≡ false → t.acted.state.in_work ≡ None
   up-ends here true made left l ready over = none-of (treats cells (record here { way = Up }) left made l).acted.state.in_work over
   up-ends here false made left l ready over = input-ends (record here { way = Up }) made left l.read_queue.messages l ready.0 over
 
-  rests-at : (way : Way) (here : Spot) (again : Bool) (made left : ℕ) (l : Ldterm C) → IsReady again way left l → let t = ldterm_serves cells (record here { way = way }) made again (Some left) l in t.again ≡ false → IsIdle t.acted.state
+  rests-at : (way : Way) (here : Spot) (again : Bool) (made left : ℕ) (l : Discipline C) → IsReady again way left l → let t = ldterm_serves cells (record here { way = way }) made again (Some left) l in t.again ≡ false → IsIdle t.acted.state
   rests-at Down here again made left l ready over = output-idle (record here { way = Down }) (Some left) made l.write_queue.messages l (down-idle again left l ready)
   rests-at Up here again made left l ready over =
       let up : Spot = record here { way = Up } in
@@ -111,7 +111,7 @@ module _ {C : Type 0} (cells : Cells C) where
       let rest = (serves-orderly cells up made again (Some left) l (ready-orderly again Up left l ready) (ready-turn again Up left l ready)).idle none in
       (none, rest.1, rest.2, rest.0)
 
-  goes-at : (way : Way) (here : Spot) (again : Bool) (made left : ℕ) (l : Ldterm C) → IsReady again way left l → let t = ldterm_serves cells (record here { way = way }) made again (Some left) l in
+  goes-at : (way : Way) (here : Spot) (again : Bool) (made left : ℕ) (l : Discipline C) → IsReady again way left l → let t = ldterm_serves cells (record here { way = way }) made again (Some left) l in
       t.again ≡ true → IsReady true way (left - t.bytes) t.acted.state
   goes-at Down here again made left l ready works = output-idle (record here { way = Down }) (Some left) made l.write_queue.messages l (down-idle again left l ready)
   goes-at Up here again made left l ready works =

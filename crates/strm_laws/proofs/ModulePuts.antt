@@ -15,7 +15,7 @@ use Rattle.strm_types.specs.Cells.{AreCells, Cells, plain}
 use Rattle.strm_types.specs.Deliver.{Acted}
 use Rattle.strm_types.specs.Flushing.{asked_by, flush_message, read_flush}
 use Rattle.strm_types.specs.LdtermPuts.{ldterm_puts}
-use Rattle.strm_types.specs.Ldterms.{Ldterm, both, flush_passes, line_flushed, onward, queue_flushed, read_flushed, sends, takes_band_0, without_line, write_flushed}
+use Rattle.strm_types.specs.Ldterms.{Discipline, both, flush_passes, line_flushed, onward, queue_flushed, read_flushed, sends, takes_band_0, without_line, write_flushed}
 use Rattle.strm_types.specs.Message.{Message, map_message, weight_of}
 use Rattle.strm_types.specs.Modules.{put_among}
 use Rattle.strm_types.specs.Origins.{map_acted}
@@ -32,41 +32,41 @@ use Rattle.strm_laws.proofs.PcktKeeps.{puts-keep as pckt-keeps, puts-forget as p
 use Rattle.strm_laws.proofs.PtemPuts.{puts-gone, puts-sent, puts-forget as ptem-forgets}
 
 module _ {C : Type 0} (p : Dir → C → Bool) where
-  abbrev MakesNone : Acted C (Ldterm C) → Type 0
+  abbrev MakesNone : Acted C (Discipline C) → Type 0
   MakesNone t = weight_made p t.gone ≡ 0
 
-  both-none : (t : Acted C (Ldterm C)) (next : Ldterm C → Acted C (Ldterm C)) → MakesNone t → MakesNone (next t.state) → MakesNone (both t next)
+  both-none : (t : Acted C (Discipline C)) (next : Discipline C → Acted C (Discipline C)) → MakesNone t → MakesNone (next t.state) → MakesNone (both t next)
   both-none t next first second = let all = made-append p t.gone (next t.state).gone in omega arith
 
-  line-none : (here : Spot) (band : Option Band) (l : Ldterm C) → MakesNone (line_flushed here band l)
+  line-none : (here : Spot) (band : Option Band) (l : Discipline C) → MakesNone (line_flushed here band l)
   line-none here band l = either MakesNone (takes_band_0 band) (record (sends [] (without_line l)) { gone = line_gone here.side Flushed l.line }) (sends [] l) (lost-made p here.side Flushed l.line) refl
 
-  read-none : (here : Spot) (asked : FlushAsked) (l : Ldterm C) → MakesNone (read_flushed here asked l)
+  read-none : (here : Spot) (asked : FlushAsked) (l : Discipline C) → MakesNone (read_flushed here asked l)
   read-none here asked l = either MakesNone asked.for_read (both (queue_flushed Up here asked.band l) (line_flushed here asked.band)) (sends [] l)
       (both-none (queue_flushed Up here asked.band l) (line_flushed here asked.band) refl (line-none here asked.band (queue_flushed Up here asked.band l).state))
       refl
 
-  write-none : (here : Spot) (asked : FlushAsked) (l : Ldterm C) → MakesNone (write_flushed here asked l)
+  write-none : (here : Spot) (asked : FlushAsked) (l : Discipline C) → MakesNone (write_flushed here asked l)
   write-none here asked l = at asked.for_write
     where
       at : (b : Bool) → MakesNone (cond b (queue_flushed Down here asked.band (record l { echoing = l.echoing && not (takes_band_0 asked.band) })) (sends [] l))
       at true = refl
       at false = refl
 
-  flush-none : (here : Spot) (m : Message C) (l : Ldterm C) → MakesNone (flush_passes here m l)
+  flush-none : (here : Spot) (m : Message C) (l : Discipline C) → MakesNone (flush_passes here m l)
   flush-none here m l =
       let asked = asked_by m.plain in
       let first = read_flushed here asked l in
       let behind = both first (write_flushed here asked) in
       both-none behind (sends (onward here.way here m ∷ [])) (both-none first (write_flushed here asked) (read-none here asked l) (write-none here asked first.state)) refl
 
-  taken-none : (here : Spot) (command : ℕ) (t : Termios) (m : Message C) (l : Ldterm C) → MakesNone (taken_up here command t m l)
+  taken-none : (here : Spot) (command : ℕ) (t : Termios) (m : Message C) (l : Discipline C) → MakesNone (taken_up here command t m l)
   taken-none here command t m l =
       let read = read_flushed here up_alone l in
-      let told : Ldterm C → Acted C (Ldterm C) = sends (onward Up here (flush_message (read_flush None)) ∷ []) in
+      let told : Discipline C → Acted C (Discipline C) = sends (onward Up here (flush_message (read_flush None)) ∷ []) in
       both-none (input_flushed here command l) (termios_taken here t m) (either MakesNone (command == TCSETSF) (both read told) (sends [] l) (both-none read told (read-none here up_alone l) refl) refl) refl
 
-  pub ldterm-none : (here : Spot) (m : Message C) (l : Ldterm C) → MakesNone (ldterm_puts here m l)
+  pub ldterm-none : (here : Spot) (m : Message C) (l : Discipline C) → MakesNone (ldterm_puts here m l)
   ldterm-none here m l = puts-each here m l MakesNone (record {
     waits = λ is. refl;
     flushes = λ is. flush-none here m l;
@@ -75,15 +75,21 @@ module _ {C : Type 0} (p : Dir → C → Bool) where
   })
 
   module _ (cells : Cells C) (made : ℕ) where
-    module-keeps : (here : Spot) (m : Message C) (q : Standing C) → let t = module_puts cells made here m q in
-        module_weight p here.side t.state + (weight_sent p t.sent + weight_gone p t.gone) ≡ module_weight p here.side q + weight_of (p (direction_at here.way here.side)) m + weight_made p t.gone
-    module-keeps here m (OfLdterm l) = omega (arith, puts-hold p here m l, ldterm-none here m l)
-    module-keeps here m (OfPtem q) =
+    kind-keeps : (here : Spot) (m : Message C) (q : Module C) (o : Option (QueuePair C)) → let t = module_puts cells made here m (stood q o) in
+        module_weight p here.side t.state + (weight_sent p t.sent + weight_gone p t.gone) ≡ module_weight p here.side (stood q o) + weight_of (p (direction_at here.way here.side)) m + weight_made p t.gone
+    kind-keeps here m (OfLdterm l) o =
+        let d = disciplined l o in
+        omega (arith, puts-hold p here m d, ldterm-none here m d, weigh p here.side l o, weigh-stands p here.side (ldterm_puts here m d).state)
+    kind-keeps here m (OfPtem q) o =
         let sent = puts-sent p here m q in
         let gone = ap (λ gone. weight_gone p gone) (puts-gone here m q) in
         let made = ap (λ gone. weight_made p gone) (puts-gone here m q) in
         omega arith
-    module-keeps here m (OfPckt q) = let kept = pckt-keeps p cells made here m in omega arith
+    kind-keeps here m (OfPckt q) o = let kept = pckt-keeps p cells made here m in omega arith
+
+    module-keeps : (here : Spot) (m : Message C) (q : Standing C) → let t = module_puts cells made here m q in
+        module_weight p here.side t.state + (weight_sent p t.sent + weight_gone p t.gone) ≡ module_weight p here.side q + weight_of (p (direction_at here.way here.side)) m + weight_made p t.gone
+    module-keeps here m q = kind-keeps here m q.part q.queues
 
     -- a put at one of several modules
     pub among-keeps : (i : ℕ) (here : Spot) (m : Message C) (ps : List (Standing C)) → i < length ps → let t = put_among (module_puts cells made) i here m ps in
@@ -103,10 +109,16 @@ module _ {C : Type 0} (cells : Cells C) (are : AreCells cells) (made : ℕ) wher
   abbrev image : Acted C (List (Standing C)) → Acted ℕ (List (Standing ℕ))
   image t = map_acted f (map (map_module f)) t
 
+  kind-forgets : (here : Spot) (m : Message C) (q : Module C) (o : Option (QueuePair C))
+      → module_puts plain made here (map_message f m) (map_module f (stood q o)) ≡ map_acted f (map_module f) (module_puts cells made here m (stood q o))
+  kind-forgets here m (OfLdterm l) o =
+      ap (λ (d : Discipline ℕ). done_by ldterm_stands (ldterm_puts here (map_message f m) d)) (at-forgets f l o)
+      ∙ ap (done_by ldterm_stands) (puts-forget f here m (disciplined l o))
+  kind-forgets here m (OfPtem q) o = ap (done_by (λ (p : Ptem). stood (OfPtem p) (option_map (map_pair f) o))) (ptem-forgets f here m q)
+  kind-forgets here m (OfPckt q) o = ap (done_by (λ (p : Pckt). stood (OfPckt p) (option_map (map_pair f) o))) (pckt-forgets cells are made here m)
+
   module-forgets : (here : Spot) (m : Message C) (q : Standing C) → module_puts plain made here (map_message f m) (map_module f q) ≡ map_acted f (map_module f) (module_puts cells made here m q)
-  module-forgets here m (OfLdterm l) = ap (done_by OfLdterm) (puts-forget f here m l)
-  module-forgets here m (OfPtem q) = ap (done_by OfPtem) (ptem-forgets f here m q)
-  module-forgets here m (OfPckt q) = ap (done_by OfPckt) (pckt-forgets cells are made here m)
+  module-forgets here m q = kind-forgets here m q.part q.queues
 
   pub among-forgets : (i : ℕ) (here : Spot) (m : Message C) (ps : List (Standing C))
       → put_among (module_puts plain made) i here (map_message f m) (map (map_module f) ps) ≡ image (put_among (module_puts cells made) i here m ps)

@@ -18,9 +18,12 @@ use Rattle.strm_laws.proofs.ModulesHold.{puts-good}
 
 module _ {C : Type 0} where
   pub puts-idle : (cells : Cells C) (made : ℕ) (here : Spot) (m : Message C) (q : Standing C) → IsAtRest q → IsAtRest (module_puts cells made here m q).state
-  puts-idle cells made here m (OfLdterm l) idle = idle-stays l (ldterm_puts here m l).state (puts-stay here m l) idle
-  puts-idle cells made here m (OfPtem q) idle = tt
-  puts-idle cells made here m (OfPckt q) idle = tt
+  puts-idle cells made here m q idle = by q.part idle
+    where
+      by : (p : Module C) → KindRests p → IsAtRest (module_puts cells made here m (stood p q.queues)).state
+      by (OfLdterm l) rests = let d = disciplined l q.queues in idle-stays d (ldterm_puts here m d).state (puts-stay here m d) rests
+      by (OfPtem p) rests = tt
+      by (OfPckt p) rests = tt
 
   abbrev pub AllIdle : List (Standing C) → Type 0
   AllIdle ps = AllByRecursion (λ p. IsAtRest p) ps

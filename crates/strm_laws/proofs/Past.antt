@@ -27,10 +27,12 @@ module _ {C D : Type 0} (f : C → D) where
 
   -- room
   full-same : (way : Way) (band : ℕ) (p : Standing C) → full_at way band (map_module f p) ≡ full_at way band p
-  full-same Up band (OfLdterm l) = full-forgets f band l.read_queue
-  full-same Down band (OfLdterm l) = full-forgets f band l.write_queue
-  full-same way band (OfPtem p) = refl
-  full-same way band (OfPckt p) = refl
+  full-same way band p = by way p.queues
+    where
+      by : (way : Way) (queues : Option (QueuePair C)) → full_at way band (map_module f (stood p.part queues)) ≡ full_at way band (stood p.part queues)
+      by way None = refl
+      by Up (Some pair) = full-forgets f band pair.read
+      by Down (Some pair) = full-forgets f band pair.write
 
   fulls-same : (way : Way) (band : ℕ) (ps : List (Standing C)) → map (full_at way band) (images ps) ≡ map (full_at way band) ps
   fulls-same way band [] = refl
@@ -58,10 +60,12 @@ module _ {C D : Type 0} (f : C → D) where
 
   -- a writer that waits
   waits-same : (way : Way) (band : ℕ) (p : Standing C) → waits way band (map_module f p) ≡ map_module f (waits way band p)
-  waits-same Up band (OfLdterm l) = refl
-  waits-same Down band (OfLdterm l) = refl
-  waits-same way band (OfPtem p) = refl
-  waits-same way band (OfPckt p) = refl
+  waits-same way band p = by way p.queues
+    where
+      by : (way : Way) (queues : Option (QueuePair C)) → waits way band (map_module f (stood p.part queues)) ≡ map_module f (waits way band (stood p.part queues))
+      by way None = refl
+      by Up (Some pair) = refl
+      by Down (Some pair) = refl
 
   change-same : (way : Way) (band i : ℕ) (ps : List (Standing C))
       → change_among (waits way band) i (images ps) ≡ images (change_among (waits way band) i ps)

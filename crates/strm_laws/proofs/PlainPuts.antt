@@ -42,9 +42,12 @@ module _ (a b : ℕ) (here : Spot) (m : Message ℕ) where
       at Down = refl
 
   puts-same : (p : Standing ℕ) → module_puts plain a here m p ≡ module_puts plain b here m p
-  puts-same (OfLdterm l) = refl
-  puts-same (OfPtem l) = refl
-  puts-same (OfPckt l) = ap (done_by OfPckt) pckt-same
+  puts-same p = by p.part
+    where
+      by : (q : Module ℕ) → module_puts plain a here m (stood q p.queues) ≡ module_puts plain b here m (stood q p.queues)
+      by (OfLdterm l) = refl
+      by (OfPtem l) = refl
+      by (OfPckt l) = ap (done_by (λ (q : Pckt). stood (OfPckt q) p.queues)) pckt-same
 
   pub among-same : (i : ℕ) (ps : List (Standing ℕ)) → put_among (module_puts plain a) i here m ps ≡ put_among (module_puts plain b) i here m ps
   among-same i [] = refl

@@ -45,7 +45,7 @@ use Rattle.strm_laws.proofs.PutForgets.{mode-forgets, bytes-forget, parts-forget
 use Rattle.strm_laws.proofs.PutsForget.{head-forgets, notes-forget}
 
 -- what is left of a module whose queues and line have gone, so, with what let writers go
-abbrev let_go : {E : Type 0} → Side → Rule → ldterms.Ldterm E → Queue E → Bool → List E → List (Fate E) → Queue E → Bool → List E → Acted E (ldterms.Ldterm E)
+abbrev let_go : {E : Type 0} → Side → Rule → ldterms.Discipline E → Queue E → Bool → List E → List (Fate E) → Queue E → Bool → List E → Acted E (ldterms.Discipline E)
 let_go side rule p up up_goes up_cells line down down_goes down_cells = record {
   state = record p { line = []; read_queue = up; write_queue = down };
   notes = cond up_goes (Room Up ∷ []) [] ++ cond down_goes (Room Down ∷ []) [];
@@ -67,7 +67,7 @@ module _ {C D : Type 0} (f : C → D) where
   abbrev image : Carried C (State C) → Carried D (State D)
   image t = map_carried f (map_state f) t
 
-  let_go-forgets : (side : Side) (rule : Rule) (p : ldterms.Ldterm C) (up down : Queue C) (up_goes down_goes : Bool) (up_cells down_cells : List C) (line : List (Fate C))
+  let_go-forgets : (side : Side) (rule : Rule) (p : ldterms.Discipline C) (up down : Queue C) (up_goes down_goes : Bool) (up_cells down_cells : List C) (line : List (Fate C))
       → let_go side rule (map_ldterm f p) (map_queue f up) up_goes (map f up_cells) (map (map_fate f) line) (map_queue f down) down_goes (map f down_cells)
       ≡ map_acted f (map_ldterm f) (let_go side rule p up up_goes up_cells line down down_goes down_cells)
   let_go-forgets side rule p up down up_goes down_goes up_cells down_cells line =

@@ -16,7 +16,7 @@ use Rattle.strm_types.specs.Deliver.{Carried, Fate, Goes, Took}
 use Rattle.strm_types.specs.Emptied.{of_all, cells_gone}
 use Rattle.strm_laws.specs.Kept.{state_weight}
 use Rattle.strm_laws.specs.LdtermWeights.{ldterm_weight, weight_begun, weight_in_work}
-use Rattle.strm_types.specs.Ldterms.{IsIdle, Ldterm, new_ldterm}
+use Rattle.strm_types.specs.Ldterms.{IsIdle, Discipline, new_ldterm}
 use Rattle.strm_types.specs.Message.{Message}
 use Rattle.strm_types.specs.Standings.{has_queues}
 use Rattle.strm_types.specs.Names.{direction_at, is_open}
@@ -46,7 +46,7 @@ module _ {C : Type 0} (p : Dir → C → Bool) where
   all-goes : (t : C → Bool) (q : Queue C) → count_by t (cells_gone of_all q.messages) ≡ weight t q.messages
   all-goes t q = omega (arith, behind-keeps t of_all q, behind-all t q)
 
-  begun-none : (side : Side) (l : Ldterm C) → IsIdle l →
+  begun-none : (side : Side) (l : Discipline C) → IsIdle l →
       ldterm_weight p side l ≡ weight (p (direction_at Up side)) l.read_queue.messages + (count_by (p (direction_at Up side)) l.line + weight (p (direction_at Down side)) l.write_queue.messages)
   begun-none side l idle =
       let stage = ap (λ x. weight_begun p side x) idle.3 in
@@ -55,7 +55,7 @@ module _ {C : Type 0} (p : Dir → C → Bool) where
       omega arith
 
   -- what its write queue had
-  abbrev down_gone : Side → Rule → Ldterm C → List (Fate C)
+  abbrev down_gone : Side → Rule → Discipline C → List (Fate C)
   down_gone side rule l = Goes (direction_at Down side) rule (cells_gone of_all l.write_queue.messages) ∷ []
 
   clears-keeps : (side : Side) (rule : Rule) (q : Standing C) → IsAtRest q → weight_gone p (clears side rule q).gone ≡ module_weight p side q

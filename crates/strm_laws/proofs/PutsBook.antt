@@ -126,11 +126,14 @@ module _ {C : Type 0} (cells : Cells C) where
     Ordered made told = TurnOrder cells (other here.side) made told
 
     module-order : (made : ℕ) (q : Standing C) → Ordered made (module_puts cells made here m q).gone
-    module-order made (OfLdterm l) = order-none cells (other here.side) made _ (ldterm-none (λ dir c. true) here m l)
-    module-order made (OfPtem q) = order-none cells (other here.side) made _ (ap all_made (puts-gone here m q))
-    module-order made (OfPckt q) =
-        puts-each cells made here m (λ t. Ordered made t.gone) (order-none cells (other here.side) made [] refl)
-        (λ up is. order-next cells (other here.side) made (kind_number m.kind ∷ plain_packed m) [] refl)
+    module-order made q = by q.part
+      where
+        by : (p : Module C) → Ordered made (module_puts cells made here m (stood p q.queues)).gone
+        by (OfLdterm l) = order-none cells (other here.side) made _ (ldterm-none (λ dir c. true) here m (disciplined l q.queues))
+        by (OfPtem p) = order-none cells (other here.side) made _ (ap all_made (puts-gone here m p))
+        by (OfPckt p) =
+            puts-each cells made here m (λ t. Ordered made t.gone) (order-none cells (other here.side) made [] refl)
+            (λ up is. order-next cells (other here.side) made (kind_number m.kind ∷ plain_packed m) [] refl)
 
     among-order : (made i : ℕ) (ps : List (Standing C)) → Ordered made (put_among (module_puts cells made) i here m ps).gone
     among-order made i [] = order-none cells (other here.side) made [] refl

@@ -183,9 +183,12 @@ module _ {C : Type 0} (cost : At → ℕ) where
   -- at one of the modules
   module _ (cells : Cells C) (made : ℕ) (here : Spot) (m : Message C) where
     module-fits : (p : Standing C) → cost_of cost (module_puts cells made here m p).sent ≤ sum_by cost (emits_at here (name_does (module_name p) here.way (shape_of m)))
-    module-fits (OfLdterm l) = ldterm-within here m l cost
-    module-fits (OfPtem p) = ptem-within here m p cost
-    module-fits (OfPckt p) = pckt-within cells made here m cost
+    module-fits x = by x.part
+      where
+        by : (p : Module C) → cost_of cost (module_puts cells made here m (stood p x.queues)).sent ≤ sum_by cost (emits_at here (name_does (kind_name p) here.way (shape_of m)))
+        by (OfLdterm l) = ldterm-within here m (disciplined l x.queues) cost
+        by (OfPtem p) = ptem-within here m p cost
+        by (OfPckt p) = pckt-within cells made here m cost
 
     among-fits : (i : ℕ) (ps : List (Standing C)) → cost_of cost (put_among (module_puts cells made) i here m ps).sent ≤ sum_by cost (emits_at here (does_among i (map module_name ps) here.way (shape_of m)))
     among-fits i [] = none-few cost 0

@@ -18,23 +18,19 @@ module _ {C : Type 0} (change : Queue C → Queue C) where
   abbrev changed : Way → Standing C → Standing C
   changed way l = queue_changed way change l
 
-  changed-idle : (way : Way) (q : Standing C) → IsAtRest q → IsAtRest (changed way q)
-  changed-idle Up (OfLdterm l) idle = idle
-  changed-idle Down (OfLdterm l) idle = idle
-  changed-idle way (OfPtem q) idle = tt
-  changed-idle way (OfPckt q) idle = tt
-
   pub changes-idle : (way : Way) (i : ℕ) (ps : List (Standing C)) → AllIdle ps → AllIdle (change_among (changed way) i ps)
   changes-idle way i [] idle = tt
-  changes-idle way zero (l ∷ ls) idle = (changed-idle way l idle.0, idle.1)
+  changes-idle way zero (l ∷ ls) idle = idle
   changes-idle way (suc i) (l ∷ ls) idle = (idle.0, changes-idle way i ls idle.1)
 
   module _ (p : Dir → C → Bool) (side : Side) (same : (q : Queue C) → (change q).messages ≡ q.messages) where
+    queues-keep : (way : Way) (queues : Option (QueuePair C)) → queues_weight p side (option_map (pair_changed way change) queues) ≡ queues_weight p side queues
+    queues-keep way None = refl
+    queues-keep Up (Some pair) = let messages = ap (λ (ms : List (Message C)). weight (p (direction_at Up side)) ms) (same pair.read) in omega arith
+    queues-keep Down (Some pair) = let messages = ap (λ (ms : List (Message C)). weight (p (direction_at Down side)) ms) (same pair.write) in omega arith
+
     changed-keeps : (way : Way) (l : Standing C) → module_weight p side (changed way l) ≡ module_weight p side l
-    changed-keeps Up (OfLdterm l) = let messages = ap (λ (ms : List (Message C)). weight (p (direction_at Up side)) ms) (same l.read_queue) in omega arith
-    changed-keeps Down (OfLdterm l) = let messages = ap (λ (ms : List (Message C)). weight (p (direction_at Down side)) ms) (same l.write_queue) in omega arith
-    changed-keeps way (OfPtem q) = refl
-    changed-keeps way (OfPckt q) = refl
+    changed-keeps way l = ap (λ n. kind_weight p side l.part + n) (queues-keep way l.queues)
 
     pub changes-keep : (way : Way) (i : ℕ) (ps : List (Standing C)) → modules_weight p side (change_among (changed way) i ps) ≡ modules_weight p side ps
     changes-keep way i [] = refl

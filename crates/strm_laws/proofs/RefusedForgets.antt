@@ -116,9 +116,7 @@ module _ {C D : Type 0} (f : C → D) where
   put-same (prios.Band band) control body side s = ap (λ b. not (no_parts control body) && b) (full-same side band.0 s)
 
   named-same : (p : Standing C) → module_name (map_module f p) ≡ module_name p
-  named-same (OfLdterm l) = refl
-  named-same (OfPtem p) = refl
-  named-same (OfPckt p) = refl
+  named-same p = name-forgets f p
 
   stands-same : (name : ModuleName) (ps : List (Standing C)) → stands module_name name (images ps) ≡ stands module_name name ps
   stands-same name [] = refl

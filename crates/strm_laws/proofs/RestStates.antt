@@ -130,9 +130,13 @@ module _ {C : Type 0} (all : Stands) where
     module _ (cells : Cells C) (made : ℕ) where
       module-pays : (here : Spot) (m : Message C) (q : Standing C) → 0 < here.at → FitsName (echoes all here.side) (echoes all (other here.side)) (posts here.side) here.at (module_name q)
           → let t = module_puts cells made here m q in module_moves t.state + tolls all posts t.sent ≤ module_moves q + toll all posts here m
-      module-pays here m (OfLdterm l) some fits = ldterm-pays all posts here some fits.0 fits.1 fits.2 m l
-      module-pays here m (OfPtem q) some fits = omega (arith, ptem-few all posts here m q)
-      module-pays here m (OfPckt q) some fits = omega (arith, pckt-few all posts cells made here m fits)
+      module-pays here m x some fits = by x.part fits
+        where
+          by : (q : Module C) → FitsName (echoes all here.side) (echoes all (other here.side)) (posts here.side) here.at (kind_name q)
+              → let t = module_puts cells made here m (stood q x.queues) in module_moves t.state + tolls all posts t.sent ≤ module_moves (stood q x.queues) + toll all posts here m
+          by (OfLdterm l) fits = ldterm-pays all posts here some fits.0 fits.1 fits.2 m (disciplined l x.queues)
+          by (OfPtem q) fits = omega (arith, ptem-few all posts here m q)
+          by (OfPckt q) fits = omega (arith, pckt-few all posts cells made here m fits)
 
       among-pays : (i at : ℕ) (here : Spot) (m : Message C) (ps : List (Standing C)) → 0 < here.at → at + i ≡ here.at → FitNames (echoes all here.side) (echoes all (other here.side)) (posts here.side) at (map module_name ps)
           → let t = put_among (module_puts cells made) i here m ps in sum_by module_moves t.state + tolls all posts t.sent ≤ sum_by module_moves ps + toll all posts here m

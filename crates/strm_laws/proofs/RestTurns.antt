@@ -16,7 +16,7 @@ use Rattle.strm_types.specs.declared.spots.Spot.{Spot}
 use Rattle.strm_types.specs.Asking.{asked_first}
 use Rattle.strm_types.specs.Cells.{Cells}
 use Rattle.strm_types.specs.Deliver.{Acted, carried, in_turn}
-use Rattle.strm_types.specs.Ldterms.{Answered, Begun, Between, Ldterm as TheLdterm, Stage, is_between, queue_at}
+use Rattle.strm_types.specs.Ldterms.{Answered, Begun, Between, Discipline as TheLdterm, Stage, is_between, queue_at}
 use Rattle.strm_types.specs.Message.{Message, band_of, size_of}
 use Rattle.strm_types.specs.ModuleQueues.{at_place, place_past, with_waiting}
 use Rattle.strm_types.specs.Standings.{messages_at, queue_changed}

@@ -125,9 +125,12 @@ module _ {C : Type 0} where
         at Down = omega arith
 
     module-makes : (q : Standing C) → made_of (module_puts cells made here m q).gone ≤ module_packs here m q * packet_most
-    module-makes (OfLdterm l) = omega (arith, made-all (ldterm_puts here m l).gone, ldterm-none (λ direction c. true) here m l)
-    module-makes (OfPtem l) = omega (arith, ap made_of (puts-gone here m l))
-    module-makes (OfPckt l) = subst (λ (n : ℕ). made_of (pckt_puts cells made here m).gone ≤ n * packet_most) (sym (pckt-makes here m)) packs-fit
+    module-makes q = by q.part
+      where
+        by : (p : Module C) → made_of (module_puts cells made here m (stood p q.queues)).gone ≤ module_packs here m (stood p q.queues) * packet_most
+        by (OfLdterm l) = let d = disciplined l q.queues in omega (arith, made-all (ldterm_puts here m d).gone, ldterm-none (λ direction c. true) here m d)
+        by (OfPtem l) = omega (arith, ap made_of (puts-gone here m l))
+        by (OfPckt l) = subst (λ (n : ℕ). made_of (pckt_puts cells made here m).gone ≤ n * packet_most) (sym (pckt-makes here m)) packs-fit
 
     pub among-makes : (i : ℕ) (ps : List (Standing C)) → made_of (put_among (module_puts cells made) i here m ps).gone ≤ slice_index_or (map (module_packs here m) ps) i 0 * packet_most
     among-makes i [] = omega arith

@@ -39,30 +39,31 @@ module _ {C : Type 0} where
 
   -- a put, and a call of a service procedure
   keeps-name : (cells : Cells C) (made : ℕ) (here : Spot) (m : Message C) (p : Standing C) → module_name (module_puts cells made here m p).state ≡ module_name p
-  keeps-name cells made here m (OfLdterm l) = refl
-  keeps-name cells made here m (OfPtem l) = refl
-  keeps-name cells made here m (OfPckt l) = refl
+  keeps-name cells made here m p = by p.part
+    where
+      by : (q : Module C) → module_name (module_puts cells made here m (stood q p.queues)).state ≡ kind_name q
+      by (OfLdterm l) = refl
+      by (OfPtem l) = refl
+      by (OfPckt l) = refl
 
   pub keep-names : (cells : Cells C) (made i : ℕ) (here : Spot) (m : Message C) (ps : List (Standing C)) → map module_name (put_among (module_puts cells made) i here m ps).state ≡ map module_name ps
   keep-names cells made i here m ps = act-names (module_puts cells made here m) (keeps-name cells made here m) i ps
 
   serves-name : (cells : Cells C) (here : Spot) (made : ℕ) (again : Bool) (stop : Option ℕ) (p : Standing C) → module_name (module_serves cells here made again stop p).acted.state ≡ module_name p
-  serves-name cells here made again stop (OfLdterm l) = refl
-  serves-name cells here made again stop (OfPtem l) = refl
-  serves-name cells here made again stop (OfPckt l) = refl
+  serves-name cells here made again stop p = by p.part
+    where
+      by : (q : Module C) → module_name (module_serves cells here made again stop (stood q p.queues)).acted.state ≡ kind_name q
+      by (OfLdterm l) = refl
+      by (OfPtem l) = refl
+      by (OfPckt l) = refl
 
   pub serve-names : (cells : Cells C) (here : Spot) (made : ℕ) (again : Bool) (stop : Option ℕ) (i : ℕ) (ps : List (Standing C))
       → map module_name (act_among (λ p. (module_serves cells here made again stop p).acted) i ps).state ≡ map module_name ps
   serve-names cells here made again stop i ps = act-names (λ p. (module_serves cells here made again stop p).acted) (serves-name cells here made again stop) i ps
 
   -- a queue of one changes, or a writer waits at one
-  queue-name : (way : Way) (change : Queue C → Queue C) (p : Standing C) → module_name (queue_changed way change p) ≡ module_name p
-  queue-name way change (OfLdterm l) = refl
-  queue-name way change (OfPtem l) = refl
-  queue-name way change (OfPckt l) = refl
-
   pub queue-names : (way : Way) (change : Queue C → Queue C) (i : ℕ) (ps : List (Standing C)) → map module_name (change_among (queue_changed way change) i ps) ≡ map module_name ps
-  queue-names way change i ps = change-names (queue_changed way change) (queue-name way change) i ps
+  queue-names way change i ps = change-names (queue_changed way change) (λ p. refl) i ps
 
   pub waits-names : (way : Way) (band at : ℕ) (ps : List (Standing C)) → map module_name (waits_past way band at ps) ≡ map module_name ps
   waits-names way band at ps = by (place_past way at ps)

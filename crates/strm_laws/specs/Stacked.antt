@@ -13,8 +13,8 @@ use Rattle.strm_types.specs.declared.spots.Asks.TheVariants.{Empty}
 use Rattle.strm_types.specs.declared.spots.Spot.{Spot}
 use Rattle.strm_types.specs.Cells.{Cells}
 use Rattle.strm_types.specs.Deliver.{Acted}
-use Rattle.strm_types.specs.LdtermStands.{asks_there, puts_there, serves_there}
-use Rattle.strm_types.specs.Ldterms.{Ldterm, Rests, lineless}
+use Rattle.strm_types.specs.LdtermStands.{as_stands, asks_there, puts_there, serves_there}
+use Rattle.strm_types.specs.Ldterms.{Discipline, Ldterm, Rests, lineless}
 use Rattle.strm_types.specs.Message.{Message}
 use Rattle.strm_types.specs.Names.{direction_at}
 use Rattle.strm_types.specs.Pckts.{Pckt, pckt_puts}
@@ -66,6 +66,10 @@ without_kind_line (OfPckt p) = OfPckt p
 -- what stands as a module of one kind, as one of any kind
 abbrev pub of_kind : {C P : Type 0} → (P → Module C) → standings.Standing P C → Standing C
 of_kind made x = record { part = made x.part; queues = x.queues }
+
+-- a line discipline, as it stands
+abbrev pub ldterm_stands : {C : Type 0} → Discipline C → Standing C
+ldterm_stands p = of_kind OfLdterm (as_stands p)
 
 module _ {C : Type 0} where
   abbrev pub module_name : Standing C → ModuleName

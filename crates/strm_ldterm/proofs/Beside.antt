@@ -11,7 +11,8 @@ use Rattle.strm_frame.specs.Hands.{once, CanPut, OnlyOwn, SameOwn}
 use Rattle.strm_frame.proofs.Handing.{once-self, once-apart}
 use Rattle.strm_ldterm.specs.Stands.{ldterm_in, owns, keeps, EndsPlain, IsHeld, IsData, IsGathered, Paired}
 use Rattle.strm_ldterm.specs.Does.{Alters}
-use Rattle.strm_ldterm.specs.Frames.{kept-same, form-same, queue-ready, each-same, data-same, gathered-same}
+use Rattle.strm_frame.specs.StandingLaws.{queue-ready}
+use Rattle.strm_ldterm.specs.Frames.{kept-same, form-same, each-same, data-same, gathered-same}
 
 -- a chain with a block is in hand
 times-some : (i : ℕ) (hand : List Held) → 0 < length (chain_in i hand) → 0 < times_in i hand

@@ -26,7 +26,8 @@ use Rattle.strm_frame.specs.Outboxes.{times_sent, parcels_in, AreChains}
 use Rattle.strm_frame.proofs.Handing.{once-apart}
 use Rattle.strm_ldterm.specs.Stands.{ldterm_in, keeps, EndsPlain, IsData, IsGathered, IsHeld, Paired}
 use Rattle.strm_ldterm.specs.Does.{Proceeds}
-use Rattle.strm_ldterm.specs.Frames.{data-same, each-same, form-same, gathered-same, kept-same, queue-ready}
+use Rattle.strm_frame.specs.StandingLaws.{queue-ready}
+use Rattle.strm_ldterm.specs.Frames.{data-same, each-same, form-same, gathered-same, kept-same}
 use Rattle.strm_ldterm.specs.Grown.{BeginsLast, GrowsLast, Rewrites}
 
 -- the last message grows

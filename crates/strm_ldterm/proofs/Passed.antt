@@ -35,7 +35,8 @@ use Rattle.strm_frame.proofs.Handing.{once-self, once-apart, one-parts, one-chai
 use Rattle.strm_ldterm.specs.Stands.{ldterm_in, owns, times_kept, keeps, IsHeld, Paired}
 use Rattle.strm_ldterm.specs.Bounds.{goes_out, passes_whole}
 use Rattle.strm_ldterm.specs.Does.{Proceeds}
-use Rattle.strm_ldterm.specs.Frames.{form-same, queue-ready}
+use Rattle.strm_frame.specs.StandingLaws.{queue-ready}
+use Rattle.strm_ldterm.specs.Frames.{form-same}
 use Rattle.strm_ldterm.specs.Began.{BeganWhole, BeganWork}
 use Rattle.strm_ldterm.specs.Outgone.{BeganOutput, PassedDown, output_of}
 use Rattle.strm_ldterm.proofs.OutWhole.{goes-whole}

@@ -16,7 +16,8 @@ use Rattle.strm_queue.specs.Taken.{TakenLast}
 use Rattle.strm_frame.specs.Hands.{once, CanPut, HasRoom, Shifts}
 use Rattle.strm_frame.specs.Outboxes.{message_in}
 use Rattle.strm_frame.proofs.Shifting.{shifts-joined}
-use Rattle.strm_ldterm.specs.Frames.{queue-ready}
+use Rattle.strm_frame.specs.StandingLaws.{queue-ready}
+use Rattle.strm_ldterm.specs.Frames.{}
 use Rattle.strm_ldterm.specs.Grown.{Begins, BeginsLast, Grown, GrowsLast, Rewrites}
 use Rattle.strm_ldterm.specs.Stands.{EndsPlain, IsOrdinary}
 use Rattle.strm_ldterm.proofs.EchoStands.{grown-last}

@@ -24,7 +24,7 @@ use Rattle.strm_types.specs.Queue.{first_size, left_with}
 use Rattle.strm_types.specs.Service.{Serving}
 use Rattle.strm_types.specs.Termios.{opost}
 use Rattle.strm_laws.specs.Kept.{AreIdle}
-use Rattle.strm_types.specs.Ldterms.{Ldterm, Stage, Between, Begun, Answered}
+use Rattle.strm_types.specs.Ldterms.{Discipline, Stage, Between, Begun, Answered}
 use Rattle.strm_laws.specs.ModuleTurns.{module_turn_ended, module_turned, moved_on}
 use Rattle.strm_laws.specs.Pair.{IsKeptAhead}
 use Rattle.strm_laws.specs.Refusals.{in_range}
@@ -75,7 +75,7 @@ done-few Between = omega arith
 done-few (Begun started c) = omega arith
 done-few (Answered echo) = omega arith
 
-begun-few : (stage : Stage ℕ) (l : Ldterm ℕ) → stages_done stage ≤ 3 * to_treat (record l { stage = stage })
+begun-few : (stage : Stage ℕ) (l : Discipline ℕ) → stages_done stage ≤ 3 * to_treat (record l { stage = stage })
 begun-few Between l = omega arith
 begun-few (Begun started c) l = omega arith
 begun-few (Answered echo) l = omega arith
@@ -196,18 +196,18 @@ module _ (here : Spot) where
 
 -- a turn treats a byte where its message has one
 module _ (here : Spot) where
-  input-whole : (ms : List (Message ℕ)) (l : Ldterm ℕ) → FullFirst ms → let t = input_begins plain (record here { way = Up }) None 0 ms l in t.again ≡ false → first_size ms ≤ t.bytes
+  input-whole : (ms : List (Message ℕ)) (l : Discipline ℕ) → FullFirst ms → let t = input_begins plain (record here { way = Up }) None 0 ms l in t.again ≡ false → first_size ms ≤ t.bytes
   input-whole [] l full over = omega arith
   input-whole (m ∷ rest) l full over = at (is_data m.kind) refl over
     where
       up : Spot
       up = record here { way = Up }
 
-      begun : Ldterm ℕ
+      begun : Discipline ℕ
       begun = record l { read_queue = left_with rest l.read_queue; in_work = Some m }
 
-      at : (typed : Bool) → is_data m.kind ≡ typed → (cond {A = Serving ℕ (Ldterm ℕ)} typed (treats plain up (length (cells_of m)) 0 begun) (passes plain up Up m rest l)).again ≡ false
-          → size_of m ≤ (cond {A = Serving ℕ (Ldterm ℕ)} typed (treats plain up (length (cells_of m)) 0 begun) (passes plain up Up m rest l)).bytes
+      at : (typed : Bool) → is_data m.kind ≡ typed → (cond {A = Serving ℕ (Discipline ℕ)} typed (treats plain up (length (cells_of m)) 0 begun) (passes plain up Up m rest l)).again ≡ false
+          → size_of m ≤ (cond {A = Serving ℕ (Discipline ℕ)} typed (treats plain up (length (cells_of m)) 0 begun) (passes plain up Up m rest l)).bytes
       at true is over =
           let t = stages plain up (3 * length (cells_of m) - stages_done l.stage) 0 begun in
           let bytes = ap (λ again. cond {A = ℕ} again (to_treat begun - to_treat t.state) (length (cells_of m))) over in
@@ -219,7 +219,7 @@ module _ (here : Spot) where
   both-first true b is = refl
   both-first false b is = absurd (false≢true is)
 
-  output-whole : (ms : List (Message ℕ)) (l : Ldterm ℕ) → FullFirst ms → first_size ms ≤ (output_serves plain (record here { way = Down }) None 0 ms l).bytes
+  output-whole : (ms : List (Message ℕ)) (l : Discipline ℕ) → FullFirst ms → first_size ms ≤ (output_serves plain (record here { way = Down }) None 0 ms l).bytes
   output-whole [] l full = omega arith
   output-whole (m ∷ rest) l full = at (is_data m.kind && opost l.termios) refl (cells_of m) refl
     where

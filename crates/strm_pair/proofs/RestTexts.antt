@@ -16,7 +16,7 @@ use Rattle.strm_ldterm.specs.declared.ldterm.Ldterm.{Ldterm}
 use Rattle.strm_ldterm.specs.Stands.{ldterm_in}
 use Rattle.strm_pair.specs.Imaging.{settings_text}
 
-ldterm_parts : (l : plain.Ldterm ℕ) → ldterm_text l ≡ settings_text l ++ ((queue Second queues.LdtermRead).text l.read_queue ++ (queue Second queues.LdtermWrite).text l.write_queue)
+ldterm_parts : (l : plain.Discipline ℕ) → ldterm_text l ≡ settings_text l ++ ((queue Second queues.LdtermRead).text l.read_queue ++ (queue Second queues.LdtermWrite).text l.write_queue)
 ldterm_parts l = simp append_assoc refl
 
 pub ldterm_written : (s : StoreValue) (x : Ldterm) (g : Given)

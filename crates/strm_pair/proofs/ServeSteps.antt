@@ -18,7 +18,7 @@ use Rattle.strm_types.specs.Budgets.{budget, cost_of, most}
 use Rattle.strm_types.specs.Deliver.{Carried, Fate, Parcel, carried, in_turn, tallied}
 use Rattle.strm_laws.specs.Earlier.{places_of}
 use Rattle.strm_types.specs.Input.{made_of}
-use Rattle.strm_types.specs.Ldterms.{Ldterm}
+use Rattle.strm_types.specs.Ldterms.{Discipline}
 use Rattle.strm_types.specs.ModuleQueues.{at_place}
 use Rattle.strm_types.specs.Modules.{act_among}
 use Rattle.strm_laws.specs.Pair.{IsKeptAhead}
@@ -217,7 +217,7 @@ module _ (s t : StoreValue) (p q : Streams) (x : Stack) (here : Spot) (again : B
       }
 
 -- what a call sends takes little, also where it becomes packets
-begins-work : (way : Way) (again : Bool) (l : Ldterm ℕ) → Begins way again l → way ≡ Up → again ≡ true → is_some l.in_work ≡ true
+begins-work : (way : Way) (again : Bool) (l : Discipline ℕ) → Begins way again l → way ≡ Up → again ≡ true → is_some l.in_work ≡ true
 begins-work Up true l begins up more = begins
 begins-work Up false l begins up more = absurd (false≢true more)
 begins-work Down again l begins up more = absurd (cc)

@@ -14,7 +14,7 @@ use Rattle.strm_types.specs.Deliver.{Acted, Parcel}
 use Rattle.strm_types.specs.Input.{input_begins, is_data, made_of, next_stage, passes, stages, stages_done, treats}
 use Rattle.strm_types.specs.LdtermCalls.{Begins, bytes_left}
 use Rattle.strm_types.specs.LdtermServes.{ldterm_serves}
-use Rattle.strm_types.specs.Ldterms.{Ldterm, onward}
+use Rattle.strm_types.specs.Ldterms.{Discipline, onward}
 use Rattle.strm_types.specs.Message.{Message, cells_of, data_message, is_held, size_of}
 use Rattle.strm_types.specs.Modules.{act_among}
 use Rattle.strm_types.specs.OutputTurns.{Outgoing, output_serves, posted, unchanged, with_given}
@@ -43,21 +43,21 @@ module _ (here : Spot) where
   abbrev Gathered : List (Parcel ℕ) → Type 0
   Gathered ps = (line : List ℕ) × (ps ≡ gathered_up plain here line)
 
-  stages-gathered : (n made : ℕ) (l : Ldterm ℕ) → is_some l.in_work ≡ true → is_some (stages plain here n made l).state.in_work ≡ false → Gathered (stages plain here n made l).sent
+  stages-gathered : (n made : ℕ) (l : Discipline ℕ) → is_some l.in_work ≡ true → is_some (stages plain here n made l).state.in_work ≡ false → Gathered (stages plain here n made l).sent
   stages-gathered zero made l some over = (l.gathered, refl)
   stages-gathered (suc n) made l some over = at (is_none_left t.sent) over (λ none. stages-gathered n (made + made_of t.gone) t.state still none)
     where
-      t : Acted ℕ (Ldterm ℕ)
+      t : Acted ℕ (Discipline ℕ)
       t = next_stage plain here made l
 
       still : is_some t.state.in_work ≡ true
       still = next-works here made l ∙ some
 
-      u : Acted ℕ (Ldterm ℕ)
+      u : Acted ℕ (Discipline ℕ)
       u = stages plain here n (made + made_of t.gone) t.state
 
-      at : (none : Bool) → is_some (cond {A = Acted ℕ (Ldterm ℕ)} none (record { state = u.state; notes = t.notes ++ u.notes; sent = u.sent; gone = t.gone ++ u.gone }) t).state.in_work ≡ false
-          → (is_some u.state.in_work ≡ false → Gathered u.sent) → Gathered (cond {A = Acted ℕ (Ldterm ℕ)} none (record { state = u.state; notes = t.notes ++ u.notes; sent = u.sent; gone = t.gone ++ u.gone }) t).sent
+      at : (none : Bool) → is_some (cond {A = Acted ℕ (Discipline ℕ)} none (record { state = u.state; notes = t.notes ++ u.notes; sent = u.sent; gone = t.gone ++ u.gone }) t).state.in_work ≡ false
+          → (is_some u.state.in_work ≡ false → Gathered u.sent) → Gathered (cond {A = Acted ℕ (Discipline ℕ)} none (record { state = u.state; notes = t.notes ++ u.notes; sent = u.sent; gone = t.gone ++ u.gone }) t).sent
       at true over behind = behind over
       at false over behind = absurd (false≢true (sym over ∙ still))
 
@@ -84,7 +84,7 @@ module _ (here : Spot) where
   given-on down m held [] = tt
   given-on down m held (c ∷ given) = (held, refl, sym down, λ is. omega arith)
 
-  output-on : here.way ≡ Down → (bytes : ℕ) (ms : List (Message ℕ)) (l : Ldterm ℕ) → let t = output_serves plain (record here { way = Down }) (Some bytes) 0 ms l in t.bytes < first_size ms → SentOn here t.acted.sent
+  output-on : here.way ≡ Down → (bytes : ℕ) (ms : List (Message ℕ)) (l : Discipline ℕ) → let t = output_serves plain (record here { way = Down }) (Some bytes) 0 ms l in t.bytes < first_size ms → SentOn here t.acted.sent
   output-on down bytes [] l less = tt
   output-on down bytes (m ∷ rest) l less = at (is_data m.kind && opost l.termios) refl (cells_of m) refl less
     where
@@ -99,7 +99,7 @@ module _ (here : Spot) (again : Bool) (bytes : ℕ) where
   abbrev up : Spot
   up = record here { way = Up }
 
-  serves-gathered : (more : Bool) (l : Ldterm ℕ) → Begins Up more l → let t = ldterm_serves plain up 0 more (Some bytes) l in t.again ≡ false → t.bytes < bytes_left Up more l → Gathered here t.acted.sent
+  serves-gathered : (more : Bool) (l : Discipline ℕ) → Begins Up more l → let t = ldterm_serves plain up 0 more (Some bytes) l in t.again ≡ false → t.bytes < bytes_left Up more l → Gathered here t.acted.sent
   serves-gathered true l begins over less = stages-gathered up (3 * bytes - stages_done l.stage) 0 l begins over
   serves-gathered false l begins over less = of l.read_queue.messages refl over less
     where
@@ -107,10 +107,10 @@ module _ (here : Spot) (again : Bool) (bytes : ℕ) where
       of [] is over less = ([], refl)
       of (m ∷ rest) is over less = at (is_data m.kind) over less
         where
-          begun : Ldterm ℕ
+          begun : Discipline ℕ
           begun = record l { read_queue = left_with rest l.read_queue; in_work = Some m }
 
-          at : (typed : Bool) → let t = cond {A = Serving ℕ (Ldterm ℕ)} typed (treats plain up bytes 0 begun) (passes plain up Up m rest l) in t.again ≡ false → t.bytes < bytes_left Up false l → Gathered here t.acted.sent
+          at : (typed : Bool) → let t = cond {A = Serving ℕ (Discipline ℕ)} typed (treats plain up bytes 0 begun) (passes plain up Up m rest l) in t.again ≡ false → t.bytes < bytes_left Up false l → Gathered here t.acted.sent
           at true over less = stages-gathered up (3 * bytes - stages_done begun.stage) 0 begun refl over
           at false over less = let size = ap first_size is in absurd (omega (arith, less, size))
 

@@ -14,7 +14,7 @@ use Rattle.strm_types.specs.declared.spots.Spot.{Spot}
 use Rattle.strm_types.specs.Deliver.{Acted, Parcel, Goes}
 use Rattle.strm_types.specs.Flush.{is_data_kind}
 use Rattle.strm_types.specs.LdtermPuts.{ldterm_puts}
-use Rattle.strm_types.specs.Ldterms.{Ldterm, Between, Answered, new_ldterm, both}
+use Rattle.strm_types.specs.Ldterms.{Discipline, Between, Answered, new_ldterm, both}
 use Rattle.strm_types.specs.Message.{Message, band_of, cells_of, is_high_priority, rank_of, size_of}
 use Rattle.strm_types.specs.Queue.{Queue, Flow}
 use Rattle.strm_types.specs.Termios.{first_termios}
@@ -57,7 +57,7 @@ to_read = protocol 2 (1 ∷ []) (2 ∷ 3 ∷ []) ∷ ordinary (4 ∷ 5 ∷ []) �
 abbrev pub to_write : List (Message ℕ)
 to_write = protocol 2 (21 ∷ []) (22 ∷ 23 ∷ []) ∷ ordinary (24 ∷ []) ∷ []
 
-abbrev pub busy : Ldterm ℕ
+abbrev pub busy : Discipline ℕ
 busy = record {
   termios = first_termios;
   stopped = true;
@@ -169,7 +169,7 @@ pub no-echo-to-flush : (ldterm_puts (at Slave Down) (flushing (6 ∷ 1 ∷ [])) 
 no-echo-to-flush = refl
 
 -- one that asks for nothing, or for a band that isn't there, passes
-abbrev passes : Ldterm ℕ → Parcel ℕ → Acted ℕ (Ldterm ℕ)
+abbrev passes : Discipline ℕ → Parcel ℕ → Acted ℕ (Discipline ℕ)
 passes p sent = record { state = p; notes = []; sent = sent ∷ []; gone = [] }
 
 pub flushes-of-nothing : map (λ bytes. ldterm_puts (at Slave Up) (flushing bytes) busy) ([] ∷ (0 ∷ []) ∷ (7 ∷ []) ∷ [])

@@ -40,16 +40,16 @@ module _ (side : Side) (at : ℕ) where
   abbrev there : Way → Spot
   there way = record { side = side; at = at; way = way }
 
-  treats-none : (way : Way) (made : ℕ) (p : ldterms.Ldterm ℕ) → (treats plain (there way) 0 made p).again ≡ false
+  treats-none : (way : Way) (made : ℕ) (p : ldterms.Discipline ℕ) → (treats plain (there way) 0 made p).again ≡ false
   treats-none way made p =
       let none : 3 * 0 - stages_done p.stage ≡ 0 = omega arith in
       ap (λ n. is_some (stages plain (there way) n made p).state.in_work) none
 
-  output-once : (made : ℕ) (ms : List (Message ℕ)) (p : ldterms.Ldterm ℕ) → (output_serves plain (there Down) (Some 0) made ms p).again ≡ false
+  output-once : (made : ℕ) (ms : List (Message ℕ)) (p : ldterms.Discipline ℕ) → (output_serves plain (there Down) (Some 0) made ms p).again ≡ false
   output-once made [] p = refl
   output-once made (m ∷ rest) p = refl
 
-  input-once : (made : ℕ) (ms : List (Message ℕ)) (p : ldterms.Ldterm ℕ) → (input_begins plain (there Up) (Some 0) made ms p).again ≡ false
+  input-once : (made : ℕ) (ms : List (Message ℕ)) (p : ldterms.Discipline ℕ) → (input_begins plain (there Up) (Some 0) made ms p).again ≡ false
   input-once made [] p = refl
   input-once made (m ∷ rest) p = by (is_data m.kind)
     where

@@ -12,7 +12,7 @@ use Rattle.strm_types.specs.declared.names.Way.TheVariants.{Up}
 use Rattle.strm_types.specs.declared.refusals.Refusal.{Refusal}
 use Rattle.strm_types.specs.declared.refusals.Refusal.TheVariants.{Enosr}
 use Rattle.strm_types.specs.Deliver.{carried}
-use Rattle.strm_types.specs.Ldterms.{Ldterm, new_ldterm}
+use Rattle.strm_types.specs.Ldterms.{Discipline, new_ldterm}
 use Rattle.strm_types.specs.Message.{Message, band_of, cells_of, data_message, is_held, is_high_priority, rank_of, size_of}
 use Rattle.strm_types.specs.Names.{driver_of}
 use Rattle.strm_types.specs.Queue.{Queue}
@@ -30,7 +30,7 @@ reading = record { side = Slave; place = places.Ldterm; way = Up }
 abbrev waiting : List (Message ℕ) → Queue ℕ → Queue ℕ
 waiting ms q = record q { messages = ms }
 
-abbrev fresh : Ldterm ℕ
+abbrev fresh : Discipline ℕ
 fresh = new_ldterm
 
 abbrev typed_on : Stream ℕ

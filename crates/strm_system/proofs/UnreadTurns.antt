@@ -31,7 +31,7 @@ use Rattle.strm_types.specs.Emptied.{cells_gone, of_all}
 use Rattle.strm_types.specs.Input.{begins_next, cells_left, input_begins, is_data, made_of, next_stage, passes, stage_at, stages, stages_done, then_on, to_treat, treats, with_left}
 use Rattle.strm_types.specs.Keys.{restarts}
 use Rattle.strm_types.specs.LdtermServes.{ldterm_serves}
-use Rattle.strm_types.specs.Ldterms.{Ldterm, Stage, Between, Begun, Answered}
+use Rattle.strm_types.specs.Ldterms.{Discipline, Stage, Between, Begun, Answered}
 use Rattle.strm_types.specs.Lines.{ErasesByte, ErasesWord, edited, has_room}
 use Rattle.strm_types.specs.Message.{Message, cells_of}
 use Rattle.strm_types.specs.ModuleQueues.{at_place}
@@ -63,16 +63,16 @@ module _ {C : Type 0} (dir : Dir) (cells : Cells C) (here : Spot) where
   lost-unread : (rule : Rule) (xs : List C) → is_read rule ≡ false → None_read (lost cells here rule xs)
   lost-unread rule xs apart = line-unread dir here.side rule xs apart
 
-  edits-unread : (left : List C) (rule : Rule) (c : C) (l : Ldterm C) → is_read rule ≡ false → None_read (lost cells here rule (drop (length left) l.line) ++ lost cells here EraseKey (c ∷ []))
+  edits-unread : (left : List C) (rule : Rule) (c : C) (l : Discipline C) → is_read rule ≡ false → None_read (lost cells here rule (drop (length left) l.line) ++ lost cells here EraseKey (c ∷ []))
   edits-unread left rule c l apart = none-both dir (lost cells here rule (drop (length left) l.line)) (lost cells here EraseKey (c ∷ [])) (lost-unread rule (drop (length left) l.line) apart) (lost-unread EraseKey (c ∷ []) refl)
 
-  signals-unread : (asked : FlushAsked) (signal : ℕ) (c : C) (l : Ldterm C) → Unread dir (signals cells here asked signal c l)
+  signals-unread : (asked : FlushAsked) (signal : ℕ) (c : C) (l : Discipline C) → Unread dir (signals cells here asked signal c l)
   signals-unread asked signal c l = either dir (noflsh l.termios) _ _ refl (none-both dir (lost cells here Flushed l.line) (lost cells here SignalKey (c ∷ [])) (lost-unread Flushed l.line refl) refl)
 
-  added-unread : (c : C) (l : Ldterm C) → Unread dir (added cells here c l)
+  added-unread : (c : C) (l : Discipline C) → Unread dir (added cells here c l)
   added-unread c l = either dir (not (icanon l.termios)) _ _ refl (either dir (has_room l.line) _ _ refl (either dir (imaxbel l.termios) _ _ refl (lost-unread LineOver (l.line ++ c ∷ []) refl)))
 
-  strikes-unread : (key : Key) (c : C) (l : Ldterm C) → Unread dir (strikes cells here key c l)
+  strikes-unread : (key : Key) (c : C) (l : Discipline C) → Unread dir (strikes cells here key c l)
   strikes-unread Stop c l = refl
   strikes-unread Start c l = refl
   strikes-unread Intr c l = signals-unread both_ways sigint c l
@@ -88,14 +88,14 @@ module _ {C : Type 0} (dir : Dir) (cells : Cells C) (here : Spot) where
   strikes-unread Delimiter c l = refl
   strikes-unread Ordinary c l = added-unread c l
 
-  begins-unread : (c : C) (l : Ldterm C) → Unread dir (begins cells here c l)
+  begins-unread : (c : C) (l : Discipline C) → Unread dir (begins cells here c l)
   begins-unread c l = either dir (l.stopped && restarts l.termios (stroke_at cells here c l)) _ _ refl refl
 
-  next-begins : (xs : List C) (l : Ldterm C) → Unread dir (begins_next cells here xs l)
+  next-begins : (xs : List C) (l : Discipline C) → Unread dir (begins_next cells here xs l)
   next-begins [] l = refl
   next-begins (c ∷ rest) l = begins-unread c (with_left rest l)
 
-  echoed-unread : (made : ℕ) (echo : List ℕ) (l : Ldterm C) → Unread dir (echoed cells here made echo l)
+  echoed-unread : (made : ℕ) (echo : List ℕ) (l : Discipline C) → Unread dir (echoed cells here made echo l)
   echoed-unread made [] l = refl
   echoed-unread made (b ∷ bytes) l = at (is_full 0 l.write_queue) l.echoing
     where
@@ -107,7 +107,7 @@ module _ {C : Type 0} (dir : Dir) (cells : Cells C) (here : Spot) where
       at false true = refl
       at false false = refl
 
-  next-unread : (made : ℕ) (l : Ldterm C) → Unread dir (next_stage cells here made l)
+  next-unread : (made : ℕ) (l : Discipline C) → Unread dir (next_stage cells here made l)
   next-unread made l = at l.stage
     where
       at : (stage : Stage C) → Unread dir (stage_at cells here stage made l)
@@ -115,26 +115,26 @@ module _ {C : Type 0} (dir : Dir) (cells : Cells C) (here : Spot) where
       at (Begun started c) = strikes-unread (stroke_at cells here c l).key (cells.mapped (stroke_at cells here c l).byte c) (record l { after_lnext = is_lnext (stroke_at cells here c l).key })
       at (Answered echo) = echoed-unread made echo _
 
-  then-unread : (made : ℕ) (t : Acted C (Ldterm C)) (next : ℕ → Ldterm C → Acted C (Ldterm C)) → Unread dir t → Unread dir (next (made + made_of t.gone) t.state) → Unread dir (then_on made t next)
+  then-unread : (made : ℕ) (t : Acted C (Discipline C)) (next : ℕ → Discipline C → Acted C (Discipline C)) → Unread dir t → Unread dir (next (made + made_of t.gone) t.state) → Unread dir (then_on made t next)
   then-unread made t next first second = at (is_none_left t.sent)
     where
       at : (none : Bool) → (let u = next (made + made_of t.gone) t.state in Unread dir (cond none (record { state = u.state; notes = t.notes ++ u.notes; sent = u.sent; gone = t.gone ++ u.gone }) t))
       at true = none-both dir t.gone (next (made + made_of t.gone) t.state).gone first second
       at false = first
 
-  stages-unread : (n made : ℕ) (l : Ldterm C) → Unread dir (stages cells here n made l)
+  stages-unread : (n made : ℕ) (l : Discipline C) → Unread dir (stages cells here n made l)
   stages-unread zero made l = refl
   stages-unread (suc more) made l =
       let t = next_stage cells here made l in
       then-unread made t (stages cells here more) (next-unread made l) (stages-unread more (made + made_of t.gone) t.state)
 
-  input-unread : (stop : Option ℕ) (made : ℕ) (ms : List (Message C)) (l : Ldterm C) → Unread dir (input_begins cells here stop made ms l).acted
+  input-unread : (stop : Option ℕ) (made : ℕ) (ms : List (Message C)) (l : Discipline C) → Unread dir (input_begins cells here stop made ms l).acted
   input-unread stop made [] l = refl
   input-unread stop made (m ∷ rest) l = at (is_data m.kind)
     where
       at : (treated : Bool) → Unread dir (cond treated (treats cells here (unwrap_or stop (length (cells_of m))) made (record l { read_queue = left_with rest l.read_queue; in_work = Some m })) (passes cells here Up m rest l)).acted
       at true =
-          let begun : Ldterm C = record l { read_queue = left_with rest l.read_queue; in_work = Some m } in
+          let begun : Discipline C = record l { read_queue = left_with rest l.read_queue; in_work = Some m } in
           stages-unread (3 * unwrap_or stop (length (cells_of m)) - stages_done begun.stage) made begun
       at false = refl
 
@@ -151,11 +151,11 @@ module _ {C : Type 0} (dir : Dir) (cells : Cells C) (here : Spot) where
       let first = post t column (cells.byte c) in
       none-both dir (told_for cells (output_dir cells here) first.given made c) _ (told-unread first.given made c) (posts-unread (made + made_for first.given) t first.column rest)
 
-  posted-unread : (stop : Option ℕ) (made : ℕ) (xs : List C) (m : Message C) (l : Ldterm C) → None_read (posted cells here stop made xs m l).told
+  posted-unread : (stop : Option ℕ) (made : ℕ) (xs : List C) (m : Message C) (l : Discipline C) → None_read (posted cells here stop made xs m l).told
   posted-unread stop made [] m l = refl
   posted-unread stop made (c ∷ rest) m l = posts-unread made l.termios l.column (take (unwrap_or stop (length (c ∷ rest))) (c ∷ rest))
 
-  output-unread : (stop : Option ℕ) (made : ℕ) (ms : List (Message C)) (l : Ldterm C) → Unread dir (output_serves cells here stop made ms l).acted
+  output-unread : (stop : Option ℕ) (made : ℕ) (ms : List (Message C)) (l : Discipline C) → Unread dir (output_serves cells here stop made ms l).acted
   output-unread stop made [] l = refl
   output-unread stop made (m ∷ rest) l = at (is_data m.kind && opost l.termios)
     where
@@ -165,7 +165,7 @@ module _ {C : Type 0} (dir : Dir) (cells : Cells C) (here : Spot) where
 
 -- a turn
 module _ {C : Type 0} (dir : Dir) (cells : Cells C) where
-  serves-at : (way : Way) (here : Spot) (again : Bool) (made : ℕ) (stop : Option ℕ) (l : Ldterm C) → Unread dir (ldterm_serves cells (record here { way = way }) made again stop l).acted
+  serves-at : (way : Way) (here : Spot) (again : Bool) (made : ℕ) (stop : Option ℕ) (l : Discipline C) → Unread dir (ldterm_serves cells (record here { way = way }) made again stop l).acted
   serves-at Down here again made stop l = output-unread dir cells (record here { way = Down }) stop made l.write_queue.messages l
   serves-at Up here false made stop l = input-unread dir cells (record here { way = Up }) stop made l.read_queue.messages l
   serves-at Up here true made stop l = stages-unread dir cells (record here { way = Up }) (3 * unwrap_or stop (to_treat l) - stages_done l.stage) made l
