@@ -1,5 +1,5 @@
 -- A module whose queues change but for their lists, and what its queue of a way is.
-use Rattle.std.proofs.Common.{ℕ, ◌≡◌, ◌+◌, List, [], refl, ap, ◌∙◌}
+use Rattle.std.proofs.Common.{ℕ, ◌≡◌, ◌+◌, List, [], refl, ap}
 use Rattle.std.specs.Prelude.{Option, None, Some, IfSome, slice_index_or}
 use Rattle.strm_types.specs.declared.names.Way.{Way}
 use Rattle.strm_types.specs.declared.names.Way.TheVariants.{Up, Down}

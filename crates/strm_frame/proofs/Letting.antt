@@ -1,5 +1,5 @@
 -- A module that lets all go: what stood on its read queue, its line, and what stood on its write queue.
-use Rattle.std.proofs.Common.{ℕ, ◌≡◌, Bool, false, cond, List, [], ◌∷◌, ◌++◌, length, refl, sym, ap, ◌∙◌, arith}
+use Rattle.std.proofs.Common.{ℕ, ◌≡◌, Bool, false, cond, List, [], ◌∷◌, ◌++◌, refl, sym, ap, ◌∙◌, arith}
 use Rattle.std.specs.Prelude.{Option, None, Some}
 use Rattle.strm_types.specs.declared.names.Side.{Side}
 use Rattle.strm_types.specs.declared.names.Way.TheVariants.{Up, Down}
@@ -9,7 +9,6 @@ use Rattle.strm_types.specs.declared.spots.Note.{Note}
 use Rattle.strm_types.specs.declared.spots.Note.TheVariants.{Room}
 use Rattle.strm_types.specs.Deliver.{tallied}
 use Rattle.strm_types.specs.Dropped.{is_met}
-use Rattle.strm_types.specs.Message.{Message}
 use Rattle.strm_types.specs.Service.{line_gone, queues_cleared}
 use Rattle.strm_types.specs.Standings.{QueuePair, messages_on}
 use Rattle.strm_blocks.specs.Blocks.{StoreValue}

@@ -1,6 +1,6 @@
 -- The nearest earlier queue is the same where the origins of cells are forgotten, and where no module stands it is the one by name.
 use Rattle.std.proofs.Common.{ℕ, suc, arith, ◌≡◌, ◌-◌, false, cond, List, [], ◌∷◌, length, map, take, drop, refl, ap, ◌∙◌}
-use Rattle.std.specs.Prelude.{min, nat_le, Option, None, Some}
+use Rattle.std.specs.Prelude.{min, nat_le, Option, None, Some, is_some, option_map}
 use Rattle.std.proofs.lemmas.Bool.Decides.{nat_tests}
 use Rattle.std.proofs.lemmas.List.{take-map, drop-map, length-map}
 use Rattle.strm_types.specs.declared.limits.TheConstants.{MODULES}
@@ -10,9 +10,9 @@ use Rattle.strm_types.specs.declared.names.Way.{Way}
 use Rattle.strm_types.specs.declared.names.Way.TheVariants.{Up, Down}
 use Rattle.strm_laws.specs.Earlier.{NoModules, before_among, before_at, before_driver, before_head, modules_on, places_of}
 use Rattle.strm_types.specs.ModuleQueues.{first_place, last_place, place_before, place_past}
-use Rattle.strm_types.specs.Standings.{has_queues}
+use Rattle.strm_types.specs.Standings.{has_queues, QueuePair, map_pair}
 use Rattle.strm_types.specs.Names.{place_of}
-use Rattle.strm_laws.specs.Stacked.{Standing, OfLdterm, OfPtem, OfPckt, map_module, module_name}
+use Rattle.strm_laws.specs.Stacked.{Standing, OfLdterm, OfPtem, OfPckt, map_module, module_name, kind_name, map_kind, Module}
 use Rattle.strm_laws.specs.State.{State, stream, map_state}
 
 module _ {C D : Type 0} (f : C → D) where

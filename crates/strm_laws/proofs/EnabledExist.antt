@@ -15,12 +15,12 @@ use Rattle.strm_types.specs.declared.spots.Note.{Note}
 use Rattle.strm_types.specs.declared.spots.Note.TheVariants.{Enable, Room}
 use Rattle.strm_types.specs.declared.limits.TheConstants.{MODULES}
 use Rattle.strm_types.specs.ModuleQueues.{place_before}
-use Rattle.strm_types.specs.Names.{driver_of, enable, enable_found, enable_if, enable_some, is_enabled, other, same_queue, without}
+use Rattle.strm_types.specs.Names.{driver_of, enable, enable_found, enable_if, enable_some, is_enabled, other, same_queue, without, place_of}
 use Rattle.strm_laws.specs.Earlier.{before_at, before_by, before_modules, places_of, queue_named}
 use Rattle.strm_laws.specs.Puts.{noted}
 use Rattle.strm_laws.specs.Restorable.{AreEnabled, IsThere, is_ldterm, is_there_among}
 use Rattle.strm_laws.specs.StackCosts.{Stands, stands_of, stands_on}
-use Rattle.strm_laws.specs.Stacked.{Standing, OfLdterm, OfPtem, OfPckt, module_name}
+use Rattle.strm_laws.specs.Stacked.{Standing, OfLdterm, OfPtem, OfPckt, module_name, kind_name, Module}
 use Rattle.strm_laws.specs.State.{State, stream}
 use Rattle.strm_types.proofs.EnabledNames.{once-added, once-without, same_queue-sound}
 

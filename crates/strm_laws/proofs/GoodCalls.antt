@@ -117,9 +117,13 @@ module _ {C : Type 0} where
 
   -- pushes and pops
   named-good : (name : ModuleName) (ps : List (Standing C)) → GoodModule (module_named {C = C} name)
-  named-good names.Ldterm ps = record { termios = refl; column = omega arith; line = omega arith; read_queue = new-good _ 512 128 (omega arith) (omega arith) (omega arith); write_queue = new-good _ 512 128 (omega arith) (omega arith) (omega arith); work = tt }
-  named-good names.Ptem ps = refl
-  named-good names.Pckt ps = tt
+  named-good names.Ldterm ps = record {
+    kind = record { termios = refl; column = omega arith; line = omega arith; work = tt };
+    queues = (new-good _ 512 128 (omega arith) (omega arith) (omega arith), new-good _ 512 128 (omega arith) (omega arith) (omega arith));
+    has = refl;
+  }
+  named-good names.Ptem ps = record { kind = refl; queues = tt; has = refl }
+  named-good names.Pckt ps = record { kind = tt; queues = tt; has = refl }
 
   one-more : (name : ModuleName) (ps : List (Standing C)) → may_stand (Some (module_named name)) ps ≡ true → GoodModules ps → GoodModules (module_named name ∷ ps)
   one-more name ps may good = record {

@@ -14,18 +14,21 @@ use Rattle.strm_types.specs.Input.{input_begins, is_data, passes, stages_done, t
 use Rattle.strm_types.specs.LdtermServes.{ldterm_serves}
 use Rattle.strm_laws.specs.LdtermTurns.{IsItsTurn, IsOrderly}
 use Rattle.strm_laws.specs.LdtermWeights.{IgnoresMapping, MayServe}
+use Rattle.strm_types.specs.LdtermStands.{disciplined}
 use Rattle.strm_types.specs.Ldterms.{IsIdle, Discipline}
 use Rattle.strm_types.specs.Message.{Message}
 use Rattle.strm_types.specs.Modules.{act_among, put_among}
 use Rattle.strm_types.specs.OutputTurns.{output_serves}
 use Rattle.strm_laws.specs.Places.{weight_gone, weight_made, weight_sent}
 use Rattle.strm_types.specs.Queue.{left_with}
-use Rattle.strm_laws.specs.Stacked.{Standing, OfLdterm, OfPtem, OfPckt, IsAtRest, module_puts, module_serves, module_weight, modules_weight}
+use Rattle.strm_types.specs.Standings.{QueuePair, stood}
+use Rattle.strm_laws.specs.Stacked.{Module, OfLdterm, OfPtem, OfPckt, Standing, IsAtRest, KindRests, module_puts, module_serves, module_weight, modules_weight}
 use Rattle.strm_laws.proofs.LdtermOrderly.{orderly-echo, puts-orderly, serves-orderly}
 use Rattle.strm_laws.proofs.LdtermProgress.{serves-leaves}
 use Rattle.strm_types.proofs.LdtermPutStays.{puts-stay}
 use Rattle.strm_laws.proofs.LdtermServes.{serves-keep}
 use Rattle.strm_laws.proofs.ModulesIdle.{AllIdle, among-idle, puts-idle}
+use Rattle.strm_laws.proofs.StandingLdterms.{weigh, weigh-stands}
 
 -- What a call wants of its module, by its way, where so many bytes are left of the turn: nothing of a turn is under way, or the turn of the
 -- read queue goes on, and what has begun is among these bytes.
@@ -34,11 +37,14 @@ IsReady true Up left l = IsOrderly l × (stages_done l.stage ≤ 3 * left)
 IsReady true Down left l = IsIdle l
 IsReady false way left l = IsIdle l
 
--- the same of any module; what one without queues wants is nothing
+-- the same of any module with its queues; what one without a turn of its own wants is nothing
+abbrev pub IsReadyWith : {C : Type 0} → Bool → Way → ℕ → Option (QueuePair C) → Module C → Type 0
+IsReadyWith again way left queues (OfLdterm l) = IsReady again way left (disciplined l queues)
+IsReadyWith again way left queues (OfPtem p) = Unit {0}
+IsReadyWith again way left queues (OfPckt p) = Unit {0}
+
 abbrev pub IsReadyAt : {C : Type 0} → Bool → Way → ℕ → Standing C → Type 0
-IsReadyAt again way left (OfLdterm l) = IsReady again way left l
-IsReadyAt again way left (OfPtem p) = Unit {0}
-IsReadyAt again way left (OfPckt p) = Unit {0}
+IsReadyAt again way left x = IsReadyWith again way left x.queues x.part
 
 module _ {C : Type 0} where
   idle-orderly : (l : Discipline C) → IsIdle l → IsOrderly l
@@ -66,17 +72,25 @@ module _ {C : Type 0} where
 
   -- a put leaves it so
   pub puts-ready : (cells : Cells C) (made : ℕ) (again : Bool) (way : Way) (left : ℕ) (here : Spot) (m : Message C) (q : Standing C) → IsReadyAt again way left q → IsReadyAt again way left (module_puts cells made here m q).state
-  puts-ready cells made again way left here m (OfPtem q) ready = tt
-  puts-ready cells made again way left here m (OfPckt q) ready = tt
-  puts-ready cells made true Up left here m (OfLdterm l) ready = (puts-orderly here m l ready.0, subst (λ stage. stages_done stage ≤ 3 * left) (sym (puts-stay here m l).stage) ready.1)
-  puts-ready cells made true Down left here m (OfLdterm l) ready = puts-idle cells made here m (OfLdterm l) ready
-  puts-ready cells made false way left here m (OfLdterm l) ready = puts-idle cells made here m (OfLdterm l) ready
+  puts-ready cells made again way left here m q ready = by again way q.part ready
+    where
+      by : (again : Bool) (way : Way) (part : Module C) → IsReadyWith again way left q.queues part → IsReadyAt again way left (module_puts cells made here m (stood part q.queues)).state
+      by again way (OfPtem p) ready = tt
+      by again way (OfPckt p) ready = tt
+      by true Up (OfLdterm l) ready =
+          let d = disciplined l q.queues in
+          (puts-orderly here m d ready.0, subst (λ stage. stages_done stage ≤ 3 * left) (sym (puts-stay here m d).stage) ready.1)
+      by true Down (OfLdterm l) ready = puts-idle cells made here m (stood (OfLdterm l) q.queues) ready
+      by false way (OfLdterm l) ready = puts-idle cells made here m (stood (OfLdterm l) q.queues) ready
 
   -- a module is ready for the first call of a turn where nothing of one is under way
   pub first-ready : (way : Way) (left : ℕ) (q : Standing C) → IsAtRest q → IsReadyAt false way left q
-  first-ready way left (OfLdterm l) rests = rests
-  first-ready way left (OfPtem q) rests = tt
-  first-ready way left (OfPckt q) rests = tt
+  first-ready way left q rests = by q.part rests
+    where
+      by : (part : Module C) → KindRests part → IsReadyWith false way left q.queues part
+      by (OfLdterm l) rests = rests
+      by (OfPtem p) rests = tt
+      by (OfPckt p) rests = tt
 
   none-of : (o : Option (Message C)) → is_some o ≡ false → o ≡ None
   none-of None is = refl
@@ -154,14 +168,21 @@ module _ {C : Type 0} (cells : Cells C) (here : Spot) (made : ℕ) (again : Bool
   asks l = (module_serves cells here made again (Some left) l).again
 
   module-goes : (q : Standing C) → Ready q → asks q ≡ true → IsReadyAt true here.way (left - treated q) (acts q).state
-  module-goes (OfLdterm l) ready works = goes-at cells here.way here again made left l ready works
-  module-goes (OfPtem q) ready works = tt
-  module-goes (OfPckt q) ready works = tt
+  module-goes q ready works = by q.part ready works
+    where
+      by : (part : Module C) → IsReadyWith again here.way left q.queues part → asks (stood part q.queues) ≡ true
+          → IsReadyAt true here.way (left - treated (stood part q.queues)) (acts (stood part q.queues)).state
+      by (OfLdterm l) ready works = goes-at cells here.way here again made left (disciplined l q.queues) ready works
+      by (OfPtem p) ready works = tt
+      by (OfPckt p) ready works = tt
 
   module-rests : (q : Standing C) → Ready q → asks q ≡ false → IsAtRest (acts q).state
-  module-rests (OfLdterm l) ready over = rests-at cells here.way here again made left l ready over
-  module-rests (OfPtem q) ready over = tt
-  module-rests (OfPckt q) ready over = tt
+  module-rests q ready over = by q.part ready over
+    where
+      by : (part : Module C) → IsReadyWith again here.way left q.queues part → asks (stood part q.queues) ≡ false → IsAtRest (acts (stood part q.queues)).state
+      by (OfLdterm l) ready over = rests-at cells here.way here again made left (disciplined l q.queues) ready over
+      by (OfPtem p) ready over = tt
+      by (OfPckt p) ready over = tt
 
   pub among-goes : (i : ℕ) (ps : List (Standing C)) → OneIs Ready i ps → slice_index_or (map asks ps) i false ≡ true
       → OneIs (λ l. IsReadyAt true here.way (left - slice_index_or (map treated ps) i 0) l) i (act_among acts i ps).state
@@ -176,9 +197,17 @@ module _ {C : Type 0} (cells : Cells C) (here : Spot) (made : ℕ) (again : Bool
 
   module _ (p : Dir → C → Bool) (ignores : IgnoresMapping cells p) where
     module-keeps : (q : Standing C) → Ready q → let t = acts q in module_weight p here.side t.state + (weight_sent p t.sent + weight_gone p t.gone) ≡ module_weight p here.side q + weight_made p t.gone
-    module-keeps (OfLdterm l) ready = serves-keep p cells ignores here made again (Some left) l (orderly-echo l (ready-orderly again here.way left l ready)) (ready-may again here.way left l ready)
-    module-keeps (OfPtem q) ready = refl
-    module-keeps (OfPckt q) ready = refl
+    module-keeps q ready = by q.part ready
+      where
+        by : (part : Module C) → IsReadyWith again here.way left q.queues part → let t = acts (stood part q.queues) in
+            module_weight p here.side t.state + (weight_sent p t.sent + weight_gone p t.gone) ≡ module_weight p here.side (stood part q.queues) + weight_made p t.gone
+        by (OfLdterm l) ready =
+            let d = disciplined l q.queues in
+            let t = ldterm_serves cells here made again (Some left) d in
+            let kept = serves-keep p cells ignores here made again (Some left) d (orderly-echo d (ready-orderly again here.way left d ready)) (ready-may again here.way left d ready) in
+            omega (arith, kept, weigh p here.side l q.queues, weigh-stands p here.side t.acted.state)
+        by (OfPtem q) ready = omega arith
+        by (OfPckt q) ready = omega arith
 
     pub among-keeps : (i : ℕ) (ps : List (Standing C)) → OneIs Ready i ps → let t = act_among acts i ps in
         modules_weight p here.side t.state + (weight_sent p t.sent + weight_gone p t.gone) ≡ modules_weight p here.side ps + weight_made p t.gone

@@ -1,6 +1,6 @@
 -- A put at one of the modules of a stream: it loses no cell, makes none but those that it tells, and does the same where the origins of cells are forgotten.
-use Rattle.std.proofs.Common.{ℕ, zero, suc, ◌≡◌, ◌<◌, ◌+◌, Bool, true, false, cond, List, [], ◌∷◌, length, map, refl, ap, arith}
-use Rattle.std.specs.Prelude.{◌&&◌, ◌==◌, not, Option, None}
+use Rattle.std.proofs.Common.{ℕ, zero, suc, ◌≡◌, ◌<◌, ◌+◌, Bool, true, false, cond, List, [], ◌∷◌, length, map, refl, ap, arith, ◌∙◌}
+use Rattle.std.specs.Prelude.{◌&&◌, ◌==◌, not, Option, None, option_map}
 use Rattle.std.proofs.lemmas.List.Sums.{sum_by-cons}
 use Rattle.strm_types.specs.declared.flushing.FlushAsked.{FlushAsked}
 use Rattle.strm_types.specs.declared.ioctls.TheConstants.{TCSETSF}
@@ -21,15 +21,18 @@ use Rattle.strm_types.specs.Modules.{put_among}
 use Rattle.strm_types.specs.Origins.{map_acted}
 use Rattle.strm_laws.specs.Places.{weight_gone, weight_made, weight_sent}
 use Rattle.strm_types.specs.Service.{line_gone, done_by}
-use Rattle.strm_laws.specs.Stacked.{Standing, OfLdterm, OfPtem, OfPckt, map_module, module_puts, module_weight, modules_weight}
+use Rattle.strm_laws.specs.Stacked.{Standing, OfLdterm, OfPtem, OfPckt, map_module, module_puts, module_weight, modules_weight, ldterm_stands, Module}
 use Rattle.strm_types.specs.TakenUp.{input_flushed, taken_up, termios_taken}
 use Rattle.strm_types.specs.Typing.{up_alone}
+use Rattle.strm_types.specs.Standings.{QueuePair, map_pair, stood}
+use Rattle.strm_types.specs.LdtermStands.{disciplined}
 use Rattle.strm_laws.proofs.DeliveryKeeps.{made-append}
 use Rattle.strm_types.proofs.LdtermPuts.{either, puts-each}
 use Rattle.strm_laws.proofs.LdtermKeeps.{lost-made, puts-hold}
 use Rattle.strm_laws.proofs.LdtermPutForgets.{puts-forget}
 use Rattle.strm_laws.proofs.PcktKeeps.{puts-keep as pckt-keeps, puts-forget as pckt-forgets}
 use Rattle.strm_laws.proofs.PtemPuts.{puts-gone, puts-sent, puts-forget as ptem-forgets}
+use Rattle.strm_laws.proofs.StandingLdterms.{weigh, at-forgets, weigh-stands}
 
 module _ {C : Type 0} (p : Dir → C → Bool) where
   abbrev MakesNone : Acted C (Discipline C) → Type 0

@@ -12,15 +12,17 @@ use Rattle.strm_types.specs.declared.names.Way.TheVariants.{Up, Down}
 use Rattle.strm_types.specs.declared.spots.Asks.{Asks}
 use Rattle.strm_types.specs.declared.spots.Asks.TheVariants as asked
 use Rattle.strm_types.specs.declared.spots.Spot.{Spot}
-use Rattle.strm_types.specs.Asking.{asked_by, asked_first}
+use Rattle.strm_types.specs.Asking.{asked_by, asked_first, ldterm_asks}
 use Rattle.strm_types.specs.Cells.{Cells, AreCells, plain}
 use Rattle.strm_types.specs.Deliver.{Acted, Carried, Took, carried, in_turn}
 use Rattle.strm_laws.specs.Earlier.{places_of}
 use Rattle.strm_laws.specs.LdtermOrigins.{map_ldterm, map_serving, map_stage}
-use Rattle.strm_types.specs.Ldterms.{is_between, Between, Begun, Answered, Stage}
+use Rattle.strm_types.specs.LdtermServes.{ldterm_serves}
+use Rattle.strm_types.specs.LdtermStands.{disciplined}
+use Rattle.strm_types.specs.Ldterms.{Discipline, is_between, Between, Begun, Answered, Stage}
 use Rattle.strm_types.specs.Message.{Message, map_message}
 use Rattle.strm_types.specs.ModuleQueues.{at_place}
-use Rattle.strm_types.specs.Standings.{messages_at, queue_changed}
+use Rattle.strm_types.specs.Standings.{QueuePair, map_pair, messages_at, messages_on, pair_changed, queue_changed, stood}
 use Rattle.strm_laws.specs.ModuleTurns.{Calls, again_at, asked_turn, bytes_at, call_at, calls, made_below, module_called, module_turn_ended, module_turned, moved_by, moved_on, moved_within, named_from, place_named, queue_ended, stayed_at, turned_named, turned_there, waits_there}
 use Rattle.strm_types.specs.Modules.{act_among, change_among}
 use Rattle.strm_types.specs.Names.{enable_if, enable_some}
@@ -29,7 +31,7 @@ use Rattle.strm_laws.specs.Past.{has_room_past, writer_waits}
 use Rattle.strm_laws.specs.Puts.{earlier_at, module_acted, put_in}
 use Rattle.strm_types.specs.Queue.{Queue, is_none_left, map_messages, map_queue, relieved, first_size}
 use Rattle.strm_types.specs.Service.{Serving, end_relieves, has_more, turn_ended, turn_relieves, served_by}
-use Rattle.strm_laws.specs.Stacked.{Standing, OfLdterm, OfPtem, OfPckt, map_module, module_asks, module_rests, module_serves}
+use Rattle.strm_laws.specs.Stacked.{Module, OfLdterm, OfPtem, OfPckt, Standing, kind_rests, ldterm_stands, map_kind, map_module, module_asks, module_rests, module_serves}
 use Rattle.strm_laws.specs.State.{State, Stream, stream, with_stream, map_state, map_stream}
 use Rattle.strm_laws.specs.TurnOutcomes.{TurnOutcome, map_turn_outcome, stayed_put}
 use Rattle.strm_laws.proofs.DeliveryForgets.{carried-agrees, in_turn-agrees, map-join}
@@ -39,6 +41,7 @@ use Rattle.strm_laws.proofs.Forgetting.{kind-forgets, named_band-forgets, none-f
 use Rattle.strm_laws.proofs.LdtermServes.{serves-forget}
 use Rattle.strm_laws.proofs.Past.{room-forgets, with_stream-same, writer_waits-forgets}
 use Rattle.strm_laws.proofs.PutsForget.{acted-same, puts-forget}
+use Rattle.strm_laws.proofs.StandingLdterms.{at-forgets}
 
 module _ {C D : Type 0} (f : C → D) where
   abbrev images : List (Standing C) → List (Standing D)
@@ -65,11 +68,22 @@ module _ {C D : Type 0} (f : C → D) where
   asked-same way stopped [] = refl
   asked-same way stopped (m ∷ ms) = ap (λ kind. asked_by way stopped kind (map_message f m).band) (kind-forgets f m) ∙ ap (λ band. asked_by way stopped m.kind band) (named_band-forgets f m)
 
+  on-same : (way : Way) (queues : Option (QueuePair C)) → messages_on way (option_map (map_pair f) queues) ≡ map_messages f (messages_on way queues)
+  on-same way None = refl
+  on-same Up (Some pair) = refl
+  on-same Down (Some pair) = refl
+
+  ldterm-asks : (way : Way) (d : Discipline C) → ldterm_asks way (map_ldterm f d) ≡ ldterm_asks way d
+  ldterm-asks Up d = asked-same Up d.stopped d.read_queue.messages
+  ldterm-asks Down d = asked-same Down d.stopped d.write_queue.messages
+
   asks-same : (way : Way) (p : Standing C) → module_asks way (map_module f p) ≡ module_asks way p
-  asks-same Up (OfLdterm l) = asked-same Up l.stopped l.read_queue.messages
-  asks-same Down (OfLdterm l) = asked-same Down l.stopped l.write_queue.messages
-  asks-same way (OfPtem p) = refl
-  asks-same way (OfPckt p) = refl
+  asks-same way p = by p.part
+    where
+      by : (part : Module C) → module_asks way (map_module f (stood part p.queues)) ≡ module_asks way (stood part p.queues)
+      by (OfLdterm l) = ap (λ d. ldterm_asks way d) (at-forgets f l p.queues) ∙ ldterm-asks way (disciplined l p.queues)
+      by (OfPtem q) = refl
+      by (OfPckt q) = refl
 
   between-same : (x : Stage C) → is_between (map_stage f x) ≡ is_between x
   between-same Between = refl
@@ -85,20 +99,20 @@ module _ {C D : Type 0} (f : C → D) where
   gathered-same (x ∷ xs) = refl
 
   rests-same : (p : Standing C) → module_rests (map_module f p) ≡ module_rests p
-  rests-same (OfPtem p) = refl
-  rests-same (OfPckt p) = refl
-  rests-same (OfLdterm p) =
-      rw (work-same p.in_work, gathered-same p.gathered, between-same p.stage) refl
+  rests-same p = by p.part
+    where
+      by : (part : Module C) → kind_rests (map_kind f part) ≡ kind_rests part
+      by (OfPtem q) = refl
+      by (OfPckt q) = refl
+      by (OfLdterm l) =
+          rw (work-same l.in_work, gathered-same l.gathered, between-same l.stage) refl
 
   first-same : (ms : List (Message C)) → first_size (map_messages f ms) ≡ first_size ms
   first-same [] = refl
   first-same (m ∷ ms) = size-forgets f m
 
   size-same : (way : Way) (p : Standing C) → first_size (messages_at way (map_module f p)) ≡ first_size (messages_at way p)
-  size-same Up (OfLdterm l) = first-same l.read_queue.messages
-  size-same Down (OfLdterm l) = first-same l.write_queue.messages
-  size-same way (OfPtem p) = refl
-  size-same way (OfPckt p) = refl
+  size-same way p = ap (λ ms. first_size ms) (on-same way p.queues) ∙ first-same (messages_at way p)
 
   -- the end of a turn
   ended-same : (took : Bool) (q : Queue C) → turn_ended took (map_queue f q) ≡ map_queue f (turn_ended took q)
@@ -111,10 +125,12 @@ module _ {C D : Type 0} (f : C → D) where
       at false = refl
 
   changed-same : (way : Way) (took : Bool) (p : Standing C) → queue_changed way (turn_ended took) (map_module f p) ≡ map_module f (queue_changed way (turn_ended took) p)
-  changed-same Up took (OfLdterm l) = ap (λ q. OfLdterm (record (map_ldterm f l) { read_queue = q })) (ended-same took l.read_queue)
-  changed-same Down took (OfLdterm l) = ap (λ q. OfLdterm (record (map_ldterm f l) { write_queue = q })) (ended-same took l.write_queue)
-  changed-same way took (OfPtem p) = refl
-  changed-same way took (OfPckt p) = refl
+  changed-same way took p = ap (λ queues. stood (map_kind f p.part) queues) (by way p.queues)
+    where
+      by : (way : Way) (queues : Option (QueuePair C)) → option_map (pair_changed way (turn_ended took)) (option_map (map_pair f) queues) ≡ option_map (map_pair f) (option_map (pair_changed way (turn_ended took)) queues)
+      by way None = refl
+      by Up (Some pair) = ap (λ q. Some (record (map_pair f pair) { read = q })) (ended-same took pair.read)
+      by Down (Some pair) = ap (λ q. Some (record (map_pair f pair) { write = q })) (ended-same took pair.write)
 
   queue_ended-same : (here : Spot) (took : Bool) (t : Stream C) → queue_ended here took (map_stream f t) ≡ map_stream f (queue_ended here took t)
   queue_ended-same here took t =
@@ -129,16 +145,15 @@ module _ {C D : Type 0} (f : C → D) where
   relieves-same took q = ap (λ b. took && b) (relieves_from-forgets f 0 q.messages q.flows)
 
   end_relieves-same : (took : Bool) (way : Way) (p : Standing C) → end_relieves took way (map_module f p) ≡ end_relieves took way p
-  end_relieves-same took Up (OfLdterm l) = relieves-same took l.read_queue
-  end_relieves-same took Down (OfLdterm l) = relieves-same took l.write_queue
-  end_relieves-same took way (OfPtem p) = refl
-  end_relieves-same took way (OfPckt p) = refl
+  end_relieves-same took way p = by way p.queues
+    where
+      by : (way : Way) (queues : Option (QueuePair C)) → end_relieves took way (map_module f (stood p.part queues)) ≡ end_relieves took way (stood p.part queues)
+      by way None = refl
+      by Up (Some pair) = relieves-same took pair.read
+      by Down (Some pair) = relieves-same took pair.write
 
   more-same : (way : Way) (p : Standing C) → has_more way (map_module f p) ≡ has_more way p
-  more-same Up (OfLdterm l) = ap (λ none. not none) (none-forgets f (map_message f) l.read_queue.messages)
-  more-same Down (OfLdterm l) = ap (λ none. not none) (none-forgets f (map_message f) l.write_queue.messages)
-  more-same way (OfPtem p) = refl
-  more-same way (OfPckt p) = refl
+  more-same way p = ap (λ ms. not (is_none_left ms)) (on-same way p.queues) ∙ ap (λ none. not none) (none-forgets f (map_message f) (messages_at way p))
 
   abbrev with_enabled : {E : Type 0} → List QueueName → State E → State E
   with_enabled names s = record s { enabled = names }
@@ -188,9 +203,14 @@ module _ {C : Type 0} (cells : Cells C) (are : AreCells cells) where
   f = cells.byte
 
   module-serves : (here : Spot) (made : ℕ) (again : Bool) (left : ℕ) (p : Standing C) → module_serves plain here made again (Some left) (map_module f p) ≡ map_serving f (map_module f) (module_serves cells here made again (Some left) p)
-  module-serves here made again left (OfLdterm l) = ap (served_by OfLdterm) (serves-forget cells are here made again (Some left) l)
-  module-serves here made again left (OfPtem p) = refl
-  module-serves here made again left (OfPckt p) = refl
+  module-serves here made again left p = by p.part
+    where
+      by : (part : Module C) → module_serves plain here made again (Some left) (map_module f (stood part p.queues)) ≡ map_serving f (map_module f) (module_serves cells here made again (Some left) (stood part p.queues))
+      by (OfLdterm l) =
+          ap (λ (d : Discipline ℕ). served_by ldterm_stands (ldterm_serves plain here made again (Some left) d)) (at-forgets f l p.queues)
+          ∙ ap (served_by ldterm_stands) (serves-forget cells are here made again (Some left) (disciplined l p.queues))
+      by (OfPtem q) = refl
+      by (OfPckt q) = refl
 
   acts-same : (here : Spot) (made : ℕ) (again : Bool) (left : ℕ) (p : Standing C) → (module_serves plain here made again (Some left) (map_module f p)).acted ≡ map_acted f (map_module f) (module_serves cells here made again (Some left) p).acted
   acts-same here made again left p = ap (λ (t : Serving ℕ (Standing ℕ)). t.acted) (module-serves here made again left p)

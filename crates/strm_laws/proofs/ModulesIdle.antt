@@ -9,8 +9,10 @@ use Rattle.strm_laws.specs.Kept.{AreIdle}
 use Rattle.strm_types.specs.LdtermPuts.{ldterm_puts}
 use Rattle.strm_types.specs.Message.{Message}
 use Rattle.strm_types.specs.Modules.{put_among}
+use Rattle.strm_types.specs.Standings.{stood}
+use Rattle.strm_types.specs.LdtermStands.{disciplined}
 use Rattle.strm_laws.specs.Puts.{delivered, put_in}
-use Rattle.strm_laws.specs.Stacked.{Standing, OfLdterm, OfPtem, OfPckt, IsAtRest, module_puts}
+use Rattle.strm_laws.specs.Stacked.{Standing, OfLdterm, OfPtem, OfPckt, IsAtRest, module_puts, KindRests, Module}
 use Rattle.strm_laws.specs.State.{State}
 use Rattle.strm_types.proofs.DeliveryHolds.{PutHolds, carried-holds}
 use Rattle.strm_types.proofs.LdtermPutStays.{idle-stays, puts-stay}

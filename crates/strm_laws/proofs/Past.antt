@@ -11,7 +11,8 @@ use Rattle.strm_types.specs.ModuleQueues.{can_pass, full_at, place_past, room_at
 use Rattle.strm_types.specs.Modules.{change_among}
 use Rattle.strm_laws.specs.Past.{end_queue, has_room_past, may_pass, waits_on, writer_waits}
 use Rattle.strm_types.specs.Queue.{is_full}
-use Rattle.strm_laws.specs.Stacked.{Standing, OfLdterm, OfPtem, OfPckt, map_module}
+use Rattle.strm_types.specs.Standings.{QueuePair, stood}
+use Rattle.strm_laws.specs.Stacked.{Standing, map_module}
 use Rattle.strm_laws.specs.State.{State, Stream, stream, with_stream, map_state, map_stream}
 use Rattle.strm_laws.proofs.Earlier.{place_past-forgets}
 use Rattle.strm_laws.proofs.EmptiedForgets.{stream-forgets}

@@ -12,8 +12,9 @@ use Rattle.strm_types.specs.Message.{Message, band_of, cells_of}
 use Rattle.strm_types.specs.Modules.{put_among}
 use Rattle.strm_types.specs.Names.{direction_at}
 use Rattle.strm_types.specs.Pckts.{Pckt, flush_passed, is_bare_packet, is_packed, kind_made, pckt_on_way, pckt_packs, pckt_passes, pckt_puts, plain_packed}
-use Rattle.strm_laws.specs.Stacked.{Standing, OfLdterm, OfPtem, OfPckt, module_puts}
+use Rattle.strm_laws.specs.Stacked.{Standing, OfLdterm, OfPtem, OfPckt, module_puts, Module}
 use Rattle.strm_types.specs.Service.{done_by}
+use Rattle.strm_types.specs.Standings.{stood}
 use Rattle.strm_types.proofs.MadeCells.{made-same}
 
 module _ (a b : ℕ) (here : Spot) (m : Message ℕ) where

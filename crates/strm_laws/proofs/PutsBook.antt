@@ -21,7 +21,7 @@ use Rattle.strm_types.specs.Pckts.{plain_packed}
 use Rattle.strm_laws.specs.Places.{weight_made}
 use Rattle.strm_laws.specs.Puts.{across_of, booked, delivered, made_above, module_acted, passed_up, put_at_driver, put_at_head, put_at_module, put_behind, put_below, put_in}
 use Rattle.strm_types.specs.Flushing.{is_bare_flush}
-use Rattle.strm_laws.specs.Stacked.{Standing, OfLdterm, OfPtem, OfPckt, module_puts}
+use Rattle.strm_laws.specs.Stacked.{Standing, OfLdterm, OfPtem, OfPckt, module_puts, Module}
 use Rattle.strm_laws.specs.State.{State, book, stream, with_book}
 use Rattle.strm_laws.proofs.EndsMake.{driver_put-none, head_put-none}
 use Rattle.strm_laws.proofs.InOrder.{BooksMade, InOrder, books-none, carried-books, in_turn-books}
@@ -32,6 +32,8 @@ use Rattle.strm_laws.proofs.TurnOrder.{TurnOrder, all_made, order-next, order-no
 use Rattle.strm_types.specs.declared.both.Both.{Both}
 use Rattle.strm_types.specs.declared.books.Book.{Book}
 use Rattle.strm_types.specs.Both.{get}
+use Rattle.strm_types.specs.Standings.{stood}
+use Rattle.strm_types.specs.LdtermStands.{disciplined}
 
 module _ {C : Type 0} where
   -- the books of both directions stay

@@ -28,6 +28,8 @@ use Rattle.strm_types.specs.Names.{is_master, is_open, other}
 use Rattle.strm_types.specs.Queue.{Queue}
 use Rattle.strm_types.specs.Shapes.{At, Shape, Asking, FlushR, FlushW, FlushRW, Passing, bare_shape, flush_shape, is_flushing, shape_by, shape_of}
 use Rattle.strm_types.specs.Tables.{ToDriver, ToReaders, driver_does, head_does, name_does}
+use Rattle.strm_types.specs.Standings.{stood}
+use Rattle.strm_types.specs.LdtermStands.{disciplined}
 use Rattle.strm_types.proofs.BySide.{get-map}
 use Rattle.strm_types.proofs.CostsOf.{both-cost, cost-one, none-few, one-few, sent-none}
 use Rattle.strm_types.proofs.LdtermWithin.{ldterm-within}
@@ -37,7 +39,7 @@ use Rattle.strm_laws.specs.Earlier.{driver_place, modules_on}
 use Rattle.strm_laws.specs.Puts.{across_of, made_above, passed_up, put_at_driver, put_at_head, put_at_module, put_behind, put_below, put_in}
 use Rattle.strm_laws.specs.SideCosts.{SideCosts, both_costs, behind_costs, costs, crossed, does_among, front_on, fronts, place_costs, rises, side_does, side_drives, side_next, whole}
 use Rattle.strm_laws.specs.StackCosts.{stands_of, stands_on}
-use Rattle.strm_laws.specs.Stacked.{Standing, OfLdterm, OfPtem, OfPckt, module_name, module_puts}
+use Rattle.strm_laws.specs.Stacked.{Standing, OfLdterm, OfPtem, OfPckt, module_name, module_puts, kind_name, Module}
 use Rattle.strm_laws.specs.State.{State, Stream, stream}
 use Rattle.strm_types.proofs.PtemWithin.{ptem-within}
 use Rattle.strm_laws.proofs.StackStays.{puts-stand}

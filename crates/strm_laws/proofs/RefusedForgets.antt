@@ -22,7 +22,7 @@ use Rattle.strm_types.specs.Message.{is_held, Message}
 use Rattle.strm_types.specs.Gets.{get_refusal}
 use Rattle.strm_types.specs.JobControl.{refusal_behind}
 use Rattle.strm_types.specs.Journal.{PlainEntry}
-use Rattle.strm_types.specs.Standings.{messages_at}
+use Rattle.strm_types.specs.Standings.{QueuePair, map_pair, messages_at, messages_on}
 use Rattle.strm_types.specs.Modules.{may_push, stands}
 use Rattle.strm_types.specs.Names.{is_closed, is_master, is_open, same_module}
 use Rattle.strm_types.specs.PutMsg.{no_parts, put_waits}
@@ -35,12 +35,13 @@ use Rattle.strm_types.specs.Needs.{needs}
 use Rattle.strm_laws.specs.Refusals.{at_end, goes_down, in_range, is_numbered, is_reached, hold, refused_at_once, refused_by_state, unfit}
 use Rattle.strm_types.specs.Refused.{has_no_data, or_else, unless}
 use Rattle.strm_types.specs.Slots.{is_free, result_refusal}
-use Rattle.strm_laws.specs.Stacked.{Standing, OfLdterm, OfPtem, OfPckt, map_module, module_name}
+use Rattle.strm_laws.specs.Stacked.{Standing, map_module, module_name}
 use Rattle.strm_laws.specs.State.{State, map_state, stream}
 use Rattle.strm_laws.specs.Step.{IsLegal, Step, after}
 use Rattle.strm_laws.specs.Writes.{is_full_below}
 use Rattle.strm_types.proofs.PlainCells.{tagged-cells}
 use Rattle.strm_laws.proofs.Based.{based-forgets}
+use Rattle.strm_laws.proofs.Earlier.{name-forgets}
 use Rattle.strm_laws.proofs.Forgetting.{kind-forgets}
 use Rattle.strm_laws.proofs.ForgettingSteps.{after-forgets, call-forgets, turn-forgets}
 use Rattle.strm_laws.proofs.GetKeeps.{wanted-forgets}
@@ -84,12 +85,14 @@ module _ {C D : Type 0} (f : C → D) where
   no-data : (ms : List (Message C)) → has_no_data (map_messages f ms) ≡ has_no_data ms
   no-data ms = ap (λ b. not b) (any-held ms)
 
+  on-same : (queues : Option (QueuePair C)) → has_no_data (messages_on Up (option_map (map_pair f) queues)) ≡ has_no_data (messages_on Up queues)
+  on-same None = refl
+  on-same (Some pair) = no-data pair.read.messages
+
   waits-up : (ps : List (Standing C)) → list_any (λ p. not (has_no_data (messages_at Up p))) (images ps) ≡ list_any (λ p. not (has_no_data (messages_at Up p))) ps
   waits-up [] = refl
-  waits-up (OfPtem p ∷ ps) = waits-up ps
-  waits-up (OfPckt p ∷ ps) = waits-up ps
-  waits-up (OfLdterm l ∷ ps) =
-      ap (λ b. not b || list_any (λ p. not (has_no_data (messages_at Up p))) (images ps)) (no-data l.read_queue.messages) ∙ ap (λ b. not (has_no_data l.read_queue.messages) || b) (waits-up ps)
+  waits-up (p ∷ ps) =
+      ap (λ b. not b || list_any (λ p. not (has_no_data (messages_at Up p))) (images ps)) (on-same p.queues) ∙ ap (λ b. not (has_no_data (messages_at Up p)) || b) (waits-up ps)
 
   end-same : (side : Side) (s : State C) → at_end side (map_state f s) ≡ at_end side s
   end-same Slave s = refl

@@ -35,12 +35,13 @@ use Rattle.strm_types.specs.Service.{Serving}
 use Rattle.strm_types.specs.Termios.{icanon, imaxbel, noflsh, opost}
 use Rattle.strm_types.specs.Typing.{added, bare, begins, both_ways, dropped, echo_dir, echo_grows, echo_lost, echo_stands, echoed, gathered_up, grown, is_blank_cell, is_lnext, lost, sigint, signals, sigquit, sigtstp, stops, stroke_at, strikes, struck, up_alone}
 use Rattle.strm_laws.specs.Rest.{byte_moves, echoes, ldterm_moves, moves_above, moves_across, moves_in, moves_in_work, moves_out, moves_within}
-use Rattle.strm_laws.specs.Restorable.{GoodLdterm, StandsOn}
+use Rattle.strm_laws.specs.Restorable.{StandsOn}
 use Rattle.strm_laws.specs.StackCosts.{Stands}
 use Rattle.strm_types.proofs.EchoSizes.{echo-few}
 use Rattle.strm_types.proofs.MadeCells.{made-long}
 use Rattle.strm_types.proofs.Ranked.{sum-put, sum-put_back}
 use Rattle.strm_types.proofs.StrikesStay.{strikes-stay}
+use Rattle.strm_laws.proofs.GoodLdterms.{GoodDiscipline}
 use Rattle.strm_laws.proofs.GoodLdtermTurns.{next-good}
 use Rattle.strm_laws.proofs.RestCosts.{at_or_below, sinks_by, toll_at}
 use Rattle.strm_laws.proofs.RestLdterms.{data-past, past-it}
@@ -253,7 +254,7 @@ module _ {C : Type 0} (cells : Cells C) (all : Stands) (posts : Side → ℕ) (h
   finished-less : (l : Discipline C) → Less (finished cells here l) (beside l)
   finished-less l = omega (arith, gathered-free l.gathered, back-less l.in_work l.read_queue)
 
-  stages-less : (k made : ℕ) (l : Discipline C) → GoodLdterm l → Less (stages cells here k made l) (ldterm_moves l)
+  stages-less : (k made : ℕ) (l : Discipline C) → GoodDiscipline l → Less (stages cells here k made l) (ldterm_moves l)
   stages-less zero made l good = omega (arith, finished-less l)
   stages-less (suc k) made l good = at (is_none_left t.sent) (next-less made l good.line) (stages-less k (made + made_of t.gone) t.state (next-good cells here made l good).state)
     where
@@ -266,7 +267,7 @@ module _ {C : Type 0} (cells : Cells C) (all : Stands) (posts : Side → ℕ) (h
       at false first rest = first
 
   -- where a message has begun, one byte of it is treated, or there is none
-  stages-fewer : (k made : ℕ) (m : Message C) (l : Discipline C) → GoodLdterm (record l { stage = Between; in_work = Some m }) → (0 < k) ⊎ (cells_of m ≡ [])
+  stages-fewer : (k made : ℕ) (m : Message C) (l : Discipline C) → GoodDiscipline (record l { stage = Between; in_work = Some m }) → (0 < k) ⊎ (cells_of m ≡ [])
       → let t = stages cells here k made (record l { stage = Between; in_work = Some m }) in suc (ldterm_moves t.state + tolls all posts t.sent) ≤ ldterm_moves (record l { stage = Between; in_work = Some m })
   stages-fewer zero made m l good may = elim may [
     | inl less ↦ absurd (omega (arith, less))
@@ -291,7 +292,7 @@ module _ {C : Type 0} (cells : Cells C) (all : Stands) (posts : Side → ℕ) (h
       goes t true first rest = omega (arith, first, rest)
       goes t false first rest = first
 
-      at : (xs : List C) → cells_of m ≡ xs → GoodLdterm (begins_next cells here xs from).state → (cells_of m ≡ [] → let u = stages cells here k (made + 0) from in suc (ldterm_moves u.state + tolls all posts u.sent) ≤ ldterm_moves from)
+      at : (xs : List C) → cells_of m ≡ xs → GoodDiscipline (begins_next cells here xs from).state → (cells_of m ≡ [] → let u = stages cells here k (made + 0) from in suc (ldterm_moves u.state + tolls all posts u.sent) ≤ ldterm_moves from)
           → let w = on (begins_next cells here xs from) in suc (ldterm_moves w.state + tolls all posts w.sent) ≤ ldterm_moves from
       at [] is good again = again is
       at (c ∷ rest) is good again =
@@ -299,7 +300,7 @@ module _ {C : Type 0} (cells : Cells C) (all : Stands) (posts : Side → ℕ) (h
           goes t (is_none_left t.sent) (begun-fewer m c rest l is) (stages-less k (made + made_of t.gone) t.state good)
 
   -- A turn that begins: what it takes first is treated whole, or byte by byte, and one at least.
-  input-fewer : (made left : ℕ) (ms : List (Message C)) (l : Discipline C) → GoodLdterm l → AllByRecursion (λ m. StandsOn waits_there m) ms → IsOrdered ms
+  input-fewer : (made left : ℕ) (ms : List (Message C)) (l : Discipline C) → GoodDiscipline l → AllByRecursion (λ m. StandsOn waits_there m) ms → IsOrdered ms
       → l.read_queue.messages ≡ ms → l.stage ≡ Between → is_none_left ms ≡ false → Goes left (first_size ms)
       → let t = (input_begins cells here (Some left) made ms l).acted in suc (ldterm_moves t.state + tolls all posts t.sent) ≤ ldterm_moves l
   input-fewer made left [] l good each order is between waits size = absurd (cc)
@@ -311,7 +312,7 @@ module _ {C : Type 0} (cells : Cells C) (all : Stands) (posts : Side → ℕ) (h
       begun : Discipline C
       begun = record l { read_queue = left_with rest l.read_queue; in_work = Some m }
 
-      begun-good : (stage : Stage C) → is_data m.kind ≡ true → GoodLdterm (record begun { stage = stage })
+      begun-good : (stage : Stage C) → is_data m.kind ≡ true → GoodDiscipline (record begun { stage = stage })
       begun-good stage kind = record {
         termios = good.termios;
         column = good.column;
@@ -384,13 +385,13 @@ module _ {C : Type 0} (cells : Cells C) (all : Stands) (posts : Side → ℕ) (h
 -- the first call of a turn, and each later one
 module _ {C : Type 0} (cells : Cells C) (all : Stands) (posts : Side → ℕ) (here : Spot) (some : 0 < here.at)
     (echoed : echoes all here.side ≡ true) (alone : echoes all (other here.side) ≡ false) (post : posts here.side ≡ here.at) where
-  pub first-fewer : (way : Way) (made left : ℕ) (l : Discipline C) → l.stage ≡ Between → is_none_left (queue_at way l).messages ≡ false → Goes left (first_size (queue_at way l).messages) → GoodLdterm l
+  pub first-fewer : (way : Way) (made left : ℕ) (l : Discipline C) → l.stage ≡ Between → is_none_left (queue_at way l).messages ≡ false → Goes left (first_size (queue_at way l).messages) → GoodDiscipline l
       → let t = (ldterm_serves cells (record here { way = way }) made false (Some left) l).acted in suc (ldterm_moves t.state + tolls all posts t.sent) ≤ ldterm_moves l
   first-fewer Up made left l between waits size good =
       input-fewer cells all posts (record here { way = Up }) some echoed alone post made left l.read_queue.messages l good good.read_queue.messages good.read_queue.order refl between waits size
   first-fewer Down made left l between waits size good = output-fewer cells all posts (record here { way = Down }) some echoed alone post made left l.write_queue.messages l refl waits size
 
-  pub later-less : (way : Way) (made left : ℕ) (l : Discipline C) → way ≡ Up → GoodLdterm l
+  pub later-less : (way : Way) (made left : ℕ) (l : Discipline C) → way ≡ Up → GoodDiscipline l
       → let t = (ldterm_serves cells (record here { way = way }) made true (Some left) l).acted in ldterm_moves t.state + tolls all posts t.sent ≤ ldterm_moves l
   later-less Up made left l up good = stages-less cells all posts (record here { way = Up }) some echoed alone post (3 * left - stages_done l.stage) made l good
   later-less Down made left l up good = absurd (cc)

@@ -22,11 +22,13 @@ use Rattle.strm_types.specs.Heads.{head_put}
 use Rattle.strm_types.specs.Message.{Message, cells_of, has_parts}
 use Rattle.strm_types.specs.Modules.{put_among}
 use Rattle.strm_types.specs.Names.{is_open, other}
+use Rattle.strm_types.specs.Standings.{stood}
+use Rattle.strm_types.specs.LdtermStands.{disciplined}
 use Rattle.strm_laws.specs.Earlier.{driver_place, modules_on}
 use Rattle.strm_laws.specs.Puts.{across_of, booked, delivered, made_above, module_acted, passed_up, put_at_driver, put_at_head, put_at_module, put_behind, put_below, put_in}
 use Rattle.strm_laws.specs.Rest.{echoes, module_moves, moves, moves_above, moves_across, stream_moves}
 use Rattle.strm_laws.specs.StackCosts.{Stands, stands_of, stands_on}
-use Rattle.strm_laws.specs.Stacked.{Standing, OfLdterm, OfPtem, OfPckt, module_name, module_puts}
+use Rattle.strm_laws.specs.Stacked.{Standing, OfLdterm, OfPtem, OfPckt, module_name, module_puts, kind_name, Module}
 use Rattle.strm_laws.specs.State.{State, Stream, stream, with_stream}
 use Rattle.strm_types.proofs.BySide.{get-map}
 use Rattle.strm_types.proofs.DeliveryHolds.{carried-holds}

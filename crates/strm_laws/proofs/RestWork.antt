@@ -18,14 +18,14 @@ use Rattle.strm_types.specs.declared.names.Way.{Way}
 use Rattle.strm_types.specs.declared.names.Way.TheVariants.{Up, Down}
 use Rattle.strm_types.specs.declared.spots.Spot.{Spot}
 use Rattle.strm_types.specs.Cells.{Cells}
-use Rattle.strm_types.specs.Names.{is_enabled, other, same_place, same_queue, without}
+use Rattle.strm_types.specs.Names.{is_enabled, other, same_place, same_queue, without, place_of}
 use Rattle.strm_laws.specs.Earlier.{places_of}
 use Rattle.strm_laws.specs.ModuleTurns.{module_turned, named_from, place_named, turned_named, turned_there}
 use Rattle.strm_laws.specs.Rest.{EchoesOnce, NoLdterm, count_enabled, echoes, is_pckt, moves, packs_below, queue_names, work}
 use Rattle.strm_laws.specs.Restorable.{is_ldterm}
 use Rattle.strm_laws.specs.StackCosts.{Stands, stands_of, stands_on}
-use Rattle.strm_laws.specs.Stacked.{Standing, OfLdterm, OfPtem, OfPckt, module_name}
-use Rattle.strm_laws.specs.State.{State, Stream, stream}
+use Rattle.strm_laws.specs.Stacked.{Standing, OfLdterm, OfPtem, OfPckt, module_name, kind_name, Module}
+use Rattle.strm_laws.specs.State.{State, stream}
 use Rattle.strm_laws.specs.Step.{IsTurn}
 use Rattle.strm_laws.specs.Turns.{turned, turned_at}
 use Rattle.strm_types.proofs.EnabledNames.{same_queue-sound}

@@ -28,7 +28,7 @@ use Rattle.strm_laws.specs.Puts.{booked, made_above, module_acted, passed_up, pu
 use Rattle.strm_types.specs.Flushing.{is_bare_flush}
 use Rattle.strm_laws.specs.Refusals.{in_range}
 use Rattle.strm_laws.specs.Spares.{module_packs, packet_most, spare, spare_behind}
-use Rattle.strm_laws.specs.Stacked.{Standing, OfLdterm, OfPtem, OfPckt, module_name, module_puts}
+use Rattle.strm_laws.specs.Stacked.{Standing, OfLdterm, OfPtem, OfPckt, module_name, module_puts, Module}
 use Rattle.strm_laws.specs.State.{State, book, stream, with_book}
 use Rattle.strm_laws.proofs.Balances.{range-low, still-same}
 use Rattle.strm_laws.proofs.ModulePuts.{ldterm-none}
@@ -38,6 +38,8 @@ use Rattle.strm_laws.proofs.PtemPuts.{puts-gone}
 use Rattle.strm_laws.proofs.PutsBook.{SameBooks, head-same}
 use Rattle.strm_laws.proofs.TurnOrder.{made-all}
 use Rattle.strm_types.specs.declared.both.Both.{Both}
+use Rattle.strm_types.specs.Standings.{stood}
+use Rattle.strm_types.specs.LdtermStands.{disciplined}
 
 -- a packet takes one unit at most
 spare-falls : (made more : ℕ) → more ≤ packet_most → spare_behind made ≤ spare_behind (made + more) + 1

@@ -12,13 +12,13 @@ use Rattle.strm_types.specs.Cells.{Cells}
 use Rattle.strm_types.specs.Deliver.{Acted}
 use Rattle.strm_types.specs.Message.{Message}
 use Rattle.strm_types.specs.ModuleQueues.{place_past, waits_at, waits_past, with_waiting}
-use Rattle.strm_types.specs.Standings.{queue_changed}
+use Rattle.strm_types.specs.Standings.{queue_changed, stood}
 use Rattle.strm_types.specs.Modules.{act_among, change_among, put_among}
 use Rattle.strm_types.specs.Names.{is_open}
 use Rattle.strm_laws.specs.Puts.{made_above, put_at_driver, put_at_head, put_at_module, put_in}
 use Rattle.strm_types.specs.Queue.{Queue}
 use Rattle.strm_laws.specs.StackCosts.{Stands, stands_of}
-use Rattle.strm_laws.specs.Stacked.{Standing, OfLdterm, OfPtem, OfPckt, module_name, module_puts, module_serves}
+use Rattle.strm_laws.specs.Stacked.{Standing, OfLdterm, OfPtem, OfPckt, module_name, module_puts, module_serves, kind_name, Module}
 use Rattle.strm_laws.specs.State.{State, Stream, book, stream, with_book, with_stream, with_driver_queue}
 use Rattle.strm_types.proofs.DeliveryHolds.{PutHolds}
 use Rattle.strm_laws.proofs.PutParts.{acted-holds, either-holds, parts-hold}

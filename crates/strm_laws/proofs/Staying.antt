@@ -25,10 +25,12 @@ use Rattle.strm_types.specs.Names.{is_closed, is_open}
 use Rattle.strm_types.specs.Pckts.{is_flush_passed, is_packed, packet, pckt_on_way, pckt_packs, pckt_passes, writers_flush}
 use Rattle.strm_types.specs.Ptems.{Ptem, asked_by_header, ptem_passes, ptem_puts}
 use Rattle.strm_types.specs.Queue.{Queue}
+use Rattle.strm_types.specs.Standings.{stood}
+use Rattle.strm_types.specs.LdtermStands.{disciplined}
 use Rattle.strm_laws.specs.Earlier.{driver_place, modules_on}
 use Rattle.strm_laws.specs.Pair.{IsKeptAhead}
 use Rattle.strm_laws.specs.Puts.{SameButMade, across_of, made_above, passed_up, put_at_driver, put_at_head, put_at_module, put_behind, put_below, put_in}
-use Rattle.strm_laws.specs.Stacked.{Standing, OfLdterm, OfPtem, OfPckt, module_puts}
+use Rattle.strm_laws.specs.Stacked.{Standing, OfLdterm, OfPtem, OfPckt, module_puts, Module}
 use Rattle.strm_laws.specs.State.{State, stream}
 use Rattle.strm_laws.proofs.PutParts.{puts-hold}
 use Rattle.strm_laws.proofs.PutsKeep.{same-itself, same-stays}

@@ -27,9 +27,11 @@ use Rattle.strm_types.specs.Output.{made_for, post, posts, space, told_for}
 use Rattle.strm_types.specs.OutputTurns.{output_dir, output_serves, posted, unchanged}
 use Rattle.strm_laws.specs.Places.{weight_made}
 use Rattle.strm_types.specs.Queue.{is_full, is_none_left, left_with}
-use Rattle.strm_laws.specs.Stacked.{Standing, OfLdterm, OfPtem, OfPckt, module_serves}
+use Rattle.strm_laws.specs.Stacked.{Standing, OfLdterm, OfPtem, OfPckt, module_serves, Module}
 use Rattle.strm_types.specs.Termios.{icanon, imaxbel, noflsh, opost}
 use Rattle.strm_types.specs.Typing.{added, both_ways, begins, echo_dir, echo_grows, echo_lost, echo_stands, echoed, is_blank_cell, lost, sigint, signals, sigquit, sigtstp, is_lnext, strikes, stroke_at, struck, up_alone}
+use Rattle.strm_types.specs.Standings.{stood}
+use Rattle.strm_types.specs.LdtermStands.{disciplined}
 use Rattle.strm_laws.proofs.DeliveryKeeps.{made-append}
 use Rattle.strm_laws.proofs.InOrder.{InOrder, none-ordered, order-append}
 use Rattle.strm_laws.proofs.LdtermKeeps.{lost-made}

@@ -20,7 +20,7 @@ use Rattle.strm_laws.specs.Earlier.{before_at}
 use Rattle.strm_types.specs.Ldterms.{new_ldterm}
 use Rattle.strm_types.specs.Message.{Message}
 use Rattle.strm_types.specs.Modules.{may_push, top_name, without_module}
-use Rattle.strm_types.specs.Names.{enable_if, place_of, same_place}
+use Rattle.strm_types.specs.Names.{enable_if, place_of}
 use Rattle.strm_types.specs.Options.{mode_message}
 use Rattle.strm_types.specs.Pckts.{new_pckt}
 use Rattle.strm_types.specs.Ptems.{new_ptem}
@@ -28,7 +28,7 @@ use Rattle.strm_laws.specs.Puts.{earlier_at, noted, put_at_head}
 use Rattle.strm_types.specs.Queue.{is_none_left}
 use Rattle.strm_types.specs.Service.{cleared}
 use Rattle.strm_types.specs.Standings.{QueuePair, has_queues, messages_at, new_pair}
-use Rattle.strm_laws.specs.Stacked.{Module, Standing, OfLdterm, OfPtem, OfPckt, module_line, module_name, without_kind_line}
+use Rattle.strm_laws.specs.Stacked.{Module, Standing, OfLdterm, OfPtem, OfPckt, module_name, without_kind_line, kind_line}
 use Rattle.strm_laws.specs.State.{State, Stream, stream, with_ioctl, with_stream}
 
 -- the read mode that a head is given where a module is pushed below it, and where one is taken off: ldterm makes lines
@@ -50,11 +50,6 @@ mode_behind (Some name) = mode_on_pop name
 -- the place of a side's head, as what comes up reaches it
 abbrev pub head_above : Side → Spot
 head_above side = record { side = side; at = 0; way = Up }
-
--- a place of queues is this one
-abbrev pub is_there : Place → Option Place → Bool
-is_there place None = false
-is_there place (Some there) = same_place there place
 
 module _ {C : Type 0} where
   -- the module that a name makes, as it is pushed, with the queues that it is given then, where modules of its name have any
@@ -92,7 +87,7 @@ module _ {C : Type 0} where
   abbrev pub messages_there : Place → Way → Stream C → List (Message C)
   messages_there Head way t = t.head.queue.messages
   messages_there Driver way t = t.driver.queue.messages
-  messages_there Ldterm way t = flat_map (λ p. if is_there Ldterm (place_of (module_name p)) then messages_at way p else []) t.modules
+  messages_there Ldterm way t = flat_map (messages_at way) t.modules
 
   abbrev pub messages_on : QueueName → State C → List (Message C)
   messages_on name s = messages_there name.place name.way (stream name.side s)

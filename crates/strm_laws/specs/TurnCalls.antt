@@ -7,24 +7,25 @@ use Rattle.strm_types.specs.Cells.{plain}
 use Rattle.strm_types.specs.Deliver.{Acted, Carried, carried, in_turn}
 use Rattle.strm_types.specs.LdtermCalls.{Ends}
 use Rattle.strm_types.specs.LdtermStands.{disciplined}
-use Rattle.strm_types.specs.Ldterms.{Discipline, new_ldterm}
+use Rattle.strm_types.specs.Ldterms.{Discipline, Ldterm, new_ldterm}
 use Rattle.strm_types.specs.ModuleQueues.{at_place}
 use Rattle.strm_types.specs.Modules.{act_among}
 use Rattle.strm_laws.specs.Puts.{module_acted, put_in}
 use Rattle.strm_laws.specs.Stacked.{Module, OfLdterm, OfPtem, OfPckt, Standing, module_serves}
 use Rattle.strm_laws.specs.State.{State, stream}
 
--- The line discipline that a module is, with its queues. In one of another kind nothing is ever under way, as in a new one.
+-- The line discipline that a module is, beside its queues. In one of another kind nothing is ever under way, as in a new one.
+abbrev pub ldterm_of : Module ℕ → Ldterm ℕ
+ldterm_of (OfLdterm l) = l
+ldterm_of (OfPtem p) = new_ldterm
+ldterm_of (OfPckt p) = new_ldterm
+
+-- and with them
 abbrev pub discipline_of : Standing ℕ → Discipline ℕ
-discipline_of x = by x.part
-  where
-    by : Module ℕ → Discipline ℕ
-    by (OfLdterm l) = disciplined l x.queues
-    by (OfPtem p) = disciplined new_ldterm None
-    by (OfPckt p) = disciplined new_ldterm None
+discipline_of x = disciplined (ldterm_of x.part) x.queues
 
 -- what stands where no module does
-abbrev none_there : Standing ℕ
+abbrev pub none_there : Standing ℕ
 none_there = record { part = OfLdterm new_ldterm; queues = None }
 
 module _ (here : Spot) where

@@ -1,5 +1,5 @@
 -- The module where it stands, in the frame's words: with the queues that its stream gives it.
-use Rattle.std.proofs.Common.{ℕ, ◌≡◌, ◌≤◌, true, refl, sym, ap, subst}
+use Rattle.std.proofs.Common.{ℕ, ◌≡◌, true, sym, ap, subst}
 use Rattle.std.specs.Prelude.{Bool, Option, None, Some}
 use Rattle.strm_types.specs.declared.rules.Fates.{Fates}
 use Rattle.strm_types.specs.declared.spots.Spot.{Spot}

@@ -1,6 +1,6 @@
 -- The module stands for the same where its queues' lists are the same, and so are the messages that it keeps in hand.
 use Rattle.std.specs.Prelude.{ℕ, ◌≡◌, ◌<◌, List, length, map, slice_index_or, Option, None, Some, IfSome, is_some}
-use Rattle.std.proofs.Common.{true, refl, sym, ap, subst, ◌∙◌, arith}
+use Rattle.std.proofs.Common.{refl, sym, ap, subst, ◌∙◌, arith}
 use Rattle.std.proofs.lemmas.Bool.{false≢true}
 use Rattle.strm_types.specs.Ldterms as plain
 use Rattle.strm_types.specs.Message.{Message, cells_of}

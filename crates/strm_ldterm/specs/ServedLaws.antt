@@ -16,7 +16,7 @@ use Rattle.strm_types.specs.LdtermServes.{ldterm_serves}
 use Rattle.strm_types.specs.Ldterms.{Discipline, IsIdle, Ldterm, Stage, Between, Begun, Answered, lineless, onward, sends}
 use Rattle.strm_types.specs.Message.{Message, cells_of}
 use Rattle.strm_types.specs.OutputTurns.{output_serves}
-use Rattle.strm_types.specs.Queue.{Queue, is_full, is_none_left, left_with}
+use Rattle.strm_types.specs.Queue.{is_full, is_none_left, left_with}
 use Rattle.strm_types.specs.Typing.{bare, begins, echo_dir, echo_grows, echo_lost, echo_stands, echoed, is_lnext, stroke_at, struck}
 use Rattle.strm_types.proofs.LdtermPutStays.{Stays, idle-stays, puts-stay}
 use Rattle.strm_types.proofs.StrikesStay.{strikes-stay}

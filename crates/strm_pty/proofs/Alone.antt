@@ -1,5 +1,5 @@
 -- A module without queues, where it stands.
-use Rattle.std.proofs.Common.{ℕ, ◌≡◌, ap, sym, subst, ◌∙◌}
+use Rattle.std.proofs.Common.{◌≡◌, ap, sym, subst, ◌∙◌}
 use Rattle.std.specs.Prelude.{Option, None, IfSome}
 use Rattle.strm_types.specs.Standings.{stood}
 use Rattle.strm_blocks.specs.Blocks.{StoreValue}

@@ -1,6 +1,6 @@
 -- The modules are taken as a slice, and written back whole.
 use Rattle.std.proofs.Common.{◌-◌, ◌∙◌, List, ap, sym, subst, length, map, arith}
-use Rattle.std.specs.Prelude.{slice_index_or}
+use Rattle.std.specs.Prelude.{ℕ, slice_index_or}
 use Rattle.strm_types.specs.Budgets.{own_at}
 use Rattle.strm_types.specs.Modules.{put_among}
 use Rattle.strm_types.specs.Standings.{of_part, Standing}

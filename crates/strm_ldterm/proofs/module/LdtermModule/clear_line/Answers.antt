@@ -1,5 +1,5 @@
 -- Its line is empty then, and nothing else of it changed.
-use Rattle.std.proofs.Common.{ℕ, List, [], sym, ap, ◌∙◌, arith}
+use Rattle.std.proofs.Common.{ℕ, List, [], ap, arith}
 use Rattle.std.specs.Prelude.{Option, None, Some, length}
 use Rattle.strm_types.specs.Ldterms as plain
 use Rattle.strm_blocks.specs.Blocks.{StoreValue}

@@ -1,6 +1,6 @@
 -- Nothing stands on queues that it hasn't.
 use Rattle.std.proofs.Common.{◌≤◌, sym, subst, arith}
-use Rattle.std.specs.Prelude.{Option, None}
+use Rattle.std.specs.Prelude.{Option}
 use Rattle.strm_types.specs.Queue.{first_size}
 use Rattle.strm_types.specs.Standings.{messages_on}
 use Rattle.strm_frame.specs.declared.queue_pair.QueuePair.{QueuePair}
