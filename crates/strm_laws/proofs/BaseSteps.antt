@@ -33,11 +33,11 @@ module _ {C : Type 0} where
   -- each queue that an image may hold is in order
   modules-order : (ps : List (Standing C)) → AllByRecursion GoodModule ps → AllByRecursion InOrder (queues_of_modules ps)
   modules-order [] all = tt
-  modules-order (p ∷ ps) all = by p.queues all.0.queues
+  modules-order (p ∷ ps) all = by p.queues all.0.queues (modules-order ps all.1)
     where
-      by : (queues : Option (QueuePair C)) → GoodPair queues → AllByRecursion InOrder (queues_of_modules (stood p.part queues ∷ ps))
-      by None good = modules-order ps all.1
-      by (Some pair) good = (good.0.order, (good.1.order, modules-order ps all.1))
+      by : (queues : Option (QueuePair C)) → GoodPair queues → AllByRecursion InOrder (queues_of_modules ps) → AllByRecursion InOrder (queues_of_modules (stood p.part queues ∷ ps))
+      by None good below = below
+      by (Some pair) good below = (good.0.order, (good.1.order, below))
 
   stream-order : (side : Side) (t : Stream C) → GoodStream side t → AllByRecursion InOrder (stream_queues t)
   stream-order side t good =

@@ -1,7 +1,6 @@
 -- Its line is empty then, and nothing else of it changed.
 use Rattle.std.proofs.Common.{ℕ, List, [], ap, arith}
 use Rattle.std.specs.Prelude.{Option, None, Some, length}
-use Rattle.strm_types.specs.Ldterms as plain
 use Rattle.strm_blocks.specs.Blocks.{StoreValue}
 use Rattle.strm_frame.specs.declared.queue_pair.QueuePair.{QueuePair}
 use Rattle.strm_ldterm.specs.declared.ldterm.Ldterm.{Ldterm}
