@@ -70,7 +70,7 @@ under_way p = let l = discipline_of p in record { stage = l.stage; in_work = l.i
 
 -- what is known of calls of ldterm's service procedure is so of any module's
 module _ (here : Spot) (again : Bool) where
-  module-goes : (p : Standing ℕ) → Begins here.way again (discipline_of p) → let t = module_serves plain here 0 again None p in t.again ≡ true → GoesOn here.way again (discipline_of p) t.bytes (discipline_of t.acted.state)
+  pub module-goes : (p : Standing ℕ) → Begins here.way again (discipline_of p) → let t = module_serves plain here 0 again None p in t.again ≡ true → GoesOn here.way again (discipline_of p) t.bytes (discipline_of t.acted.state)
   module-goes p begins works = by p.part begins works
     where
       by : (part : Module ℕ) → let q = stood part p.queues in Begins here.way again (discipline_of q) → let t = module_serves plain here 0 again None q in t.again ≡ true
@@ -346,7 +346,7 @@ module _ (here : Spot) where
           let is = last-is stop over stopped in
           (let treat = is.0.treat in omega (arith, r.within, treat), last-moves stop over is)
 
-  whole : (way : Way) (p : Standing ℕ) → bytes_left way false (discipline_of p) ≡ first_size (messages_at way p)
+  pub whole : (way : Way) (p : Standing ℕ) → bytes_left way false (discipline_of p) ≡ first_size (messages_at way p)
   whole Up p = ap (λ ms. first_size ms) (stands-at Up (ldterm_of p.part) p.queues)
   whole Down p = ap (λ ms. first_size ms) (stands-at Down (ldterm_of p.part) p.queues)
 

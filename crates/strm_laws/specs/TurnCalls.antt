@@ -10,6 +10,7 @@ use Rattle.strm_types.specs.LdtermStands.{disciplined}
 use Rattle.strm_types.specs.Ldterms.{Discipline, Ldterm, new_ldterm}
 use Rattle.strm_types.specs.ModuleQueues.{at_place}
 use Rattle.strm_types.specs.Modules.{act_among}
+use Rattle.strm_types.specs.Standings.{new_pair}
 use Rattle.strm_laws.specs.Puts.{module_acted, put_in}
 use Rattle.strm_laws.specs.Stacked.{Module, OfLdterm, OfPtem, OfPckt, Standing, module_serves}
 use Rattle.strm_laws.specs.State.{State, stream}
@@ -26,7 +27,7 @@ discipline_of x = disciplined (ldterm_of x.part) x.queues
 
 -- what stands where no module does
 abbrev pub none_there : Standing ℕ
-none_there = record { part = OfLdterm new_ldterm; queues = None }
+none_there = record { part = OfLdterm new_ldterm; queues = Some new_pair }
 
 module _ (here : Spot) where
   -- the module at a place

@@ -1,6 +1,6 @@
 -- The calls of a turn of a module's queue, one after the other, up to the one that asks for no other.
 use Rattle.std.proofs.Common.{ℕ, zero, suc, ◌≡◌, ◌≤◌, ◌<◌, ◌+◌, ◌-◌, ◌*◌, Bool, true, false, cond, List, [], ◌∷◌, ◌++◌, length, map, refl, sym, ap, subst, ◌∙◌, arith}
-use Rattle.std.specs.Prelude.{◌&&◌, ◌==◌, not, nat_lt, slice_index_or, None, Some}
+use Rattle.std.specs.Prelude.{◌&&◌, ◌==◌, not, nat_lt, slice_index_or, None, Some, Option, is_some}
 use Rattle.std.specs.Bool.{OnTrue}
 use Rattle.std.specs.List.{AllByRecursion}
 use Rattle.std.proofs.lemmas.Bool.{false≢true}
@@ -24,27 +24,28 @@ use Rattle.strm_types.specs.Queue.{first_size, left_with}
 use Rattle.strm_types.specs.Service.{Serving}
 use Rattle.strm_types.specs.Termios.{opost}
 use Rattle.strm_laws.specs.Kept.{AreIdle}
-use Rattle.strm_types.specs.Ldterms.{Discipline, Stage, Between, Begun, Answered}
+use Rattle.strm_types.specs.LdtermStands.{disciplined}
+use Rattle.strm_types.specs.Ldterms.{Discipline, Stage, Between, Begun, Answered, new_ldterm}
 use Rattle.strm_laws.specs.ModuleTurns.{module_turn_ended, module_turned, moved_on}
 use Rattle.strm_laws.specs.Pair.{IsKeptAhead}
 use Rattle.strm_laws.specs.Refusals.{in_range}
 use Rattle.strm_laws.specs.Spares.{spare}
-use Rattle.strm_laws.specs.Stacked.{IsAtRest, Standing, OfLdterm, OfPtem, OfPckt, module_serves}
+use Rattle.strm_laws.specs.Stacked.{IsAtRest, KindRests, Module, OfLdterm, OfPtem, OfPckt, Standing, module_serves}
 use Rattle.strm_laws.specs.State.{State, stream}
 use Rattle.strm_types.specs.LdtermCalls.{Begins, Ends, bytes_left}
-use Rattle.strm_laws.specs.TurnCalls.{Stopped, asks_on, discipline_of, led, module_at, treated}
+use Rattle.strm_types.specs.Standings.{QueuePair, stood}
+use Rattle.strm_laws.specs.TurnCalls.{Stopped, asks_on, discipline_of, led, module_at, treated, none_there}
 use Rattle.strm_laws.specs.TurnOutcomes.{TurnOutcome}
 use Rattle.strm_laws.proofs.LdtermStops.{FullFirst}
-use Rattle.strm_laws.proofs.ModuleTurnCalls.{Reached, UnderWay, index-map, led-at, led-length, module-ends, moves-within, none_there, reached-last, reached-next, under_way}
+use Rattle.strm_laws.proofs.ModuleTurnCalls.{Reached, UnderWay, index-map, led-at, led-length, module-ends, module-goes, moves-within, reached-last, reached-next, under_way}
 use Rattle.strm_laws.proofs.StackSpares.{range-spare}
 use Rattle.strm_laws.proofs.Staying.{kept-ahead}
 use Rattle.strm_blocks.specs.Blocks.{StoreValue}
 use Rattle.strm_frame.specs.Serves.{least_free, stop_at}
-use Rattle.strm_pair.specs.AnyModules.{turn_cost}
+use Rattle.strm_pair.specs.AnyModules.{HasAsNamed, turn_cost}
 use Rattle.strm_pair.specs.declared.service_calls.Call.{Call}
 use Rattle.strm_pair.specs.ModuleServed.{LeavesFew, MayBook, StopsFew, TellsAs, TreatsAs, call_cost, call_units, stop_in}
 use Rattle.strm_pair.specs.ModuleTurned.{MayMove}
-use Rattle.strm_pair.proofs.ServeSteps.{module-goes}
 use Rattle.strm_pair.proofs.StopsFew.{led-same}
 use Rattle.strm_ldterm.proofs.Flushed.{tallied-append}
 
@@ -80,9 +81,9 @@ begun-few Between l = omega arith
 begun-few (Begun started c) l = omega arith
 begun-few (Answered echo) l = omega arith
 
--- of M_DATA that stands first on a module's queues each byte is a cell
+-- of M_DATA that stands first on a module's queues each byte is a cell, and it has queues where those of its name have
 abbrev pub Full : Standing ℕ → Type 0
-Full p = FullFirst (discipline_of p).read_queue.messages × FullFirst (discipline_of p).write_queue.messages
+Full p = FullFirst (discipline_of p).read_queue.messages × FullFirst (discipline_of p).write_queue.messages × HasAsNamed p
 
 -- What holds of the calls so far: what they treated and what is left are the message, as it was, and no side was opened or closed.
 pub record Since (here : Spot) (again : Bool) (bytes : ℕ) (s0 s : State ℕ) : Type 0 where
@@ -229,22 +230,29 @@ module _ (here : Spot) where
       at true is [] long = omega arith
       at true is (x ∷ xs) long = let whole = full (both-first (is_data m.kind) (opost l.termios) is) in let size = ap length long in omega (arith, whole, size, length-take (length xs) xs)
 
+  -- one without a turn of its own has nothing left
+  none-left : (way : Way) (again : Bool) (queues : Option (QueuePair ℕ)) → is_some queues ≡ false → bytes_left way again (disciplined new_ldterm queues) ≤ 0
+  none-left way again (Some pair) none = absurd (false≢true (sym none))
+  none-left Up false None none = omega arith
+  none-left Up true None none = omega arith
+  none-left Down false None none = omega arith
+  none-left Down true None none = omega arith
+
   whole-at : (way : Way) (again : Bool) (p : Standing ℕ) → Full p → let t = module_serves plain (record here { way = way }) 0 again None p in t.again ≡ false → bytes_left way again (discipline_of p) ≤ t.bytes
-  whole-at Up false (OfLdterm l) full over = input-whole l.read_queue.messages l full.0 over
-  whole-at Up true (OfLdterm l) full over =
-      let t = stages plain (record here { way = Up }) (3 * to_treat l - stages_done l.stage) 0 l in
-      let bytes = ap (λ again. cond {A = ℕ} again (to_treat l - to_treat t.state) (to_treat l)) over in
-      omega (arith, bytes)
-  whole-at Down false (OfLdterm l) full over = output-whole l.write_queue.messages l full.1
-  whole-at Down true (OfLdterm l) full over = output-whole l.write_queue.messages l full.1
-  whole-at Up false (OfPtem p) full over = omega arith
-  whole-at Up true (OfPtem p) full over = omega arith
-  whole-at Down false (OfPtem p) full over = omega arith
-  whole-at Down true (OfPtem p) full over = omega arith
-  whole-at Up false (OfPckt p) full over = omega arith
-  whole-at Up true (OfPckt p) full over = omega arith
-  whole-at Down false (OfPckt p) full over = omega arith
-  whole-at Down true (OfPckt p) full over = omega arith
+  whole-at way again p full over = by way again p.part full over
+    where
+      by : (way : Way) (again : Bool) (part : Module ℕ) → let q = stood part p.queues in Full q → let t = module_serves plain (record here { way = way }) 0 again None q in t.again ≡ false
+          → bytes_left way again (discipline_of q) ≤ t.bytes
+      by Up false (OfLdterm l) full over = let d = disciplined l p.queues in input-whole d.read_queue.messages d full.0 over
+      by Up true (OfLdterm l) full over =
+          let d = disciplined l p.queues in
+          let t = stages plain (record here { way = Up }) (3 * to_treat d - stages_done d.stage) 0 d in
+          let bytes = ap (λ again. cond {A = ℕ} again (to_treat d - to_treat t.state) (to_treat d)) over in
+          omega (arith, bytes)
+      by Down false (OfLdterm l) full over = let d = disciplined l p.queues in output-whole d.write_queue.messages d full.1
+      by Down true (OfLdterm l) full over = let d = disciplined l p.queues in output-whole d.write_queue.messages d full.1
+      by way again (OfPtem q) full over = none-left way again p.queues full.2
+      by way again (OfPckt q) full over = none-left way again p.queues full.2
 
   -- a last call that didn't stop treats all that was left
   module _ (again : Bool) (call : Call) (s : State ℕ) (tells : TellsAs here again call s) (low : here.at - 1 < length (stream here.side s).modules) (full : Full (module_at here s)) (over : call.again ≡ false) where
@@ -323,12 +331,15 @@ module _ (here : Spot) where
   rest-at (suc i) (p ∷ ps) rest low = rest-at i ps rest.1 (omega (arith, low))
 
   begins-rested : (way : Way) (p : Standing ℕ) → IsAtRest p → Begins way false (discipline_of p)
-  begins-rested Up (OfLdterm l) rest = rest
-  begins-rested Down (OfLdterm l) rest = rest
-  begins-rested Up (OfPtem p) rest = (refl, refl, refl, refl)
-  begins-rested Down (OfPtem p) rest = (refl, refl, refl, refl)
-  begins-rested Up (OfPckt p) rest = (refl, refl, refl, refl)
-  begins-rested Down (OfPckt p) rest = (refl, refl, refl, refl)
+  begins-rested way p rest = by way p.part rest
+    where
+      by : (way : Way) (part : Module ℕ) → KindRests part → Begins way false (discipline_of (stood part p.queues))
+      by Up (OfLdterm l) rest = rest
+      by Down (OfLdterm l) rest = rest
+      by Up (OfPtem q) rest = (refl, refl, refl, refl)
+      by Down (OfPtem q) rest = (refl, refl, refl, refl)
+      by Up (OfPckt q) rest = (refl, refl, refl, refl)
+      by Down (OfPckt q) rest = (refl, refl, refl, refl)
 
   pub first-begins : (s : State ℕ) → AreIdle s → here.at - 1 < length (stream here.side s).modules → Begins here.way false (discipline_of (module_at here s))
   first-begins s idle low = begins-rested here.way (module_at here s) (rest-at (here.at - 1) (stream here.side s).modules (idle here.side) low)

@@ -22,24 +22,26 @@ use Rattle.strm_laws.specs.ModuleTurns.{asked_turn, module_turned, moved_within,
 use Rattle.strm_types.specs.Modules.{change_among}
 use Rattle.strm_laws.specs.Past.{has_room_past, waits_on, writer_waits}
 use Rattle.strm_types.specs.Queue.{is_none_left, first_size}
-use Rattle.strm_laws.specs.Stacked.{IsAtRest, Standing, OfLdterm, OfPtem, OfPckt, module_asks, module_rests}
+use Rattle.strm_laws.specs.Stacked.{IsAtRest, KindRests, Module, OfLdterm, OfPtem, OfPckt, Standing, kind_rests, module_asks, module_rests}
 use Rattle.strm_laws.specs.State.{State, Stream, stream}
-use Rattle.strm_types.specs.LdtermCalls.{bytes_left}
-use Rattle.strm_laws.specs.TurnCalls.{discipline_of}
+use Rattle.strm_laws.specs.TurnCalls.{none_there}
 use Rattle.strm_laws.specs.TurnOutcomes.{TurnOutcome, stayed_put}
-use Rattle.strm_laws.proofs.ModuleTurnCalls.{index-map, none_there}
+use Rattle.strm_laws.proofs.ModuleTurnCalls.{index-map, whole}
 use Rattle.strm_pair.proofs.NamedPlaces.{found-low}
 use Rattle.strm_pair.specs.ModuleTurned.{MayMove}
 
 -- one of which nothing of a turn is under way rests
 rests-idle : (p : Standing ℕ) → IsAtRest p → module_rests p ≡ true
-rests-idle (OfLdterm l) idle =
-    ap (λ o. not (is_some o) && (is_none_left l.gathered && (not l.echoing && is_between l.stage))) idle.0
-    ∙ ap (λ xs. is_none_left xs && (not l.echoing && is_between l.stage)) idle.1
-    ∙ ap (λ b. not b && is_between l.stage) idle.2
-    ∙ ap is_between idle.3
-rests-idle (OfPtem p) idle = refl
-rests-idle (OfPckt p) idle = refl
+rests-idle p idle = by p.part idle
+  where
+    by : (part : Module ℕ) → KindRests part → kind_rests part ≡ true
+    by (OfLdterm l) idle =
+        ap (λ o. not (is_some o) && (is_none_left l.gathered && (not l.echoing && is_between l.stage))) idle.0
+        ∙ ap (λ xs. is_none_left xs && (not l.echoing && is_between l.stage)) idle.1
+        ∙ ap (λ b. not b && is_between l.stage) idle.2
+        ∙ ap is_between idle.3
+    by (OfPtem q) idle = refl
+    by (OfPckt q) idle = refl
 
 rests-at : (i : ℕ) (ps : List (Standing ℕ)) → AllByRecursion (λ p. IsAtRest p) ps → i < length ps → slice_index_or (map module_rests ps) i false ≡ true
 rests-at i [] idle low = absurd (omega (arith, low))
@@ -72,15 +74,6 @@ pub turned-room : (name : QueueName) (at : ℕ) (band : Band) (turn : Turn) (s :
     → asked_turn plain (spot_of name at) (asked.Room band) name turn s ≡ moved_within plain (spot_of name at) name turn s
 turned-room name at band turn s room = ap (λ b. cond {A = TurnOutcome ℕ} b (moved_within plain (spot_of name at) name turn s) (stayed_at Blocked (spot_of name at) (writer_waits name.side name.way at band.0 s))) room
 
--- how many bytes a first call may treat
-whole : (way : Way) (p : Standing ℕ) → bytes_left way false (discipline_of p) ≡ first_size (messages_at way p)
-whole Up (OfLdterm l) = refl
-whole Down (OfLdterm l) = refl
-whole Up (OfPtem p) = refl
-whole Down (OfPtem p) = refl
-whole Up (OfPckt p) = refl
-whole Down (OfPckt p) = refl
-
 -- where it may serve
 pub may-move : (name : QueueName) (at : ℕ) (s : State ℕ) → place_named name.place (stream name.side s).modules ≡ Some at
     → at_place (λ p. first_size (messages_at name.way p)) 0 at (stream name.side s).modules ≤ 16777216 → ((turn : Turn) → module_turned plain name turn s ≡ moved_within plain (spot_of name at) name turn s)
@@ -89,7 +82,7 @@ may-move name at s found few moves =
     let ps = (stream name.side s).modules in
     let low = found-low name.place ps at found in
     let size = index-map none_there (λ p. first_size (messages_at name.way p)) 0 (at - 1) ps (omega (arith, low.0, low.1)) in
-    record { stays = refl; named = refl; found = found; inside = low.0; within = low.1; low = low.2; few = omega (arith, few, size, whole name.way (slice_index_or ps (at - 1) none_there)); moves = moves }
+    record { stays = refl; named = refl; found = found; inside = low.0; within = low.1; low = low.2; few = omega (arith, few, size, whole (spot_of name at) name.way (slice_index_or ps (at - 1) none_there)); moves = moves }
 
 -- as many modules stand behind a writer that waits
 change-long : (f : Standing ℕ → Standing ℕ) (i : ℕ) (ps : List (Standing ℕ)) → length (change_among f i ps) ≡ length ps

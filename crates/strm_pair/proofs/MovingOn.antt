@@ -1,6 +1,7 @@
 -- A turn that moved something treated its message whole, or a byte of it at least.
 use Rattle.std.proofs.Common.{ℕ, zero, suc, ◌≡◌, ◌≤◌, ◌<◌, ◌-◌, Bool, true, false, cond, List, [], ◌∷◌, length, map, inl, inr, refl, sym, ap, subst, ◌∙◌, arith}
-use Rattle.std.specs.Prelude.{◌&&◌, nat_le, nat_lt, not, slice_index_or, Some}
+use Rattle.std.specs.Prelude.{◌&&◌, nat_le, nat_lt, not, slice_index_or, Some, Option}
+use Rattle.std.specs.List.{AllByRecursion}
 use Rattle.std.proofs.Math.Nat.{le-min}
 use Rattle.std.proofs.lemmas.Bool.Decides.{nat_tests}
 use Rattle.strm_types.specs.declared.answers.Turn.{Turn}
@@ -22,25 +23,27 @@ use Rattle.strm_types.specs.ModuleQueues.{at_place}
 use Rattle.strm_types.specs.Standings.{messages_at}
 use Rattle.strm_types.specs.Names.{is_open, other}
 use Rattle.strm_types.specs.Queue.{first_size}
+use Rattle.strm_types.specs.LdtermStands.{disciplined}
 use Rattle.strm_laws.specs.ModuleTurns.{moved_by, place_named, whole_module}
 use Rattle.strm_laws.specs.Pair.{IsKeptAhead, MovesOn}
 use Rattle.strm_laws.specs.Refusals.{Free, enough}
 use Rattle.strm_laws.specs.State.{State, Stream, stream}
-use Rattle.strm_laws.specs.TurnCalls.{discipline_of, module_at}
+use Rattle.strm_laws.specs.TurnCalls.{discipline_of, module_at, none_there, ldterm_of}
 use Rattle.strm_laws.specs.TurnOutcomes.{TurnOutcome, stayed_put}
 use Rattle.strm_laws.specs.Turns.{driver_serves, driver_turned, is_stopped_across, moved_across, whole_at}
 use Rattle.strm_laws.proofs.LdtermStops.{FullFirst}
-use Rattle.strm_laws.proofs.ModuleTurnCalls.{first-left, none_there}
+use Rattle.strm_laws.proofs.ModuleTurnCalls.{first-left}
 use Rattle.strm_laws.proofs.Staying.{kept-ahead}
-use Rattle.strm_blocks.specs.Blocks.{Block, StoreValue, free_d, free_m}
+use Rattle.strm_blocks.specs.Blocks.{Block, StoreValue, free_d, free_m, list_at}
 use Rattle.strm_msg.specs.Messages.{message_of}
 use Rattle.strm_msg.proofs.Chains.{kind-is}
 use Rattle.strm_msg.proofs.MadePlain.{booked-data}
 use Rattle.strm_frame.specs.Serves.{least_free}
-use Rattle.strm_pair.specs.declared.modules.AnyModule.{AnyModule}
-use Rattle.strm_pair.specs.declared.modules.AnyModule.TheVariants as kinds
+use Rattle.strm_frame.specs.declared.queue_pair.QueuePair.{QueuePair}
+use Rattle.strm_frame.specs.Standings.{queues_in}
 use Rattle.strm_pair.specs.declared.streams.Streams.{Streams}
-use Rattle.strm_pair.specs.AnyModules.{module_in}
+use Rattle.strm_pair.specs.AnyModules.{AnyStanding, IsHeld, any-has, kind_in, module_in}
+use Rattle.strm_pair.specs.Stacks.{IsStackHeld}
 use Rattle.strm_pair.specs.ModuleTurned.{MayMove}
 use Rattle.strm_pair.specs.ModuleServed.{StopsFew}
 use Rattle.strm_pair.specs.Pairs.{end_at, free_in, state_in}
@@ -58,18 +61,21 @@ module _ (here : Spot) where
   full-first [] = tt
   full-first (chain ∷ q) = λ is. booked-data chain (typed-data _ (sym (ap is_data (kind-is chain)) ∙ is))
 
-  full-one : (s : StoreValue) (x : AnyModule) → Full (module_in s x)
-  full-one s (kinds.Ldterm x) = (full-first _, full-first _)
-  full-one s (kinds.Ptem x) = (tt, tt)
-  full-one s (kinds.Pckt x) = (tt, tt)
+  pair-full : (s : StoreValue) (l : Ldterm ℕ) (queues : Option QueuePair) → let d = disciplined l (queues_in s queues) in FullFirst d.read_queue.messages × FullFirst d.write_queue.messages
+  pair-full s l None = (tt, tt)
+  pair-full s l (Some pair) = (full-first (list_at s pair.read.list), full-first (list_at s pair.write.list))
 
-  full-among : (s : StoreValue) (i : ℕ) (xs : List AnyModule) → Full (slice_index_or (map (module_in s) xs) i none_there)
-  full-among s i [] = (tt, tt)
-  full-among s zero (x ∷ xs) = full-one s x
-  full-among s (suc i) (x ∷ xs) = full-among s i xs
+  full-one : (s : StoreValue) (x : AnyStanding) → IsHeld s x → Full (module_in s x)
+  full-one s x held = let full = pair-full s (ldterm_of (kind_in s x.module)) x.queues in (full.0, full.1, any-has s x held)
 
-  pub full-at : (s : StoreValue) (p : Streams) → Full (module_at here (state_in s p))
-  full-at s p = subst (λ ms. Full (slice_index_or ms (here.at - 1) none_there)) (sym (modules-are s p here.side)) (full-among s (here.at - 1) (end_at here.side p).stack.modules.items)
+  full-among : (s : StoreValue) (i : ℕ) (xs : List AnyStanding) → AllByRecursion (IsHeld s) xs → Full (slice_index_or (map (module_in s) xs) i none_there)
+  full-among s i [] held = (tt, tt, refl)
+  full-among s zero (x ∷ xs) held = full-one s x held.0
+  full-among s (suc i) (x ∷ xs) held = full-among s i xs held.1
+
+  pub full-at : (s : StoreValue) (p : Streams) → IsStackHeld s (end_at here.side p).stack → Full (module_at here (state_in s p))
+  full-at s p held =
+      subst (λ ms. Full (slice_index_or ms (here.at - 1) none_there)) (sym (modules-are s p here.side)) (full-among s (here.at - 1) (end_at here.side p).stack.modules.items held.each)
 
 whole-found : (way : Way) (on : Stream ℕ) (at : ℕ) → place_named Ldterm on.modules ≡ Some at → whole_module Ldterm way on ≡ Moved (at_place (λ p. first_size (messages_at way p)) 0 at on.modules)
 whole-found way on at is = rw is refl

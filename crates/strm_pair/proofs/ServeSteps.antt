@@ -26,16 +26,17 @@ use Rattle.strm_laws.specs.Puts.{earlier_at, module_acted, noted, put_in}
 use Rattle.strm_laws.specs.Spares.{spare, spare_behind}
 use Rattle.strm_laws.specs.SideCosts.{costs}
 use Rattle.strm_laws.specs.StackCosts.{stands_of}
-use Rattle.strm_laws.specs.Stacked.{Standing, OfLdterm, OfPtem, OfPckt, module_serves}
+use Rattle.strm_laws.specs.Stacked.{Module, OfLdterm, OfPtem, OfPckt, Standing, module_serves}
 use Rattle.strm_laws.specs.State.{State, book, stream}
 use Rattle.strm_types.specs.LdtermCalls.{Begins, Ends, bytes_left, most_made}
-use Rattle.strm_laws.specs.TurnCalls.{asks_on, called, discipline_of, module_at, treated}
+use Rattle.strm_types.specs.LdtermStands.{disciplined}
+use Rattle.strm_types.specs.Standings.{HoldsOfPart, stood}
+use Rattle.strm_laws.specs.TurnCalls.{asks_on, called, discipline_of, module_at, treated, none_there}
 use Rattle.strm_types.proofs.CostsOf.{none-few}
 use Rattle.strm_laws.proofs.StackSpares.{acted-falls, units-fit}
 use Rattle.strm_laws.proofs.StackStays.{serve-names}
 use Rattle.strm_laws.proofs.Booked.{between-counts, made-within, made_in, master-told, slave-told}
-use Rattle.strm_laws.proofs.LdtermStops.{GoesOn, serves-ends, serves-goes}
-use Rattle.strm_laws.proofs.ModuleTurnCalls.{UnderWay, index-map, none_there, sent-stays, under_way}
+use Rattle.strm_laws.proofs.ModuleTurnCalls.{UnderWay, index-map, sent-stays, under_way, module-ends, module-goes}
 use Rattle.strm_blocks.specs.Blocks.{IsStore, StoreValue}
 use Rattle.strm_frame.specs.declared.service.Served.{Served}
 use Rattle.strm_frame.specs.declared.parcels.Sent.{Sent}
@@ -71,28 +72,19 @@ on-true false follows holds = tt
 pub holds-there : {P : Type 0} (Q : P → Type 0) (d : P) (i : ℕ) (ps : List P) → HoldsAt Q ps i → Q (slice_index_or ps i d)
 holds-there Q d i ps holds = holds d
 
--- what is known of calls of ldterm's service procedure is so of any module's
-module _ (here : Spot) (again : Bool) where
-  pub module-goes : (p : Standing ℕ) → Begins here.way again (discipline_of p) → let t = module_serves plain here 0 again None p in t.again ≡ true → GoesOn here.way again (discipline_of p) t.bytes (discipline_of t.acted.state)
-  module-goes (OfLdterm l) begins works = serves-goes here again l begins works
-  module-goes (OfPtem p) begins works = absurd (false≢true works)
-  module-goes (OfPckt p) begins works = absurd (false≢true works)
-
-  module-ends : (p : Standing ℕ) → Begins here.way again (discipline_of p) → let t = module_serves plain here 0 again None p in t.again ≡ false → Ends here.way again (discipline_of p) t.bytes
-  module-ends (OfLdterm l) begins over = (serves-ends here again l begins over).0
-  module-ends (OfPtem p) begins over = record { treat = omega arith; done = omega arith }
-  module-ends (OfPckt p) begins over = record { treat = omega arith; done = omega arith }
-
 -- where a turn of a module begins or goes on, it may serve
-may-one : (way : Way) (again : Bool) (p : Standing ℕ) → Begins way again (discipline_of p) → MayServe way again p
-may-one Up true (OfLdterm l) begins = begins
-may-one Up false (OfLdterm l) begins = begins
-may-one Down true (OfLdterm l) begins = begins
-may-one Down false (OfLdterm l) begins = begins
-may-one way again (OfPtem p) begins = tt
-may-one way again (OfPckt p) begins = tt
+may-one : (way : Way) (again : Bool) (p : Standing ℕ) → Begins way again (discipline_of p) → MayServe way again p.part
+may-one way again p begins = by way again p.part begins
+  where
+    by : (way : Way) (again : Bool) (part : Module ℕ) → Begins way again (discipline_of (stood part p.queues)) → MayServe way again part
+    by Up true (OfLdterm l) begins = begins
+    by Up false (OfLdterm l) begins = begins
+    by Down true (OfLdterm l) begins = begins
+    by Down false (OfLdterm l) begins = begins
+    by way again (OfPtem q) begins = tt
+    by way again (OfPckt q) begins = tt
 
-pub may-serve : (way : Way) (again : Bool) (i : ℕ) (ps : List (Standing ℕ)) → i < length ps → Begins way again (discipline_of (slice_index_or ps i none_there)) → HoldsAt (MayServe way again) ps i
+pub may-serve : (way : Way) (again : Bool) (i : ℕ) (ps : List (Standing ℕ)) → i < length ps → Begins way again (discipline_of (slice_index_or ps i none_there)) → HoldsAt (HoldsOfPart (MayServe way again)) ps i
 may-serve way again i [] low begins = absurd (omega (arith, low))
 may-serve way again zero (p ∷ ps) low begins = λ d. may-one way again p begins
 may-serve way again (suc i) (p ∷ ps) low begins = may-serve way again i ps (omega (arith, low)) begins
@@ -113,7 +105,7 @@ module _ (here : Spot) (again : Bool) (call : Call) (st : State ℕ) (tells : Te
     where
       at : (more : Bool) → (module_serves plain here 0 again None (module_at here st)).again ≡ more → call.bytes ≤ (module_serves plain here 0 again None (module_at here st)).bytes → call.bytes ≤ bytes_left here.way again (discipline_of (module_at here st))
       at true is most = let g = module-goes here again (module_at here st) begins is in omega (arith, g.treat, most)
-      at false is most = let e = module-ends here again (module_at here st) begins is in omega (arith, e.treat, most)
+      at false is most = let e = module-ends here again (module_at here st) begins is in omega (arith, e.0.treat, most)
 
   pub call-within : call.bytes ≤ bytes_left here.way again (discipline_of (module_at here st))
   call-within = within-by call.stopped tells.ends tells.bytes
@@ -224,9 +216,12 @@ begins-work Down again l begins up more = absurd (cc)
 
 module _ (here : Spot) (again : Bool) (stop : Option ℕ) where
   one-sends : (p : Standing ℕ) → Begins here.way again (discipline_of p) → cost_of most (module_serves plain here 0 again stop p).acted.sent ≤ 31
-  one-sends (OfLdterm l) begins = call-few here again stop l (begins-work here.way again l begins)
-  one-sends (OfPtem p) begins = none-few {C = ℕ} most 31
-  one-sends (OfPckt p) begins = none-few {C = ℕ} most 31
+  one-sends p begins = by p.part begins
+    where
+      by : (part : Module ℕ) → let q = stood part p.queues in Begins here.way again (discipline_of q) → cost_of most (module_serves plain here 0 again stop q).acted.sent ≤ 31
+      by (OfLdterm l) begins = let d = disciplined l p.queues in call-few here again stop d (begins-work here.way again d begins)
+      by (OfPtem q) begins = none-few {C = ℕ} most 31
+      by (OfPckt q) begins = none-few {C = ℕ} most 31
 
   among-sends : (i : ℕ) (ps : List (Standing ℕ)) → i < length ps → Begins here.way again (discipline_of (slice_index_or ps i none_there)) → cost_of most (act_among (λ p. (module_serves plain here 0 again stop p).acted) i ps).sent ≤ 31
   among-sends i [] low begins = absurd (omega (arith, low))

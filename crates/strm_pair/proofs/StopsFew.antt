@@ -22,12 +22,13 @@ use Rattle.strm_types.specs.Queue.{first_size, is_none_left, left_with}
 use Rattle.strm_types.specs.Service.{Serving}
 use Rattle.strm_types.specs.Termios.{opost}
 use Rattle.strm_types.specs.Typing.{gathered_up}
+use Rattle.strm_types.specs.Standings.{stood}
+use Rattle.strm_types.specs.LdtermStands.{disciplined}
 use Rattle.strm_laws.specs.Pair.{IsKeptAhead}
 use Rattle.strm_laws.specs.Puts.{SameButMade, module_acted}
-use Rattle.strm_laws.specs.Stacked.{Standing, OfLdterm, OfPtem, OfPckt, module_serves}
+use Rattle.strm_laws.specs.Stacked.{Module, OfLdterm, OfPtem, OfPckt, Standing, module_serves}
 use Rattle.strm_laws.specs.State.{State, stream}
-use Rattle.strm_laws.specs.TurnCalls.{asks_on, called, discipline_of, led, module_at, treated}
-use Rattle.strm_laws.proofs.ModuleTurnCalls.{none_there}
+use Rattle.strm_laws.specs.TurnCalls.{asks_on, called, discipline_of, led, module_at, none_there, treated}
 use Rattle.strm_laws.proofs.PutParts.{acted-holds, sent-holds}
 use Rattle.strm_laws.proofs.PutsKeep.{same-itself, same-stays}
 use Rattle.strm_laws.proofs.Staying.{SentOn, kept-ahead}
@@ -114,16 +115,22 @@ module _ (here : Spot) (again : Bool) (bytes : ℕ) where
           at true over less = stages-gathered up (3 * bytes - stages_done begun.stage) 0 begun refl over
           at false over less = let size = ap first_size is in absurd (omega (arith, less, size))
 
+  down-on : here.way ≡ Down → (more : Bool) (l : Discipline ℕ) → let t = ldterm_serves plain (record here { way = Down }) 0 more (Some bytes) l in t.bytes < bytes_left Down more l → SentOn here t.acted.sent
+  down-on is true l less = output-on here is bytes l.write_queue.messages l less
+  down-on is false l less = output-on here is bytes l.write_queue.messages l less
+
   module-on : (way : Way) → here.way ≡ way → (p : Standing ℕ) → Begins way again (discipline_of p) → let t = module_serves plain (record here { way = way }) 0 again (Some bytes) p in
       t.again ≡ false → t.bytes < bytes_left way again (discipline_of p) → SentOn here t.acted.sent
-  module-on Up is (OfLdterm l) begins over less = gathered-on here is (ldterm_serves plain up 0 again (Some bytes) l).acted.sent (serves-gathered again l begins over less)
-  module-on Down is (OfLdterm l) begins over less = by again less
+  module-on way is p begins over less = by way is p.part begins over less
     where
-      by : (more : Bool) → let t = ldterm_serves plain (record here { way = Down }) 0 more (Some bytes) l in t.bytes < bytes_left Down more l → SentOn here t.acted.sent
-      by true less = output-on here is bytes l.write_queue.messages l less
-      by false less = output-on here is bytes l.write_queue.messages l less
-  module-on way is (OfPtem p) begins over less = tt
-  module-on way is (OfPckt p) begins over less = tt
+      by : (way : Way) → here.way ≡ way → (part : Module ℕ) → let q = stood part p.queues in Begins way again (discipline_of q) → let t = module_serves plain (record here { way = way }) 0 again (Some bytes) q in
+          t.again ≡ false → t.bytes < bytes_left way again (discipline_of q) → SentOn here t.acted.sent
+      by Up is (OfLdterm l) begins over less =
+          let d = disciplined l p.queues in
+          gathered-on here is (ldterm_serves plain up 0 again (Some bytes) d).acted.sent (serves-gathered again d begins over less)
+      by Down is (OfLdterm l) begins over less = down-on is again (disciplined l p.queues) less
+      by way is (OfPtem q) begins over less = tt
+      by way is (OfPckt q) begins over less = tt
 
   among-on : (i : ℕ) (ps : List (Standing ℕ)) → i < length ps → Begins here.way again (discipline_of (slice_index_or ps i none_there))
       → slice_index_or (map (λ p. (module_serves plain here 0 again (Some bytes) p).again) ps) i false ≡ false

@@ -1,5 +1,6 @@
 -- The modules that may stand on a stream, beside a store: each is what one of its kind is by itself.
-use Rattle.std.specs.Prelude.{ℕ, ◌≡◌, Bool, false, Option, None, is_some}
+use Rattle.std.specs.Prelude.{ℕ, ◌≡◌, Bool, false, List, [], ◌∷◌, map, Option, None, Some, is_some}
+use Rattle.std.specs.List.{AllByRecursion}
 use Rattle.std.proofs.Common.{refl, ap}
 use Rattle.strm_types.specs.declared.names.ModuleName.{ModuleName}
 use Rattle.strm_types.specs.declared.names.Way.{Way}
@@ -8,14 +9,14 @@ use Rattle.strm_types.specs.Cells.{plain}
 use Rattle.strm_types.specs.LdtermStands.{disciplined}
 use Rattle.strm_types.specs.Message.{Message}
 use Rattle.strm_types.specs.Names.{place_of}
-use Rattle.strm_types.specs.Standings.{QueuePair, stood}
-use Rattle.strm_laws.specs.Stacked.{Module, OfLdterm, OfPtem, OfPckt, Standing, module_puts, module_serves, without_kind_line}
+use Rattle.strm_types.specs.Standings.{QueuePair, has_queues, stood}
+use Rattle.strm_laws.specs.Stacked.{Module, OfLdterm, OfPtem, OfPckt, Standing, kind_name, module_name, module_puts, module_serves, without_kind_line}
 use Rattle.strm_blocks.specs.Blocks.{StoreValue}
 use Rattle.strm_frame.specs.declared.queue_pair.QueuePair as frame
 use Rattle.strm_frame.specs.declared.standing.Standing as standing
 use Rattle.strm_frame.specs.Hands.{SameOwn}
 use Rattle.strm_frame.specs.StandingLaws.{none-same, standing-frame}
-use Rattle.strm_frame.specs.Standings.{Fits, keeps_of, lists_of, owns, queues_own, standing_in}
+use Rattle.strm_frame.specs.Standings.{Fits, keeps_of, lists_of, owns, queues_in, queues_own, standing_in}
 use Rattle.strm_ldterm.specs.Bounds as bounds
 use Rattle.strm_ldterm.specs.Frames.{own-frame, own-rested}
 use Rattle.strm_ldterm.specs.Resting.{own-rests}
@@ -98,6 +99,23 @@ module-rested s t (kinds.Pckt x) queues others lists none held = (refl, none-sam
 
 pub any-frame : (s t : StoreValue) (x : AnyStanding) → SameOwn s t (owns x) (keeps x) → IsHeld s x → (module_in t x ≡ module_in s x) × IsHeld t x
 any-frame s t x same held = standing-frame kind_in IsKindHeld kind_keeps module-frame s t x same held
+
+-- It has queues where those of its name have.
+abbrev pub HasAsNamed : Standing ℕ → Type 0
+HasAsNamed p = has_queues p ≡ is_some (place_of (module_name p))
+
+kind-has : (s : StoreValue) (x : AnyModule) (queues : Option frame.QueuePair) → IsKindHeld s x queues → is_some (queues_in s queues) ≡ is_some (place_of (kind_name (kind_in s x)))
+kind-has s (kinds.Ldterm x) None held = absurd held
+kind-has s (kinds.Ldterm x) (Some pair) held = refl
+kind-has s (kinds.Ptem x) queues held = ap (λ o. is_some (queues_in s o)) held
+kind-has s (kinds.Pckt x) queues held = ap (λ o. is_some (queues_in s o)) held
+
+pub any-has : (s : StoreValue) (x : AnyStanding) → IsHeld s x → HasAsNamed (module_in s x)
+any-has s x held = kind-has s x.module x.queues held.itself
+
+pub all-have : (s : StoreValue) (xs : List AnyStanding) → AllByRecursion (IsHeld s) xs → AllByRecursion HasAsNamed (map (module_in s) xs)
+all-have s [] held = tt
+all-have s (x ∷ xs) held = (any-has s x held.0, all-have s xs held.1)
 
 -- where a turn may begin it keeps nothing
 pub serves-rests : (s : StoreValue) (x : AnyModule) (queues : Option frame.QueuePair) (way : Way) (i : ℕ) → IsKindHeld s x queues → MayServe way false (kind_in s x) → kind_keeps x i ≡ 0

@@ -7,7 +7,6 @@ use Rattle.strm_types.specs.Both.{AllSides}
 use Rattle.strm_types.specs.Queue.{IsOrdered}
 use Rattle.strm_laws.specs.StackCosts.{EachOnce}
 use Rattle.strm_laws.specs.Stacked as plain
-use Rattle.strm_laws.specs.Stacked.{IsAtRest}
 use Rattle.strm_laws.specs.State.{Stream}
 use Rattle.strm_blocks.specs.Blocks.{StoreValue, list_at}
 use Rattle.strm_pair.specs.declared.ends.StreamEnd.{StreamEnd}

@@ -7,7 +7,7 @@ use Rattle.strm_types.specs.declared.names.ModuleName.{ModuleName}
 use Rattle.strm_types.specs.Deliver.{Acted, tallied}
 use Rattle.strm_laws.specs.Pushes.{top_on, top_taken}
 use Rattle.strm_types.specs.Service.{cleared}
-use Rattle.strm_laws.specs.Stacked.{Standing, module_line, module_name, without_kind_line}
+use Rattle.strm_laws.specs.Stacked.{Standing, module_name, without_kind_line, kind_line}
 use Rattle.strm_laws.specs.State.{stream}
 use Rattle.strm_blocks.specs.Blocks.{StoreValue, list_at}
 use Rattle.strm_queue.specs.Stored.{FreesBlocks}
