@@ -110,12 +110,12 @@ abbrev pub driver_comes : Bool → Side → State ℕ → State ℕ
 driver_comes comes side s = record s { enabled = enable_if (comes && not (is_none_left (stream (other side) s).driver.queue.messages)) (driver_of (other side)) s.enabled }
 
 -- as no other module has one
-bare : (name : ModuleName) → same_module name names.Ldterm ≡ false → is_some (place_of name) ≡ false
+pub bare : (name : ModuleName) → same_module name names.Ldterm ≡ false → is_some (place_of name) ≡ false
 bare names.Ldterm other = absurd (cc)
 bare names.Ptem other = refl
 bare names.Pckt other = refl
 
-neither : (a b : Bool) → (a || b) ≡ false → (a ≡ false) × (b ≡ false)
+pub neither : (a b : Bool) → (a || b) ≡ false → (a ≡ false) × (b ≡ false)
 neither true b none = absurd (cc)
 neither false b none = (refl, none)
 

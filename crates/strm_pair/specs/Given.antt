@@ -1,5 +1,5 @@
 -- The queues that a module is given when it is pushed (streamio(7I): I_PUSH).
-use Rattle.std.specs.Prelude.{ℕ, ◌≡◌, ◌<◌, ◌+◌, [], Option, is_some, IfSome}
+use Rattle.std.specs.Prelude.{ℕ, ◌≡◌, ◌+◌, true, [], Option, is_some, IfSome}
 use Rattle.strm_types.specs.declared.names.ModuleName.{ModuleName}
 use Rattle.strm_types.specs.Names.{place_of}
 use Rattle.strm_laws.specs.Pushes.{queues_named}
@@ -13,4 +13,4 @@ pub record GivenFor (name : ModuleName) (first : ℕ) (queues : Option QueuePair
   pub has : is_some queues ≡ is_some (place_of name)
   pub state : (s : StoreValue) → list_at s first ≡ [] → list_at s (first + 1) ≡ [] → queues_in s queues ≡ queues_named name
   pub ready : (s : StoreValue) → list_at s first ≡ [] → list_at s (first + 1) ≡ [] → IfSome queues (IsPairReady s)
-  pub own : (k : ℕ) → 0 < queues_own queues k → queues_own queues k ≡ once first k + once (first + 1) k
+  pub own : is_some queues ≡ true → (k : ℕ) → queues_own queues k ≡ once first k + once (first + 1) k

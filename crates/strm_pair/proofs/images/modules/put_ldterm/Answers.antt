@@ -11,7 +11,7 @@ use Rattle.strm_pair.proofs.images.modules.put_ldterm.Goals as goal
 pub returns : goal.returns
 returns g c =
     let s = g.B.Blocks.value c.args.store.now in
-    let x = c.args.ldterm.now in
-    c.put_queue.ensures ∙ ap (put ((queue Second queues.LdtermWrite).text (queue_in s x.write_queue)))
-    (c.put_queue-out.ensures ∙ ap (put ((queue Second queues.LdtermRead).text (queue_in s x.read_queue))) (c.put_settings.ensures s))
-    ∙ ldterm_written s x c.args.out
+    let pair = c.args.queues.now in
+    c.put_queue.ensures ∙ ap (put ((queue Second queues.LdtermWrite).text (queue_in s pair.write)))
+    (c.put_queue-out.ensures ∙ ap (put ((queue Second queues.LdtermRead).text (queue_in s pair.read))) (c.put_settings.ensures s))
+    ∙ ldterm_written s c.args.ldterm.now pair c.args.out

@@ -7,11 +7,11 @@ use Rattle.strm_blocks.specs.Blocks.{StoreValue}
 use Rattle.strm_frame.specs.Hands.{AreIn, HasRoom}
 use Rattle.strm_frame.specs.Outboxes.{parcels_in, sent_of}
 use Rattle.strm_frame.specs.Serves.{later_cost}
-use Rattle.strm_pair.specs.AnyModules.{keeps}
+use Rattle.strm_pair.specs.AnyModules.{kind_keeps}
 use Rattle.strm_pair.proofs.modules.AnyModuleModule.serve.Goals as goal
 
 pub serve-requires-clause-kept : goal.serve-requires-clause-kept
-serve-requires-clause-kept g c = subst (λ x. AreIn (g.B.Blocks.value c.args.store.now) (λ _. 0) (keeps x)) c.in-Ldterm.is c.requires.kept
+serve-requires-clause-kept g c = subst (λ x. AreIn (g.B.Blocks.value c.args.store.now) (λ _. 0) (kind_keeps x)) c.in-Ldterm.is c.requires.kept
 
 -- the others send nothing
 none-sent : (s : StoreValue) (again : Bool) (next : ℕ) (ps : List (Parcel ℕ)) → again ≡ false → ps ≡ [] → HasRoom s (later_cost again next ps)
