@@ -14,7 +14,7 @@ use Rattle.strm_types.specs.Pckts.{new_pckt}
 use Rattle.strm_types.specs.Ptems.{Ptem, new_ptem}
 use Rattle.strm_types.specs.Queue.{Queue}
 use Rattle.strm_laws.specs.LdtermTurns.{ldterm_rests}
-use Rattle.strm_laws.specs.Stacked.{Module, OfLdterm, OfPtem, OfPckt, Standing, ldterm_stands, module_name}
+use Rattle.strm_laws.specs.Stacked.{Module, OfPtem, OfPckt, Standing, ldterm_stands, module_name}
 use Rattle.strm_laws.specs.TurnCalls.{discipline_of}
 use Rattle.strm_image.specs.declared.versions.QueueKind.TheVariants as queues
 use Rattle.strm_image.specs.declared.versions.Version.{Version}
