@@ -14,7 +14,7 @@ use Rattle.strm_types.specs.Flush.{is_data_kind}
 use Rattle.strm_types.specs.Input.{back_on, begins_next, finished, is_data, left_of, made_of, stages_done, then_on, to_treat, with_left}
 use Rattle.strm_types.specs.LdtermPuts.{ldterm_puts}
 use Rattle.strm_types.specs.LdtermServes.{ldterm_serves}
-use Rattle.strm_types.specs.Ldterms.{Discipline, Stage, Between, Begun, Answered, new_ldterm}
+use Rattle.strm_types.specs.Ldterms.{Discipline, Stage, Between, Begun, Answered}
 use Rattle.strm_types.specs.Message.{Message, data_message, cells_of, band_of, size_of, rank_of, is_high_priority}
 use Rattle.strm_types.specs.Queue.{Queue, Flow}
 use Rattle.strm_types.specs.Service.{Serving}
@@ -353,16 +353,16 @@ echo-without-enabling = refl
 abbrev typed_cell : ℕ → ℕ → Tagged
 typed_cell n byte = record { byte = byte; origin = Written MasterToSlave n }
 
-abbrev tagged_reading : List Tagged → Ldterm Tagged
+abbrev tagged_reading : List Tagged → Discipline Tagged
 tagged_reading cells =
     let m : Message Tagged = record { kind = Data; band = 0; control = None; body = Some cells; plain = [] } in
-    record new_ldterm { read_queue = record { messages = m ∷ []; flows = flows; want_read = true; no_enable = false } }
+    record fresh { read_queue = record { messages = m ∷ []; flows = flows; want_read = true; no_enable = false } }
 
 abbrev made_cell : ℕ → ℕ → Fate Tagged
 made_cell n byte = Comes SlaveToMaster (record { byte = byte; origin = Made SlaveToMaster n } ∷ [])
 
 -- "a", ERASE of it with its three made cells, and "b"
-abbrev tagged_turn : Serving Tagged (Ldterm Tagged)
+abbrev tagged_turn : Serving Tagged (Discipline Tagged)
 tagged_turn = ldterm_serves tagged here 6 false None (tagged_reading (typed_cell 1 97 ∷ typed_cell 2 127 ∷ typed_cell 3 98 ∷ []))
 
 pub made-cells-numbered-on : tagged_turn.acted.gone

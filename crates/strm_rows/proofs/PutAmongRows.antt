@@ -18,14 +18,13 @@ use Rattle.strm_types.specs.Deliver.{Fate, Goes, Parcel, Took}
 use Rattle.strm_laws.specs.Earlier.{before_at, before_by, before_driver, before_head, driver_place, modules_on}
 use Rattle.strm_types.specs.Flush.{is_data_kind}
 use Rattle.strm_types.specs.Flushing.{flush_message}
-use Rattle.strm_types.specs.Ldterms.{new_ldterm}
 use Rattle.strm_types.specs.Message.{Message, band_of, cells_of, is_high_priority, rank_of, size_of}
 use Rattle.strm_types.specs.Names.{driver_of}
 use Rattle.strm_laws.specs.Puts.{across_of, put_in}
 use Rattle.strm_types.specs.Queue.{Flow}
-use Rattle.strm_laws.specs.Stacked.{Standing, OfLdterm}
+use Rattle.strm_laws.specs.Stacked.{Standing, ldterm_stands}
 use Rattle.strm_laws.specs.State.{State, Stream}
-use Rattle.strm_laws.proofs.Samples.{flow, head_with, header, ordinary, queue, without_parts}
+use Rattle.strm_laws.proofs.Samples.{flow, head_with, header, ordinary, queue, without_parts, fresh}
 
 abbrev pub spot : Side → ℕ → Way → Spot
 spot side at way = record { side = side; at = at; way = way }
@@ -35,7 +34,7 @@ parcel side at way m = record { to = spot side at way; message = m }
 
 -- a module with these messages on its read queue and on its write queue, whose bands have these marks
 abbrev pub holding : List Flow → List (Message ℕ) → List (Message ℕ) → Standing ℕ
-holding flows above below = OfLdterm (record new_ldterm { read_queue = queue above flows; write_queue = queue below flows })
+holding flows above below = ldterm_stands (record fresh { read_queue = queue above flows; write_queue = queue below flows })
 
 abbrev pub with_these : List (Message ℕ) → List (Message ℕ) → Standing ℕ
 with_these above below = holding [] above below

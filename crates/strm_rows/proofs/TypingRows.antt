@@ -9,20 +9,20 @@ use Rattle.strm_types.specs.declared.spots.Note.TheVariants.{Enable}
 use Rattle.strm_types.specs.declared.spots.Spot.{Spot}
 use Rattle.strm_types.specs.Cells.{Tagged, Written, Made, plain, tagged}
 use Rattle.strm_types.specs.Deliver.{Acted, Fate, Goes, Comes, Parcel}
-use Rattle.strm_types.specs.Ldterms.{Discipline, Begun, Answered, new_ldterm}
+use Rattle.strm_types.specs.Ldterms.{Discipline, Begun, Answered}
 use Rattle.strm_types.specs.Message.{Message, data_message, cells_of, band_of, size_of, rank_of, is_high_priority}
 use Rattle.strm_types.specs.Typing.{begins, struck, echoed}
 use Rattle.strm_rows.proofs.EchoRows.{rubbed}
 use Rattle.strm_rows.proofs.KeyRows.{with_input, with_local}
 use Rattle.strm_rows.proofs.LdtermRows.{at, down, parcel, protocol, queue_with, up, waiting}
-use Rattle.strm_laws.proofs.Samples.{flow, ordinary, without_parts}
+use Rattle.strm_laws.proofs.Samples.{flow, ordinary, without_parts, fresh}
 
 abbrev here : Spot
 here = at Slave Up
 
 -- one with a line, and one set to other modes
 abbrev pub lined : List ℕ → Discipline ℕ
-lined line = record (new_ldterm {C = ℕ}) { line = line }
+lined line = record (fresh {C = ℕ}) { line = line }
 
 abbrev pub with_modes : ℕ → ℕ → Discipline ℕ → Discipline ℕ
 with_modes input local p = record p { termios = with_input input (with_local local p.termios) }
@@ -214,8 +214,8 @@ on-the-master = refl
 abbrev typed_cell : ℕ → ℕ → Tagged
 typed_cell n byte = record { byte = byte; origin = Written MasterToSlave n }
 
-abbrev tagged_line : List Tagged → Ldterm Tagged
-tagged_line line = record (new_ldterm {C = Tagged}) { line = line }
+abbrev tagged_line : List Tagged → Discipline Tagged
+tagged_line line = record (fresh {C = Tagged}) { line = line }
 
 abbrev tagged_up : List Tagged → Parcel Tagged
 tagged_up cells = record { to = record { side = Slave; at = 0; way = Up }; message = data_message cells }
