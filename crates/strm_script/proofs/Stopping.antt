@@ -21,16 +21,17 @@ use Rattle.strm_types.specs.Input.{input_begins, is_data, passes, stages, stages
 use Rattle.strm_types.specs.Ldterms as ldterms
 use Rattle.strm_types.specs.Message.{Message}
 use Rattle.strm_types.specs.ModuleQueues.{at_place}
-use Rattle.strm_types.specs.Standings.{messages_at}
+use Rattle.strm_types.specs.Standings.{messages_at, stood}
 use Rattle.strm_laws.specs.ModuleTurns.{Calls, again_at, asked_turn, calls, made_below, moved_by, moved_on, moved_within, place_named, turned_named, turned_there, waits_there, whole_module}
 use Rattle.strm_types.specs.OutputTurns.{output_serves}
 use Rattle.strm_laws.specs.Past.{has_room_past}
 use Rattle.strm_types.specs.Queue.{left_with, first_size}
-use Rattle.strm_laws.specs.Stacked.{Standing, OfLdterm, OfPckt, OfPtem, module_asks, module_rests, module_serves}
+use Rattle.strm_laws.specs.Stacked.{Module, OfLdterm, OfPckt, OfPtem, Standing, module_asks, module_rests, module_serves}
 use Rattle.strm_laws.specs.State.{State, Stream, stream}
 use Rattle.strm_laws.specs.TurnOutcomes.{TurnOutcome, stayed_put}
 use Rattle.strm_laws.specs.Turns.{turned, turned_at, whole_turn}
 use Rattle.strm_types.specs.Names.{without}
+use Rattle.strm_types.specs.LdtermStands.{disciplined}
 use Rattle.strm_pair.specs.Named.{at_found, messages_named}
 use Rattle.strm_pair.specs.Shows.{first_at}
 use Rattle.strm_script.specs.ScriptRun.{Supply, Enough, Within, is_enough, only, reach, told_of, turn_to}
@@ -58,10 +59,13 @@ module _ (side : Side) (at : ℕ) where
       by false = refl
 
   serves-once : (way : Way) (made : ℕ) (p : Standing ℕ) → (module_serves plain (there way) made false (Some 0) p).again ≡ false
-  serves-once Down made (OfLdterm l) = output-once made l.write_queue.messages l
-  serves-once Up made (OfLdterm l) = input-once made l.read_queue.messages l
-  serves-once way made (OfPtem p) = refl
-  serves-once way made (OfPckt p) = refl
+  serves-once way made p = by way p.part
+    where
+      by : (way : Way) (part : Module ℕ) → (module_serves plain (there way) made false (Some 0) (stood part p.queues)).again ≡ false
+      by Down (OfLdterm l) = let d = disciplined l p.queues in output-once made d.write_queue.messages d
+      by Up (OfLdterm l) = let d = disciplined l p.queues in input-once made d.read_queue.messages d
+      by way (OfPtem q) = refl
+      by way (OfPckt q) = refl
 
   none-among : (say : Standing ℕ → Bool) → ((p : Standing ℕ) → say p ≡ false) → (i : ℕ) (ps : List (Standing ℕ)) → slice_index_or (map say ps) i false ≡ false
   none-among say none i [] = refl

@@ -34,10 +34,12 @@ use Rattle.strm_laws.specs.Puts.{across_of, delivered, made_above, passed_up, pu
 use Rattle.strm_types.specs.Queue.{Queue}
 use Rattle.strm_types.specs.Rules.{number_of}
 use Rattle.strm_types.specs.Service.{line_gone}
-use Rattle.strm_laws.specs.Stacked.{Standing, OfLdterm, OfPtem, OfPckt, module_puts}
+use Rattle.strm_laws.specs.Stacked.{Module, OfLdterm, OfPtem, OfPckt, Standing, module_puts}
 use Rattle.strm_laws.specs.State.{State, stream}
 use Rattle.strm_types.specs.TakenUp.{input_flushed, taken_up, termios_taken}
 use Rattle.strm_types.specs.Typing.{up_alone}
+use Rattle.strm_types.specs.Standings.{stood}
+use Rattle.strm_types.specs.LdtermStands.{disciplined}
 use Rattle.strm_types.proofs.LdtermPuts as of_ldterm
 use Rattle.strm_types.proofs.PcktPuts as of_pckt
 use Rattle.strm_laws.proofs.PtemPuts as of_ptem
@@ -158,9 +160,12 @@ module _ {C : Type 0} (dir : Dir) where
   -- at any module
   module _ (cells : Cells C) where
     module-unread : (made : ℕ) (here : Spot) (m : Message C) (q : Standing C) → Unread (module_puts cells made here m q)
-    module-unread made here m (OfLdterm l) = ldterm-unread here m l
-    module-unread made here m (OfPtem q) = ap (λ told. reads dir told) (of_ptem.puts-gone here m q)
-    module-unread made here m (OfPckt q) = of_pckt.puts-each cells made here m (λ t. reads dir t.gone ≡ 0) refl (λ up is. refl)
+    module-unread made here m q = by q.part
+      where
+        by : (part : Module C) → Unread (module_puts cells made here m (stood part q.queues))
+        by (OfLdterm l) = ldterm-unread here m (disciplined l q.queues)
+        by (OfPtem p) = ap (λ told. reads dir told) (of_ptem.puts-gone here m p)
+        by (OfPckt p) = of_pckt.puts-each cells made here m (λ t. reads dir t.gone ≡ 0) refl (λ up is. refl)
 
     among-unread : (made i : ℕ) (here : Spot) (m : Message C) (ps : List (Standing C)) → Unread (put_among (module_puts cells made) i here m ps)
     among-unread made i here m [] = refl

@@ -1,5 +1,5 @@
 -- No turn lets bytes go to a reader, nor do a push, a pop, a close and a flush.
-use Rattle.std.proofs.Common.{ℕ, zero, suc, ◌≡◌, ◌+◌, ◌-◌, ◌*◌, Bool, true, false, cond, List, [], ◌∷◌, ◌++◌, length, drop, refl, arith}
+use Rattle.std.proofs.Common.{ℕ, zero, suc, ◌≡◌, ◌+◌, ◌-◌, ◌*◌, Bool, true, false, cond, List, [], ◌∷◌, ◌++◌, length, drop, refl, ap}
 use Rattle.std.specs.Prelude.{not, ◌&&◌, take, Option, None, Some, unwrap_or}
 use Rattle.strm_types.specs.declared.answers.Turn.{Turn}
 use Rattle.strm_types.specs.declared.answers.Turn.TheVariants.{Blocked}
@@ -26,7 +26,7 @@ use Rattle.strm_types.specs.declared.spots.Spot.{Spot}
 use Rattle.strm_types.specs.declared.termios.Termios.{Termios}
 use Rattle.strm_types.specs.Cells.{Cells, cells_made}
 use Rattle.strm_laws.specs.Closes.{and_then, closed_at, driver_emptied, head_emptied, stream_emptied}
-use Rattle.strm_types.specs.Deliver.{Acted, Fate, Goes, carried, in_turn}
+use Rattle.strm_types.specs.Deliver.{Acted, Fate, carried, in_turn}
 use Rattle.strm_types.specs.Emptied.{cells_gone, of_all}
 use Rattle.strm_types.specs.Input.{begins_next, cells_left, input_begins, is_data, made_of, next_stage, passes, stage_at, stages, stages_done, then_on, to_treat, treats, with_left}
 use Rattle.strm_types.specs.Keys.{restarts}
@@ -45,15 +45,17 @@ use Rattle.strm_laws.specs.Past.{has_room_past}
 use Rattle.strm_laws.specs.Pushes.{all_taken, head_above, mode_behind, mode_on_push, mode_put, modules_emptied, popped, pushed_named, top_on, top_taken, with_modules}
 use Rattle.strm_laws.specs.Puts.{put_in}
 use Rattle.strm_types.specs.Queue.{is_full, is_none_left, left_with}
-use Rattle.strm_types.specs.Service.{cleared, line_gone}
-use Rattle.strm_laws.specs.Stacked.{Standing, OfLdterm, OfPtem, OfPckt, module_asks, module_line, module_name, module_rests, module_serves, without_kind_line}
+use Rattle.strm_types.specs.Service.{cleared, line_gone, queues_cleared}
+use Rattle.strm_laws.specs.Stacked.{Module, OfLdterm, OfPtem, OfPckt, Standing, module_asks, module_line, module_name, module_rests, module_serves, without_kind_line, kind_line}
 use Rattle.strm_laws.specs.State.{State, stream}
 use Rattle.strm_types.specs.Termios.{icanon, imaxbel, noflsh, opost}
 use Rattle.strm_laws.specs.TurnOutcomes.{TurnOutcome, stayed_put}
 use Rattle.strm_laws.specs.Turns.{driver_serves, is_stopped_across, turned, turned_at, up_across, with_driver}
 use Rattle.strm_types.specs.Typing.{added, both_ways, begins, echo_dir, echo_grows, echo_lost, echo_stands, echoed, is_blank_cell, lost, sigint, signals, sigquit, sigtstp, is_lnext, strikes, stroke_at, up_alone}
+use Rattle.strm_types.specs.Standings.{way_queue, stood, QueuePair}
+use Rattle.strm_types.specs.LdtermStands.{disciplined}
 use Rattle.strm_laws.proofs.TurnHolds.{any-holds}
-use Rattle.strm_system.proofs.Unread.{Unread, is_read, reads, at-head, delivered-unread, either, line-unread, none-both, sent-unread}
+use Rattle.strm_system.proofs.Unread.{Unread, is_read, reads, at-head, delivered-unread, either, line-unread, none-both, sent-unread, only_in}
 
 -- what ldterm does with a byte
 module _ {C : Type 0} (dir : Dir) (cells : Cells C) (here : Spot) where
@@ -171,9 +173,12 @@ module _ {C : Type 0} (dir : Dir) (cells : Cells C) where
   serves-at Up here true made stop l = stages-unread dir cells (record here { way = Up }) (3 * unwrap_or stop (to_treat l) - stages_done l.stage) made l
 
   serves-unread : (here : Spot) (again : Bool) (made : ℕ) (stop : Option ℕ) (q : Standing C) → Unread dir (module_serves cells here made again stop q).acted
-  serves-unread here again made stop (OfLdterm l) = serves-at here.way here again made stop l
-  serves-unread here again made stop (OfPtem q) = refl
-  serves-unread here again made stop (OfPckt q) = refl
+  serves-unread here again made stop q = by q.part
+    where
+      by : (part : Module C) → Unread dir (module_serves cells here made again stop (stood part q.queues)).acted
+      by (OfLdterm l) = serves-at here.way here again made stop (disciplined l q.queues)
+      by (OfPtem p) = refl
+      by (OfPckt p) = refl
 
   acts-unread : (here : Spot) (made : ℕ) (again : Bool) (left : ℕ) (i : ℕ) (ps : List (Standing C)) → Unread dir (act_among (λ q. (module_serves cells here made again (Some left) q).acted) i ps)
   acts-unread here made again left i [] = refl
@@ -253,23 +258,26 @@ module _ {C : Type 0} (dir : Dir) (cells : Cells C) where
   push-unread side None s = refl
   push-unread side (Some q) s = mode-unread side (mode_on_push (module_name q)) (with_modules side (q ∷ (stream side s).modules) s)
 
-  clears-popped : (side : Side) (q : Standing C) → reads dir (cleared kind_line without_kind_line side ModulePopped q).gone ≡ 0
-  clears-popped side (OfPtem q) = refl
-  clears-popped side (OfPckt q) = refl
-  clears-popped side (OfLdterm l) = let rest = none-both dir (line_gone side ModulePopped l.line) (Goes (direction_at Down side) ModulePopped (cells_gone of_all l.write_queue.messages) ∷ []) (line-unread dir side ModulePopped l.line refl) refl in let e : 0 + reads dir (line_gone side ModulePopped l.line ++ Goes (direction_at Down side) ModulePopped (cells_gone of_all l.write_queue.messages) ∷ []) ≡ 0 = omega (arith, rest) in e
+  queues-unread : (side : Side) (rule : Rule) (way : Way) (queues : Option (QueuePair C)) → is_read rule ≡ false → reads dir (queues_cleared side rule way queues).gone ≡ 0
+  queues-unread side rule way None other = refl
+  queues-unread side rule way (Some pair) other =
+      ap (λ b. cond b (only_in dir (direction_at way side) (length (cells_gone of_all (way_queue way pair).messages))) 0 + 0) other
 
-  clears-closed : (side : Side) (q : Standing C) → reads dir (cleared kind_line without_kind_line side EndClosed q).gone ≡ 0
-  clears-closed side (OfPtem q) = refl
-  clears-closed side (OfPckt q) = refl
-  clears-closed side (OfLdterm l) = let rest = none-both dir (line_gone side EndClosed l.line) (Goes (direction_at Down side) EndClosed (cells_gone of_all l.write_queue.messages) ∷ []) (line-unread dir side EndClosed l.line refl) refl in let e : 0 + reads dir (line_gone side EndClosed l.line ++ Goes (direction_at Down side) EndClosed (cells_gone of_all l.write_queue.messages) ∷ []) ≡ 0 = omega (arith, rest) in e
+  clears-unread : (side : Side) (rule : Rule) (q : Standing C) → is_read rule ≡ false → reads dir (cleared kind_line without_kind_line side rule q).gone ≡ 0
+  clears-unread side rule q other =
+      let above = queues_cleared side rule Up q.queues in
+      let line = line_gone side rule (module_line q) in
+      let below = queues_cleared side rule Down above.state in
+      none-both dir above.gone (line ++ below.gone) (queues-unread side rule Up q.queues other)
+      (none-both dir line below.gone (line-unread dir side rule (module_line q) other) (queues-unread side rule Down above.state other))
 
   top-popped : (side : Side) (ps : List (Standing C)) (s : State C) → reads dir (top_taken ModulePopped side ps s).gone ≡ 0
   top-popped side [] s = refl
-  top-popped side (q ∷ ps) s = clears-popped side q
+  top-popped side (q ∷ ps) s = clears-unread side ModulePopped q refl
 
   top-closed : (side : Side) (ps : List (Standing C)) (s : State C) → reads dir (top_taken EndClosed side ps s).gone ≡ 0
   top-closed side [] s = refl
-  top-closed side (q ∷ ps) s = clears-closed side q
+  top-closed side (q ∷ ps) s = clears-unread side EndClosed q refl
 
   all-closed : (side : Side) (ps : List (Standing C)) (s : State C) → reads dir (all_taken EndClosed side ps s).gone ≡ 0
   all-closed side [] s = refl
