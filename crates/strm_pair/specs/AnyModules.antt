@@ -66,6 +66,12 @@ pub record IsFresh (name : ModuleName) (x : AnyModule) : Type 0 where
   pub held : FitsAny (is_some (place_of name)) x
   pub rests : (i : ℕ) → kind_keeps x i ≡ 0
 
+-- nothing of an unfinished line is left in it
+abbrev pub IsBare : AnyModule → Type 0
+IsBare (kinds.Ldterm x) = x.line ≡ []
+IsBare (kinds.Ptem x) = Unit {0}
+IsBare (kinds.Pckt x) = Unit {0}
+
 -- the same of a module where it stands, with its queues
 abbrev pub AnyStanding : Type 0
 AnyStanding = standing.Standing AnyModule

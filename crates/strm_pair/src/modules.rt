@@ -5,7 +5,7 @@ ghost use Rattle.strm_types.specs.Ptems.{new_ptem};
 ghost use Rattle.strm_laws.specs.Pushes.{kind_named};
 ghost use Rattle.strm_laws.specs.Stacked.{OfPtem};
 ghost use Rattle.strm_blocks.specs.Blocks.{StoreValue};
-ghost use Rattle.strm_pair.specs.AnyModules.{IsFresh, kind_in};
+ghost use Rattle.strm_pair.specs.AnyModules.{IsBare, IsFresh, kind_in};
 
 use strm_blocks::{Blocks, InHand};
 use strm_frame::{Acts, Module, QueuePair, Served};
@@ -40,6 +40,15 @@ impl AnyModule {
             ModuleName::Ldterm => AnyModule::Ldterm(Ldterm::new()),
             ModuleName::Ptem => AnyModule::Ptem(Ptem::new()),
             ModuleName::Pckt => AnyModule::Pckt(Pckt),
+        }
+    }
+
+    /// Lets the unfinished line go, before the module is taken off.
+    pub(crate) fn wipe(&mut self)
+        ensures bare { IsBare self.new }
+    {
+        if let AnyModule::Ldterm(ldterm) = self {
+            let _ = ldterm.line.clear();
         }
     }
 }

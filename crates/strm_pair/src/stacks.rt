@@ -7,7 +7,7 @@ ghost use Rattle.strm_laws.specs.Earlier.{places_of};
 ghost use Rattle.strm_laws.specs.Pushes.{below_top, may_stand, named_by};
 ghost use Rattle.strm_types.specs.Names.{place_of};
 ghost use Rattle.strm_blocks.specs.Blocks.{StoreValue, list_at};
-ghost use Rattle.strm_pair.specs.AnyModules.{AnyStanding};
+ghost use Rattle.strm_pair.specs.AnyModules.{AnyStanding, IsBare};
 ghost use Rattle.strm_pair.specs.Given.{GivenFor};
 ghost use Rattle.strm_pair.specs.Stacks.{modules_in, IsStackHeld, stack_owns, stack_keeps};
 ghost use Rattle.strm_pair.specs.Taken.{TookNone, TookTop};
@@ -50,6 +50,14 @@ pub(crate) fn place_at(stack: &Stack, at: usize) -> Option<Place>
     }
 }
 
+// The queues of a module that was taken off, where it has any. Its line was let go.
+fn queues_of(standing: Standing<AnyModule>) -> Option<QueuePair>
+    requires { IsBare standing.module }
+    ensures { result ≡ standing.queues }
+{
+    standing.queues
+}
+
 /// Takes the module on top off its stack, if there is one, and puts the tables of its queues onto the shelf. Its unfinished line is let go where
 /// it stands.
 pub(crate) fn pop_top(stack: &mut Stack, shelf: &mut Option<Tables>)
@@ -57,12 +65,12 @@ pub(crate) fn pop_top(stack: &mut Stack, shelf: &mut Option<Tables>)
     ensures shelf { (k : ℕ) → (stack_owns stack.old k ≡ 0 → is_some shelf.old ≡ true) → stack_owns stack.new k ≡ 0 → is_some shelf.new ≡ true }
 {
     if let Some(top) = stack.modules.as_mut_slice().first_mut() {
-        let _ = top.module.clear_line();
+        top.module.wipe();
     }
     let Some(standing) = stack.pop() else {
         return;
     };
-    if let Some(queues) = standing.queues {
+    if let Some(queues) = queues_of(standing) {
         *shelf = Some(queues.into_tables());
     }
 }
