@@ -1,5 +1,5 @@
 -- They are new on two lists, or there are none.
-use Rattle.std.proofs.Common.{◌≡◌, false, refl, sym, ap}
+use Rattle.std.proofs.Common.{◌≡◌, true, false, refl, sym, ap}
 use Rattle.std.proofs.lemmas.Bool.{false≢true}
 use Rattle.std.specs.Prelude.{is_some, Some}
 use Rattle.strm_types.specs.Names.{place_of}
