@@ -1,18 +1,14 @@
 -- Modules that are tried one after the other, until one has queues of a name.
-use Rattle.std.proofs.Common.{ℕ, zero, suc, ◌≡◌, ◌≤◌, ◌<◌, ◌-◌, Bool, true, false, List, [], ◌∷◌, drop, length, refl, sym, ap, ◌∙◌, arith}
+use Rattle.std.proofs.Common.{ℕ, zero, suc, ◌≡◌, ◌≤◌, ◌<◌, ◌-◌, true, false, List, [], ◌∷◌, drop, length, refl, sym, ap, ◌∙◌, arith}
 use Rattle.std.proofs.lemmas.List.{length-map, length-take}
 use Rattle.std.specs.Prelude.{Option, None, Some, slice_index_or, take, min}
 use Rattle.strm_types.specs.declared.limits.TheConstants.{MODULES}
 use Rattle.strm_types.specs.declared.names.Place.{Place}
 use Rattle.strm_laws.specs.Earlier.{places_of}
-use Rattle.strm_types.specs.Names.{place_of, same_place}
+use Rattle.strm_types.specs.Names.{place_of}
 use Rattle.strm_laws.specs.ModuleTurns.{named_from}
 use Rattle.strm_laws.specs.Stacked.{Standing, module_name}
-
--- a place of queues is this one
-abbrev pub is_there : Place → Option Place → Bool
-is_there place None = false
-is_there place (Some there) = same_place there place
+use Rattle.strm_pair.specs.Named.{is_there}
 
 -- the places of the first modules are the first places
 first-places : (ps : List (Standing ℕ)) (n i : ℕ) → i < n → slice_index_or (places_of (take n ps)) i None ≡ slice_index_or (places_of ps) i None

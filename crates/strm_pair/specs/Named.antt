@@ -1,12 +1,18 @@
 -- The module of a stream whose queues have a name, and what is said of it. Places count from 1 for the module on top.
-use Rattle.std.specs.Prelude.{ℕ, List, [], flat_map, Option, None, Some}
+use Rattle.std.specs.Prelude.{ℕ, Bool, false, List, [], flat_map, Option, None, Some}
 use Rattle.strm_types.specs.declared.names.Place.{Place}
 use Rattle.strm_types.specs.declared.names.Way.{Way}
 use Rattle.strm_types.specs.Message.{Message}
 use Rattle.strm_types.specs.ModuleQueues.{at_place}
+use Rattle.strm_types.specs.Names.{same_place}
 use Rattle.strm_types.specs.Standings.{messages_at}
 use Rattle.strm_laws.specs.ModuleTurns.{place_named}
 use Rattle.strm_laws.specs.Stacked.{Standing}
+
+-- a place of queues is this one
+abbrev pub is_there : Place → Option Place → Bool
+is_there place None = false
+is_there place (Some there) = same_place there place
 
 -- what is said of the module at a place, where there is one
 abbrev pub at_found : {A : Type 0} → (Standing ℕ → A) → A → List (Standing ℕ) → Option ℕ → A

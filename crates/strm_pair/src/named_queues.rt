@@ -3,11 +3,10 @@
 ghost use Rattle.std.specs.Prelude.{ℕ, ◌≡◌, ◌<◌, false, length};
 ghost use Rattle.strm_types.specs.ModuleQueues.{full_at};
 ghost use Rattle.strm_laws.specs.ModuleTurns.{place_named};
-ghost use Rattle.strm_laws.specs.Pushes.{is_there};
 ghost use Rattle.strm_types.specs.Queue.{bytes_of, count_of, first_size};
 ghost use Rattle.strm_blocks.specs.Blocks.{StoreValue};
 ghost use Rattle.strm_frame.specs.Stacks.{IsPlace};
-ghost use Rattle.strm_pair.specs.Named.{at_named, messages_named};
+ghost use Rattle.strm_pair.specs.Named.{at_named, is_there, messages_named};
 ghost use Rattle.strm_pair.specs.Stacks.{modules_in, IsStackHeld};
 
 use crate::stacks::{Stack, module_count, place_at};
