@@ -59,8 +59,8 @@ impl LetGo {
     }
 }
 
-/// A module: what it is set to, its unfinished line, and in a turn what it has in hand. Its queues are its stream's, which gives them to it at each call;
-/// nothing else touches their lists (STREAMS Programming Guide, "Modules"; qinit(9S)).
+/// A module: what it is set to, its unfinished line, and in a turn what it has in hand. Its queues are its stream's, which gives them to it at each
+/// call; nothing else touches their lists (STREAMS Programming Guide, "Modules"; qinit(9S)).
 pub trait Module: Drop {
     /// What it stands for by itself.
     ghost Plain: { Type 0 };
@@ -158,7 +158,8 @@ pub trait Module: Drop {
         requires inside { 0 < here.at }
         requires small { here.at ≤ MODULES }
         ensures { let s = B.value store.old in let x = standing self.old queues.old in
-            Serves (standing_in plain) (Fits IsHeld) owns (keeps_of keeps) (of_part (turn_cost here true)) (MayStop here.way again) s (B.value store.new)
+            Serves (standing_in plain) (Fits IsHeld) owns (keeps_of keeps) (of_part (turn_cost here true)) (MayStop here.way again) s
+                (B.value store.new)
             x (standing self.new queues.new) result told.old told.new (serves here again (stop_of result) (standing_in plain s x)) };
 
     /// How many bytes stand in its unfinished line, at most 255.

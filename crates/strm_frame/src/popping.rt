@@ -32,7 +32,8 @@ fn clear_among<B: Blocks, M: Module>(
     requires rests { (i : ℕ) → all_of (keeps_of M.keeps) modules.old i ≡ 0 }
     ensures length { length modules.new ≡ length modules.old }
     ensures does { let s = B.value store.old in let ps = all_in (standing_in M.plain) s modules.old in
-        Clears (all_in (standing_in M.plain)) (AreHeld (Fits M.IsHeld) owns) (all_of owns) (all_of (keeps_of M.keeps)) s (B.value store.new) modules.old modules.new
+        Clears (all_in (standing_in M.plain)) (AreHeld (Fits M.IsHeld) owns) (all_of owns) (all_of (keeps_of M.keeps)) s (B.value store.new)
+            modules.old modules.new
         seeking (slice_index_or (map (messages_at Down) ps) at []) result told.old told.new
         (act_among (cleared M.line_of M.without_line side rule) at ps) }
 {
@@ -56,7 +57,8 @@ impl<M: Module + Default> Stack<M> {
         requires rests { (i : ℕ) → all_of (keeps_of M.keeps) self.old.modules.items i ≡ 0 }
         ensures length { length self.new.modules.items ≡ length self.old.modules.items }
         ensures does { let s = B.value store.old in let xs = self.old.modules.items in let ps = all_in (standing_in M.plain) s xs in
-            Clears (all_in (standing_in M.plain)) (AreHeld (Fits M.IsHeld) owns) (all_of owns) (all_of (keeps_of M.keeps)) s (B.value store.new) xs self.new.modules.items
+            Clears (all_in (standing_in M.plain)) (AreHeld (Fits M.IsHeld) owns) (all_of owns) (all_of (keeps_of M.keeps)) s (B.value store.new) xs
+                self.new.modules.items
             seeking (at_place (messages_at Down) [] 1 ps) result told.old told.new
             (act_among (cleared M.line_of M.without_line side rule) 0 ps) }
     {

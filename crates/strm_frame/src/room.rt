@@ -7,7 +7,8 @@ ghost use Rattle.strm_types.specs.Queue.{bytes_of, count_of, first_size};
 ghost use Rattle.strm_types.specs.declared.names.Way.TheVariants.{Up};
 ghost use Rattle.strm_types.specs.Modules.{change_among};
 ghost use Rattle.strm_types.specs.Refused.{has_no_data};
-ghost use Rattle.strm_types.specs.ModuleQueues.{at_place, full_at, waits, place_below, place_above, place_past, place_before, can_pass, room_at, waits_at, waits_past};
+ghost use Rattle.strm_types.specs.ModuleQueues.{at_place, full_at, waits, place_below, place_above};
+ghost use Rattle.strm_types.specs.ModuleQueues.{place_past, place_before, can_pass, room_at, waits_at, waits_past};
 ghost use Rattle.strm_types.specs.Standings.{messages_at};
 ghost use Rattle.strm_blocks.specs.Blocks.{StoreValue};
 ghost use Rattle.strm_frame.specs.Does.{Changes};
@@ -85,7 +86,8 @@ fn room_at<B: Blocks, M: Module>(
 fn let_wait_among<M: Module>(modules: &mut [Standing<M>], at: usize, way: Way, band: Band)
     requires within { at < length modules.old }
     ensures length { length modules.new ≡ length modules.old }
-    ensures does { Changes (all_in (standing_in M.plain)) (AreHeld (Fits M.IsHeld) owns) (all_of owns) (all_of (keeps_of M.keeps)) modules.old modules.new
+    ensures does { Changes (all_in (standing_in M.plain)) (AreHeld (Fits M.IsHeld) owns) (all_of owns) (all_of (keeps_of M.keeps)) modules.old
+        modules.new
         (change_among (waits way band.0) at) }
 {
     modules[at].let_wait(way, band);
@@ -95,7 +97,8 @@ fn let_wait_among<M: Module>(modules: &mut [Standing<M>], at: usize, way: Way, b
 fn let_wait_at<M: Module>(modules: &mut [Standing<M>], place: Option<usize>, way: Way, band: Band)
     requires place { IsPlace (length modules.old) place }
     ensures length { length modules.new ≡ length modules.old }
-    ensures does { Changes (all_in (standing_in M.plain)) (AreHeld (Fits M.IsHeld) owns) (all_of owns) (all_of (keeps_of M.keeps)) modules.old modules.new
+    ensures does { Changes (all_in (standing_in M.plain)) (AreHeld (Fits M.IsHeld) owns) (all_of owns) (all_of (keeps_of M.keeps)) modules.old
+        modules.new
         (λ ps. waits_at way band.0 ps place) }
 {
     match place {

@@ -46,7 +46,8 @@ fn end_turn_among<B: Blocks, M: Module>(
     requires held { AreHeld (Fits M.IsHeld) owns (B.value store.now) modules.old }
     ensures length { length modules.new ≡ length modules.old }
     ensures does { let s = B.value store.now in let ps = all_in (standing_in M.plain) s modules.old in
-        EndsTurn (all_in (standing_in M.plain)) (AreHeld (Fits M.IsHeld) owns) (all_of owns) (all_of (keeps_of M.keeps)) s modules.old modules.new result
+        EndsTurn (all_in (standing_in M.plain)) (AreHeld (Fits M.IsHeld) owns) (all_of owns) (all_of (keeps_of M.keeps)) s modules.old modules.new
+            result
         (slice_index_or (map (end_relieves took way) ps) at false) (slice_index_or (map (has_more way) ps) at false)
         (change_among (queue_changed way (turn_ended took)) at ps) }
 {
@@ -139,7 +140,8 @@ impl<M: Module + Default> Stack<M> {
         requires held { AreHeld (Fits M.IsHeld) owns (B.value store.now) self.old.modules.items }
         ensures length { length self.new.modules.items ≡ length self.old.modules.items }
         ensures does { let s = B.value store.now in let xs = self.old.modules.items in let ps = all_in (standing_in M.plain) s xs in
-            EndsTurn (all_in (standing_in M.plain)) (AreHeld (Fits M.IsHeld) owns) (all_of owns) (all_of (keeps_of M.keeps)) s xs self.new.modules.items result
+            EndsTurn (all_in (standing_in M.plain)) (AreHeld (Fits M.IsHeld) owns) (all_of owns) (all_of (keeps_of M.keeps)) s xs
+                self.new.modules.items result
             (at_place (end_relieves took way) false place ps) (at_place (has_more way) false place ps)
             (change_among (queue_changed way (turn_ended took)) (place - 1) ps) }
     {

@@ -63,7 +63,8 @@ fn put_among<B: Blocks, M: Module>(
     requires can_put { CanPut (B.value store.old) (token message) (all_of (keeps_of M.keeps) modules.old) }
     requires chain { IsChain (in_hand (B.value store.old) (token message)) }
     requires room { let s = B.value store.old in
-        HasRoom s (slice_index_or (map (of_part (λ p. own_at (M.does p) to (message_in s (token message)))) (map (standing_in M.plain s) modules.old)) at 0) }
+        HasRoom s (slice_index_or (map (of_part (λ p. own_at (M.does p) to (message_in s (token message))))
+            (map (standing_in M.plain s) modules.old)) at 0) }
     requires inside { 0 < to.at }
     requires small { to.at ≤ MODULES }
     ensures length { length modules.new ≡ length modules.old }
@@ -95,7 +96,8 @@ impl<M: Module + Default> Stack<M> {
 
     /// How many bytes stand in the unfinished lines of the modules.
     pub fn line_lens(&self) -> usize
-        ensures lines { (s : StoreValue) → result ≡ sum_by (of_part (λ p. length (M.line_of p))) (map (standing_in M.plain s) self.now.modules.items) }
+        ensures lines { (s : StoreValue) → result ≡ sum_by (of_part (λ p. length (M.line_of p)))
+            (map (standing_in M.plain s) self.now.modules.items) }
         ensures few { result ≤ LINE_MAX * MODULES }
     {
         line_lens(self.modules.as_slice())

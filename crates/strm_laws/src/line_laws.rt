@@ -43,9 +43,11 @@ pub fn ldterm_keeps_cells<C>()
     ensures stage { (p : Dir → C → Bool) (cells : Cells C) (here : Spot) (made : ℕ) (l : Discipline C) → IgnoresMapping cells p → EchoStands l →
         ActedKeeps p here.side (next_stage cells here made l) (ldterm_weight p here.side l) }
     ensures echo { (cells : Cells C) (here : Spot) (made : ℕ) (l : Discipline C) → EchoStands l → EchoStands (next_stage cells here made l).state }
-    ensures stages { (p : Dir → C → Bool) (cells : Cells C) (here : Spot) (n bytes made : ℕ) (l : Discipline C) → IgnoresMapping cells p → EchoStands l →
+    ensures stages { (p : Dir → C → Bool) (cells : Cells C) (here : Spot) (n bytes made : ℕ) (l : Discipline C) → IgnoresMapping cells p →
+        EchoStands l →
         n + stages_done l.stage ≡ 3 * bytes → ActedKeeps p here.side (stages cells here n made l) (ldterm_weight p here.side l) }
-    ensures serves { (p : Dir → C → Bool) (cells : Cells C) (here : Spot) (made : ℕ) (again : Bool) (stop : Option ℕ) (l : Discipline C) → IgnoresMapping cells p →
+    ensures serves { (p : Dir → C → Bool) (cells : Cells C) (here : Spot) (made : ℕ) (again : Bool) (stop : Option ℕ) (l : Discipline C) →
+        IgnoresMapping cells p →
         EchoStands l → MayServe here.way again stop l → ActedKeeps p here.side (ldterm_serves cells here made again stop l).acted (ldterm_weight p here.side l) }
 {}
 

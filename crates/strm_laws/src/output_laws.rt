@@ -21,9 +21,11 @@ ghost use Rattle.strm_types.specs.Termios.{opost};
 
 /// Without OPOST all that stands on the write queue goes down as it is, and what isn't M_DATA does so in any case; the column stays.
 pub fn output_passes_unposted<C>()
-    ensures unposted { (cells : Cells C) (here : Spot) (stop : Option ℕ) (made : ℕ) (ms : List (Message C)) (l : Discipline C) → opost l.termios ≡ false →
+    ensures unposted { (cells : Cells C) (here : Spot) (stop : Option ℕ) (made : ℕ) (ms : List (Message C)) (l : Discipline C) →
+        opost l.termios ≡ false →
         output_serves cells here stop made ms l ≡ output_passes cells here ms l }
-    ensures others { (cells : Cells C) (here : Spot) (stop : Option ℕ) (made : ℕ) (m : Message C) (rest : List (Message C)) (l : Discipline C) → is_data m.kind ≡ false →
+    ensures others { (cells : Cells C) (here : Spot) (stop : Option ℕ) (made : ℕ) (m : Message C) (rest : List (Message C)) (l : Discipline C) →
+        is_data m.kind ≡ false →
         output_serves cells here stop made (m ∷ rest) l ≡ output_passes cells here (m ∷ rest) l }
 {}
 
@@ -66,6 +68,7 @@ pub fn output_forgets<C>()
 
 /// What holds of ldterm stays so behind a turn of its write queue, while no message is in work.
 pub fn output_stays_orderly<C>()
-    ensures { (cells : Cells C) (here : Spot) (stop : Option ℕ) (made : ℕ) (ms : List (Message C)) (l : Discipline C) → IsOrderly l → l.in_work ≡ None →
+    ensures { (cells : Cells C) (here : Spot) (stop : Option ℕ) (made : ℕ) (ms : List (Message C)) (l : Discipline C) → IsOrderly l →
+        l.in_work ≡ None →
         IsOrderly (output_serves cells here stop made ms l).acted.state }
 {}

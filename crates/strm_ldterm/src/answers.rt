@@ -177,7 +177,8 @@ fn take_up<B: Blocks>(
     requires small { here.at ≤ MODULES }
     requires room { HasRoom (B.value store.old) 2 }
     ensures { let s = B.value store.old in let m = message_in s (token message) in
-        Puts s (B.value store.new) (paired ldterm.old queues.old) (paired ldterm.new queues.new) (token message) (own_at ldterm_does here m) result told.old told.new
+        Puts s (B.value store.new) (paired ldterm.old queues.old) (paired ldterm.new queues.new) (token message) (own_at ldterm_does here m) result
+            told.old told.new
         (taken_up here set.0 set.1 m (ldterm_in s (paired ldterm.old queues.old))) }
 {
     store.audit();
@@ -226,7 +227,8 @@ fn obey<B: Blocks>(
     requires small { here.at ≤ MODULES }
     requires room { HasRoom (B.value store.old) 2 }
     ensures { let s = B.value store.old in let m = message_in s (token message) in
-        Puts s (B.value store.new) (paired ldterm.old queues.old) (paired ldterm.new queues.new) (token message) (own_at ldterm_does here m) result told.old told.new
+        Puts s (B.value store.new) (paired ldterm.old queues.old) (paired ldterm.new queues.new) (token message) (own_at ldterm_does here m) result
+            told.old told.new
         (told_by_header here (Some ioc) m (ldterm_in s (paired ldterm.old queues.old))) }
 {
     store.audit();
@@ -259,7 +261,8 @@ fn pass_up<B: Blocks>(
     requires small { here.at ≤ MODULES }
     requires room { HasRoom (B.value store.old) (own_at ldterm_does here (message_in (B.value store.old) (token message))) }
     ensures { let s = B.value store.old in let m = message_in s (token message) in
-        Puts s (B.value store.new) (paired ldterm.old queues.old) (paired ldterm.new queues.new) (token message) (own_at ldterm_does here m) result told.old told.new
+        Puts s (B.value store.new) (paired ldterm.old queues.old) (paired ldterm.new queues.new) (token message) (own_at ldterm_does here m) result
+            told.old told.new
         (passes_on_way Up here m (ldterm_in s (paired ldterm.old queues.old))) }
 {
     store.audit();
@@ -290,7 +293,8 @@ pub(crate) fn pass<B: Blocks>(
     requires small { here.at ≤ MODULES }
     requires room { HasRoom (B.value store.old) (own_at ldterm_does here (message_in (B.value store.old) (token message))) }
     ensures { let s = B.value store.old in let m = message_in s (token message) in
-        Puts s (B.value store.new) (paired ldterm.old queues.old) (paired ldterm.new queues.new) (token message) (own_at ldterm_does here m) result told.old told.new
+        Puts s (B.value store.new) (paired ldterm.old queues.old) (paired ldterm.new queues.new) (token message) (own_at ldterm_does here m) result
+            told.old told.new
         (passes_on_way here.way here m (ldterm_in s (paired ldterm.old queues.old))) }
 {
     match here.way {

@@ -63,7 +63,8 @@ pub(crate) fn return_rest<B: Blocks>(store: &mut B, queue: &mut Queue, message: 
 fn return_work<B: Blocks>(ldterm: &mut Ldterm, queues: &mut QueuePair, store: &mut B)
     requires held { IsHeld (B.value store.old) (paired ldterm.old queues.old) }
     requires kept { AreIn (B.value store.old) (λ _. 0) (keeps (paired ldterm.old queues.old)) }
-    ensures state { let p = ldterm_in (B.value store.old) (paired ldterm.old queues.old) in ldterm_in (B.value store.new) (paired ldterm.new queues.new)
+    ensures state { let p = ldterm_in (B.value store.old) (paired ldterm.old queues.old) in
+        ldterm_in (B.value store.new) (paired ldterm.new queues.new)
         ≡ record p { in_work = None; read_queue = back_on p.in_work p.read_queue } }
     ensures alters { Alters (B.value store.old) (B.value store.new) (paired ldterm.old queues.old) (paired ldterm.new queues.new) }
     ensures blocks { 0 < length (cells_left (ldterm_in (B.value store.old) (paired ldterm.old queues.old))) →

@@ -85,7 +85,8 @@ pub(crate) fn flush_read<B: Blocks>(
 ) -> bool
     requires held { IsHeld (B.value store.old) (paired ldterm.old queues.old) }
     ensures { let s = B.value store.old in
-        Flushes s (B.value store.new) (paired ldterm.old queues.old) (paired ldterm.new queues.new) (if result then Room Up ∷ [] else []) told.old told.new
+        Flushes s (B.value store.new) (paired ldterm.old queues.old) (paired ldterm.new queues.new) (if result then Room Up ∷ [] else []) told.old
+            told.new
         (read_flushed here asked (ldterm_in s (paired ldterm.old queues.old))) }
 {
     if !asked.for_read {
@@ -108,7 +109,8 @@ pub(crate) fn flush_write<B: Blocks>(
 ) -> bool
     requires held { IsHeld (B.value store.old) (paired ldterm.old queues.old) }
     ensures { let s = B.value store.old in
-        Flushes s (B.value store.new) (paired ldterm.old queues.old) (paired ldterm.new queues.new) (if result then Room Down ∷ [] else []) told.old told.new
+        Flushes s (B.value store.new) (paired ldterm.old queues.old) (paired ldterm.new queues.new) (if result then Room Down ∷ [] else []) told.old
+            told.new
         (write_flushed here asked (ldterm_in s (paired ldterm.old queues.old))) }
 {
     if !asked.for_write {

@@ -53,7 +53,8 @@ fn rule_of_dropped(key: Key) -> Rule
 fn strike_dropped(ldterm: &Ldterm, here: Spot, key: Key, byte: u8, told: &mut Fates)
     requires { is_dropped key ≡ true }
     ensures { (s : StoreValue) (q : QueuePair) → IsHeld s (paired ldterm.now q) →
-        Proceeds s s (paired ldterm.now q) (paired ldterm.now q) 1 [] [] told.old told.new (strikes plain here key byte (ldterm_in s (paired ldterm.now q))) }
+        Proceeds s s (paired ldterm.now q) (paired ldterm.now q) 1 [] [] told.old told.new
+            (strikes plain here key byte (ldterm_in s (paired ldterm.now q))) }
 {
     let _ = ldterm;
     let _ = byte;
@@ -72,7 +73,8 @@ fn tell_edit(told: &mut Fates, here: Spot, rule: Rule, bytes: usize)
 // ERASE takes the last byte of the line.
 fn strike_erase(ldterm: &mut Ldterm, here: Spot, byte: u8, told: &mut Fates)
     ensures { (s : StoreValue) (q : QueuePair) → IsHeld s (paired ldterm.old q) →
-        Proceeds s s (paired ldterm.old q) (paired ldterm.new q) 1 [] [] told.old told.new (edits plain here ErasesByte Erased byte (ldterm_in s (paired ldterm.old q))) }
+        Proceeds s s (paired ldterm.old q) (paired ldterm.new q) 1 [] [] told.old told.new
+            (edits plain here ErasesByte Erased byte (ldterm_in s (paired ldterm.old q))) }
 {
     let _ = byte;
     let gone = ldterm.line.erase_byte();
@@ -82,7 +84,8 @@ fn strike_erase(ldterm: &mut Ldterm, here: Spot, byte: u8, told: &mut Fates)
 // WERASE takes the last word of the line, and the blanks behind it.
 fn strike_werase(ldterm: &mut Ldterm, here: Spot, byte: u8, told: &mut Fates)
     ensures { (s : StoreValue) (q : QueuePair) → IsHeld s (paired ldterm.old q) →
-        Proceeds s s (paired ldterm.old q) (paired ldterm.new q) 1 [] [] told.old told.new (edits plain here ErasesWord Erased byte (ldterm_in s (paired ldterm.old q))) }
+        Proceeds s s (paired ldterm.old q) (paired ldterm.new q) 1 [] [] told.old told.new
+            (edits plain here ErasesWord Erased byte (ldterm_in s (paired ldterm.old q))) }
 {
     let _ = byte;
     let gone = ldterm.line.erase_word();
@@ -92,7 +95,8 @@ fn strike_werase(ldterm: &mut Ldterm, here: Spot, byte: u8, told: &mut Fates)
 // KILL takes the whole line.
 fn strike_kill(ldterm: &mut Ldterm, here: Spot, byte: u8, told: &mut Fates)
     ensures { (s : StoreValue) (q : QueuePair) → IsHeld s (paired ldterm.old q) →
-        Proceeds s s (paired ldterm.old q) (paired ldterm.new q) 1 [] [] told.old told.new (edits plain here ErasesAll Killed byte (ldterm_in s (paired ldterm.old q))) }
+        Proceeds s s (paired ldterm.old q) (paired ldterm.new q) 1 [] [] told.old told.new
+            (edits plain here ErasesAll Killed byte (ldterm_in s (paired ldterm.old q))) }
 {
     let _ = byte;
     let gone = ldterm.line.clear();
@@ -104,7 +108,8 @@ fn strike_kill(ldterm: &mut Ldterm, here: Spot, byte: u8, told: &mut Fates)
 fn add_to_line(ldterm: &mut Ldterm, here: Spot, byte: u8, told: &mut Fates)
     requires { icanon ldterm.old.termios ≡ true }
     ensures { (s : StoreValue) (q : QueuePair) → IsHeld s (paired ldterm.old q) →
-        Proceeds s s (paired ldterm.old q) (paired ldterm.new q) 1 [] [] told.old told.new (added plain here byte (ldterm_in s (paired ldterm.old q))) }
+        Proceeds s s (paired ldterm.old q) (paired ldterm.new q) 1 [] [] told.old told.new
+            (added plain here byte (ldterm_in s (paired ldterm.old q))) }
 {
     if ldterm.line.has_room() {
         ldterm.line.push(byte);
@@ -154,7 +159,8 @@ fn strike_ordinary<B: Blocks>(
     requires kept { AreIn (B.value store.old) (λ _. 0) (keeps (paired ldterm.old queues.now)) }
     requires room { HasRoom (B.value store.old) 1 }
     ensures { let s = B.value store.old in
-        Proceeds s (B.value store.new) (paired ldterm.old queues.now) (paired ldterm.new queues.now) 1 [] [] told.old told.new (added plain here byte (ldterm_in s (paired ldterm.old queues.now))) }
+        Proceeds s (B.value store.new) (paired ldterm.old queues.now) (paired ldterm.new queues.now) 1 [] [] told.old told.new
+            (added plain here byte (ldterm_in s (paired ldterm.old queues.now))) }
 {
     if ldterm.termios.lflag.contains(LocalModes::ICANON) {
         add_to_line(ldterm, here, byte, told);

@@ -110,7 +110,8 @@ pub(crate) fn post_bytes<B: Blocks>(
     requires kept { AreIn (B.value store.old) (λ _. 0) (keeps (paired ldterm.old queues.now)) }
     requires work { is_some ldterm.old.in_work ≡ true }
     requires bytes { bytes ≡ length (cells_left (ldterm_in (B.value store.old) (paired ldterm.old queues.now))) }
-    ensures { PoursAs (B.value store.old) (B.value store.new) here (paired ldterm.old queues.now) (paired ldterm.new queues.now) bytes result told.old told.new }
+    ensures { PoursAs (B.value store.old) (B.value store.new) here (paired ldterm.old queues.now) (paired ldterm.new queues.now) bytes result
+        told.old told.new }
 {
     let mut left = bytes;
     while left > 0 && !are_few(store) {

@@ -214,7 +214,8 @@ pub fn put<B: Blocks>(
     requires inside { 0 < here.at }
     requires small { here.at ≤ MODULES }
     ensures does { let s = B.value store.old in let m = message_in s (token message) in
-        Puts s (B.value store.new) (paired ldterm.old queues.old) (paired ldterm.new queues.new) (token message) (own_at ldterm_does here m) result told.old told.new
+        Puts s (B.value store.new) (paired ldterm.old queues.old) (paired ldterm.new queues.new) (token message) (own_at ldterm_does here m) result
+            told.old told.new
         (ldterm_puts here m (ldterm_in s (paired ldterm.old queues.old))) }
     ensures blocks { is_held (message_in (B.value store.old) (token message)).kind ≡ true → FreesNone (B.value store.old) (B.value store.new) }
 {

@@ -78,7 +78,8 @@ fn treat_bytes<B: Blocks>(
     requires room { HasRoom (B.value store.old) 1 }
     requires stage { stages_left (stage_in ldterm.old.stage) ≡ 0 }
     requires bytes { bytes ≡ length (cells_left (ldterm_in (B.value store.old) (paired ldterm.old queues.old))) }
-    ensures { RunAs (B.value store.old) (B.value store.new) here (paired ldterm.old queues.old) (paired ldterm.new queues.new) bytes told.old told.new result }
+    ensures { RunAs (B.value store.old) (B.value store.new) here (paired ldterm.old queues.old) (paired ldterm.new queues.new) bytes told.old
+        told.new result }
 {
     let mut notes = ArrayVec::new();
     let mut left = bytes;
@@ -116,7 +117,8 @@ fn treat_on<B: Blocks>(ldterm: &mut Ldterm, queues: &mut QueuePair, store: &mut 
     requires room { HasRoom (B.value store.old) 1 }
     requires stage { stages_left (stage_in ldterm.old.stage) ≡ 0 }
     requires work { is_some ldterm.old.in_work ≡ true }
-    ensures does { TreatsAs (B.value store.old) (B.value store.new) here (paired ldterm.old queues.old) (paired ldterm.new queues.new) result told.old told.new }
+    ensures does { TreatsAs (B.value store.old) (B.value store.new) here (paired ldterm.old queues.old) (paired ldterm.new queues.new) result
+        told.old told.new }
     ensures few { result.bytes ≤ 16777216 }
     ensures noted { length result.acts.notes.items ≤ 2 }
 {
@@ -168,7 +170,8 @@ pub(crate) fn treat<B: Blocks>(
     requires small { here.at ≤ MODULES }
     requires room { HasRoom (B.value store.old) (needs (stage_in ldterm.old.stage)) }
     requires work { is_some ldterm.old.in_work ≡ true }
-    ensures { TreatsAs (B.value store.old) (B.value store.new) here (paired ldterm.old queues.old) (paired ldterm.new queues.new) result told.old told.new }
+    ensures { TreatsAs (B.value store.old) (B.value store.new) here (paired ldterm.old queues.old) (paired ldterm.new queues.new) result told.old
+        told.new }
 {
     if !is_under_way(&ldterm.stage) {
         return treat_on(ldterm, queues, store, here, told);
@@ -231,7 +234,8 @@ fn serve_input<B: Blocks>(
     requires rests { (i : ℕ) → keeps (paired ldterm.old queues.old) i ≡ 0 }
     requires quiet { ldterm.old.echoing ≡ false }
     requires stage { stages_left (stage_in ldterm.old.stage) ≡ 0 }
-    ensures { ServesAs (B.value store.old) (B.value store.new) here (paired ldterm.old queues.old) (paired ldterm.new queues.new) false result told.old told.new }
+    ensures { ServesAs (B.value store.old) (B.value store.new) here (paired ldterm.old queues.old) (paired ldterm.new queues.new) false result
+        told.old told.new }
 {
     match begin_input(ldterm, queues, store, here) {
         InputBegun::Empty => of_whole(Passed {
@@ -267,7 +271,8 @@ pub fn serve<B: Blocks>(
     requires small { here.at ≤ MODULES }
     requires turn { IsServed here.way again (ldterm_in (B.value store.old) (paired ldterm.old queues.old)) }
     requires room { HasRoom (B.value store.old) (needs (stage_in ldterm.old.stage)) }
-    ensures { ServesAs (B.value store.old) (B.value store.new) here (paired ldterm.old queues.old) (paired ldterm.new queues.new) again result told.old told.new }
+    ensures { ServesAs (B.value store.old) (B.value store.new) here (paired ldterm.old queues.old) (paired ldterm.new queues.new) again
+        result told.old told.new }
 {
     match here.way {
         Way::Down => serve_output(ldterm, queues, store, here, told),

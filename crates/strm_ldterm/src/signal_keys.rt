@@ -111,7 +111,8 @@ fn send_key<B: Blocks>(
     requires room { HasRoom (B.value store.old) 1 }
     ensures { let s = B.value store.old in
         Proceeds s (B.value store.new) (paired ldterm.now queues.now) (paired ldterm.now queues.now) 1 [] (result ∷ []) told.old told.new
-        (record (sends (onward Up here (bare Pcsig (signal ∷ [])) ∷ []) (ldterm_in s (paired ldterm.now queues.now))) { gone = lost plain here SignalKey (byte ∷ []) }) }
+        (record (sends (onward Up here (bare Pcsig (signal ∷ [])) ∷ []) (ldterm_in s (paired ldterm.now queues.now))) { gone =
+            lost plain here SignalKey (byte ∷ []) }) }
 {
     let _ = byte;
     told.tell(direction_at(Way::Up, here.side), Rule::SignalKey, 1);

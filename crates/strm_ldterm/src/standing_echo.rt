@@ -217,7 +217,8 @@ pub(crate) fn echo<B: Blocks>(
     requires work { is_some ldterm.old.in_work ≡ true }
     requires room { HasRoom (B.value store.old) (chunk_count (length (echo_bytes plan ldterm.old.line))) }
     ensures { let s = B.value store.old in let bytes = echo_bytes plan ldterm.old.line in
-        Proceeds s (B.value store.new) (paired ldterm.old queues.old) (paired ldterm.new queues.new) (chunk_count (length bytes)) result.items [] told.old told.new
+        Proceeds s (B.value store.new) (paired ldterm.old queues.old) (paired ldterm.new queues.new) (chunk_count (length bytes)) result.items []
+            told.old told.new
         (echoed plain here 0 bytes (ldterm_in s (paired ldterm.old queues.old))) }
 {
     let len = plan.len(&ldterm.line);

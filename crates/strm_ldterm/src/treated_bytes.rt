@@ -96,7 +96,8 @@ fn strike_and_send<B: Blocks>(
     requires stroke { stroke ≡ stroke_at plain here byte (ldterm_in (B.value store.old) (paired ldterm.old queues.now)) }
     requires sends { is_quiet stroke.key ≡ false }
     ensures does { let s = B.value store.old in
-        Proceeds s (B.value store.new) (paired ldterm.old queues.now) (paired ldterm.new queues.now) 2 result.notes.items (sent_of result.sent) told.old told.new
+        Proceeds s (B.value store.new) (paired ldterm.old queues.now) (paired ldterm.new queues.now) 2 result.notes.items (sent_of result.sent)
+            told.old told.new
         (struck plain here started byte (ldterm_in s (paired ldterm.old queues.now))) }
     ensures stage { stages_left (stage_in ldterm.new.stage) ≡ 1 }
 {
@@ -190,7 +191,8 @@ fn strike<B: Blocks>(
     requires small { here.at ≤ MODULES }
     requires room { HasRoom (B.value store.old) 28 }
     ensures does { let s = B.value store.old in
-        Proceeds s (B.value store.new) (paired ldterm.old queues.old) (paired ldterm.new queues.new) 26 result.notes.items (sent_of result.sent) told.old told.new
+        Proceeds s (B.value store.new) (paired ldterm.old queues.old) (paired ldterm.new queues.new) 26 result.notes.items (sent_of result.sent)
+            told.old told.new
         (one_after (struck plain here started byte (ldterm_in s (paired ldterm.old queues.old))) (next_stage plain here 0)) }
     ensures leaves { is_none_left (sent_of result.sent) ≡ false →
         HasRoom (B.value store.new) 26 × (stages_left (stage_in ldterm.new.stage) ≡ 1) }
@@ -239,7 +241,8 @@ pub(crate) fn resume<B: Blocks>(
     requires room { HasRoom (B.value store.old) (needs (stage_in ldterm.old.stage)) }
     requires stage { 0 < stages_left (stage_in ldterm.old.stage) }
     ensures does { let s = B.value store.old in let p = ldterm_in s (paired ldterm.old queues.old) in
-        Proceeds s (B.value store.new) (paired ldterm.old queues.old) (paired ldterm.new queues.new) 26 result.notes.items (sent_of result.sent) told.old told.new
+        Proceeds s (B.value store.new) (paired ldterm.old queues.old) (paired ldterm.new queues.new) 26 result.notes.items (sent_of result.sent)
+            told.old told.new
         (ahead here (stages_left p.stage) p) }
     ensures leaves { is_none_left (sent_of result.sent) ≡ false →
         HasRoom (B.value store.new) 26 × (stages_left (stage_in ldterm.new.stage) ≡ 1) }
@@ -270,7 +273,8 @@ pub(crate) fn treat_byte<B: Blocks>(
     requires stage { stages_left (stage_in ldterm.old.stage) ≡ 0 }
     requires some { 0 < length (cells_left (ldterm_in (B.value store.old) (paired ldterm.old queues.old))) }
     ensures does { let s = B.value store.old in
-        Proceeds s (B.value store.new) (paired ldterm.old queues.old) (paired ldterm.new queues.new) 27 result.notes.items (sent_of result.sent) told.old told.new
+        Proceeds s (B.value store.new) (paired ldterm.old queues.old) (paired ldterm.new queues.new) 27 result.notes.items (sent_of result.sent)
+            told.old told.new
         (ahead here 3 (ldterm_in s (paired ldterm.old queues.old))) }
     ensures leaves { is_none_left (sent_of result.sent) ≡ false →
         HasRoom (B.value store.new) (leaves (stage_in ldterm.new.stage)) × (0 < stages_left (stage_in ldterm.new.stage)) }

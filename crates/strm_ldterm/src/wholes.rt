@@ -112,7 +112,8 @@ pub(crate) fn goes_down<B: Blocks>(ldterm: &Ldterm, queues: &QueuePair, store: &
     requires held { IsHeld (B.value store.now) (paired ldterm.now queues.now) }
     requires bytes { bytes ≡ length (cells_left (ldterm_in (B.value store.now) (paired ldterm.now queues.now))) }
     requires some { 0 < bytes }
-    ensures printed { result ≡ true → AllByRecursion (λ b. is_printed ldterm.now.termios b ≡ true) (cells_left (ldterm_in (B.value store.now) (paired ldterm.now queues.now))) }
+    ensures printed { result ≡ true → AllByRecursion (λ b. is_printed ldterm.now.termios b ≡ true)
+        (cells_left (ldterm_in (B.value store.now) (paired ldterm.now queues.now))) }
     ensures short { result ≡ true → bytes ≤ 256 }
     ensures room { result ≡ true → HasRoom (B.value store.now) (STOP_BLOCKS + blocks_for bytes) }
 {
@@ -153,7 +154,8 @@ pub(crate) fn post_whole<B: Blocks>(
     requires bytes { bytes ≡ length (cells_left (ldterm_in (B.value store.old) (paired ldterm.old queues.now))) }
     requires some { 0 < bytes }
     requires short { bytes ≤ 256 }
-    requires printed { AllByRecursion (λ b. is_printed ldterm.old.termios b ≡ true) (cells_left (ldterm_in (B.value store.old) (paired ldterm.old queues.now))) }
+    requires printed { AllByRecursion (λ b. is_printed ldterm.old.termios b ≡ true)
+        (cells_left (ldterm_in (B.value store.old) (paired ldterm.old queues.now))) }
     ensures column { ldterm.old.column ≤ COLUMN_MAX }
     ensures did { (f : Fates) → let s = B.value store.old in
         Proceeds s (B.value store.new) (paired ldterm.old queues.now) (paired ldterm.new queues.now) 0 [] (sent_of result) f f

@@ -35,7 +35,8 @@ use strm_types::{Band, Fates, Spot, Way};
 fn return_output<B: Blocks>(ldterm: &mut Ldterm, queues: &mut QueuePair, store: &mut B)
     requires held { IsHeld (B.value store.old) (paired ldterm.old queues.old) }
     requires kept { AreIn (B.value store.old) (λ _. 0) (keeps (paired ldterm.old queues.old)) }
-    ensures state { let p = ldterm_in (B.value store.old) (paired ldterm.old queues.old) in ldterm_in (B.value store.new) (paired ldterm.new queues.new)
+    ensures state { let p = ldterm_in (B.value store.old) (paired ldterm.old queues.old) in
+        ldterm_in (B.value store.new) (paired ldterm.new queues.new)
         ≡ record p { in_work = None; write_queue = back_on p.in_work p.write_queue } }
     ensures alters { Alters (B.value store.old) (B.value store.new) (paired ldterm.old queues.old) (paired ldterm.new queues.new) }
     ensures blocks { 0 < length (cells_left (ldterm_in (B.value store.old) (paired ldterm.old queues.old))) →
@@ -129,7 +130,8 @@ pub(crate) fn serve_output<B: Blocks>(
     requires rests { (i : ℕ) → keeps (paired ldterm.old queues.old) i ≡ 0 }
     requires quiet { ldterm.old.echoing ≡ false }
     requires stage { stages_left (stage_in ldterm.old.stage) ≡ 0 }
-    ensures { (again : Bool) → ServesAs (B.value store.old) (B.value store.new) here (paired ldterm.old queues.old) (paired ldterm.new queues.new) again result told.old told.new }
+    ensures { (again : Bool) → ServesAs (B.value store.old) (B.value store.new) here (paired ldterm.old queues.old) (paired ldterm.new queues.new)
+        again result told.old told.new }
 {
     match begin_output(ldterm, queues, store, here) {
         OutputBegun::Whole(passed) => of_whole(passed),

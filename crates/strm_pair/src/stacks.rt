@@ -86,8 +86,8 @@ pub(crate) fn take_modules(stack: &mut Stack, shelf: &mut Option<Tables>)
 }
 
 /// Takes the module on top off its stack, which keeps nothing in hand: what stands on the queues and in the line of the
-/// module goes by a rule, and its tables onto the shelf. It tells whether the M_IOCTL of a number went with them, where one is sought. `None` where no module stands
-/// (streamio(7I): I_POP; close(2)).
+/// module goes by a rule, and its tables onto the shelf. It tells whether the M_IOCTL of a number went with them, where one is
+/// sought. `None` where no module stands (streamio(7I): I_POP; close(2)).
 pub(crate) fn take_top<B: Blocks>(
     end: &mut StreamEnd,
     store: &mut B,
@@ -116,8 +116,8 @@ pub(crate) fn take_top<B: Blocks>(
     })
 }
 
-// The queues that a module of a name is given when it is pushed, where modules of its name have any: on two lists from a number on, and their tables are
-// taken off the shelf.
+// The queues that a module of a name is given when it is pushed, where modules of its name have any: on two lists from a number on, and their
+// tables are taken off the shelf.
 fn queues_for(name: ModuleName, first: usize, shelf: &mut Option<Tables>) -> Option<QueuePair>
     requires first { first ≤ 6 }
     requires shelf { is_some (place_of name) ≡ true → is_some shelf.old ≡ true }

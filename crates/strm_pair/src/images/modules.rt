@@ -46,7 +46,8 @@ fn put_ldterm<'a, B: Blocks>(
     out: Sink<'a>,
 ) -> Sink<'a>
     requires ready { IsPairReady (B.value store.now) queues.now }
-    ensures { result ≡ put ((module_format Second).text (module_in (B.value store.now) (standing (kinds.Ldterm ldterm.now) (Some queues.now)))) out.entry }
+    ensures { result ≡ put ((module_format Second).text (module_in (B.value store.now) (standing (kinds.Ldterm ldterm.now) (Some queues.now))))
+        out.entry }
 {
     let mut out = out;
     put_settings(&mut out, ldterm);
