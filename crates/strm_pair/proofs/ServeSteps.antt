@@ -225,8 +225,8 @@ begins-work Down again l begins up more = absurd (cc)
 module _ (here : Spot) (again : Bool) (stop : Option ℕ) where
   one-sends : (p : Module ℕ) → Begins here.way again (ldterm_of p) → cost_of most (module_serves plain here 0 again stop p).acted.sent ≤ 31
   one-sends (OfLdterm l) begins = call-few here again stop l (begins-work here.way again l begins)
-  one-sends (OfPtem p) begins = none-few {C = ℕ} most 31
-  one-sends (OfPckt p) begins = none-few {C = ℕ} most 31
+  one-sends (OfPtem p) begins = none-few ℕ most 31
+  one-sends (OfPckt p) begins = none-few ℕ most 31
 
   among-sends : (i : ℕ) (ps : List (Module ℕ)) → i < length ps → Begins here.way again (ldterm_of (slice_index_or ps i none_there)) → cost_of most (act_among (λ p. (module_serves plain here 0 again stop p).acted) i ps).sent ≤ 31
   among-sends i [] low begins = absurd (omega (arith, low))
