@@ -1,5 +1,9 @@
 -- What a put did, in the frame's words.
-use Rattle.std.proofs.Common.{rules}
+use Rattle.std.proofs.Common.{◌≡◌, ap, rules, sym}
+use Rattle.strm_types.specs.Deliver.{tallied}
+use Rattle.strm_frame.specs.Outboxes.{message_in}
+use Rattle.strm_pty.specs.Beside.{ptem_in}
+use Rattle.strm_pty.proofs.Gone.{puts-gone}
 use Rattle.strm_frame.proofs.Handing.{can-in_hand}
 use Rattle.strm_pty.proofs.module.PtemModule.put.Goals as goal
 use Rattle.strm_blocks.specs.Blocks.{token}
@@ -14,7 +18,7 @@ returns g c =
       state = e.state;
       notes = e.notes;
       sent = e.sent;
-      told = search rules;
+      told = ap (λ gone. tallied gone c.args._told.now) (sym (puts-gone c.args.here (message_in (g.B.Blocks.value c.args.store.now) (token c.args.message)) (ptem_in c.args.self.now)));
       held = tt;
       own = search rules;
       chains = e.chains;
