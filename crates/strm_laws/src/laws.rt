@@ -1,7 +1,7 @@
 //! What follows from the definitions of `specs/`, in the words of the manual pages. Each law is the contract of a function
 //! that does nothing. A law over all kinds of cells holds of bytes and of bytes with their origin alike.
 
-ghost use Rattle.std.specs.Prelude.{◌≡◌, ℕ, ◌+◌, ◌≤◌, ◌<◌, ◌==◌, List, [], ◌∷◌, ◌++◌, length, Some, if◌then◌else◌, count_by, Bool};
+ghost use Rattle.std.specs.Prelude.{◌≡◌, ℕ, ◌+◌, ◌≤◌, ◌<◌, ◌==◌, List, [], ◌∷◌, ◌++◌, length, Some, if◌then◌else◌, Bool};
 ghost use Rattle.std.specs.List.{AllByRecursion};
 ghost use Rattle.strm_types.specs.declared.names.Dir.{Dir};
 ghost use Rattle.strm_laws.specs.Within.{AreWithin};

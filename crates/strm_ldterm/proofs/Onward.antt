@@ -1,5 +1,5 @@
 -- What a byte that is struck sends goes to the places next to ldterm's own: up to three messages.
-use Rattle.std.proofs.Common.{ℕ, suc, ◌+◌, ◌-◌, Bool, true, false, cond, List, [], ◌∷◌, ◌++◌, refl}
+use Rattle.std.proofs.Common.{ℕ, suc, ◌+◌, ◌-◌, Bool, true, false, cond, List, [], ◌∷◌, ◌++◌}
 use Rattle.std.specs.Prelude.{not}
 use Rattle.strm_types.specs.declared.flushing.FlushAsked.{FlushAsked}
 use Rattle.strm_types.specs.declared.keys.Key.{Key}

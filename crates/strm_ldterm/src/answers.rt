@@ -1,7 +1,7 @@
 //! What is taken up of an answer that comes up past the module: the termios that was set (ldterm(7M); termio(7I): TCSETS, TCSETSW, TCSETSF;
 //! streamio(7I): I_SRDOPT).
 
-ghost use Rattle.std.specs.Prelude.{◌≡◌, ◌<◌, ◌≤◌, ◌+◌, ◌==◌, min, suc, if◌then◌else◌, [], ◌∷◌, length, Some, false, true};
+ghost use Rattle.std.specs.Prelude.{◌≡◌, ◌<◌, ◌≤◌, ◌==◌, if◌then◌else◌, [], ◌∷◌, Some, false, true};
 ghost use Rattle.std.specs.Option.{option_to_list};
 ghost use Rattle.strm_types.specs.declared.limits.TheConstants.{MODULES};
 ghost use Rattle.strm_types.specs.declared.names.Way.TheVariants.{Up};

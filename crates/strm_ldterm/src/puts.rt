@@ -1,6 +1,6 @@
 //! What a put at the module does (ldterm(7M); put(9E); putq(9F)).
 
-ghost use Rattle.std.specs.Prelude.{ℕ, ◌≡◌, ◌<◌, ◌≤◌, if◌then◌else◌, [], ◌∷◌, ◌++◌, false};
+ghost use Rattle.std.specs.Prelude.{◌≡◌, ◌<◌, ◌≤◌, if◌then◌else◌, [], ◌∷◌, ◌++◌, false};
 ghost use Rattle.strm_types.specs.declared.names.Way.TheVariants.{Up, Down};
 ghost use Rattle.strm_types.specs.declared.rules.Fates.{Fates};
 ghost use Rattle.strm_types.specs.declared.limits.TheConstants.{MODULES};
@@ -10,7 +10,7 @@ ghost use Rattle.strm_types.specs.Budgets.{own_at};
 ghost use Rattle.strm_types.specs.Flushing.{is_flush};
 ghost use Rattle.strm_types.specs.declared.spots.Note.TheVariants.{Room};
 ghost use Rattle.strm_types.specs.Tables.{ldterm_does};
-ghost use Rattle.strm_types.specs.Message.{Message, is_held, is_high_priority};
+ghost use Rattle.strm_types.specs.Message.{is_held, is_high_priority};
 ghost use Rattle.strm_types.specs.Ldterms.{waits_there};
 ghost use Rattle.strm_blocks.specs.Blocks.{IsInHand, in_hand, block_at, token};
 ghost use Rattle.strm_msg.specs.Messages.{IsChain};

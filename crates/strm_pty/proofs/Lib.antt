@@ -11,4 +11,3 @@ pub mod Parting
 pub mod Hanging
 pub mod Putting
 pub mod Taken
-pub mod Gone

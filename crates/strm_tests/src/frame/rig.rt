@@ -211,8 +211,7 @@ impl Rig {
 }
 
 impl<B: Blocks> Stations<B> for Rig {
-    ghost use Rattle.std.specs.Prelude.{List, map, length, refl};
-    ghost use Rattle.strm_frame.specs.Hands.{once};
+    ghost use Rattle.std.specs.Prelude.{List, map};
     ghost use Rattle.strm_frame.specs.Stacks.{all_of};
     ghost use Rattle.strm_tests.specs.ToyLaws.{stock_in};
     ghost use Rattle.strm_tests.specs.Rigs.{AreTwo, rig_costs, rig_puts, rig-costed, rig-frame};

@@ -1,8 +1,7 @@
 //! Messages that stay on a queue until its turn, on a stream of two modules over a store of tables, with answers worked out by
 //! hand.
 
-ghost use Rattle.std.specs.Prelude.{◌≡◌, ◌≤◌, ◌∷◌, []};
-ghost use Rattle.strm_blocks.specs.Blocks.{in_hand};
+ghost use Rattle.std.specs.Prelude.{◌≡◌, ◌≤◌, []};
 ghost use Rattle.strm_tests.specs.Rigs.{AtRest};
 
 use super::rig::Rig;

@@ -1,9 +1,9 @@
 -- What a put did, in the frame's words.
-use Rattle.std.proofs.Common.{◌≡◌, ap, rules, sym}
+use Rattle.std.proofs.Common.{ap, rules, sym}
 use Rattle.strm_types.specs.Deliver.{tallied}
 use Rattle.strm_frame.specs.Outboxes.{message_in}
 use Rattle.strm_pty.specs.Beside.{ptem_in}
-use Rattle.strm_pty.proofs.Gone.{puts-gone}
+use Rattle.strm_types.proofs.PtemPuts.{puts-gone}
 use Rattle.strm_frame.proofs.Handing.{can-in_hand}
 use Rattle.strm_pty.proofs.module.PtemModule.put.Goals as goal
 use Rattle.strm_blocks.specs.Blocks.{token}
