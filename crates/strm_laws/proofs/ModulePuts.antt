@@ -31,7 +31,8 @@ use Rattle.strm_types.proofs.LdtermPuts.{either, puts-each}
 use Rattle.strm_laws.proofs.LdtermKeeps.{lost-made, puts-hold}
 use Rattle.strm_laws.proofs.LdtermPutForgets.{puts-forget}
 use Rattle.strm_laws.proofs.PcktKeeps.{puts-keep as pckt-keeps, puts-forget as pckt-forgets}
-use Rattle.strm_laws.proofs.PtemPuts.{puts-gone, puts-sent, puts-forget as ptem-forgets}
+use Rattle.strm_types.proofs.PtemPuts.{puts-gone}
+use Rattle.strm_laws.proofs.PtemPuts.{puts-sent, puts-forget as ptem-forgets}
 use Rattle.strm_laws.proofs.StandingLdterms.{weigh, at-forgets, weigh-stands}
 
 module _ {C : Type 0} (p : Dir → C → Bool) where

@@ -66,16 +66,6 @@ module _ {C : Type 0} (p : Dir → C → Bool) where
       told false ioc = refl
 
 module _ {C : Type 0} (here : Spot) (m : Message C) (l : Ptem) where
-  pub puts-gone : (ptem_puts here m l).gone ≡ []
-  puts-gone = puts-each here m l (λ t. t.gone ≡ []) refl (λ is. record {
-    acked = λ way ioc given. refl;
-    refused_above = λ way ioc. refl;
-    set = λ way ioc given new. refl;
-    refused_below = λ way ioc. refl;
-    told = λ way ioc w. refl;
-    signalled = λ way ioc signal. refl;
-  })
-
   pub puts-notes : (ptem_puts here m l).notes ≡ []
   puts-notes = puts-each here m l (λ t. t.notes ≡ []) refl (λ is. record {
     acked = λ way ioc given. refl;

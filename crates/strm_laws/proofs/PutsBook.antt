@@ -27,7 +27,7 @@ use Rattle.strm_laws.proofs.EndsMake.{driver_put-none, head_put-none}
 use Rattle.strm_laws.proofs.InOrder.{BooksMade, InOrder, books-none, carried-books, in_turn-books}
 use Rattle.strm_laws.proofs.ModulePuts.{ldterm-none}
 use Rattle.strm_types.proofs.PcktPuts.{puts-each}
-use Rattle.strm_laws.proofs.PtemPuts.{puts-gone}
+use Rattle.strm_types.proofs.PtemPuts.{puts-gone}
 use Rattle.strm_laws.proofs.TurnOrder.{TurnOrder, all_made, order-next, order-none}
 use Rattle.strm_types.specs.declared.both.Both.{Both}
 use Rattle.strm_types.specs.declared.books.Book.{Book}

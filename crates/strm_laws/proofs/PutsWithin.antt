@@ -71,7 +71,7 @@ module _ (cost : At → ℕ) where
       by Up = refl
       by Down = refl
 
-module _ {C : Type 0} (cost : At → ℕ) where
+module _ (C : Type 0) (cost : At → ℕ) where
   -- at a head
   module _ (here : Spot) where
     round-fits : (asked : FlushAsked) → cost_of {C = C} cost (turned_round here asked) ≤ head_most cost here (flush_shape asked)
@@ -81,16 +81,16 @@ module _ {C : Type 0} (cost : At → ℕ) where
         again = flush_message (flush_bytes (record asked { for_read = false }))
 
         at : (w : Bool) → asked.for_write ≡ w → (r : Bool) → cost_of {C = C} cost (cond w (record { to = toward Down here; message = again } ∷ []) []) ≤ head_most cost here (cond w (cond r FlushRW FlushW) FlushR)
-        at true is true = let same = ap (λ s. cost (record { to = toward Down here; shape = s })) (writes-shape {C = C} asked is) in one-few cost (head_most cost here FlushRW) (toward Down here) again (omega (arith, same))
-        at true is false = let same = ap (λ s. cost (record { to = toward Down here; shape = s })) (writes-shape {C = C} asked is) in one-few cost (head_most cost here FlushW) (toward Down here) again (omega (arith, same))
-        at false is r = none-few cost (head_most cost here FlushR)
+        at true is true = let same = ap (λ s. cost (record { to = toward Down here; shape = s })) (writes-shape C asked is) in one-few cost (head_most cost here FlushRW) (toward Down here) again (omega (arith, same))
+        at true is false = let same = ap (λ s. cost (record { to = toward Down here; shape = s })) (writes-shape C asked is) in one-few cost (head_most cost here FlushW) (toward Down here) again (omega (arith, same))
+        at false is r = none-few C cost (head_most cost here FlushR)
 
     nak-fits : (known : Option Ioc) → cost_of {C = C} cost (nak_down here known) ≤ head_most cost here Asking
-    nak-fits None = none-few cost (head_most cost here Asking)
+    nak-fits None = none-few C cost (head_most cost here Asking)
     nak-fits (Some ioc) = at (ioc.number == 0)
       where
         at : (none : Bool) → cost_of {C = C} cost (cond none [] (record { to = toward Down here; message = nak_message ioc } ∷ [])) ≤ head_most cost here Asking
-        at true = none-few cost (head_most cost here Asking)
+        at true = none-few C cost (head_most cost here Asking)
         at false = one-few cost (head_most cost here Asking) (toward Down here) (nak_message ioc) (omega arith)
 
     head-fits : (m : Message C) (h : Head C) → cost_of cost (head_put here m h).sent ≤ head_most cost here (shape_of m)
@@ -100,20 +100,20 @@ module _ {C : Type 0} (cost : At → ℕ) where
         at true kind = sent-none cost (head_most cost here (shape_by true kind m.plain)) (Head C) (is_doubled m h.queue.messages) _ _ refl refl
         at false Flush = round-fits (asked_by m.plain)
         at false Ioctl = nak-fits (read_ioc m.plain)
-        at false kind = none-few cost (head_most cost here (bare_shape kind m.plain))
+        at false kind = none-few C cost (head_most cost here (bare_shape kind m.plain))
 
   -- at a driver
   module _ (side : Side) (across : Across) where
     readers : (asked : FlushAsked) (goes : Bool) → cost_of {C = C} cost (reader_flush goes asked (bottom_across side across)) ≤ cost (crossed side across.bottom ToReaders)
-    readers asked false = none-few cost (cost (crossed side across.bottom ToReaders))
+    readers asked false = none-few C cost (cost (crossed side across.bottom ToReaders))
     readers asked true =
-        let same = ap (λ s. cost (record { to = bottom_across side across; shape = s })) (reads-shape {C = C} asked.band) in
+        let same = ap (λ s. cost (record { to = bottom_across side across; shape = s })) (reads-shape C asked.band) in
         one-few cost (cost (crossed side across.bottom ToReaders)) (bottom_across side across) (flush_message (read_flush asked.band)) (omega (arith, same))
 
     driver : (asked : FlushAsked) (goes : Bool) → cost_of {C = C} cost (reader_flush goes asked (driver_across side across)) ≤ cost (crossed side across.bottom ToDriver)
-    driver asked false = none-few cost (cost (crossed side across.bottom ToDriver))
+    driver asked false = none-few C cost (cost (crossed side across.bottom ToDriver))
     driver asked true =
-        let same = ap (λ s. cost (record { to = driver_across side across; shape = s })) (reads-shape {C = C} asked.band) in
+        let same = ap (λ s. cost (record { to = driver_across side across; shape = s })) (reads-shape C asked.band) in
         one-few cost (cost (crossed side across.bottom ToDriver)) (driver_across side across) (flush_message (read_flush asked.band)) (omega (arith, same))
 
     flush-fits : (count : ℕ) (asked : FlushAsked) → cost_of {C = C} cost (reader_flush (asked.for_write && across.is_open) asked (bottom_across side across) ++ reader_flush asked.for_read asked (driver_across side across))
@@ -121,24 +121,24 @@ module _ {C : Type 0} (cost : At → ℕ) where
     flush-fits count asked = at asked.for_write asked.for_read
       where
         at : (w r : Bool) → cost_of {C = C} cost (reader_flush (w && across.is_open) asked (bottom_across side across) ++ reader_flush r asked (driver_across side across)) ≤ drives cost side across.bottom Down (cond w (cond r FlushRW FlushW) FlushR) count
-        at true true = omega (arith, both-cost cost (reader_flush across.is_open asked (bottom_across side across)) (reader_flush true asked (driver_across side across)), readers asked across.is_open, driver asked true)
-        at true false = omega (arith, both-cost cost (reader_flush across.is_open asked (bottom_across side across)) [], none-few {C = C} cost 0, readers asked across.is_open)
+        at true true = omega (arith, both-cost {C = C} cost (reader_flush across.is_open asked (bottom_across side across)) (reader_flush true asked (driver_across side across)), readers asked across.is_open, driver asked true)
+        at true false = omega (arith, both-cost {C = C} cost (reader_flush across.is_open asked (bottom_across side across)) [], none-few C cost 0, readers asked across.is_open)
         at false true = driver-alone
           where
             driver-alone : cost_of {C = C} cost (reader_flush true asked (driver_across side across)) ≤ drives cost side across.bottom Down FlushR count
             driver-alone = omega (arith, driver asked true)
-        at false false = none-few cost (drives cost side across.bottom Down FlushR count)
+        at false false = none-few C cost (drives cost side across.bottom Down FlushR count)
 
     taken_in-fits : (most : ℕ) (m : Message C) (q : Queue C) → cost_of cost (taken_in side across m q).sent ≤ most
     taken_in-fits most m q = sent-none cost most (Queue C) across.ended _ _ refl refl
 
     crossing-fits : (most : ℕ) (m : Message C) (q : Queue C) (goes : Bool) → cost_of cost (cond goes (taken_in side across m q) (freed q)).sent ≤ most
     crossing-fits most m q true = taken_in-fits most m q
-    crossing-fits most m q false = none-few cost most
+    crossing-fits most m q false = none-few C cost most
 
     -- an answer goes to the place above the driver's
     ioctl-fits : (here : Spot) (count : ℕ) (known : Option Ioc) (m : Message C) (q : Queue C) → here.side ≡ side → here.at ≡ suc count → cost_of cost (ioctl_put side across here known m q).sent ≤ drives cost side across.bottom Down Asking count
-    ioctl-fits here count None m q same place = none-few cost (drives cost side across.bottom Down Asking count)
+    ioctl-fits here count None m q same place = none-few C cost (drives cost side across.bottom Down Asking count)
     ioctl-fits here count (Some ioc) m q same place = at (ioc.number == 0 || (is_master side && across.is_open))
       where
         above : toward Up here ≡ record { side = side; at = count; way = Up }
@@ -172,11 +172,11 @@ module _ {C : Type 0} (cost : At → ℕ) where
 
         flush : (b : Bool) → cost_of cost (cond b (record (own_flushed side (asked_by m.plain) q) { sent = reader_flush across.is_open (asked_by m.plain) (bottom_across side across) }) (freed q)).sent ≤ most
         flush true = let goes = readers (asked_by m.plain) across.is_open in omega (arith, goes)
-        flush false = none-few cost most
+        flush false = none-few C cost most
 
         kinds : (kind : MsgKind) → cost_of cost (put_across side across kind m q).sent ≤ most
         kinds Flush = flush (asked_by m.plain).for_read
-        kinds kind = none-few cost most
+        kinds kind = none-few C cost most
 
         at : (parts : Bool) → cost_of cost (cond parts (taken_in side across m q) (put_across side across m.kind m q)).sent ≤ most
         at true = taken_in-fits most m q
@@ -193,13 +193,13 @@ module _ {C : Type 0} (cost : At → ℕ) where
         by (OfPckt p) = pckt-within cells made here m cost
 
     among-fits : (i : ℕ) (ps : List (Standing C)) → cost_of cost (put_among (module_puts cells made) i here m ps).sent ≤ sum_by cost (emits_at here (does_among i (map module_name ps) here.way (shape_of m)))
-    among-fits i [] = none-few cost 0
+    among-fits i [] = none-few C cost 0
     among-fits zero (p ∷ ps) = module-fits p
     among-fits (suc i) (p ∷ ps) = among-fits i ps
 
 pub module-within : {C : Type 0} (cells : Cells C) (made : ℕ) (here : Spot) (m : Message C) (p : Standing C)
     → Within (module_puts cells made here m p).sent (emits_at here (name_does (module_name p) here.way (shape_of m)))
-module-within cells made here m p cost = module-fits cost cells made here m p
+module-within {C} cells made here m p cost = module-fits C cost cells made here m p
 
 -- the first of several are the same among the first so many
 pub among-front : (k i : ℕ) (on : List ModuleName) (way : Way) (shape : Shape) → i < k → does_among i (take k on) way shape ≡ does_among i on way shape
@@ -236,17 +236,17 @@ module _ {C : Type 0} (cells : Cells C) (cost : At → ℕ) where
     reached-fits : to.at ≡ 0 → cost_of cost (put_at_head to.side to m s).sent ≤ places cost to.side bottom (side_does 0 (head_does shape))
     reached-fits top =
         either-fits (places cost to.side bottom (side_does 0 (head_does shape))) (is_open (stream to.side s).opened) _ _
-        (λ is. (let fits = head-fits cost to m (stream to.side s).head in
+        (λ is. (let fits = head-fits C cost to m (stream to.side s).head in
         let sum = side-sum cost to (head_does shape).emits in
         let same = ap (λ (at : ℕ). sum_by cost (map (whole to.side) (map (side_next at) (head_does shape).emits) ++ [])) top in
         omega (arith, fits, sum, same)))
-        (λ is. none-few cost (places cost to.side bottom (side_does 0 (head_does shape))))
+        (λ is. none-few C cost (places cost to.side bottom (side_does 0 (head_does shape))))
 
     -- below the modules
     behind-fits : (way : Way) → to.way ≡ way → cost_of cost (put_behind way to m s).sent ≤ places cost to.side bottom (behind_costs (modules_on to.side s) way to.at shape)
     behind-fits Down is =
         subst (λ w. cost_of cost (driver_put to.side (across_of to.side s) (record to { at = driver_place to.side s; way = w }) m (stream to.side s).driver.queue).sent ≤ drives cost to.side bottom Down shape (modules_on to.side s)) (sym is)
-        (came-down-fits cost to.side (across_of to.side s) (record to { at = driver_place to.side s }) (modules_on to.side s) m (stream to.side s).driver.queue refl refl)
+        (came-down-fits C cost to.side (across_of to.side s) (record to { at = driver_place to.side s }) (modules_on to.side s) m (stream to.side s).driver.queue refl refl)
     behind-fits Up is = goes (is_flushing shape && to.at == suc MODULES) (ap (λ b. b && to.at == suc MODULES) (same-flushing m))
       where
         count : ℕ
@@ -260,7 +260,7 @@ module _ {C : Type 0} (cells : Cells C) (cost : At → ℕ) where
             ≤ places cost to.side bottom (cond flush (side_drives count (driver_does Up shape)) (record { own = 0; emits = rises count shape ∷ []; across = [] }))
         goes true same = subst (λ b. cost_of cost (cond b (put_at_driver to.side to m s) (passed_up to m s)).sent ≤ places cost to.side bottom (side_drives count (driver_does Up shape))) same
             (subst (λ w. cost_of cost (driver_put to.side (across_of to.side s) (record to { at = driver_place to.side s; way = w }) m (stream to.side s).driver.queue).sent ≤ places cost to.side bottom (side_drives count (driver_does Up shape))) (sym is)
-            (came-up-fits cost to.side (across_of to.side s) (record to { at = driver_place to.side s }) count shape m (stream to.side s).driver.queue))
+            (came-up-fits C cost to.side (across_of to.side s) (record to { at = driver_place to.side s }) count shape m (stream to.side s).driver.queue))
         goes false same = subst (λ b. cost_of cost (cond b (put_at_driver to.side to m s) (passed_up to m s)).sent ≤ sum_by cost (whole to.side (rises count shape) ∷ [])) same passed
 
     -- at a module
@@ -268,7 +268,7 @@ module _ {C : Type 0} (cells : Cells C) (cost : At → ℕ) where
         → cost_of cost (put_at_module cells to m s).sent ≤ places cost to.side bottom (side_does to.at (does_among (to.at - 1) (map module_name (stream to.side s).modules) to.way shape))
     stack-fits some low =
         let d = does_among (to.at - 1) (map module_name (stream to.side s).modules) to.way shape in
-        omega (arith, among-fits cost cells (made_above to.side s) to m (to.at - 1) (stream to.side s).modules, side-sum cost to d.emits)
+        omega (arith, among-fits C cost cells (made_above to.side s) to m (to.at - 1) (stream to.side s).modules, side-sum cost to d.emits)
 
     abbrev on : List ModuleName
     on = fronts (map module_name (stream to.side s).modules)

@@ -34,7 +34,7 @@ use Rattle.strm_laws.proofs.Balances.{range-low, still-same}
 use Rattle.strm_laws.proofs.ModulePuts.{ldterm-none}
 use Rattle.strm_types.proofs.PcktPuts.{packs-make}
 use Rattle.strm_types.proofs.PcktWithin.{makes-one, pckt-makes}
-use Rattle.strm_laws.proofs.PtemPuts.{puts-gone}
+use Rattle.strm_types.proofs.PtemPuts.{puts-gone}
 use Rattle.strm_laws.proofs.PutsBook.{SameBooks, head-same}
 use Rattle.strm_laws.proofs.TurnOrder.{made-all}
 use Rattle.strm_types.specs.declared.both.Both.{Both}

@@ -97,7 +97,7 @@ count-front name (a ∷ []) = omega arith
 count-front name (a ∷ b ∷ []) = omega arith
 count-front name (a ∷ b ∷ c ∷ on) = omega arith
 
-fronts-once : (on : List ModuleName) → EachOnce on → are_once (fronts on) ≡ true
+pub fronts-once : (on : List ModuleName) → EachOnce on → are_once (fronts on) ≡ true
 fronts-once on each = and_from (is_once names.Ldterm (fronts on)) _ (one names.Ldterm) (and_from (is_once names.Ptem (fronts on)) _ (one names.Ptem) (one names.Pckt))
   where
     one : (name : ModuleName) → is_once name (fronts on) ≡ true

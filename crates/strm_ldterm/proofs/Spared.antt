@@ -55,7 +55,7 @@ module _ (here : Spot) where
   passes-few way m rest p = record { over = refl; few = one-few {C = ℕ} most 25 (toward way here) m (omega (arith, most-few (record { to = toward way here; shape = shape_of m }))) }
 
   nothing-few : cost_of {C = ℕ} most [] ≤ 25
-  nothing-few = none-few {C = ℕ} most 25
+  nothing-few = none-few ℕ most 25
 
   -- what is given to go down takes none
   data-down : (kind : MsgKind) (bytes : List ℕ) → is_data kind ≡ true → most_on Down (shape_by true kind bytes) ≡ 0
@@ -63,7 +63,7 @@ module _ (here : Spot) where
   data-down _ bytes is = absurd (cc)
 
   given-free : (given : List ℕ) (m : Message ℕ) → is_data m.kind ≡ true → cost_of most (map (onward Down here) (with_given given m)) ≤ 0
-  given-free [] m is = none-few {C = ℕ} most 0
+  given-free [] m is = none-few ℕ most 0
   given-free (c ∷ given) m is =
       let n : Message ℕ = record m { control = None; body = Some (c ∷ given) } in
       one-few {C = ℕ} most 0 (toward Down here) n (omega (arith, data-down m.kind m.plain is))

@@ -29,7 +29,7 @@ module _ (here : Spot) where
   Costs n ps = cost_of most ps ≤ 8 * n
 
   few-none : (n : ℕ) → Costs n []
-  few-none n = none-few {C = ℕ} most (8 * n)
+  few-none n = none-few ℕ most (8 * n)
 
   few-more : (way : Way) (m : Message ℕ) (n : ℕ) (ps : List (Parcel ℕ)) → Costs n ps → Costs (suc n) (onward way here m ∷ ps)
   few-more way m n ps few = more-few {C = ℕ} most (8 * suc n) (toward way here) m ps (omega (arith, most-few (record { to = toward way here; shape = shape_of m }), few))
@@ -123,7 +123,7 @@ module _ (here : Spot) where
 
   gathered-few : (gathered : List ℕ) → cost_of most (gathered_up plain here gathered) ≤ 1
   unfolding data_message
-  gathered-few [] = none-few {C = ℕ} most 1
+  gathered-few [] = none-few ℕ most 1
   gathered-few (c ∷ rest) = one-few {C = ℕ} most 1 (toward Up here) (data_message (c ∷ rest)) (omega arith)
 
   step-spares : (n made : ℕ) (p : Discipline ℕ) → (let t = next_stage plain here made p in

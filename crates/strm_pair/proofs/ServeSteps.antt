@@ -220,8 +220,8 @@ module _ (here : Spot) (again : Bool) (stop : Option ℕ) where
     where
       by : (part : Module ℕ) → let q = stood part p.queues in Begins here.way again (discipline_of q) → cost_of most (module_serves plain here 0 again stop q).acted.sent ≤ 31
       by (OfLdterm l) begins = let d = disciplined l p.queues in call-few here again stop d (begins-work here.way again d begins)
-      by (OfPtem q) begins = none-few {C = ℕ} most 31
-      by (OfPckt q) begins = none-few {C = ℕ} most 31
+      by (OfPtem q) begins = none-few ℕ most 31
+      by (OfPckt q) begins = none-few ℕ most 31
 
   among-sends : (i : ℕ) (ps : List (Standing ℕ)) → i < length ps → Begins here.way again (discipline_of (slice_index_or ps i none_there)) → cost_of most (act_among (λ p. (module_serves plain here 0 again stop p).acted) i ps).sent ≤ 31
   among-sends i [] low begins = absurd (omega (arith, low))

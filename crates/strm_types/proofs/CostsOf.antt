@@ -10,13 +10,13 @@ use Rattle.strm_types.specs.Deliver.{Acted, Parcel}
 use Rattle.strm_types.specs.Message.{Message}
 use Rattle.strm_types.specs.Shapes.{At, Shape, Held, at_of, shape_of}
 
+pub none-few : (C : Type 0) (cost : At → ℕ) (most : ℕ) → cost_of {C = C} cost [] ≤ most
+unfolding cost_of
+none-few C cost most = omega arith
+
 module _ {C : Type 0} (cost : At → ℕ) where
   abbrev pub Few : ℕ → List (Parcel C) → Type 0
   Few most sent = cost_of cost sent ≤ most
-
-  pub none-few : (most : ℕ) → Few most []
-  unfolding cost_of
-  none-few most = omega arith
 
   pub one-few : (most : ℕ) (to : Spot) (m : Message C) → cost (record { to = to; shape = shape_of m }) ≤ most → Few most (record { to = to; message = m } ∷ [])
   unfolding cost_of
@@ -43,8 +43,8 @@ module _ {C : Type 0} (cost : At → ℕ) where
   both-few few more ps qs first second = let e = both-cost ps qs in omega (arith, e, first, second)
 
   pub sent-none : (most : ℕ) (S : Type 0) (b : Bool) (one another : Acted C S) → one.sent ≡ [] → another.sent ≡ [] → Few most (cond b one another).sent
-  sent-none most S true one another first second = subst (λ ps. Few most ps) (sym first) (none-few most)
-  sent-none most S false one another first second = subst (λ ps. Few most ps) (sym second) (none-few most)
+  sent-none most S true one another first second = subst (λ ps. Few most ps) (sym first) (none-few C cost most)
+  sent-none most S false one another first second = subst (λ ps. Few most ps) (sym second) (none-few C cost most)
 
 -- sums over mapped lists, and over what is no more of each
 module _ {A B : Type 0} (f : B → ℕ) (g : A → B) where

@@ -42,7 +42,7 @@ module _ {C : Type 0} (here : Spot) where
       at true = refl
       at false = refl
 
-module _ {C : Type 0} (here : Spot) (cost : At → ℕ) where
+module _ (here : Spot) (cost : At → ℕ) where
   abbrev costs : Does → ℕ
   costs d = sum_by cost (emits_at here d)
 
@@ -51,7 +51,7 @@ module _ {C : Type 0} (here : Spot) (cost : At → ℕ) where
   passes Up Acking = omega arith
   passes way shape = omega arith
 
-  module _ (m : Message C) where
+  module _ {C : Type 0} (m : Message C) where
     abbrev Fits : List (Parcel C) → Type 0
     Fits sent = cost_of cost sent ≤ costs (ldterm_does here.way (shape_of m))
 
@@ -76,7 +76,7 @@ module _ {C : Type 0} (here : Spot) (cost : At → ℕ) where
           more-few cost (up Passing + up Acking) (toward Up here) (mode_message (read_mode_of t) (tostop t)) (onward Up here m ∷ []) (omega (arith, answer))
 
       line : (cells : List C) → cost_of cost (line_up here cells) ≤ up Held
-      line [] = none-few cost (up Held)
+      line [] = none-few C cost (up Held)
       line (c ∷ more) = one-few cost (up Held) (toward Up here) (data_message (c ∷ more)) (let same = ap up (data-shape (c ∷ more)) in omega (arith, same))
 
       termios : (t : Termios) (l : Discipline C) → cost_of cost (termios_taken here t m l).sent ≤ up Held + (up Passing + up Acking)
@@ -96,8 +96,8 @@ module _ {C : Type 0} (here : Spot) (cost : At → ℕ) where
           told = onward Up here (flush_message (read_flush None)) ∷ []
 
           at : (flushed : Bool) → cost_of cost (cond flushed (both (read_flushed here up_alone l) (sends told)) (sends [] l)).sent ≤ up FlushR
-          at true = subst (λ (ps : List (Parcel C)). cost_of cost (ps ++ told) ≤ up FlushR) (sym (read-none here up_alone l)) (one-few cost (up FlushR) (toward Up here) (flush_message (read_flush None)) (let same = ap up (reads-shape {C = C} None) in omega (arith, same)))
-          at false = none-few cost (up FlushR)
+          at true = subst (λ (ps : List (Parcel C)). cost_of cost (ps ++ told) ≤ up FlushR) (sym (read-none here up_alone l)) (one-few cost (up FlushR) (toward Up here) (flush_message (read_flush None)) (let same = ap up (reads-shape C None) in omega (arith, same)))
+          at false = none-few C cost (up FlushR)
 
       taken : (command : ℕ) (t : Termios) (l : Discipline C) → cost_of cost (taken_up here command t m l).sent ≤ costs (ldterm_does Up Acking)
       taken command t l =
@@ -106,7 +106,7 @@ module _ {C : Type 0} (here : Spot) (cost : At → ℕ) where
 
     pub ldterm-fits : (l : Discipline C) → Fits (ldterm_puts here m l).sent
     ldterm-fits l = puts-each here m l (λ t. Fits t.sent) (record {
-      waits = λ is. none-few cost (costs (ldterm_does here.way (shape_of m)));
+      waits = λ is. none-few C cost (costs (ldterm_does here.way (shape_of m)));
       flushes = λ is. flushes l;
       passes = goes;
       taken = λ way is ioc t.

@@ -50,7 +50,7 @@ module _ {C : Type 0} (here : Spot) (cost : At → ℕ) (m : Message C) where
     packs-fit true is =
         let asked = asked_by m.plain in
         let flush = flush_message {C = C} (flush_bytes (record asked { for_read = false })) in
-        let shape = ap (λ s. cost (record { to = toward Up here; shape = s })) (writes-shape {C = C} asked (writes m.kind is)) in
+        let shape = ap (λ s. cost (record { to = toward Up here; shape = s })) (writes-shape C asked (writes m.kind is)) in
         let behind = one-few cost (cost (record { to = toward Up here; shape = FlushW })) (toward Up here) flush (omega (arith, shape)) in
         more-few cost (costs packs_flush) (toward Up here) (packet cells made here m) (onward Up here flush ∷ []) (omega (arith, behind))
       where

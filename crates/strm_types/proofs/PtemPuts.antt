@@ -1,5 +1,5 @@
 -- What holds of each outcome of a put at ptem holds of the put.
-use Rattle.std.proofs.Common.{ℕ, ◌≡◌, Bool, true, false, cond, List, refl}
+use Rattle.std.proofs.Common.{ℕ, ◌≡◌, Bool, true, false, cond, List, [], refl}
 use Rattle.std.specs.Prelude.{◌==◌, Option, None, Some}
 use Rattle.strm_types.specs.declared.ioctls.Ioc.{Ioc}
 use Rattle.strm_types.specs.declared.ioctls.TheConstants.{TCGETS, TIOCGWINSZ, TIOCSWINSZ, TIOCSIGNAL}
@@ -78,3 +78,15 @@ module _ {C : Type 0} (here : Spot) (m : Message C) (l : Ptem) (P : Acted C Ptem
         at : (asked : Bool) → is_asked m ≡ asked → P (cond asked (asked_by_header here (read_ioc m.plain) m l) (ptem_passes here m l))
         at true is = header-each (each is) (read_ioc m.plain)
         at false is = passes
+
+-- nothing has gone
+module _ {C : Type 0} (here : Spot) (m : Message C) (l : Ptem) where
+  pub puts-gone : (ptem_puts here m l).gone ≡ []
+  puts-gone = puts-each here m l (λ t. t.gone ≡ []) refl (λ is. record {
+    acked = λ way ioc given. refl;
+    refused_above = λ way ioc. refl;
+    set = λ way ioc given new. refl;
+    refused_below = λ way ioc. refl;
+    told = λ way ioc w. refl;
+    signalled = λ way ioc signal. refl;
+  })

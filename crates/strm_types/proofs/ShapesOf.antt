@@ -1,5 +1,5 @@
 -- The shapes of the messages that modules, heads and drivers make, and what they say of a message's kind.
-use Rattle.std.proofs.Common.{ℕ, ◌≡◌, Bool, true, false, cond, List, [], refl, ap, ◌∙◌}
+use Rattle.std.proofs.Common.{ℕ, ◌≡◌, Bool, true, false, cond, List, refl, ap, ◌∙◌}
 use Rattle.std.specs.Prelude.{◌&&◌, not, Option, None, Some}
 use Rattle.strm_types.specs.declared.flushing.FlushAsked.{FlushAsked}
 use Rattle.strm_types.specs.declared.kinds.Band.{Band}
@@ -13,12 +13,12 @@ use Rattle.strm_types.specs.Shapes.{Shape, Held, Asking, Acking, FlushR, FlushW,
 use Rattle.strm_types.proofs.LdtermPuts.{acked-bare, acked-kind}
 
 -- an M_FLUSH for readers alone, and one that goes down again
-pub reads-shape : {C : Type 0} (band : Option Band) → shape_of (flush_message {C = C} (read_flush band)) ≡ FlushR
-reads-shape None = refl
-reads-shape (Some band) = refl
+pub reads-shape : (C : Type 0) (band : Option Band) → shape_of (flush_message {C = C} (read_flush band)) ≡ FlushR
+reads-shape C None = refl
+reads-shape C (Some band) = refl
 
-pub writes-shape : {C : Type 0} (asked : FlushAsked) → asked.for_write ≡ true → shape_of (flush_message {C = C} (flush_bytes (record asked { for_read = false }))) ≡ FlushW
-writes-shape {C} asked is = ap (λ w. form w asked.band) is ∙ by asked.band
+pub writes-shape : (C : Type 0) (asked : FlushAsked) → asked.for_write ≡ true → shape_of (flush_message {C = C} (flush_bytes (record asked { for_read = false }))) ≡ FlushW
+writes-shape C asked is = ap (λ w. form w asked.band) is ∙ by asked.band
   where
     form : Bool → Option Band → Shape
     form w band = shape_of (flush_message {C = C} (flush_bytes (record { for_read = false; for_write = w; band = band })))

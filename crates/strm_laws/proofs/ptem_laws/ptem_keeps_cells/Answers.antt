@@ -1,4 +1,5 @@
-use Rattle.strm_laws.proofs.PtemPuts.{puts-sent, puts-gone, puts-notes}
+use Rattle.strm_types.proofs.PtemPuts.{puts-gone}
+use Rattle.strm_laws.proofs.PtemPuts.{puts-sent, puts-notes}
 use Rattle.strm_laws.proofs.ptem_laws.ptem_keeps_cells.Goals as goal
 
 pub returns-clause-sent : goal.returns-clause-sent

@@ -15,7 +15,7 @@ serve-requires-clause-kept g c = subst (λ x. AreIn (g.B.Blocks.value c.args.sto
 
 -- the others send nothing
 none-sent : (s : StoreValue) (again : Bool) (next : ℕ) (ps : List (Parcel ℕ)) → again ≡ false → ps ≡ [] → HasRoom s (later_cost again next ps)
-none-sent s again next ps ends none = rw (ends, none) (let free = none-few {C = ℕ} most 0 in record { mblks = omega (arith, free); dblks = omega (arith, free) })
+none-sent s again next ps ends none = rw (ends, none) (let free = none-few ℕ most 0 in record { mblks = omega (arith, free); dblks = omega (arith, free) })
 
 pub returns-in-Ptem : goal.returns-in-Ptem
 returns-in-Ptem g c =

@@ -1,5 +1,9 @@
 -- What a put did, in the frame's words.
-use Rattle.std.proofs.Common.{rules}
+use Rattle.std.proofs.Common.{ap, rules, sym}
+use Rattle.strm_types.specs.Deliver.{tallied}
+use Rattle.strm_frame.specs.Outboxes.{message_in}
+use Rattle.strm_pty.specs.Beside.{ptem_in}
+use Rattle.strm_types.proofs.PtemPuts.{puts-gone}
 use Rattle.strm_frame.proofs.Handing.{can-in_hand}
 use Rattle.strm_pty.proofs.Alone.{alone-ready, alone-stands}
 use Rattle.strm_pty.proofs.module.PtemModule.put.Goals as goal
@@ -19,7 +23,7 @@ returns g c =
       state = alone-stands s t queues none _ _ e.state;
       notes = e.notes;
       sent = e.sent;
-      told = search rules;
+      told = ap (λ gone. tallied gone c.args._told.now) (sym (puts-gone c.args.here (message_in s (token c.args.message)) (ptem_in c.args.self.now)));
       held = record { queues = alone-ready s t queues none; itself = none };
       own = search rules;
       chains = e.chains;

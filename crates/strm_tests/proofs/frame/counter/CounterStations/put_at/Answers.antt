@@ -1,5 +1,5 @@
 -- At the top the message is freed, and else it goes on.
-use Rattle.std.proofs.Common.{◌-◌, sym, ◌∙◌, arith, rules}
+use Rattle.std.proofs.Common.{◌-◌, sym, ◌∙◌, rules}
 use Rattle.strm_types.specs.declared.names.Way.TheVariants.{Up}
 use Rattle.strm_frame.specs.declared.parcels.Sent.{Sent}
 use Rattle.strm_frame.specs.Hands.{once}
