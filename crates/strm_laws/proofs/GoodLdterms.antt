@@ -15,13 +15,13 @@ use Rattle.strm_types.specs.declared.spots.Spot.{Spot}
 use Rattle.strm_types.specs.declared.termios.Termios.{Termios}
 use Rattle.strm_types.specs.Acks.{payload}
 use Rattle.strm_types.specs.Commands.{is_acked, is_ioctl, sets_termios}
-use Rattle.strm_types.specs.Deliver.{Acted}
+use Rattle.strm_types.specs.Deliver.{Acted, onward}
 use Rattle.strm_types.specs.Emptied.{of_data}
 use Rattle.strm_types.specs.Flushing.{asked_by, flush_message, is_flush, read_flush}
 use Rattle.strm_types.specs.Ioctls.{read_ioc}
 use Rattle.strm_types.specs.LdtermPuts.{goes_on, ldterm_puts, passes_on_way, told_by_header, told_termios, waits_behind, waits_on}
 use Rattle.strm_types.specs.LdtermStands.{disciplined}
-use Rattle.strm_types.specs.Ldterms.{Discipline, Ldterm, both, flush_passes, line_flushed, onward, queue_at, queue_flushed, queued_at, read_flushed, sends, takes_band_0, waits_there, with_queue_at, without_line, write_flushed}
+use Rattle.strm_types.specs.Ldterms.{Discipline, Ldterm, both, flush_passes, line_flushed, queue_at, queue_flushed, queued_at, read_flushed, sends, takes_band_0, waits_there, with_queue_at, without_line, write_flushed}
 use Rattle.strm_types.specs.Message.{Message, has_parts}
 use Rattle.strm_types.specs.Options.{mode_message}
 use Rattle.strm_types.specs.Queue.{Queue}

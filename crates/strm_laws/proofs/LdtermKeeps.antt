@@ -18,12 +18,12 @@ use Rattle.strm_types.specs.declared.rules.Rule.TheVariants.{Igncr, EraseKey, Er
 use Rattle.strm_types.specs.declared.spots.Spot.{Spot}
 use Rattle.strm_types.specs.declared.termios.Termios.{Termios}
 use Rattle.strm_types.specs.Cells.{Cells}
-use Rattle.strm_types.specs.Deliver.{Acted, Parcel, toward}
+use Rattle.strm_types.specs.Deliver.{Acted, Parcel, toward, onward}
 use Rattle.strm_types.specs.Emptied.{of_data}
 use Rattle.strm_types.specs.Flushing.{asked_by, flush_bytes, flush_message, read_flush}
 use Rattle.strm_types.specs.LdtermPuts.{ldterm_puts}
 use Rattle.strm_laws.specs.LdtermWeights.{weight_beside, ldterm_weight, ActedKeeps, EchoStands}
-use Rattle.strm_types.specs.Ldterms.{Discipline, both, flush_passes, line_flushed, onward, queue_flushed, queued_at, read_flushed, sends, takes_band_0, without_line, write_flushed}
+use Rattle.strm_types.specs.Ldterms.{Discipline, both, flush_passes, line_flushed, queue_flushed, queued_at, read_flushed, sends, takes_band_0, without_line, write_flushed}
 use Rattle.strm_types.specs.Lines.{Types, ErasesByte, ErasesWord, edited, has_room}
 use Rattle.strm_types.specs.Message.{Message, cells_of, data_message, weight_of}
 use Rattle.strm_types.specs.Options.{mode_message}

@@ -14,7 +14,7 @@ use Rattle.strm_types.specs.declared.rules.Rule.TheVariants.{Flushed}
 use Rattle.strm_types.specs.declared.spots.Spot.{Spot}
 use Rattle.strm_types.specs.declared.termios.Termios.{Termios}
 use Rattle.strm_types.specs.Cells.{Cells, cells_made}
-use Rattle.strm_types.specs.Deliver.{Acted}
+use Rattle.strm_types.specs.Deliver.{Acted, onward}
 use Rattle.strm_types.specs.Emptied.{emptied, none_goes, of_data, queue_behind, stayed}
 use Rattle.strm_types.specs.Flush.{counted_band, is_data_kind}
 use Rattle.strm_types.specs.Flushing.{asked_by, flush_message, read_flush}
@@ -24,7 +24,7 @@ use Rattle.strm_types.specs.LdtermPuts.{ldterm_puts}
 use Rattle.strm_types.specs.LdtermServes.{ldterm_serves}
 use Rattle.strm_laws.specs.LdtermTurns.{IsItsTurn, IsOrderly, is_echo}
 use Rattle.strm_laws.specs.LdtermWeights.{EchoStands}
-use Rattle.strm_types.specs.Ldterms.{Discipline, Stage, Between, Begun, Answered, both, line_flushed, new_ldterm, onward, queue_flushed, queued_at, read_flushed, sends, takes_band_0, write_flushed}
+use Rattle.strm_types.specs.Ldterms.{Discipline, Stage, Between, Begun, Answered, both, line_flushed, new_ldterm, queue_flushed, queued_at, read_flushed, sends, takes_band_0, write_flushed}
 use Rattle.strm_types.specs.Message.{Message, cells_of, data_message, is_high_priority, rank_of}
 use Rattle.strm_types.specs.Queue.{Queue, is_full, is_none_left, left_with, put, relieved}
 use Rattle.strm_types.specs.Service.{line_gone}

@@ -8,11 +8,11 @@ use Rattle.strm_types.specs.declared.names.Way.{Way}
 use Rattle.strm_types.specs.declared.names.Way.TheVariants.{Up, Down}
 use Rattle.strm_types.specs.declared.spots.Spot.{Spot}
 use Rattle.strm_types.specs.Cells.{Cells, cells_made}
-use Rattle.strm_types.specs.Deliver.{Acted}
+use Rattle.strm_types.specs.Deliver.{Acted, onward}
 use Rattle.strm_types.specs.Input.{begins_next, cells_left, is_data, left_of, made_of, next_stage, stage_at, stages, stages_done, then_on, to_treat, treats, input_begins, passes}
 use Rattle.strm_types.specs.Keys.{restarts}
 use Rattle.strm_types.specs.LdtermServes.{ldterm_serves}
-use Rattle.strm_types.specs.Ldterms.{Discipline, Stage, Between, Begun, Answered, onward, sends}
+use Rattle.strm_types.specs.Ldterms.{Discipline, Stage, Between, Begun, Answered, sends}
 use Rattle.strm_laws.specs.LdtermWeights.{MayServe}
 use Rattle.strm_types.specs.Message.{Message, cells_of}
 use Rattle.strm_types.specs.Queue.{is_full, is_none_left, left_with}

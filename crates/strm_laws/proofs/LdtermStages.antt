@@ -8,11 +8,11 @@ use Rattle.strm_types.specs.declared.spots.Spot.{Spot}
 use Rattle.strm_types.specs.declared.names.Dir.{Dir}
 use Rattle.strm_types.specs.Names.{direction_at}
 use Rattle.strm_types.specs.Cells.{Cells, cells_made}
-use Rattle.strm_types.specs.Deliver.{Acted, Parcel, toward}
+use Rattle.strm_types.specs.Deliver.{Acted, Parcel, toward, onward}
 use Rattle.strm_types.specs.Input.{back_on, begins_next, cells_left, finished, is_data, left_of, made_of, next_stage, stage_at, stages, stages_done, then_on, treats, input_begins, passes}
 use Rattle.strm_types.specs.Keys.{restarts}
 use Rattle.strm_laws.specs.LdtermWeights.{weight_in_work, weight_begun, weight_beside, ldterm_weight, ActedKeeps, IgnoresMapping, EchoStands}
-use Rattle.strm_types.specs.Ldterms.{Discipline, Stage, Between, Begun, Answered, onward, sends}
+use Rattle.strm_types.specs.Ldterms.{Discipline, Stage, Between, Begun, Answered, sends}
 use Rattle.strm_types.specs.Message.{Message, cells_of, data_message, weight_of}
 use Rattle.strm_laws.specs.Places.{weight_sent, direction_to}
 use Rattle.strm_types.specs.Queue.{Queue, is_full, is_none_left, left_with, put, put_back, weight}

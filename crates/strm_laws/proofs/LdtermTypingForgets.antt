@@ -14,12 +14,12 @@ use Rattle.strm_types.specs.declared.rules.Rule.TheVariants.{EraseKey, Erased, K
 use Rattle.strm_types.specs.declared.spots.Note.TheVariants.{Enable}
 use Rattle.strm_types.specs.declared.spots.Spot.{Spot}
 use Rattle.strm_types.specs.Cells.{Cells, AreCells, bytes_of, cells_made, plain}
-use Rattle.strm_types.specs.Deliver.{Acted, Fate, Comes, Parcel}
+use Rattle.strm_types.specs.Deliver.{Acted, Fate, Comes, Parcel, onward}
 use Rattle.strm_types.specs.Echo.{echo_of}
 use Rattle.strm_types.specs.Flushing.{flush_bytes, flush_message}
 use Rattle.strm_types.specs.Keys.{restarts}
 use Rattle.strm_laws.specs.LdtermOrigins.{map_ldterm}
-use Rattle.strm_types.specs.Ldterms.{Discipline, Begun, Answered, onward, sends}
+use Rattle.strm_types.specs.Ldterms.{Discipline, Begun, Answered, sends}
 use Rattle.strm_types.specs.Lines.{has_room, without_end, without_last, without_word}
 use Rattle.strm_types.specs.Message.{Message, cells_of, data_message, map_message}
 use Rattle.strm_types.specs.Origins.{map_fate, map_parcel}

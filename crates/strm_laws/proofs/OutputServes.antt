@@ -10,12 +10,12 @@ use Rattle.strm_types.specs.declared.names.Dir.{Dir}
 use Rattle.strm_laws.proofs.LdtermKeeps.{onward-weighs, way-down}
 use Rattle.strm_types.specs.Names.{direction_at}
 use Rattle.strm_types.specs.Cells.{Cells, AreCells, plain}
-use Rattle.strm_types.specs.Deliver.{Parcel}
+use Rattle.strm_types.specs.Deliver.{Parcel, onward}
 use Rattle.strm_types.specs.Input.{is_data, left_of, output_passes, passes}
 use Rattle.strm_laws.specs.LdtermOrigins.{map_ldterm, map_serving}
 use Rattle.strm_laws.specs.LdtermTurns.{IsOrderly}
 use Rattle.strm_laws.specs.LdtermWeights.{ActedKeeps, IgnoresMapping, ldterm_weight, weight_in_work}
-use Rattle.strm_types.specs.Ldterms.{Discipline, onward}
+use Rattle.strm_types.specs.Ldterms.{Discipline}
 use Rattle.strm_types.specs.Message.{Message, cells_of, map_message, weight_of}
 use Rattle.strm_types.specs.Origins.{map_fate, map_parcel}
 use Rattle.strm_types.specs.Output.{Output, map_output, posts}

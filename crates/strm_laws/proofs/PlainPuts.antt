@@ -6,8 +6,7 @@ use Rattle.strm_types.specs.declared.names.Way.{Way}
 use Rattle.strm_types.specs.declared.names.Way.TheVariants.{Up, Down}
 use Rattle.strm_types.specs.declared.spots.Spot.{Spot}
 use Rattle.strm_types.specs.Cells.{plain}
-use Rattle.strm_types.specs.Deliver.{Acted, Comes}
-use Rattle.strm_types.specs.Ldterms.{onward}
+use Rattle.strm_types.specs.Deliver.{Acted, Comes, onward}
 use Rattle.strm_types.specs.Message.{Message, band_of, cells_of}
 use Rattle.strm_types.specs.Modules.{put_among}
 use Rattle.strm_types.specs.Names.{direction_at}

@@ -13,12 +13,12 @@ use Rattle.strm_types.specs.declared.rules.Rule.TheVariants.{Flushed}
 use Rattle.strm_types.specs.declared.spots.Spot.{Spot}
 use Rattle.strm_types.specs.declared.termios.Termios.{Termios}
 use Rattle.strm_types.specs.Commands.{is_ioctl}
-use Rattle.strm_types.specs.Deliver.{Acted, Parcel}
+use Rattle.strm_types.specs.Deliver.{Acted, Parcel, onward}
 use Rattle.strm_types.specs.Emptied.{of_data}
 use Rattle.strm_types.specs.Flushing.{asked_by, flush_message, is_flush, read_flush}
 use Rattle.strm_types.specs.Ioctls.{read_ioc}
 use Rattle.strm_types.specs.LdtermPuts.{ldterm_puts, waits_behind, waits_on}
-use Rattle.strm_types.specs.Ldterms.{Discipline, both, flush_passes, line_flushed, onward, queue_flushed, queued_at, read_flushed, sends, takes_band_0, waits_there, without_line, write_flushed}
+use Rattle.strm_types.specs.Ldterms.{Discipline, both, flush_passes, line_flushed, queue_flushed, queued_at, read_flushed, sends, takes_band_0, waits_there, without_line, write_flushed}
 use Rattle.strm_types.specs.Message.{Message, cells_of, data_message, has_parts, rank_of}
 use Rattle.strm_types.specs.Names.{other}
 use Rattle.strm_types.specs.Options.{mode_message}

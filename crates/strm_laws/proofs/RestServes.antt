@@ -18,13 +18,13 @@ use Rattle.strm_types.specs.declared.names.Way.TheVariants.{Up, Down}
 use Rattle.strm_types.specs.declared.rules.Rule.TheVariants.{Flushed, SignalKey, LineFull, LineOver}
 use Rattle.strm_types.specs.declared.spots.Spot.{Spot}
 use Rattle.strm_types.specs.Cells.{Cells, bytes_of, cells_made}
-use Rattle.strm_types.specs.Deliver.{Acted}
+use Rattle.strm_types.specs.Deliver.{Acted, onward}
 use Rattle.strm_types.specs.Flushing.{flush_bytes, flush_message, is_bare_flush}
 use Rattle.strm_types.specs.Input.{back_on, begins_next, cells_left, finished, input_begins, is_data, left_of, made_of, next_stage, passes, stage_at, stages, stages_done, treats}
 use Rattle.strm_types.specs.Keys.{restarts}
 use Rattle.strm_types.specs.LdtermCalls.{echo_most}
 use Rattle.strm_types.specs.LdtermServes.{ldterm_serves}
-use Rattle.strm_types.specs.Ldterms.{Answered, Begun, Between, Discipline, Stage, onward, queue_at, sends, waits_there}
+use Rattle.strm_types.specs.Ldterms.{Answered, Begun, Between, Discipline, Stage, queue_at, sends, waits_there}
 use Rattle.strm_types.specs.Lines.{Types, edited, has_room}
 use Rattle.strm_types.specs.Message.{Message, cells_of, data_message, rank_of, size_of}
 use Rattle.strm_types.specs.Names.{other}

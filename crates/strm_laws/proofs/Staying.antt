@@ -12,13 +12,13 @@ use Rattle.strm_types.specs.declared.spots.Across.{Across}
 use Rattle.strm_types.specs.declared.spots.Spot.{Spot}
 use Rattle.strm_types.specs.Cells.{plain}
 use Rattle.strm_types.specs.Commands.{is_ioctl}
-use Rattle.strm_types.specs.Deliver.{Acted, Parcel, Took}
+use Rattle.strm_types.specs.Deliver.{Acted, Parcel, Took, onward}
 use Rattle.strm_types.specs.Drivers.{crosses, driver_put, put_across, put_down, taken_in}
 use Rattle.strm_types.specs.Flushing.{asked_by, is_flush}
 use Rattle.strm_types.specs.Heads.{Head, is_doubled, obeyed, waits_for_readers}
 use Rattle.strm_types.specs.Ioctls.{read_ioc}
 use Rattle.strm_types.specs.LdtermPuts.{goes_behind, ldterm_puts, passes_on_way}
-use Rattle.strm_types.specs.Ldterms.{Discipline, flush_passes, onward, queued_at, waits_there}
+use Rattle.strm_types.specs.Ldterms.{Discipline, flush_passes, queued_at, waits_there}
 use Rattle.strm_types.specs.Message.{Message, has_parts, is_held}
 use Rattle.strm_types.specs.Modules.{act_among}
 use Rattle.strm_types.specs.Names.{is_closed, is_open}

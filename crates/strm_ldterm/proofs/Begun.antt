@@ -6,12 +6,12 @@ use Rattle.strm_types.specs.declared.names.Way.TheVariants.{Down}
 use Rattle.strm_types.specs.declared.rules.Fates.{Fates}
 use Rattle.strm_types.specs.declared.spots.Spot.{Spot}
 use Rattle.strm_types.specs.Cells as cells
-use Rattle.strm_types.specs.Deliver.{Acted, toward}
+use Rattle.strm_types.specs.Deliver.{Acted, toward, onward}
 use Rattle.strm_types.specs.Flush.{is_data_kind}
 use Rattle.strm_types.specs.Input.{cells_left, left_of, with_left}
 use Rattle.strm_types.specs.Keys.{restarts}
 use Rattle.strm_types.specs.Ldterms as ldterms
-use Rattle.strm_types.specs.Ldterms.{sends, onward}
+use Rattle.strm_types.specs.Ldterms.{sends}
 use Rattle.strm_types.specs.Message.{Message, cells_of}
 use Rattle.strm_types.specs.Typing.{bare, begins, stroke_at}
 use Rattle.strm_blocks.specs.Blocks.{StoreValue, IsStore, token}

@@ -11,7 +11,8 @@ use Rattle.strm_types.specs.declared.spots.Spot.{Spot}
 use Rattle.strm_types.specs.Cells.{plain, cells_made}
 use Rattle.strm_types.specs.Input.{begins_next, cells_left, next_stage, stage_at, stages_done, to_treat, with_left}
 use Rattle.strm_types.specs.Keys.{restarts}
-use Rattle.strm_types.specs.Ldterms.{Discipline, Stage, Between, Begun, Answered, onward, sends}
+use Rattle.strm_types.specs.Deliver.{onward}
+use Rattle.strm_types.specs.Ldterms.{Discipline, Stage, Between, Begun, Answered, sends}
 use Rattle.strm_types.specs.Message.{Message, cells_of}
 use Rattle.strm_types.specs.Queue.{is_none_left, is_full, put_enables}
 use Rattle.strm_types.specs.Typing.{bare, begins, echoed, echo_dir, echo_grows, echo_lost, echo_stands, is_lnext, stroke_at, strikes, struck, wakes}

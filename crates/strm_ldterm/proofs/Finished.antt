@@ -6,9 +6,9 @@ use Rattle.strm_types.specs.declared.names.Way.TheVariants.{Up}
 use Rattle.strm_types.specs.declared.rules.Fates.{Fates}
 use Rattle.strm_types.specs.declared.spots.Spot.{Spot}
 use Rattle.strm_types.specs.Cells as cells
-use Rattle.strm_types.specs.Deliver.{toward}
+use Rattle.strm_types.specs.Deliver.{toward, onward}
 use Rattle.strm_types.specs.Input.{back_on, cells_left}
-use Rattle.strm_types.specs.Ldterms.{sends, onward}
+use Rattle.strm_types.specs.Ldterms.{sends}
 use Rattle.strm_types.specs.Message.{Message, cells_of, data_message}
 use Rattle.strm_types.specs.Queue as plain
 use Rattle.strm_types.specs.Queue.{is_none_left}

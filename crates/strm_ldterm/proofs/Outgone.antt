@@ -11,10 +11,10 @@ use Rattle.strm_types.specs.declared.rules.Fates.{Fates}
 use Rattle.strm_types.specs.declared.spots.Note.{Note}
 use Rattle.strm_types.specs.declared.spots.Spot.{Spot}
 use Rattle.strm_types.specs.Cells.{plain}
-use Rattle.strm_types.specs.Deliver.{Fate}
+use Rattle.strm_types.specs.Deliver.{Fate, onward}
 use Rattle.strm_types.specs.Input.{back_on, cells_left, is_data, left_of}
 use Rattle.strm_types.specs.Ldterms as ldterms
-use Rattle.strm_types.specs.Ldterms.{onward, sends}
+use Rattle.strm_types.specs.Ldterms.{sends}
 use Rattle.strm_types.specs.Message.{Message, cells_of, size_of}
 use Rattle.strm_types.specs.Output.{Output, posts}
 use Rattle.strm_types.specs.OutputTurns.{Outgoing, output_dir, output_serves, posted, unchanged, with_given}

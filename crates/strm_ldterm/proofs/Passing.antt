@@ -7,12 +7,12 @@ use Rattle.strm_types.specs.declared.names.Way.TheVariants.{Up, Down}
 use Rattle.strm_types.specs.declared.rules.Fates.{Fates}
 use Rattle.strm_types.specs.declared.spots.Note.{Note}
 use Rattle.strm_types.specs.declared.spots.Spot.{Spot}
-use Rattle.strm_types.specs.Deliver.{Acted, tallied}
+use Rattle.strm_types.specs.Deliver.{Acted, tallied, onward}
 use Rattle.strm_types.specs.Flush.{is_data_kind}
 use Rattle.strm_types.specs.Flushing.{is_flush}
 use Rattle.strm_types.specs.LdtermPuts.{ldterm_puts, passes_on_way, waits_on}
 use Rattle.strm_types.specs.Ldterms as ldterms
-use Rattle.strm_types.specs.Ldterms.{sends, both, onward, queue_flushed, line_flushed, read_flushed, write_flushed, takes_band_0, flush_passes, queued_at}
+use Rattle.strm_types.specs.Ldterms.{sends, both, queue_flushed, line_flushed, read_flushed, write_flushed, takes_band_0, flush_passes, queued_at}
 use Rattle.std.specs.Prelude.{◌&&◌, not}
 use Rattle.strm_types.specs.Message.{Message}
 use Rattle.strm_types.specs.Service.{line_gone}

@@ -8,8 +8,8 @@ use Rattle.strm_types.specs.declared.names.Way.{Way}
 use Rattle.strm_types.specs.declared.names.Way.TheVariants.{Down}
 use Rattle.strm_types.specs.declared.rules.Fates.{Fates}
 use Rattle.strm_types.specs.declared.spots.Spot.{Spot}
-use Rattle.strm_types.specs.Deliver.{toward}
-use Rattle.strm_types.specs.Ldterms.{onward, sends}
+use Rattle.strm_types.specs.Deliver.{toward, onward}
+use Rattle.strm_types.specs.Ldterms.{sends}
 use Rattle.strm_types.specs.Message.{Message, cells_of, is_high_priority}
 use Rattle.strm_types.specs.OutputTurns.{with_given}
 use Rattle.strm_blocks.specs.Blocks.{Block, StoreValue, IsInHand, in_hand, list_at, block_at, changed, banded, names_of, token}

@@ -8,11 +8,11 @@ use Rattle.strm_types.specs.declared.flushing.FlushAsked.{FlushAsked}
 use Rattle.strm_types.specs.declared.rules.Rule.TheVariants.{Flushed, SignalKey}
 use Rattle.strm_types.specs.declared.spots.Spot.{Spot}
 use Rattle.strm_types.specs.Cells.{plain}
-use Rattle.strm_types.specs.Deliver.{Acted}
+use Rattle.strm_types.specs.Deliver.{Acted, onward}
 use Rattle.strm_types.specs.Flush.{is_data_kind}
 use Rattle.strm_types.specs.Flushing.{flush_message, flush_bytes}
 use Rattle.strm_types.specs.Ldterms as ldterms
-use Rattle.strm_types.specs.Ldterms.{sends, both, onward, line_flushed}
+use Rattle.strm_types.specs.Ldterms.{sends, both, line_flushed}
 use Rattle.strm_types.specs.Typing.{lost, bare, gathered_up, signals}
 use Rattle.strm_types.specs.Termios.{noflsh}
 use Rattle.strm_blocks.specs.Blocks.{StoreValue, IsStore}

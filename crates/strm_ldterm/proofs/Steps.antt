@@ -7,9 +7,9 @@ use Rattle.strm_types.specs.declared.names.Way.TheVariants.{Up, Down}
 use Rattle.strm_types.specs.declared.rules.Fates.{Fates}
 use Rattle.strm_types.specs.declared.spots.Note.{Note}
 use Rattle.strm_types.specs.declared.spots.Note.TheVariants.{Enable}
-use Rattle.strm_types.specs.Deliver.{Acted, toward}
+use Rattle.strm_types.specs.Deliver.{Acted, toward, onward}
 use Rattle.strm_types.specs.Ldterms as ldterms
-use Rattle.strm_types.specs.Ldterms.{queued_at, sends, onward}
+use Rattle.strm_types.specs.Ldterms.{queued_at, sends}
 use Rattle.strm_types.specs.Message.{Message, is_high_priority, rank_of}
 use Rattle.strm_types.specs.Queue as plain
 use Rattle.strm_blocks.specs.Blocks.{StoreValue, IsStore, in_hand, dropped, token}

@@ -10,7 +10,8 @@ use Rattle.strm_types.specs.Cells.{plain}
 use Rattle.strm_types.specs.Input.{begins_next, cells_left, next_stage, stage_at, with_left}
 use Rattle.strm_types.specs.Keys.{restarts}
 use Rattle.strm_types.specs.Ldterms as ldterms
-use Rattle.strm_types.specs.Ldterms.{Between, Begun, Answered, onward, sends}
+use Rattle.strm_types.specs.Deliver.{onward}
+use Rattle.strm_types.specs.Ldterms.{Between, Begun, Answered, sends}
 use Rattle.strm_types.specs.Queue.{is_none_left}
 use Rattle.strm_types.specs.Typing.{bare, stroke_at}
 use Rattle.strm_blocks.specs.Blocks.{StoreValue, IsStore}

@@ -10,10 +10,10 @@ use Rattle.strm_types.specs.declared.rules.Fates.{Fates}
 use Rattle.strm_types.specs.declared.spots.Note.{Note}
 use Rattle.strm_types.specs.declared.spots.Spot.{Spot}
 use Rattle.strm_types.specs.Cells.{plain}
-use Rattle.strm_types.specs.Deliver.{Parcel, tallied}
+use Rattle.strm_types.specs.Deliver.{Parcel, tallied, onward}
 use Rattle.strm_types.specs.Input.{back_on, cells_left, finished, left_of, to_treat, treats}
 use Rattle.strm_types.specs.Ldterms as ldterms
-use Rattle.strm_types.specs.Ldterms.{Between, onward, sends}
+use Rattle.strm_types.specs.Ldterms.{Between, sends}
 use Rattle.strm_types.specs.Message.{Message, data_message}
 use Rattle.strm_types.specs.Queue as queues
 use Rattle.strm_types.specs.Queue.{is_none_left}

@@ -8,12 +8,12 @@ use Rattle.strm_types.specs.declared.names.Way.{Way}
 use Rattle.strm_types.specs.declared.names.Way.TheVariants.{Up, Down}
 use Rattle.strm_types.specs.declared.spots.Spot.{Spot}
 use Rattle.strm_types.specs.Cells.{Cells, cells_made}
-use Rattle.strm_types.specs.Deliver.{Acted}
+use Rattle.strm_types.specs.Deliver.{Acted, onward}
 use Rattle.strm_types.specs.Input.{begins_next, cells_left, input_begins, is_data, left_of, made_of, next_stage, passes, stage_at, stages, stages_done, then_on, to_treat, treats, with_left}
 use Rattle.strm_types.specs.Keys.{restarts}
 use Rattle.strm_types.specs.LdtermPuts.{ldterm_puts}
 use Rattle.strm_types.specs.LdtermServes.{ldterm_serves}
-use Rattle.strm_types.specs.Ldterms.{Discipline, IsIdle, Ldterm, Stage, Between, Begun, Answered, lineless, onward, sends}
+use Rattle.strm_types.specs.Ldterms.{Discipline, IsIdle, Ldterm, Stage, Between, Begun, Answered, lineless, sends}
 use Rattle.strm_types.specs.Message.{Message, cells_of}
 use Rattle.strm_types.specs.OutputTurns.{output_serves}
 use Rattle.strm_types.specs.Queue.{is_full, is_none_left, left_with}

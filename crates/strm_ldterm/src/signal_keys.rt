@@ -9,7 +9,8 @@ ghost use Rattle.strm_types.specs.declared.rules.Rule.TheVariants.{Flushed, Sign
 ghost use Rattle.strm_types.specs.Cells.{plain};
 ghost use Rattle.strm_types.specs.Flush.{is_data_kind};
 ghost use Rattle.strm_types.specs.Flushing.{flush_bytes, flush_message};
-ghost use Rattle.strm_types.specs.Ldterms.{onward, sends};
+ghost use Rattle.strm_types.specs.Deliver.{onward};
+ghost use Rattle.strm_types.specs.Ldterms.{sends};
 ghost use Rattle.strm_types.specs.Termios.{noflsh};
 ghost use Rattle.strm_types.specs.Typing.{bare, lost, signals, strikes};
 ghost use Rattle.strm_frame.specs.Hands.{AreIn, HasRoom};

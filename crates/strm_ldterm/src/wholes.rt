@@ -7,7 +7,8 @@ ghost use Rattle.strm_types.specs.declared.limits.TheConstants.{MODULES, STOP_BL
 ghost use Rattle.strm_types.specs.declared.output.TheConstants.{COLUMN_MAX};
 ghost use Rattle.strm_types.specs.declared.rules.Fates.{Fates};
 ghost use Rattle.strm_types.specs.Input.{cells_left};
-ghost use Rattle.strm_types.specs.Ldterms.{onward, sends};
+ghost use Rattle.strm_types.specs.Deliver.{onward};
+ghost use Rattle.strm_types.specs.Ldterms.{sends};
 ghost use Rattle.strm_blocks.specs.Blocks.{IsInHand, token};
 ghost use Rattle.strm_frame.specs.Hands.{AreIn, HasRoom};
 ghost use Rattle.strm_frame.specs.Outboxes.{sent_of};

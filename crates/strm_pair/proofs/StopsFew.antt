@@ -10,11 +10,11 @@ use Rattle.strm_types.specs.declared.names.Way.{Way}
 use Rattle.strm_types.specs.declared.names.Way.TheVariants.{Up, Down}
 use Rattle.strm_types.specs.declared.spots.Spot.{Spot}
 use Rattle.strm_types.specs.Cells.{plain}
-use Rattle.strm_types.specs.Deliver.{Acted, Parcel}
+use Rattle.strm_types.specs.Deliver.{Acted, Parcel, onward}
 use Rattle.strm_types.specs.Input.{input_begins, is_data, made_of, next_stage, passes, stages, stages_done, treats}
 use Rattle.strm_types.specs.LdtermCalls.{Begins, bytes_left}
 use Rattle.strm_types.specs.LdtermServes.{ldterm_serves}
-use Rattle.strm_types.specs.Ldterms.{Discipline, onward}
+use Rattle.strm_types.specs.Ldterms.{Discipline}
 use Rattle.strm_types.specs.Message.{Message, cells_of, data_message, is_held, size_of}
 use Rattle.strm_types.specs.Modules.{act_among}
 use Rattle.strm_types.specs.OutputTurns.{Outgoing, output_serves, posted, unchanged, with_given}

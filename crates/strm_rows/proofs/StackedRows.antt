@@ -11,7 +11,7 @@ use Rattle.strm_types.specs.declared.spots.Spot.{Spot}
 use Rattle.strm_types.specs.Books.{new_book}
 use Rattle.strm_types.specs.Cells.{plain}
 use Rattle.strm_laws.specs.Kept.{stream_weight}
-use Rattle.strm_types.specs.Ldterms.{onward}
+use Rattle.strm_types.specs.Deliver.{onward}
 use Rattle.strm_types.specs.Message.{Message, band_of, cells_of, is_high_priority, map_message, rank_of, size_of, weight_of}
 use Rattle.strm_types.specs.Queue.{Queue}
 use Rattle.strm_laws.specs.Stacked.{Standing, module_asks, module_line, module_name, module_puts, module_rests, module_serves, module_weight, without_kind_line, ldterm_stands}

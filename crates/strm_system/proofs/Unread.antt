@@ -19,14 +19,14 @@ use Rattle.strm_types.specs.declared.spots.Across.{Across}
 use Rattle.strm_types.specs.declared.spots.Spot.{Spot}
 use Rattle.strm_types.specs.declared.termios.Termios.{Termios}
 use Rattle.strm_types.specs.Cells.{Cells}
-use Rattle.strm_types.specs.Deliver.{Acted, Carried, Fate, Goes, Comes, Parcel, Took, carried, in_turn}
+use Rattle.strm_types.specs.Deliver.{Acted, Carried, Fate, Goes, Comes, Parcel, Took, carried, in_turn, onward}
 use Rattle.strm_types.specs.Drivers.{answered, crosses, driver_put, flush_down, freed, ioctl_put, own_flushed, put_across, put_down, taken_in}
 use Rattle.strm_laws.specs.Earlier.{driver_place, modules_on}
 use Rattle.strm_types.specs.Flushing.{asked_by, flush_message, read_flush, is_bare_flush}
 use Rattle.strm_types.specs.Heads.{head_flushed, head_put, is_doubled, obeyed, passed_by, Head}
 use Rattle.strm_types.specs.Ioctls.{read_ioc}
 use Rattle.strm_types.specs.LdtermPuts.{ldterm_puts}
-use Rattle.strm_types.specs.Ldterms.{Discipline, both, flush_passes, line_flushed, onward, queue_flushed, read_flushed, sends, takes_band_0, without_line, write_flushed}
+use Rattle.strm_types.specs.Ldterms.{Discipline, both, flush_passes, line_flushed, queue_flushed, read_flushed, sends, takes_band_0, without_line, write_flushed}
 use Rattle.strm_types.specs.Message.{Message, has_parts}
 use Rattle.strm_types.specs.Modules.{put_among}
 use Rattle.strm_types.specs.Names.{direction_at, is_master, is_open}

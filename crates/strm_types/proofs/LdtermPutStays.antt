@@ -10,10 +10,10 @@ use Rattle.strm_types.specs.declared.names.Way.TheVariants.{Up, Down}
 use Rattle.strm_types.specs.declared.rules.Rule.TheVariants.{Flushed}
 use Rattle.strm_types.specs.declared.spots.Spot.{Spot}
 use Rattle.strm_types.specs.declared.termios.Termios.{Termios}
-use Rattle.strm_types.specs.Deliver.{Acted}
+use Rattle.strm_types.specs.Deliver.{Acted, onward}
 use Rattle.strm_types.specs.Flushing.{asked_by, flush_message, read_flush}
 use Rattle.strm_types.specs.LdtermPuts.{ldterm_puts}
-use Rattle.strm_types.specs.Ldterms.{IsIdle, Discipline, both, line_flushed, onward, queue_flushed, queued_at, read_flushed, sends, takes_band_0, with_queue_at, without_line, write_flushed}
+use Rattle.strm_types.specs.Ldterms.{IsIdle, Discipline, both, line_flushed, queue_flushed, queued_at, read_flushed, sends, takes_band_0, with_queue_at, without_line, write_flushed}
 use Rattle.strm_types.specs.Message.{Message}
 use Rattle.strm_types.specs.Queue.{Queue}
 use Rattle.strm_types.specs.Service.{line_gone}

@@ -10,10 +10,10 @@ use Rattle.strm_types.specs.declared.spots.Spot.{Spot}
 use Rattle.strm_types.specs.declared.termios.Termios.{Termios}
 use Rattle.strm_types.specs.Budgets.{Does, Within, cost_of, emits_at}
 use Rattle.strm_types.specs.Commands.{is_acked}
-use Rattle.strm_types.specs.Deliver.{Parcel, toward}
+use Rattle.strm_types.specs.Deliver.{Parcel, toward, onward}
 use Rattle.strm_types.specs.Flushing.{asked_by, flush_message, read_flush}
 use Rattle.strm_types.specs.LdtermPuts.{ldterm_puts}
-use Rattle.strm_types.specs.Ldterms.{Discipline, both, flush_passes, line_flushed, onward, queue_flushed, read_flushed, sends, takes_band_0, without_line, write_flushed}
+use Rattle.strm_types.specs.Ldterms.{Discipline, both, flush_passes, line_flushed, queue_flushed, read_flushed, sends, takes_band_0, without_line, write_flushed}
 use Rattle.strm_types.specs.Message.{Message, data_message}
 use Rattle.strm_types.specs.Options.{mode_message}
 use Rattle.strm_types.specs.Service.{line_gone}

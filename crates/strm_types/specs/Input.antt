@@ -6,8 +6,8 @@ use Rattle.strm_types.specs.declared.names.Way.{Way}
 use Rattle.strm_types.specs.declared.names.Way.TheVariants.{Up, Down}
 use Rattle.strm_types.specs.declared.spots.Spot.{Spot}
 use Rattle.strm_types.specs.Cells.{Cells}
-use Rattle.strm_types.specs.Deliver.{Acted, Fate, Goes, Comes}
-use Rattle.strm_types.specs.Ldterms.{Discipline, Stage, Between, Begun, Answered, queue_at, with_queue_at, sends, onward}
+use Rattle.strm_types.specs.Deliver.{Acted, Fate, Goes, Comes, onward}
+use Rattle.strm_types.specs.Ldterms.{Discipline, Stage, Between, Begun, Answered, queue_at, with_queue_at, sends}
 use Rattle.strm_types.specs.Message.{Message, cells_of, size_of}
 use Rattle.strm_types.specs.Queue.{Queue, is_none_left, left_with, put_back}
 use Rattle.strm_types.specs.Service.{Serving}

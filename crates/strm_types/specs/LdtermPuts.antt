@@ -7,10 +7,10 @@ use Rattle.strm_types.specs.declared.spots.Spot.{Spot}
 use Rattle.strm_types.specs.declared.termios.Termios.{Termios}
 use Rattle.strm_types.specs.Acks.{payload}
 use Rattle.strm_types.specs.Commands.{is_acked, is_asked, sets_behind, sets_termios}
-use Rattle.strm_types.specs.Deliver.{Acted}
+use Rattle.strm_types.specs.Deliver.{Acted, onward}
 use Rattle.strm_types.specs.Flushing.{is_flush}
 use Rattle.strm_types.specs.Ioctls.{read_ioc}
-use Rattle.strm_types.specs.Ldterms.{Discipline, flush_passes, onward, queued_at, sends, waits_there}
+use Rattle.strm_types.specs.Ldterms.{Discipline, flush_passes, queued_at, sends, waits_there}
 use Rattle.strm_types.specs.Message.{Message}
 use Rattle.strm_types.specs.TakenUp.{taken_up}
 use Rattle.strm_types.specs.Termios.{read_termios}

@@ -11,7 +11,7 @@ use Rattle.strm_types.specs.declared.rules.Rule.TheVariants.{Flushed}
 use Rattle.strm_types.specs.declared.spots.Note.TheVariants.{Enable, Room}
 use Rattle.strm_types.specs.declared.spots.Spot.{Spot}
 use Rattle.strm_types.specs.declared.termios.Termios.{Termios}
-use Rattle.strm_types.specs.Deliver.{Acted, Parcel, toward, Goes}
+use Rattle.strm_types.specs.Deliver.{Acted, Parcel, Goes, onward}
 use Rattle.strm_types.specs.Emptied.{of_data, cells_gone, queue_behind, writer_goes}
 use Rattle.strm_types.specs.Flushing.{asked_by}
 use Rattle.strm_types.specs.Message.{Message}
@@ -143,10 +143,6 @@ module _ {C : Type 0} where
   -- nothing happens but that messages are sent on
   abbrev pub sends : List (Parcel C) → Discipline C → Acted C (Discipline C)
   sends sent p = record { state = p; notes = []; sent = sent; gone = [] }
-
-  -- a message on its way to the next place
-  abbrev pub onward : Way → Spot → Message C → Parcel C
-  onward way here m = record { to = toward way here; message = m }
 
   -- A message of band 0 that waits to go down stands behind the turn's echo, so that a new one begins.
   abbrev pub echo_behind : Way → Message C → Discipline C → Discipline C

@@ -7,9 +7,9 @@ use Rattle.strm_types.specs.declared.modes.ReadMode.TheVariants.{ByteStream, Mes
 use Rattle.strm_types.specs.declared.names.Way.TheVariants.{Up}
 use Rattle.strm_types.specs.declared.spots.Spot.{Spot}
 use Rattle.strm_types.specs.declared.termios.Termios.{Termios}
-use Rattle.strm_types.specs.Deliver.{Acted, Parcel}
+use Rattle.strm_types.specs.Deliver.{Acted, Parcel, onward}
 use Rattle.strm_types.specs.Flushing.{flush_message, read_flush}
-use Rattle.strm_types.specs.Ldterms.{Discipline, both, onward, read_flushed, sends}
+use Rattle.strm_types.specs.Ldterms.{Discipline, both, read_flushed, sends}
 use Rattle.strm_types.specs.Message.{Message, data_message}
 use Rattle.strm_types.specs.Options.{mode_message}
 use Rattle.strm_types.specs.Termios.{icanon, tostop}

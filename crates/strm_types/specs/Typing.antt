@@ -15,11 +15,11 @@ use Rattle.strm_types.specs.declared.spots.Note.{Note}
 use Rattle.strm_types.specs.declared.spots.Note.TheVariants.{Enable}
 use Rattle.strm_types.specs.declared.spots.Spot.{Spot}
 use Rattle.strm_types.specs.Cells.{Cells, bytes_of, cells_made}
-use Rattle.strm_types.specs.Deliver.{Acted, Fate, Goes, Comes, Parcel}
+use Rattle.strm_types.specs.Deliver.{Acted, Fate, Goes, Comes, Parcel, onward}
 use Rattle.strm_types.specs.Echo.{echo_of}
 use Rattle.strm_types.specs.Flushing.{flush_bytes, flush_message}
 use Rattle.strm_types.specs.Keys.{stroke_of, restarts}
-use Rattle.strm_types.specs.Ldterms.{Discipline, Begun, Answered, sends, onward}
+use Rattle.strm_types.specs.Ldterms.{Discipline, Begun, Answered, sends}
 use Rattle.strm_types.specs.Lines.{Edit, Types, ErasesByte, ErasesWord, ErasesAll, edited, has_room, is_blank}
 use Rattle.strm_types.specs.Message.{Message, cells_of, data_message}
 use Rattle.strm_types.specs.Names.{direction_at}

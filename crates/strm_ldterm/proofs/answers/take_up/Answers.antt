@@ -7,7 +7,8 @@ use Rattle.strm_types.specs.declared.spots.Note.{Note}
 use Rattle.strm_types.specs.declared.spots.Note.TheVariants.{Room}
 use Rattle.strm_types.specs.Budgets.{own_at}
 use Rattle.strm_types.specs.Tables.{ldterm_does}
-use Rattle.strm_types.specs.Ldterms.{onward, sends}
+use Rattle.strm_types.specs.Deliver.{onward}
+use Rattle.strm_types.specs.Ldterms.{sends}
 use Rattle.strm_types.specs.Options.{mode_number}
 use Rattle.strm_types.specs.TakenUp.{read_mode_of}
 use Rattle.strm_types.specs.Typing.{bare}

@@ -1,7 +1,8 @@
 -- First what waits to go up is flushed, then what waits to go down, and then the message goes on.
 use Rattle.std.proofs.Common.{[], ◌∷◌, sym, ap, subst, ◌∙◌}
 use Rattle.strm_types.specs.declared.flushing.FlushAsked.{FlushAsked}
-use Rattle.strm_types.specs.Ldterms.{sends, both, onward, read_flushed, write_flushed}
+use Rattle.strm_types.specs.Deliver.{onward}
+use Rattle.strm_types.specs.Ldterms.{sends, both, read_flushed, write_flushed}
 use Rattle.strm_blocks.specs.Blocks.{in_hand, token}
 use Rattle.strm_msg.specs.Messages.{IsChain}
 use Rattle.strm_msg.proofs.Chains.{kind-is}

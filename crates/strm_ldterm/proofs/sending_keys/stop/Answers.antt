@@ -3,8 +3,7 @@ use Rattle.std.proofs.Common.{Bool, true, cond, List, [], ◌∷◌, refl, sym, 
 use Rattle.strm_types.specs.declared.kinds.MsgKind.TheVariants.{Stop}
 use Rattle.strm_types.specs.declared.names.Way.TheVariants.{Down}
 use Rattle.strm_types.specs.declared.rules.Rule.TheVariants.{FlowKey}
-use Rattle.strm_types.specs.Deliver.{Parcel, toward}
-use Rattle.strm_types.specs.Ldterms.{onward}
+use Rattle.strm_types.specs.Deliver.{Parcel, toward, onward}
 use Rattle.strm_types.specs.Typing.{bare}
 use Rattle.strm_ldterm.specs.Stands.{ldterm_in, paired}
 use Rattle.strm_ldterm.proofs.Sends.{sends-made, sends-none, held-stopped, stop-plain, key-told}

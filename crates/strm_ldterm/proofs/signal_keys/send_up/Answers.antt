@@ -1,8 +1,8 @@
 -- The message is made, and nothing else changes.
 use Rattle.std.proofs.Common.{[], ◌∷◌, refl}
 use Rattle.strm_types.specs.declared.names.Way.TheVariants.{Up}
-use Rattle.strm_types.specs.Deliver.{toward}
-use Rattle.strm_types.specs.Ldterms.{sends, onward}
+use Rattle.strm_types.specs.Deliver.{toward, onward}
+use Rattle.strm_types.specs.Ldterms.{sends}
 use Rattle.strm_types.specs.Typing.{bare}
 use Rattle.strm_frame.specs.declared.parcels.Sent.{Sent}
 use Rattle.strm_ldterm.specs.Stands.{ldterm_in, paired}

@@ -2,7 +2,8 @@
 use Rattle.std.proofs.Common.{sym, subst, [], ◌∷◌, ◌∙◌, ◌≡◌}
 use Rattle.std.specs.Prelude.{None, Some}
 use Rattle.strm_types.specs.Input.{cells_left}
-use Rattle.strm_types.specs.Ldterms.{onward, sends}
+use Rattle.strm_types.specs.Deliver.{onward}
+use Rattle.strm_types.specs.Ldterms.{sends}
 use Rattle.strm_blocks.specs.Blocks.{token}
 use Rattle.strm_frame.specs.Outboxes.{sent_of}
 use Rattle.strm_frame.proofs.Handing.{can-in_hand}

@@ -2,7 +2,8 @@
 use Rattle.std.proofs.Common.{ℕ, List, map, sym, ap, subst, [], ◌∷◌, ◌∙◌, ◌≡◌, arith}
 use Rattle.std.specs.Prelude.{None, Some}
 use Rattle.strm_types.specs.declared.names.Way.TheVariants.{Down}
-use Rattle.strm_types.specs.Ldterms.{onward, sends}
+use Rattle.strm_types.specs.Deliver.{onward}
+use Rattle.strm_types.specs.Ldterms.{sends}
 use Rattle.strm_types.specs.Message.{Message, cells_of}
 use Rattle.strm_types.specs.OutputTurns.{with_given}
 use Rattle.strm_frame.specs.Outboxes.{message_in, sent_of}
