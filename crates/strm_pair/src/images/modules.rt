@@ -1,13 +1,16 @@
 //! The text of the modules of a stream, from the top.
 
-ghost use Rattle.std.specs.Prelude.{◌≡◌, map, Some};
+ghost use Rattle.std.specs.Prelude.{◌≡◌, map};
 ghost use Rattle.std.specs.List.{AllByRecursion, flat_map};
+ghost use Rattle.strm_laws.specs.Stacked.{OfPtem, OfPckt};
 ghost use Rattle.strm_blocks.specs.Blocks.{StoreValue};
-ghost use Rattle.strm_image.specs.Modules.{module_format, modules};
+ghost use Rattle.strm_image.specs.Modules.{alone, module_format, modules};
 ghost use Rattle.strm_image.specs.Sinks.{put};
 ghost use Rattle.strm_image.specs.declared.versions.Version.TheVariants.{Second};
-ghost use Rattle.strm_frame.specs.Standings.{IsPairReady, standing};
+ghost use Rattle.strm_frame.specs.Standings.{standing};
 ghost use Rattle.strm_ldterm.specs.Stands.{own_in};
+ghost use Rattle.strm_pty.specs.Beside.{ptem_in};
+ghost use Rattle.strm_pty.specs.Packs.{pckt_in};
 ghost use Rattle.strm_pair.specs.declared.modules.AnyModule.TheVariants as kinds;
 ghost use Rattle.strm_pair.specs.AnyModules.{IsHeld, module_in};
 ghost use Rattle.strm_pair.specs.Imaging.{settings_text};
@@ -23,6 +26,7 @@ use strm_image::writing::{
 };
 use strm_image::{QueueKind, Sink};
 use strm_ldterm::Ldterm;
+use strm_pty::Ptem;
 use strm_types::ModuleName;
 
 // What an ldterm has in front of its queues, behind its name.
@@ -42,40 +46,51 @@ fn put_settings(out: &mut Sink, ldterm: &Ldterm)
 fn put_ldterm<'a, B: Blocks>(
     store: &B,
     ldterm: &Ldterm,
-    queues: &QueuePair,
+    queues: &Option<QueuePair>,
     out: Sink<'a>,
 ) -> Sink<'a>
-    requires ready { IsPairReady (B.value store.now) queues.now }
-    ensures { result ≡ put ((module_format Second).text (module_in (B.value store.now) (standing (kinds.Ldterm ldterm.now) (Some queues.now))))
+    requires held { IsHeld (B.value store.now) (standing (kinds.Ldterm ldterm.now) queues.now) }
+    ensures { result ≡ put ((module_format Second).text (module_in (B.value store.now) (standing (kinds.Ldterm ldterm.now) queues.now)))
         out.entry }
 {
+    let Some(pair) = queues else { unreachable!() };
     let mut out = out;
     put_settings(&mut out, ldterm);
-    let out = put_queue(store, &queues.read, QueueKind::LdtermRead, out);
-    put_queue(store, &queues.write, QueueKind::LdtermWrite, out)
+    let out = put_queue(store, &pair.read, QueueKind::LdtermRead, out);
+    put_queue(store, &pair.write, QueueKind::LdtermWrite, out)
+}
+
+// A ptem, which has no queues.
+#[tactic(auto, using(strm_image::proofs::SinkRows::put_both, strm_image::proofs::WrittenRows::ptem_told))]
+fn put_ptem_module<'a>(ptem: &Ptem, out: Sink<'a>) -> Sink<'a>
+    ensures { result ≡ put ((module_format Second).text (alone (OfPtem (ptem_in ptem.now)))) out.entry }
+{
+    let mut out = out;
+    put_module_name(&mut out, ModuleName::Ptem);
+    put_ptem(&mut out, &ptem.termios, ptem.window);
+    out
+}
+
+// A pckt, which has nothing but its name.
+#[tactic(auto, using(strm_image::proofs::WrittenRows::pckt_told))]
+fn put_pckt<'a>(out: Sink<'a>) -> Sink<'a>
+    ensures { result ≡ put ((module_format Second).text (alone (OfPckt pckt_in))) out.entry }
+{
+    let mut out = out;
+    put_module_name(&mut out, ModuleName::Pckt);
+    out
 }
 
 // A module, behind its name.
-#[tactic(auto, using(strm_image::proofs::SinkRows::put_both, strm_image::proofs::WrittenRows::ptem_told, strm_image::proofs::WrittenRows::pckt_told))]
 fn put_module<'a, B: Blocks>(store: &B, any: &Standing<AnyModule>, out: Sink<'a>) -> Sink<'a>
     requires held { IsHeld (B.value store.now) any.now }
     ensures { result ≡ put ((module_format Second).text (module_in (B.value store.now) any.now)) out.entry }
 {
-    let mut out = out;
     match &any.module {
-        AnyModule::Ldterm(ldterm) => {
-            let Some(queues) = &any.queues else {
-                unreachable!()
-            };
-            return put_ldterm(store, ldterm, queues, out);
-        }
-        AnyModule::Ptem(ptem) => {
-            put_module_name(&mut out, ModuleName::Ptem);
-            put_ptem(&mut out, &ptem.termios, ptem.window);
-        }
-        AnyModule::Pckt(_) => put_module_name(&mut out, ModuleName::Pckt),
+        AnyModule::Ldterm(ldterm) => put_ldterm(store, ldterm, &any.queues, out),
+        AnyModule::Ptem(ptem) => put_ptem_module(ptem, out),
+        AnyModule::Pckt(_) => put_pckt(out),
     }
-    out
 }
 
 // Modules, one behind the other.

@@ -14,14 +14,14 @@ pub count-requires-clause-ready : goal.count-requires-clause-ready
 count-requires-clause-ready g c =
     let s = g.B.Blocks.value c.args.store.now in
     let ready = subst (λ (o : Option QueuePair). IfSome o (IsPairReady s)) c.in-Some.is c.requires.held.queues in
-    subst (IsReady s) (sym c.queue.ensures) (way-ready s c.args.way c.in-Some.pair.now ready)
+    subst (IsReady s) (sym c.queue.ensures) (way-ready s c.args.way c.in-Some.pair ready)
 
 pub returns-in-Some : goal.returns-in-Some
 returns-in-Some g c =
     let s = g.B.Blocks.value c.args.store.now in
     let p = g.M.Module.plain s c.args.self.now.module in
     let said = λ (o : Option QueuePair). count_of c.args.band.0 (messages_at c.args.way (stood p (queues_in s o))) in
-    c.count.ensures ∙ ap (λ (q : plain.Queue ℕ). count_of c.args.band.0 q.messages) (ap (queue_in s) c.queue.ensures ∙ way-shown s c.args.way c.in-Some.pair.now) ∙ ap said (sym c.in-Some.is)
+    c.count.ensures ∙ ap (λ (q : plain.Queue ℕ). count_of c.args.band.0 q.messages) (ap (queue_in s) c.queue.ensures ∙ way-shown s c.args.way c.in-Some.pair) ∙ ap said (sym c.in-Some.is)
 
 pub returns-in-None : goal.returns-in-None
 returns-in-None g c =

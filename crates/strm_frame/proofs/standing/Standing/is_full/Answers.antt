@@ -15,14 +15,14 @@ pub is_full-requires-clause-ready : goal.is_full-requires-clause-ready
 is_full-requires-clause-ready g c =
     let s = g.B.Blocks.value c.args.store.now in
     let ready = subst (λ (o : Option QueuePair). IfSome o (IsPairReady s)) c.in-Some.is c.requires.held.queues in
-    subst (IsReady s) (sym c.queue.ensures) (way-ready s c.args.way c.in-Some.pair.now ready)
+    subst (IsReady s) (sym c.queue.ensures) (way-ready s c.args.way c.in-Some.pair ready)
 
 pub returns-in-Some : goal.returns-in-Some
 returns-in-Some g c =
     let s = g.B.Blocks.value c.args.store.now in
     let p = g.M.Module.plain s c.args.self.now.module in
     let said = λ (o : Option QueuePair). full_at c.args.way c.args.band.0 (stood p (queues_in s o)) in
-    c.is_full.ensures ∙ ap (λ (q : plain.Queue ℕ). is_full c.args.band.0 q) (ap (queue_in s) c.queue.ensures ∙ way-shown s c.args.way c.in-Some.pair.now) ∙ ap said (sym c.in-Some.is)
+    c.is_full.ensures ∙ ap (λ (q : plain.Queue ℕ). is_full c.args.band.0 q) (ap (queue_in s) c.queue.ensures ∙ way-shown s c.args.way c.in-Some.pair) ∙ ap said (sym c.in-Some.is)
 
 pub returns-in-None : goal.returns-in-None
 returns-in-None g c =

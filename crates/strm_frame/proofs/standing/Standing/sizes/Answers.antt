@@ -14,14 +14,14 @@ pub sizes-requires-clause-ready : goal.sizes-requires-clause-ready
 sizes-requires-clause-ready g c =
     let s = g.B.Blocks.value c.args.store.now in
     let ready = subst (λ (o : Option QueuePair). IfSome o (IsPairReady s)) c.in-Some.is c.requires.held.queues in
-    subst (IsReady s) (sym c.queue.ensures) (way-ready s c.args.way c.in-Some.pair.now ready)
+    subst (IsReady s) (sym c.queue.ensures) (way-ready s c.args.way c.in-Some.pair ready)
 
 pub returns-in-Some-clause-messages : goal.returns-in-Some-clause-messages
 returns-in-Some-clause-messages g c =
     let s = g.B.Blocks.value c.args.store.now in
     let p = g.M.Module.plain s c.args.self.now.module in
     let said = λ (o : Option QueuePair). length (messages_at c.args.way (stood p (queues_in s o))) in
-    c.sizes.ensures.messages ∙ ap (λ (q : plain.Queue ℕ). length q.messages) (ap (queue_in s) c.queue.ensures ∙ way-shown s c.args.way c.in-Some.pair.now) ∙ ap said (sym c.in-Some.is)
+    c.sizes.ensures.messages ∙ ap (λ (q : plain.Queue ℕ). length q.messages) (ap (queue_in s) c.queue.ensures ∙ way-shown s c.args.way c.in-Some.pair) ∙ ap said (sym c.in-Some.is)
 
 pub returns-in-None-clause-messages : goal.returns-in-None-clause-messages
 returns-in-None-clause-messages g c =
@@ -34,7 +34,7 @@ returns-in-Some-clause-bytes g c =
     let s = g.B.Blocks.value c.args.store.now in
     let p = g.M.Module.plain s c.args.self.now.module in
     let said = λ (o : Option QueuePair). bytes_of (messages_at c.args.way (stood p (queues_in s o))) in
-    c.sizes.ensures.bytes ∙ ap (λ (q : plain.Queue ℕ). bytes_of q.messages) (ap (queue_in s) c.queue.ensures ∙ way-shown s c.args.way c.in-Some.pair.now) ∙ ap said (sym c.in-Some.is)
+    c.sizes.ensures.bytes ∙ ap (λ (q : plain.Queue ℕ). bytes_of q.messages) (ap (queue_in s) c.queue.ensures ∙ way-shown s c.args.way c.in-Some.pair) ∙ ap said (sym c.in-Some.is)
 
 pub returns-in-None-clause-bytes : goal.returns-in-None-clause-bytes
 returns-in-None-clause-bytes g c =

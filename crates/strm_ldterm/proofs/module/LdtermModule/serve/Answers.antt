@@ -16,11 +16,11 @@ use Rattle.strm_ldterm.proofs.Standing.{ServesAt, held-there, never-bare, stands
 use Rattle.strm_ldterm.proofs.Spared.{call-room}
 use Rattle.strm_ldterm.proofs.module.LdtermModule.serve.Goals as goal
 
-pub unreachable-unreachable : goal.unreachable-unreachable
-unreachable-unreachable g c = never-bare (g.B.Blocks.value c.args.store.now) c.args.self.now c.args.queues.now c.in_default.is c.requires.held
+pub unreachable-requires : goal.unreachable-requires
+unreachable-requires g c = never-bare (g.B.Blocks.value c.args.store.now) c.args.self.now c.args.queues.now c.in_default.is c.requires.held
 
 pub serve-requires-clause-held : goal.serve-requires-clause-held
-serve-requires-clause-held g c = stands-held (g.B.Blocks.value c.args.store.now) c.args.self.now c.args.queues.now c.in-Some.pair.now c.in-Some.is c.requires.held
+serve-requires-clause-held g c = stands-held (g.B.Blocks.value c.args.store.now) c.args.self.now c.args.queues.now c.in-Some.pair c.in-Some.is c.requires.held
 
 pub returns : goal.returns
 returns g c =
@@ -32,7 +32,7 @@ returns g c =
     let stop = stop_of r in
     let x = c.args.self.now in
     let y = c.serve.new.ldterm in
-    let pair = c.in-Some.pair.now in
+    let pair = c.in-Some.pair in
     let p = ldterm_in s (paired x pair) in
     let q = ldterm_in t (paired y c.serve.new.queues) in
     let e = c.serve.ensures in

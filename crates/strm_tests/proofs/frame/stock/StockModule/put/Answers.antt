@@ -23,11 +23,11 @@ use Rattle.strm_tests.proofs.frame.stock.StockModule.put.Goals as goal
 pub kind-kind-requires-clause-in_hand : goal.kind-kind-requires-clause-in_hand
 kind-kind-requires-clause-in_hand g c = can-in_hand _ _ _ c.audit.ensures c.requires.can_put
 
-pub unreachable-unreachable : goal.unreachable-unreachable
-unreachable-unreachable g c = never-bare c.args.queues.now c.in_default.is c.requires.held.itself
+pub unreachable-requires : goal.unreachable-requires
+unreachable-requires g c = never-bare c.args.queues.now c.in_default.is c.requires.held.itself
 
 pub enqueue-enables-requires-clause-ready : goal.enqueue-enables-requires-clause-ready
-enqueue-enables-requires-clause-ready g c = (pair-ready (g.B.Blocks.value c.args.store.now) c.args.queues.now c.in-Some.pair.now c.in-Some.is c.requires.held.queues).write
+enqueue-enables-requires-clause-ready g c = (pair-ready (g.B.Blocks.value c.args.store.now) c.args.queues.now c.in-Some.pair c.in-Some.is c.requires.held.queues).write
 
 pub enqueue-enables-requires-clause-in_hand : goal.enqueue-enables-requires-clause-in_hand
 enqueue-enables-requires-clause-in_hand g c = can-in_hand _ _ _ c.audit.ensures c.requires.can_put
@@ -39,7 +39,7 @@ returns-then-stays g c =
     let n = token c.args.message in
     let m = message_in s n in
     let x = c.args.self.now in
-    let pair = c.in-Some.pair.now in
+    let pair = c.in-Some.pair in
     let ready = pair-ready s c.args.queues.now pair c.in-Some.is c.requires.held.queues in
     let name = x.name in
     let plain = pair_in s pair in

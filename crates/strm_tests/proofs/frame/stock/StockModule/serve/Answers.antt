@@ -17,14 +17,14 @@ use Rattle.strm_tests.proofs.ToySteps.{changed-own, changed-pair, changed-ready,
 use Rattle.strm_frame.proofs.Emptiness.{none-listed}
 use Rattle.strm_tests.proofs.frame.stock.StockModule.serve.Goals as goal
 
-pub unreachable-unreachable : goal.unreachable-unreachable
-unreachable-unreachable g c = never-bare c.args.queues.now c.in_default.is c.requires.held.itself
+pub unreachable-requires : goal.unreachable-requires
+unreachable-requires g c = never-bare c.args.queues.now c.in_default.is c.requires.held.itself
 
 pub returns-then-is_empty : goal.returns-then-is_empty
 returns-then-is_empty g c =
     let s = g.B.Blocks.value c.args.store.now in
     let x = c.args.self.now in
-    let pair = c.in-Some.pair.now in
+    let pair = c.in-Some.pair in
     let same = ap (λ (o : Option QueuePair). stood x.name (queues_in s o)) c.in-Some.is in
     let none = none-listed (list_at s pair.write.list) c.is_empty.result c.is_empty.ensures c.if-is_empty.true in
     record {
@@ -54,7 +54,7 @@ returns g c =
     let next : Sent = record { to = c.toward.result; message = c.in-Some-dequeue.message } in
     let m = message_in t (token next.message) in
     let x = c.args.self.now in
-    let pair = c.in-Some.pair.now in
+    let pair = c.in-Some.pair in
     let ready = pair-ready s c.args.queues.now pair c.in-Some.is c.requires.held.queues in
     let same = ap (λ (o : Option QueuePair). stood x.name (queues_in s o)) c.in-Some.is in
     let q = c.dequeue.new.queue in
