@@ -71,7 +71,7 @@ stocks-within here m p cost = at (stays m.kind here.way)
     at false = on here.way
 
 -- so is what a counter sends
-pub counts-costed : Costed (λ (n : ℕ). count_costs) counts
+pub counts-costed : Costed {C = ℕ} (λ (n : ℕ). count_costs) counts
 unfolding cost_of
 counts-costed = record { within = λ to m n. sends to m n; stays = λ to m n. refl }
   where

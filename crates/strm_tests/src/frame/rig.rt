@@ -214,9 +214,10 @@ impl<B: Blocks> Stations<B> for Rig {
     ghost use Rattle.std.specs.Prelude.{List, map};
     ghost use Rattle.strm_frame.specs.Stacks.{all_of};
     ghost use Rattle.strm_tests.specs.ToyLaws.{stock_in};
+    ghost use Rattle.strm_tests.specs.Toys.{Stock};
     ghost use Rattle.strm_tests.specs.Rigs.{AreTwo, rig_costs, rig_puts, rig-costed, rig-frame};
 
-    ghost Plain = { List Rattle.strm_tests.specs.Toys.Stock };
+    ghost Plain = { List Stock };
 
     ghost plain = { λ s x. map (λ y. stock_in s y.name y.queue) x.modules.modules.items };
 
