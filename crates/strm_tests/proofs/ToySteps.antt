@@ -172,11 +172,10 @@ still-spends s = record { mblks = omega arith; dblks = omega arith }
 pub count-ends : (hops : ℕ) (to : Spot) (shape : Shape) → to.at < hops → budget count_costs hops (record { to = to; shape = shape }) ≡ 0
 unfolding budget
 count-ends zero to shape low = absurd (omega (arith, low))
-count-ends (suc hops) to shape low = at (to.at == 0) refl
+count-ends (suc hops) to shape low = at (to.at == 0) refl (λ some. count-ends hops (toward Up to) shape (omega (arith, some, low)))
   where
-    at : (top : Bool) → (to.at == 0) ≡ top → min beyond (0 + sum_by (budget count_costs hops) (cond top [] (record { to = toward Up to; shape = shape } ∷ []))) ≡ 0
-    at true is = omega arith
-    at false is =
+    at : (top : Bool) → (to.at == 0) ≡ top → (0 < to.at → budget count_costs hops (record { to = toward Up to; shape = shape }) ≡ 0) → min beyond (0 + sum_by (budget count_costs hops) (cond top [] (record { to = toward Up to; shape = shape } ∷ []))) ≡ 0
+    at true is rest = omega arith
+    at false is rest =
         let some : 0 < to.at = grind (arith, nat_tests) in
-        let rest = count-ends hops (toward Up to) shape (omega (arith, some, low)) in
-        omega (arith, rest)
+        omega (arith, rest some)

@@ -42,7 +42,7 @@ stocks-within here m x cost = by x.queues
     by (Some pair) = at (stays m.kind here.way) pair
 
 -- so is what a counter sends
-pub counts-costed : Costed (λ (n : ℕ). count_costs) counts
+pub counts-costed : Costed {C = ℕ} (λ (n : ℕ). count_costs) counts
 unfolding cost_of
 counts-costed = record { within = λ to m n. sends to m n; stays = λ to m n. refl }
   where

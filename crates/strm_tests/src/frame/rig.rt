@@ -221,9 +221,10 @@ impl<B: Blocks> Stations<B> for Rig {
     ghost use Rattle.std.specs.Prelude.{List, map};
     ghost use Rattle.strm_frame.specs.Stacks.{all_of};
     ghost use Rattle.strm_frame.specs.Standings.{standing_in};
+    ghost use Rattle.strm_tests.specs.Toys.{Stock};
     ghost use Rattle.strm_tests.specs.Rigs.{AreTwo, rig_costs, rig_puts, rig-costed, rig-frame};
 
-    ghost Plain = { List Rattle.strm_tests.specs.Toys.Stock };
+    ghost Plain = { List Stock };
 
     ghost plain = { λ s x. map (standing_in (λ t y. y.name) s) x.modules.modules.items };
 
