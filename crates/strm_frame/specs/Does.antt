@@ -11,9 +11,8 @@ use Rattle.strm_types.specs.declared.spots.Spot.{Spot}
 use Rattle.strm_types.specs.Deliver.{Acted, Carried, Parcel, Took, tallied}
 use Rattle.strm_types.specs.Dropped.{is_met}
 use Rattle.strm_types.specs.Input.{made_of}
-use Rattle.strm_types.specs.LdtermCalls.{most_made}
 use Rattle.strm_types.specs.Message.{Message, is_held}
-use Rattle.strm_types.specs.Service.{Serving, queues_cleared}
+use Rattle.strm_types.specs.Service.{Serving, queues_cleared, most_made}
 use Rattle.strm_types.specs.Standings.{messages_on}
 use Rattle.strm_blocks.specs.Blocks.{StoreValue}
 use Rattle.strm_queue.specs.Stored.{FreesBlocks, FreesNone}

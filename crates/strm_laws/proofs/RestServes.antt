@@ -22,7 +22,6 @@ use Rattle.strm_types.specs.Deliver.{Acted, onward}
 use Rattle.strm_types.specs.Flushing.{flush_bytes, flush_message, is_bare_flush}
 use Rattle.strm_types.specs.Input.{back_on, begins_next, cells_left, finished, input_begins, is_data, left_of, made_of, next_stage, passes, stage_at, stages, stages_done, treats}
 use Rattle.strm_types.specs.Keys.{restarts}
-use Rattle.strm_types.specs.LdtermCalls.{echo_most}
 use Rattle.strm_types.specs.LdtermServes.{ldterm_serves}
 use Rattle.strm_types.specs.Ldterms.{Answered, Begun, Between, Discipline, Stage, queue_at, sends, waits_there}
 use Rattle.strm_types.specs.Lines.{Types, edited, has_room}
@@ -31,7 +30,7 @@ use Rattle.strm_types.specs.Names.{other}
 use Rattle.strm_types.specs.Output.{posts as outputs}
 use Rattle.strm_types.specs.OutputTurns.{output_dir, output_serves, posted, unchanged, with_given}
 use Rattle.strm_types.specs.Queue.{IsOrdered, Queue, first_size, is_full, is_none_left, left_with, put_back}
-use Rattle.strm_types.specs.Service.{Serving}
+use Rattle.strm_types.specs.Service.{Serving, echo_most}
 use Rattle.strm_types.specs.Termios.{icanon, imaxbel, noflsh, opost}
 use Rattle.strm_types.specs.Typing.{added, bare, begins, both_ways, dropped, echo_dir, echo_grows, echo_lost, echo_stands, echoed, gathered_up, grown, is_blank_cell, is_lnext, lost, sigint, signals, sigquit, sigtstp, stops, stroke_at, strikes, struck, up_alone}
 use Rattle.strm_laws.specs.Rest.{byte_moves, echoes, ldterm_moves, moves_above, moves_across, moves_in, moves_in_work, moves_out, moves_within}

@@ -28,9 +28,10 @@ use Rattle.strm_laws.specs.SideCosts.{costs}
 use Rattle.strm_laws.specs.StackCosts.{stands_of}
 use Rattle.strm_laws.specs.Stacked.{Module, OfLdterm, OfPtem, OfPckt, Standing, module_serves}
 use Rattle.strm_laws.specs.State.{State, book, stream}
-use Rattle.strm_types.specs.LdtermCalls.{Begins, Ends, bytes_left, most_made}
+use Rattle.strm_types.specs.LdtermCalls.{Begins, Ends, bytes_left}
 use Rattle.strm_types.specs.LdtermStands.{disciplined}
 use Rattle.strm_types.specs.Standings.{HoldsOfPart, stood}
+use Rattle.strm_types.specs.Service.{most_made}
 use Rattle.strm_laws.specs.TurnCalls.{asks_on, called, discipline_of, module_at, treated, none_there}
 use Rattle.strm_types.proofs.CostsOf.{none-few}
 use Rattle.strm_laws.proofs.StackSpares.{acted-falls, units-fit}

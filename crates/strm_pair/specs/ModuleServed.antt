@@ -18,7 +18,8 @@ use Rattle.strm_laws.specs.Pair.{IsKeptAhead}
 use Rattle.strm_laws.specs.Puts.{module_acted}
 use Rattle.strm_laws.specs.Spares.{spare}
 use Rattle.strm_laws.specs.State.{State, stream}
-use Rattle.strm_types.specs.LdtermCalls.{Begins, Ends, bytes_left, most_made}
+use Rattle.strm_types.specs.LdtermCalls.{Begins, Ends, bytes_left}
+use Rattle.strm_types.specs.Service.{most_made}
 use Rattle.strm_laws.specs.TurnCalls.{asks_on, called, discipline_of, led, module_at, treated}
 use Rattle.strm_blocks.specs.Blocks.{StoreValue, times_in}
 use Rattle.strm_frame.specs.declared.parcels.Sent.{Sent}

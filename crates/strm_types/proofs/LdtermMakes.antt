@@ -23,9 +23,9 @@ use Rattle.strm_types.specs.Ldterms.{Discipline, Stage, Between, Begun, Answered
 use Rattle.strm_types.specs.Lines.{Edit, ErasesByte, ErasesWord, ErasesAll, Types, edited, has_room, without_end, without_last, without_word}
 use Rattle.strm_types.specs.Message.{Message, cells_of}
 use Rattle.strm_types.specs.Queue.{is_full, is_none_left, left_with}
-use Rattle.strm_types.specs.Service.{Serving}
+use Rattle.strm_types.specs.Service.{Serving, echo_most, most_made}
 use Rattle.strm_types.specs.Termios.{icanon, imaxbel, noflsh}
-use Rattle.strm_types.specs.LdtermCalls.{IsShort, echo_most, most_made}
+use Rattle.strm_types.specs.LdtermCalls.{IsShort}
 use Rattle.strm_types.specs.Typing.{added, bare, begins, both_ways, dropped, echo_dir, echo_grows, echo_lost, echo_stands, echoed, edits, gathered_up, is_blank_cell, is_lnext, lost, sigint, signals, sigquit, sigtstp, strikes, stroke_at, struck, up_alone}
 use Rattle.strm_types.proofs.EchoSizes.{echo-few}
 use Rattle.strm_types.proofs.StagesWork.{stages-work}

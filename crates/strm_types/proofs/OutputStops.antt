@@ -12,9 +12,8 @@ use Rattle.strm_types.specs.Message.{Message, cells_of, size_of}
 use Rattle.strm_types.specs.Output.{Output, posts}
 use Rattle.strm_types.specs.OutputTurns.{Outgoing, outgoing, output_dir, output_serves, posted, unchanged, with_given}
 use Rattle.strm_types.specs.Queue.{left_with, first_size}
-use Rattle.strm_types.specs.Service.{Serving}
+use Rattle.strm_types.specs.Service.{Serving, most_made}
 use Rattle.strm_types.specs.Termios.{opost}
-use Rattle.strm_types.specs.LdtermCalls.{most_made}
 use Rattle.strm_types.proofs.Outputs.{posts-make-few, posts-same}
 
 -- a turn, by what becomes of its message

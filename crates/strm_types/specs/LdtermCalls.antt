@@ -1,11 +1,12 @@
--- How far a call of ldterm's service procedure may go, and how much it makes at most (srv(9E); ldterm(7M)).
-use Rattle.std.specs.Prelude.{ℕ, ◌≡◌, ◌≤◌, ◌+◌, ◌*◌, Bool, true, length, is_some}
+-- How far a call of ldterm's service procedure may go (srv(9E); ldterm(7M)).
+use Rattle.std.specs.Prelude.{ℕ, ◌≡◌, ◌≤◌, ◌*◌, Bool, true, length, is_some}
 use Rattle.strm_types.specs.declared.keys.TheConstants.{LINE_MAX}
 use Rattle.strm_types.specs.declared.names.Way.{Way}
 use Rattle.strm_types.specs.declared.names.Way.TheVariants.{Up}
 use Rattle.strm_types.specs.Input.{stages_done, to_treat}
 use Rattle.strm_types.specs.Ldterms.{IsIdle, Discipline, Stage, Answered, queue_at}
 use Rattle.strm_types.specs.Queue.{first_size}
+use Rattle.strm_types.specs.Service.{echo_most}
 
 -- how many bytes a call may treat at most: those of the first message of its queue, or what is left of the one in work
 abbrev pub bytes_left : Way → Bool → Discipline ℕ → ℕ
@@ -22,10 +23,6 @@ pub record Ends (way : Way) (again : Bool) (l : Discipline ℕ) (bytes : ℕ) : 
   pub treat : bytes ≤ bytes_left way again l
   pub done : stages_done l.stage ≤ 3 * bytes
 
--- how many bytes an echo has at most: KILL rubs out 255 TABs of 8 columns, by three bytes a column
-abbrev pub echo_most : ℕ
-echo_most = 6120
-
 -- how many bytes of a byte's echo are still to come
 abbrev pub echo_left : {C : Type 0} → Stage C → ℕ
 echo_left (Answered echo) = length echo
@@ -35,7 +32,3 @@ echo_left _ = 0
 pub record IsShort (l : Discipline ℕ) : Type 0 where
   pub line : length l.line ≤ LINE_MAX
   pub echo : echo_left l.stage ≤ echo_most
-
--- how many bytes a call makes at most that treats so many: an echo for each stage of these
-abbrev pub most_made : ℕ → ℕ
-most_made bytes = echo_most * (3 * bytes + 2)

@@ -1,6 +1,6 @@
 -- Service procedures of modules, the ends of their turns, and what a module lets go that is taken off its stream (srv(9E);
 -- getq(9F); STREAMS Programming Guide, "Service Procedures"; streamio(7I): I_POP; close(2)).
-use Rattle.std.specs.Prelude.{ℕ, Bool, ◌&&◌, false, not, if◌then◌else◌, List, [], ◌∷◌, ◌++◌, Option, None, Some}
+use Rattle.std.specs.Prelude.{ℕ, ◌+◌, ◌*◌, Bool, ◌&&◌, false, not, if◌then◌else◌, List, [], ◌∷◌, ◌++◌, Option, None, Some}
 use Rattle.strm_types.specs.declared.names.Side.{Side}
 use Rattle.strm_types.specs.declared.names.Way.{Way}
 use Rattle.strm_types.specs.declared.names.Way.TheVariants.{Up, Down}
@@ -19,6 +19,14 @@ pub record Serving (C S : Type 0) : Type 0 where
   pub acted : Acted C S
   pub bytes : ℕ
   pub again : Bool
+
+-- how many bytes an echo has at most: KILL rubs out 255 TABs of 8 columns, by three bytes a column
+abbrev pub echo_most : ℕ
+echo_most = 6120
+
+-- how many bytes a call makes at most that treats so many: an echo for each stage of these
+abbrev pub most_made : ℕ → ℕ
+most_made bytes = echo_most * (3 * bytes + 2)
 
 -- a call of a service procedure where there is none: nothing is done
 abbrev pub unserved : {C P : Type 0} → P → Serving C P

@@ -6,8 +6,8 @@ use Rattle.std.proofs.lemmas.List.{get_or-map}
 use Rattle.std.specs.Prelude.{HoldsAt}
 use Rattle.strm_types.specs.Deliver.{tallied}
 use Rattle.strm_types.specs.Input.{made_of}
-use Rattle.strm_types.specs.LdtermCalls.{most_made}
 use Rattle.strm_types.specs.Standings.{of_part, HoldsOfPart, Standing}
+use Rattle.strm_types.specs.Service.{most_made}
 use Rattle.strm_frame.specs.Hands.{HasRoom}
 use Rattle.strm_frame.specs.Outboxes.{sent_of, times_sent, parcels_in}
 use Rattle.strm_frame.specs.Serves.{stop_of, later_cost}

@@ -5,7 +5,7 @@ use Rattle.strm_types.specs.Cells.{plain}
 use Rattle.strm_types.specs.Input.{made_of}
 use Rattle.strm_types.specs.LdtermServes.{ldterm_serves}
 use Rattle.strm_types.specs.LdtermStands.{as_stands}
-use Rattle.strm_types.specs.LdtermCalls.{most_made}
+use Rattle.strm_types.specs.Service.{most_made}
 use Rattle.strm_types.proofs.LdtermMakes.{serves-makes}
 use Rattle.strm_frame.specs.declared.queue_pair.QueuePair.{QueuePair}
 use Rattle.strm_frame.specs.Outboxes.{parcels_in, sent_of}
