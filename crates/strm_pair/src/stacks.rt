@@ -156,9 +156,8 @@ pub(crate) fn push_named<B: Blocks>(
     ensures keeps { (i : ℕ) → stack_keeps stack.new i ≡ stack_keeps stack.old i }
 {
     let _ = store;
-    let pushed = Standing {
+    let _ = stack.push(Standing {
         module: AnyModule::made(name),
         queues: queues_for(name, first + 2, shelf),
-    };
-    let _ = stack.push(pushed);
+    });
 }

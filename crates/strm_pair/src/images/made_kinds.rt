@@ -48,10 +48,9 @@ pub(crate) fn pair_of<B: Blocks>(
     ensures fills { FillsTwo (B.value store.old) (B.value store.new) first }
     ensures spent { Spent (B.value store.old) (B.value store.new) (ldterm_blocks text.now) }
 {
-    QueuePair {
-        read: queue_of(store, first, tables.read, &text.read_queue),
-        write: queue_of(store, first + 1, tables.write, &text.write_queue),
-    }
+    let read = queue_of(store, first, tables.read, &text.read_queue);
+    let write = queue_of(store, first + 1, tables.write, &text.write_queue);
+    QueuePair { read, write }
 }
 
 /// Makes an `ldterm` of a text, between two turns.
