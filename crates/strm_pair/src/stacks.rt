@@ -7,6 +7,7 @@ ghost use Rattle.strm_laws.specs.Earlier.{places_of};
 ghost use Rattle.strm_laws.specs.Pushes.{below_top, may_stand, named_by};
 ghost use Rattle.strm_types.specs.Names.{place_of};
 ghost use Rattle.strm_blocks.specs.Blocks.{StoreValue, list_at};
+ghost use Rattle.strm_frame.specs.Standings.{owns};
 ghost use Rattle.strm_pair.specs.AnyModules.{AnyStanding, IsBare};
 ghost use Rattle.strm_pair.specs.Given.{GivenFor};
 ghost use Rattle.strm_pair.specs.Stacks.{modules_in, IsStackHeld, stack_owns, stack_keeps};
@@ -53,7 +54,7 @@ pub(crate) fn place_at(stack: &Stack, at: usize) -> Option<Place>
 // The queues of a module that was taken off, where it has any. Its line was let go.
 fn queues_of(standing: Standing<AnyModule>) -> Option<QueuePair>
     requires { IsBare standing.module }
-    ensures { result ≡ standing.queues }
+    ensures { (k : ℕ) → 0 < owns standing k → is_some result ≡ true }
 {
     standing.queues
 }
