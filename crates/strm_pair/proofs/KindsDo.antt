@@ -6,7 +6,7 @@ use Rattle.strm_types.specs.declared.rules.Fates.{Fates}
 use Rattle.strm_types.specs.Deliver.{Acted}
 use Rattle.strm_types.specs.Service.{Serving, done_by, served_by}
 use Rattle.strm_types.specs.Standings as plain
-use Rattle.strm_types.specs.Standings.{of_part}
+use Rattle.strm_types.specs.Standings.{of_part, stood}
 use Rattle.strm_laws.specs.Stacked.{Module, OfLdterm, OfPtem, OfPckt, Standing, of_kind}
 use Rattle.strm_blocks.specs.Blocks.{StoreValue}
 use Rattle.strm_frame.specs.declared.modules.Acts.{Acts}
@@ -36,7 +36,7 @@ module _ {M P : Type 0} (wrap : M → AnyModule) (made : P → Module ℕ) (in_i
   module _ (kind : IsKind) where
     -- where it stands, it is what it is there by itself
     kind-stands : (s : StoreValue) (x : M) (q : Option QueuePair) → standing_in kind_in s (standing (wrap x) q) ≡ of_kind made (standing_in in_itself s (standing x q))
-    kind-stands s x q = ap (λ (p : Module ℕ). record { part = p; queues = queues_in s q }) (kind.shows s x)
+    kind-stands s x q = ap (λ (p : Module ℕ). stood p (queues_in s q)) (kind.shows s x)
 
     -- it fits where one of any kind does
     pub kind-fits : (s : StoreValue) (any : AnyModule) (x : M) (q : Option QueuePair) → any ≡ wrap x → Fits IsKindHeld s (standing any q) → Fits IsHeld s (standing x q)

@@ -11,11 +11,20 @@ asks-requires-in-Ptem-clause-held g c = kind-fits _ _ _ _ _ ptem-kind _ _ _ _ c.
 pub asks-requires-in-Pckt-clause-held : goal.asks-requires-in-Pckt-clause-held
 asks-requires-in-Pckt-clause-held g c = kind-fits _ _ _ _ _ pckt-kind _ _ _ _ c.in-Pckt.is c.requires.held
 
-pub returns-in-Ldterm : goal.returns-in-Ldterm
-returns-in-Ldterm g c = rw c.in-Ldterm.is (record { asks = c.asks.ensures.asks; few = c.asks.ensures.few })
+pub returns-in-Ldterm-clause-asks : goal.returns-in-Ldterm-clause-asks
+returns-in-Ldterm-clause-asks g c = rw c.in-Ldterm.is c.asks.ensures.asks
 
-pub returns-in-Ptem : goal.returns-in-Ptem
-returns-in-Ptem g c = rw c.in-Ptem.is (record { asks = c.asks-in-Ptem.ensures.asks; few = c.asks-in-Ptem.ensures.few })
+pub returns-in-Ldterm-clause-few : goal.returns-in-Ldterm-clause-few
+returns-in-Ldterm-clause-few g c = c.asks.ensures.few
 
-pub returns-in-Pckt : goal.returns-in-Pckt
-returns-in-Pckt g c = rw c.in-Pckt.is (record { asks = c.asks-in-Pckt.ensures.asks; few = c.asks-in-Pckt.ensures.few })
+pub returns-in-Ptem-clause-asks : goal.returns-in-Ptem-clause-asks
+returns-in-Ptem-clause-asks g c = rw c.in-Ptem.is c.asks-in-Ptem.ensures.asks
+
+pub returns-in-Ptem-clause-few : goal.returns-in-Ptem-clause-few
+returns-in-Ptem-clause-few g c = c.asks-in-Ptem.ensures.few
+
+pub returns-in-Pckt-clause-asks : goal.returns-in-Pckt-clause-asks
+returns-in-Pckt-clause-asks g c = rw c.in-Pckt.is c.asks-in-Pckt.ensures.asks
+
+pub returns-in-Pckt-clause-few : goal.returns-in-Pckt-clause-few
+returns-in-Pckt-clause-few g c = c.asks-in-Pckt.ensures.few
