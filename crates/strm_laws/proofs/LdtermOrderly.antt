@@ -24,7 +24,8 @@ use Rattle.strm_types.specs.LdtermPuts.{ldterm_puts}
 use Rattle.strm_types.specs.LdtermServes.{ldterm_serves}
 use Rattle.strm_laws.specs.LdtermTurns.{IsItsTurn, IsOrderly, is_echo}
 use Rattle.strm_laws.specs.LdtermWeights.{EchoStands}
-use Rattle.strm_types.specs.Ldterms.{Discipline, Stage, Between, Begun, Answered, both, line_flushed, new_ldterm, queue_flushed, queued_at, read_flushed, sends, takes_band_0, write_flushed}
+use Rattle.strm_types.specs.Standings.{new_pair}
+use Rattle.strm_types.specs.Ldterms.{Discipline, discipline, Stage, Between, Begun, Answered, both, line_flushed, new_ldterm, queue_flushed, queued_at, read_flushed, sends, takes_band_0, write_flushed}
 use Rattle.strm_types.specs.Message.{Message, cells_of, data_message, is_high_priority, rank_of}
 use Rattle.strm_types.specs.Queue.{Queue, is_full, is_none_left, left_with, put, relieved}
 use Rattle.strm_types.specs.Service.{line_gone}
@@ -247,7 +248,7 @@ module _ {C : Type 0} (cells : Cells C) where
   serves-orderly here made again stop l is turn = serves-at here.way here again made stop l is turn
 
 module _ {C : Type 0} where
-  pub new-orderly : IsOrderly (new_ldterm {C = C})
+  pub new-orderly : IsOrderly (discipline (new_ldterm {C = C}) new_pair)
   new-orderly = record { echo = λ e. absurd (false≢true e); idle = λ none. (refl, refl, refl) }
 
   pub orderly-echo : (l : Discipline C) → IsOrderly l → EchoStands l

@@ -16,6 +16,8 @@ use Rattle.strm_types.specs.Deliver.{Acted, onward}
 use Rattle.strm_types.specs.Flushing.{asked_by, flush_message, read_flush}
 use Rattle.strm_types.specs.LdtermPuts.{ldterm_puts}
 use Rattle.strm_types.specs.Ldterms.{Discipline, both, flush_passes, line_flushed, queue_flushed, read_flushed, sends, takes_band_0, without_line, write_flushed}
+use Rattle.strm_types.specs.Ptems.{Ptem}
+use Rattle.strm_types.specs.Pckts.{Pckt}
 use Rattle.strm_types.specs.Message.{Message, map_message, weight_of}
 use Rattle.strm_types.specs.Modules.{put_among}
 use Rattle.strm_types.specs.Origins.{map_acted}

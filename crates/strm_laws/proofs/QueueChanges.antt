@@ -12,7 +12,7 @@ use Rattle.strm_types.specs.Modules.{change_among}
 use Rattle.strm_types.specs.Queue.{Queue, weight}
 use Rattle.strm_laws.specs.Stacked.{Standing, module_weight, modules_weight, queues_weight, kind_weight}
 use Rattle.strm_laws.proofs.ModulesIdle.{AllIdle}
-use Rattle.std.specs.Prelude.{Option, option_map}
+use Rattle.std.specs.Prelude.{Option, None, Some, option_map}
 
 module _ {C : Type 0} (change : Queue C → Queue C) where
   -- the queue of a way changes so

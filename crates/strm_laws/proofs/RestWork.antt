@@ -184,12 +184,13 @@ module _ {C : Type 0} where
   named-none : (place : Place) (n from : ℕ) (ps : List (Standing C)) → list_any is_ldterm (map module_name ps) ≡ false → named_from place from (places_of (take n ps)) ≡ None
   named-none place zero from ps none = refl
   named-none place (suc n) from [] none = refl
-  named-none place (suc n) from (p ∷ ps) none = by p.part none
+  named-none place (suc n) from (p ∷ ps) none = by p.part none (λ rest. named-none place n (suc from) ps rest)
     where
-      by : (q : Module C) → (is_ldterm (kind_name q) || list_any is_ldterm (map module_name ps)) ≡ false → named_from place from (place_of (kind_name q) ∷ places_of (take n ps)) ≡ None
-      by (OfLdterm l) none = absurd (cc)
-      by (OfPtem q) none = named-none place n (suc from) ps none
-      by (OfPckt q) none = named-none place n (suc from) ps none
+      by : (q : Module C) → (is_ldterm (kind_name q) || list_any is_ldterm (map module_name ps)) ≡ false
+          → (list_any is_ldterm (map module_name ps) ≡ false → named_from place (suc from) (places_of (take n ps)) ≡ None) → named_from place from (place_of (kind_name q) ∷ places_of (take n ps)) ≡ None
+      by (OfLdterm l) none rest = absurd (cc)
+      by (OfPtem q) none rest = rest none
+      by (OfPckt q) none rest = rest none
 
   module _ (cells : Cells C) (name : QueueName) (turn : Turn) where
     -- a turn of a module's queue

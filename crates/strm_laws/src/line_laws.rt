@@ -12,7 +12,8 @@ ghost use Rattle.strm_laws.specs.LdtermOrigins.{map_ldterm, map_serving};
 ghost use Rattle.strm_types.specs.LdtermPuts.{ldterm_puts};
 ghost use Rattle.strm_types.specs.LdtermServes.{ldterm_serves};
 ghost use Rattle.strm_laws.specs.LdtermTurns.{IsItsTurn, IsOrderly};
-ghost use Rattle.strm_types.specs.Ldterms.{Discipline, new_ldterm};
+ghost use Rattle.strm_types.specs.Standings.{new_pair};
+ghost use Rattle.strm_types.specs.Ldterms.{Discipline, discipline, new_ldterm};
 ghost use Rattle.strm_types.specs.Lines.{Edit, ErasesByte, ErasesWord, ErasesAll, edited, line_of};
 ghost use Rattle.strm_types.specs.Message.{Message, map_message, weight_of};
 ghost use Rattle.strm_types.specs.Origins.{map_acted};
@@ -64,7 +65,7 @@ pub fn ldterm_forgets<C, D>()
 /// What holds of ldterm stays so. It holds of one as it is pushed, and behind each put and each call of its service procedure, as no
 /// other turn begins while a turn of its read queue goes on. So the turn's echo is there to grow.
 pub fn ldterm_stays_orderly<C>()
-    ensures new { IsOrderly (new_ldterm {C = C}) }
+    ensures new { IsOrderly (discipline (new_ldterm {C = C}) new_pair) }
     ensures put { (here : Spot) (m : Message C) (l : Discipline C) → IsOrderly l → IsOrderly (ldterm_puts here m l).state }
     ensures serves { (cells : Cells C) (here : Spot) (made : ℕ) (again : Bool) (stop : Option ℕ) (l : Discipline C) → IsOrderly l →
         IsItsTurn here.way again l → IsOrderly (ldterm_serves cells here made again stop l).acted.state }
