@@ -24,8 +24,8 @@ import time
 TICKS = os.sysconf("SC_CLK_TCK")
 PAGE, HEADING = "docs/GATE.md", "## What it costs"
 CLOSING = re.compile(r"^(\d+) passed, (\d+) failed\b")
-# Crates of tests alone: their lines aren't counted.
-TESTS = re.compile(r"/strm_(tests|scenes)/|/tests/|tests\.rt$")
+# What the proofs and tests of 1000 lines may take, in CPU minutes, in crates of so many lines: smaller ones take what they load.
+RATE_MOST, LINES_LEAST = 3, 300
 
 
 def text_of(path):
@@ -42,9 +42,8 @@ def crates():
 
 
 def lines_of(crate):
-    """How many lines its source has, tests left out."""
-    paths = glob.glob(f"crates/{crate}/src/**/*.rt", recursive=True)
-    return sum(text_of(path).count("\n") for path in paths if not TESTS.search(path))
+    """How many lines its source has, with its tests."""
+    return sum(text_of(path).count("\n") for path in glob.glob(f"crates/{crate}/src/**/*.rt", recursive=True))
 
 
 def wrong_of(crate):
@@ -153,9 +152,18 @@ def run_gate(asked):
     return seen, passed, failed
 
 
-def row_of(name, lines, proof, tests, count, wrong):
-    rate = f"{(proof + tests) / 60 / lines * 1000:.1f}" if lines else ""
-    return f"| {name} | {lines} | {proof:.0f} | {tests:.0f} | {rate} | {count} | {wrong:.0f} |"
+def rate_of(row):
+    """What the proofs and tests of 1000 lines take, in CPU minutes."""
+    return (row[2] + row[3]) / 60 / max(row[1], 1) * 1000
+
+
+def is_dear(row):
+    return row[1] >= LINES_LEAST and rate_of(row) > RATE_MOST
+
+
+def row_of(row):
+    name, lines, proof, tests, count, wrong = row
+    return f"| {name} | {lines} | {proof:.0f} | {tests:.0f} | {rate_of(row):.1f} | {count} | {wrong:.0f} |"
 
 
 def together(name, rows):
@@ -167,7 +175,7 @@ def cost_of(row):
 
 
 def table(seen, wall, used, closing):
-    """A row for each crate that takes a twenty-fifth of the whole or more, one for all others, and one for all."""
+    """A row for each crate that takes a twenty-fifth of the whole, or more than its lines may, one for all others, and one for all."""
     parts = collections.defaultdict(float)
     for process in seen:
         parts[process.crate, process.part] += process.seconds
@@ -177,12 +185,12 @@ def table(seen, wall, used, closing):
         if proof or tests or wrong:
             rows.append((crate, lines_of(crate), proof, tests, wrong_of(crate), wrong))
     whole = together("all", rows)
-    dear = [row for row in rows if cost_of(row) >= cost_of(whole) / 25]
+    dear = [row for row in rows if cost_of(row) >= cost_of(whole) / 25 or is_dear(row)]
     rest = [row for row in rows if row not in dear]
     rows = [*dear, *([together(f"{len(rest)} others", rest)] if rest else []), whole]
-    yield "| Crate | Lines without tests | Proof, CPU s | Tests, CPU s | 1000 lines, CPU min | Wrong bodies | CPU s |"
+    yield "| Crate | Lines, with tests | Proof, CPU s | Tests, CPU s | 1000 lines, CPU min | Wrong bodies | CPU s |"
     yield "|---|---|---|---|---|---|---|"
-    yield from (row_of(*row) for row in rows)
+    yield from map(row_of, rows)
     yield ""
     share = 100 * whole[5] / max(used, 1)
     lanes = f" in {os.environ['RT_JOBS']} lanes" if os.environ.get("RT_JOBS") else ""
