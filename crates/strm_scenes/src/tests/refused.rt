@@ -219,6 +219,8 @@ fn refuses_script<B: Reserve>(rt: &impl Abort, alloc: Global) -> Result<(), Allo
 
 // Makes each call that asks for memory where all is taken.
 fn refuses_all<B: Reserve>(rt: &impl Abort, alloc: Global) -> Result<(), AllocError> {
+    // Where all addresses are taken the stack can't grow either, so the calls are made before, and it is as large as they want.
+    makes_all::<B>(rt, alloc)?;
     refuses_store::<B>(rt, alloc)?;
     refuses_pair::<B>(rt, alloc)?;
     refuses_image::<B>(rt, alloc)?;
